@@ -4,7 +4,8 @@ use Rattle.std.specs.List.{AllByRecursion}
 use Rattle.std.proofs.lemmas.List.{take_at, take_all, drop_at, take-append-drop, length-append, length-take, length-take-le, length-drop, drop_more, take_more, append-nil, drop-drop, set_split, length-set}
 use Rattle.std.proofs.lemmas.List.Concat.{flat_map-cons, flat_map-append}
 use Rattle.std.proofs.lemmas.List.Elements.{All-from_recursion}
-use Rattle.device_port.specs.Packed.{Spelling, Reads, image_of, offset_of, items_at, HoldsItems, Begins, written}
+use Rattle.device_port.specs.Moves.{written}
+use Rattle.device_port.specs.Packed.{Spelling, Reads, image_of, offset_of, items_at, HoldsItems, Begins}
 
 -- ---- writes into a buffer
 

@@ -39,6 +39,3 @@ pub record Begins {X : Type 0} (s : Spelling X) (bytes : List ℕ) (x : X) : Typ
   pub rest : List ℕ
   pub parts : bytes ≡ s.packed x ++ rest
 
--- a buffer with these bytes from a place on
-abbrev pub written : List ℕ → ℕ → List ℕ → List ℕ
-written buffer at bytes = take at buffer ++ (bytes ++ drop (at + length bytes) buffer)

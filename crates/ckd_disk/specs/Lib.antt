@@ -1,0 +1,3 @@
+pub mod Record
+pub mod Track
+pub mod Access

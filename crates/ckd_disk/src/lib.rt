@@ -1,0 +1,9 @@
+//! A disk of count-key-data records: its mounting, its commands, and a reader of its medium. Each track is
+//! one image of the track's size, with its records packed in order.
+#![tactic(auto)]
+
+mod access;
+mod bytes;
+mod track;
+
+pub use track::{Records, Stored};
