@@ -1,3 +1,6 @@
 pub mod Record
 pub mod Track
 pub mod Access
+pub mod Command
+pub mod Walk
+pub mod Commands

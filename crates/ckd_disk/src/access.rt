@@ -1,3 +1,5 @@
+ghost use Rattle.std.specs.Prelude.{◌≡◌};
+
 use crate::track::Spot;
 
 /// Where the heads stand on a track: at the index point, or behind the count area, the key area or the
@@ -28,4 +30,27 @@ pub struct Access {
     /// How many index points the searches have gone by.
     pub passes: u8,
     pub armed: Armed,
+}
+
+impl Access {
+    /// At the index point of a track, with a file mask.
+    pub fn start(mask: u8) -> Self
+        ensures { result ≡ record { mask = mask; orientation = Orientation.Index; passes = 0; armed = Armed.No } }
+    {
+        Access {
+            mask,
+            orientation: Orientation::Index,
+            passes: 0,
+            armed: Armed::No,
+        }
+    }
+
+    /// Ends a command that is no search.
+    pub fn leave(&mut self, orientation: Orientation, armed: Armed)
+        ensures { self.new ≡ record { mask = self.old.mask; orientation = orientation; passes = 0; armed = armed } }
+    {
+        self.orientation = orientation;
+        self.passes = 0;
+        self.armed = armed;
+    }
 }

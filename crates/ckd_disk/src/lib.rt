@@ -4,6 +4,9 @@
 
 mod access;
 mod bytes;
+mod command;
+mod commands;
 mod track;
+mod walk;
 
 pub use track::{Records, Stored};
