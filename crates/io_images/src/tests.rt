@@ -1,0 +1,80 @@
+use crate::{
+    Address, AddressWord, Ccw, CcwFlags, Code, Csw, Ecb, Extent, Iob, Seek, SubStatus, UnitStatus,
+};
+use bitflags::Flags;
+
+#[test]
+fn ccw_keeps_its_ignored_byte(rt: HostRuntime) {
+    let image = [0x06, 0x00, 0x10, 0x60, 0xA0, 0x77, 0x01, 0x02];
+    let ccw = Ccw::read(&image);
+    assert_eq!(rt; ccw.command, 6);
+    assert_eq!(rt; ccw.address.get(), 0x1060);
+    assert!(rt; ccw.flags.chains_data() && ccw.flags.suppresses_length());
+    assert!(rt; !ccw.flags.chains_command() && !ccw.flags.skips() && !ccw.flags.is_indirect());
+    assert!(rt; ccw.flags.reserved_off() && ccw.flags.contains(CcwFlags::CHAIN_DATA));
+    assert_eq!(rt; ccw.count, 0x102);
+    let mut other = [0xFF; 8];
+    ccw.copy().write(&mut other);
+    assert_eq!(rt; other, [0x06, 0x00, 0x10, 0x60, 0xA0, 0xFF, 0x01, 0x02]);
+}
+
+#[test]
+fn csw_and_status(rt: HostRuntime) {
+    let csw = Csw {
+        address: Address::stored(0x1030),
+        unit: UnitStatus::new(0x0E),
+        sub: SubStatus::new(0x40),
+        residual: 4,
+    };
+    assert!(rt; !csw.unit.is_normal() && csw.unit.contains(UnitStatus::UNIT_CHECK));
+    assert!(rt; !csw.sub.is_clear() && csw.sub.contains(SubStatus::INCORRECT_LENGTH));
+    let mut image = [0xEE; 8];
+    csw.copy().write(&mut image);
+    assert_eq!(rt; image, [0xEE, 0x00, 0x10, 0x38, 0x0E, 0x40, 0x00, 0x04]);
+    assert_eq!(rt; Csw::read(&image), csw);
+    assert_eq!(rt; Address::stored(0xFF_FFF8).get(), 0);
+}
+
+#[test]
+fn iob_keeps_what_it_does_not_name(rt: HostRuntime) {
+    let mut image = [0xFF; 40];
+    let mut iob = Iob::read(&image);
+    assert!(rt; iob.unrelated && iob.io_error && iob.data_chaining && iob.command_chaining);
+    iob.unrelated = false;
+    iob.command_chaining = false;
+    iob.sense = 0x0800;
+    iob.completion = Code::PermanentError.byte();
+    iob.ecb = Address::new(0x1028);
+    iob.start = Address::new(0x1030);
+    iob.dcb = Address::new(1);
+    iob.seek = Seek::read(&[2, 0, 0, 0, 3, 0, 4, 5]);
+    iob.write(&mut image);
+    let mut expected = [0xFF; 40];
+    expected[..8].copy_from_slice(&[0xBD, 0xFF, 0x08, 0x00, 0x41, 0x00, 0x10, 0x28]);
+    expected[16..24].copy_from_slice(&[0xFF, 0x00, 0x10, 0x30, 0xFF, 0x00, 0x00, 0x01]);
+    expected[32..].copy_from_slice(&[2, 0, 0, 0, 3, 0, 4, 5]);
+    assert_eq!(rt; image, expected);
+}
+
+#[test]
+fn extent_ecb_and_words(rt: HostRuntime) {
+    let image = [0x18, 0, 0, 0, 0, 0, 0, 1, 0, 2, 0, 3, 0, 4, 0, 9];
+    let extent = Extent::read(&image);
+    assert_eq!(rt;
+        (extent.file_mask, extent.start_cylinder, extent.start_head),
+        (0x18, 1, 2)
+    );
+    assert_eq!(rt;
+        (extent.end_cylinder, extent.end_head, extent.tracks),
+        (3, 4, 9)
+    );
+    let mut other = [0xFF; 16];
+    extent.write(&mut other);
+    assert_eq!(rt; other, image);
+    let mut word = [0; 4];
+    Ecb::posted(Code::Purged).write(&mut word);
+    assert_eq!(rt; word, [0x48, 0, 0, 0]);
+    assert!(rt; Ecb::read(&word).is_complete() && !Ecb::default().is_complete());
+    AddressWord::new(0x8000_1000).write(&mut word);
+    assert_eq!(rt; AddressWord::read(&word).get(), 0x8000_1000);
+}
