@@ -89,14 +89,12 @@ search_key track access given = search_key_at track access given (key_record acc
 
 -- ---- reads
 
--- 12 READ COUNT
+-- 12 READ COUNT: all bytes of the count area, which are 8
 abbrev pub read_count_at : TrackState → AccessState → Option Reached → Answer
 read_count_at track access None = checked 0x0008 access
-read_count_at track access (Some reached) = record {
-  acted = normal_end 8;
-  access = left access (at_count reached.place) unarmed;
-  bytes = count_area (record_of track.records reached.place);
-}
+read_count_at track access (Some reached) =
+    let bytes = count_area (record_of track.records reached.place) in
+    record { acted = normal_end (length bytes); access = left access (at_count reached.place) unarmed; bytes = bytes }
 
 abbrev pub read_count : TrackState → AccessState → Answer
 read_count track access = read_count_at track access (next_record access.orientation (length track.records))

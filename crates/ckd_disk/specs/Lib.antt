@@ -4,3 +4,5 @@ pub mod Access
 pub mod Command
 pub mod Walk
 pub mod Commands
+pub mod Disk
+pub mod DiskLaws

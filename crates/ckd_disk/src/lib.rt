@@ -6,7 +6,9 @@ mod access;
 mod bytes;
 mod command;
 mod commands;
+mod disk;
 mod track;
 mod walk;
 
+pub use disk::Disk;
 pub use track::{Records, Stored};

@@ -176,7 +176,8 @@ impl Track {
     /// The count area of a record.
     pub fn count_area(&self, spot: Spot) -> &[u8]
         requires { IsSpot self.now.records spot }
-        ensures { result.now ≡ count_area (record_of self.now.records spot.place) }
+        ensures count_area { result.now ≡ count_area (record_of self.now.records spot.place) }
+        ensures len { length result.now ≡ 8 }
     {
         count_area_of(self.stored(spot))
     }

@@ -69,9 +69,10 @@ pub fn read_count<'a>(track: &'a Track, access: &mut Access) -> Answer<'a>
         return not_found(access);
     };
     access.leave(Orientation::Count(reached.spot), Armed::No);
+    let bytes = track.count_area(reached.spot);
     Answer {
-        acted: Acted::normal_end(8),
-        bytes: track.count_area(reached.spot),
+        acted: Acted::normal_end(bytes.len() as u32),
+        bytes,
     }
 }
 

@@ -1,0 +1,152 @@
+ghost use Rattle.std.specs.Prelude.{◌≡◌, ◌+◌, ◌*◌, ◌<◌, ◌≤◌, ℕ, length, IfOk, [], true};
+ghost use Rattle.ckd_disk.specs.Disk.{seek_given};
+
+use crate::access::{Access, Armed};
+use crate::command::{Command, Control, Read, Write};
+use crate::commands::{
+    check, no_operation, read_count, read_count_key_and_data, read_data, read_key_and_data,
+    search_id, search_key, sense, write_count_key_and_data, write_data, write_key_and_data,
+};
+use crate::track::{Records, Track};
+use device_port::{
+    Acted, COMMAND_REJECT, Chain, Device, FILE_PROTECTED, FaultScript, Flow, Given, Kind,
+};
+use io_area::Area;
+use io_images::Seek;
+use std::alloc::AllocError;
+use std::marker::Model;
+
+/// A disk of count-key-data records.
+#[derive(Drop)]
+pub struct Disk {
+    cylinders: u16,
+    heads: u16,
+    tracks: Vec<Track>,
+    track: usize,
+    access: Access,
+    faults: FaultScript,
+}
+
+impl Model for Disk {
+    ghost use Rattle.ckd_disk.specs.Access.{access_of};
+    ghost use Rattle.ckd_disk.specs.Disk.{DiskState, IsDisk};
+
+    ghost Value = { DiskState };
+
+    ghost view = { λ d. record { cylinders = d.cylinders; heads = d.heads; tracks = d.tracks.items; track = d.track; access = access_of d.access; ordinals = d.faults } };
+
+    ghost invariant = { λ d. IsDisk (record { cylinders = d.cylinders; heads = d.heads; tracks = d.tracks.items; track = d.track; access = access_of d.access; ordinals = d.faults }) d.access };
+}
+
+impl Disk {
+    ghost use Rattle.std.specs.Prelude.{◌≡◌, ◌<◌, [], length};
+    ghost use Rattle.device_port.specs.Moves.{AllLie, gathered, stored};
+    ghost use Rattle.io_area.specs.Storage.{SamePlace};
+    ghost use Rattle.ckd_disk.specs.Disk.{track_of, control_on, read_on, write_on, seek, is_seek, prefix, command_on, track_number};
+    ghost use Rattle.ckd_disk.specs.Commands.{checked};
+
+    /// The records of a track, from the index point on.
+    pub fn records(&self, cylinder: u16, head: u16) -> Records<'_>
+        requires cylinder { cylinder < self.now.cylinders }
+        requires head { head < self.now.heads }
+        ensures { result ≡ (track_of self.now.tracks (track_number self.now.heads cylinder head)).records }
+    {
+        let number = usize::from(cylinder) * usize::from(self.heads) + usize::from(head);
+        self.tracks[number].records()
+    }
+
+    /// A command that moves no data.
+    fn control(&mut self, command: Control) -> Acted
+        ensures acted { result ≡ (control_on self.old command).acted }
+        ensures device { self.new ≡ (control_on self.old command).device }
+    {
+        match command {
+            Control::NoOperation => no_operation(&mut self.access),
+            Control::SetFileMask => check(&mut self.access, COMMAND_REJECT),
+        }
+    }
+
+    /// A command that gives data to the program.
+    fn read(&mut self, command: Read, chain: &Chain, area: &mut Area) -> Acted
+        requires { AllLie Flow.Input area.old chain.now }
+        ensures acted { result ≡ (read_on self.old command).acted }
+        ensures device { self.new ≡ (read_on self.old command).device }
+        ensures area { area.new ≡ stored chain.now (read_on self.old command).bytes area.old }
+        ensures place { SamePlace area.old area.new }
+    {
+        let track = &self.tracks[self.track];
+        let access = &mut self.access;
+        let answer = match command {
+            Read::Sense => sense(access),
+            Read::Count => read_count(track, access),
+            Read::Data => read_data(track, access),
+            Read::KeyAndData => read_key_and_data(track, access),
+            Read::CountKeyAndData => read_count_key_and_data(track, access),
+        };
+        chain.store(area, answer.bytes);
+        answer.acted
+    }
+
+    /// A command that takes data from the program.
+    fn write(&mut self, command: Write, given: &Given<'_>) -> Acted
+        ensures acted { result ≡ (write_on self.old command given.now).acted }
+        ensures device { self.new ≡ (write_on self.old command given.now).device }
+    {
+        let track = &mut self.tracks[self.track];
+        let access = &mut self.access;
+        match command {
+            Write::Seek => self.seek(given),
+            Write::SearchId => search_id(track, access, given),
+            Write::SearchKey => search_key(track, access, given),
+            Write::Data => write_data(track, access, given),
+            Write::KeyAndData => write_key_and_data(track, access, given),
+            Write::CountKeyAndData => write_count_key_and_data(track, access, given),
+        }
+    }
+
+    /// SEEK.
+    fn seek(&mut self, given: &Given<'_>) -> Acted
+        ensures acted { result ≡ (seek self.old given.now).acted }
+        ensures device { self.new ≡ (seek self.old given.now).device }
+    {
+        if (self.access.mask >> 3) % 4 != 0b00 {
+            return check(&mut self.access, FILE_PROTECTED);
+        }
+        if given.len() < 6 {
+            return check(&mut self.access, COMMAND_REJECT);
+        }
+        let seek = seek_given(given);
+        if !self.has_track(&seek) {
+            return check(&mut self.access, COMMAND_REJECT);
+        }
+        self.move_to(&seek, self.access.mask);
+        Acted::normal_end(6)
+    }
+
+    /// Whether a seek address names a track of the disk.
+    fn has_track(&self, seek: &Seek) -> bool
+        ensures { result ≡ is_seek self.now seek.now }
+    {
+        seek.bin == 0 && seek.cylinder < self.cylinders && seek.head < self.heads
+    }
+
+    /// Puts the heads on a track, at its index point.
+    fn move_to(&mut self, seek: &Seek, mask: u8)
+        requires { is_seek self.old seek.now ≡ true }
+        ensures { self.new ≡ prefix self.old seek.now mask }
+    {
+        self.track =
+            usize::from(seek.cylinder) * usize::from(self.heads) + usize::from(seek.head);
+        self.access = Access::start(mask);
+    }
+}
+
+/// The seek address whose BBCCHH a program gives.
+fn seek_given(given: &Given<'_>) -> Seek
+    requires { 6 ≤ length given.now }
+    ensures { result ≡ seek_given given.now }
+{
+    let mut address = [0; 8];
+    given.fill(&mut address[1..7]);
+    Seek::read(&address)
+}
