@@ -1,5 +1,6 @@
 ghost use Rattle.std.specs.Prelude.{◌≡◌, ◌+◌, ◌*◌, ◌<◌, ◌≤◌, ℕ, length, IfOk, [], true};
-ghost use Rattle.ckd_disk.specs.Disk.{seek_given};
+ghost use Rattle.ckd_disk.specs.Disk.{disk, seek_given};
+ghost use Rattle.ckd_disk.specs.DiskLaws.{disk_lawful};
 
 use crate::access::{Access, Armed};
 use crate::command::{Command, Control, Read, Write};
@@ -88,10 +89,12 @@ impl Disk {
     }
 
     /// A command that takes data from the program.
-    fn write(&mut self, command: Write, given: &Given<'_>) -> Acted
-        ensures acted { result ≡ (write_on self.old command given.now).acted }
-        ensures device { self.new ≡ (write_on self.old command given.now).device }
+    fn write(&mut self, command: Write, chain: &Chain, area: &Area) -> Acted
+        requires { AllLie Flow.Out area.now chain.now }
+        ensures acted { result ≡ (write_on self.old command (gathered area.now chain.now)).acted }
+        ensures device { self.new ≡ (write_on self.old command (gathered area.now chain.now)).device }
     {
+        let given = &Given::new(chain, area);
         let track = &mut self.tracks[self.track];
         let access = &mut self.access;
         match command {
@@ -139,6 +142,73 @@ impl Disk {
             usize::from(seek.cylinder) * usize::from(self.heads) + usize::from(seek.head);
         self.access = Access::start(mask);
     }
+}
+
+impl Device for Disk {
+    ghost meaning = { disk };
+
+    fn kind(&self) -> Kind {
+        Kind::Disk
+    }
+
+    fn cylinders(&self) -> u16 {
+        self.cylinders
+    }
+
+    fn heads(&self) -> u16 {
+        self.heads
+    }
+
+    fn fits(&self, seek: &Seek) -> bool {
+        self.has_track(seek)
+    }
+
+    fn flow(&self, command: u8) -> Flow {
+        Command::flow(Command::decode(command))
+    }
+
+    fn prefix(&mut self, seek: &Seek, mask: u8) {
+        self.move_to(seek, mask);
+    }
+
+    fn act(&mut self, command: u8, chain: &Chain, area: &mut Area) -> Acted {
+        if let Some(fault) = self.faults.count() {
+            let orientation = self.access.orientation;
+            self.access.leave(orientation, Armed::No);
+            return fault.acted();
+        }
+        match Command::decode(command) {
+            None => check(&mut self.access, COMMAND_REJECT),
+            Some(Command::Control(control)) => self.control(control),
+            Some(Command::Read(read)) => self.read(read, chain, area),
+            Some(Command::Write(write)) => self.write(write, chain, area),
+        }
+    }
+
+    fn copy(&self) -> Result<Self, AllocError> {
+        Ok(Disk {
+            cylinders: self.cylinders,
+            heads: self.heads,
+            tracks: copy_tracks(&self.tracks)?,
+            track: self.track,
+            access: self.access,
+            faults: self.faults.copy()?,
+        })
+    }
+
+    ghost lawful = { disk_lawful };
+}
+
+/// The same tracks.
+fn copy_tracks(tracks: &Vec<Track>) -> Result<Vec<Track>, AllocError>
+    ensures { IfOk result (λ copies. copies.items ≡ tracks.now.items) }
+{
+    let alloc = *tracks.allocator();
+    let mut copies = Vec::with_capacity(alloc, tracks.len())?;
+    for track in tracks {
+        copies.push(track.copy()?)?;
+    }
+    Ok(copies)
 }
 
 /// The seek address whose BBCCHH a program gives.

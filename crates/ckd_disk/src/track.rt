@@ -53,6 +53,17 @@ impl Track {
         })
     }
 
+    /// The same track.
+    pub fn copy(&self) -> Result<Self, AllocError>
+        ensures { IfOk result (λ t. t ≡ self.now) }
+    {
+        Ok(Track {
+            bytes: self.bytes.clone()?,
+            used: self.used,
+            count: self.count,
+        })
+    }
+
     /// Whether so many bytes fit behind the last record.
     pub fn has_room(&self, len: usize) -> bool
         ensures { IsTrue result ↔ (bytes_of self.now.records + len ≤ self.now.size) }
