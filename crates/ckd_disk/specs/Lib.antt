@@ -6,3 +6,5 @@ pub mod Walk
 pub mod Commands
 pub mod Disk
 pub mod DiskLaws
+pub mod Mount
+pub mod MountFacts

@@ -7,8 +7,10 @@ mod bytes;
 mod command;
 mod commands;
 mod disk;
+mod mount;
 mod track;
 mod walk;
 
 pub use disk::Disk;
+pub use mount::{Geometry, InitialRecord};
 pub use track::{Records, Stored};
