@@ -12,6 +12,12 @@ use Rattle.device_port.specs.Packed.{image_of}
 use Rattle.device_port.proofs.Items.{image_of-push}
 use Rattle.ckd_disk.specs.declared.mount.Geometry.{Geometry}
 use Rattle.ckd_disk.specs.declared.mount.InitialRecord.{InitialRecord}
+use Rattle.ckd_disk.specs.declared.access.Access.{Access}
+use Rattle.ckd_disk.specs.declared.access.Orientation.TheVariants as at
+use Rattle.ckd_disk.specs.declared.access.Armed.TheVariants as by
+use Rattle.device_port.specs.Faults.{Ordinals}
+use Rattle.ckd_disk.specs.Access.{access_of, IsPlaced}
+use Rattle.ckd_disk.specs.Disk.{no_track, IsDisk}
 use Rattle.ckd_disk.specs.Record.{Record, ckd, packed, size_of, Fits}
 use Rattle.ckd_disk.specs.Track.{TrackState, bytes_of, with_last}
 use Rattle.ckd_disk.specs.Mount.{track_count, track_descriptor, initial, track_of_initial, stands_on, opening_records, has_room, opening_track, opening_tracks}
@@ -182,3 +188,30 @@ pub all_placed : (g : Geometry) (records : List InitialRecord) (n : ℕ) → len
 unfolding opening_bytes
 all_placed g records n all room =
     all_room g records (λ track. subst (λ (l : List InitialRecord). bytes_of (opening_records g l track) ≤ g.track_bytes) (take_all n records all) (room track))
+
+-- ---- the whole disk
+
+each_filled : (g : Geometry) (records : List InitialRecord) (numbers : List ℕ) → AllByRecursion (λ t. 0 < length t.records) (map (opening_track g records) numbers)
+each_filled g records [] = tt
+each_filled g records (n ∷ numbers) = (omega arith, each_filled g records numbers)
+
+some_track : (a b : ℕ) → 1 ≤ a → 1 ≤ b → 0 < a * b
+some_track zero b p q = absurd (omega arith)
+some_track (suc a) b p q = omega (arith, suc-mul a b)
+
+-- the opening disk as the code has it
+pub IsDisk-opening : (g : Geometry) (records : List InitialRecord) (tracks : List TrackState) (access : Access) (ordinals : Ordinals) → IsGeometry g → tracks ≡ opening_tracks g records
+    → access ≡ record { mask = 0; orientation = at.Index; passes = 0; armed = by.No }
+    → IsDisk (record { cylinders = g.cylinders; heads = g.heads; tracks = tracks; track = 0; access = access_of access; ordinals = ordinals }) access
+IsDisk-opening g records tracks access ordinals ok e access-is =
+    let start : Access = record { mask = 0; orientation = at.Index; passes = 0; armed = by.No } in
+    let there : 0 < track_count g = some_track g.cylinders g.heads ok.cylinders ok.heads in
+    let all = opening_tracks g records in
+    let opened : IsDisk (record { cylinders = g.cylinders; heads = g.heads; tracks = all; track = 0; access = access_of start; ordinals = ordinals }) start = record {
+      all = length-map-range_with_len (opening_track g records) 0 (track_count g);
+      here = omega (arith, there, length-tracks g records all refl);
+      placed = subst (λ (t : TrackState). IsPlaced start t) (sym (track_among g records all 0 no_track refl there)) (record { some = omega arith; oriented = tt; armed = tt });
+      filled = each_filled g records (range_with_len 0 (track_count g));
+    } in
+    subst (λ (a : Access). IsDisk (record { cylinders = g.cylinders; heads = g.heads; tracks = tracks; track = 0; access = access_of a; ordinals = ordinals }) a) (sym access-is)
+    (subst (λ (l : List TrackState). IsDisk (record { cylinders = g.cylinders; heads = g.heads; tracks = l; track = 0; access = access_of start; ordinals = ordinals }) start) (sym e) opened)

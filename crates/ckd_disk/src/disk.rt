@@ -8,13 +8,17 @@ use crate::commands::{
     check, no_operation, read_count, read_count_key_and_data, read_data, read_key_and_data,
     search_id, search_key, sense, write_count_key_and_data, write_data, write_key_and_data,
 };
+use crate::mount::{
+    Geometry, InitialRecord, are_initial, described_tracks, have_room, is_geometry, place,
+};
 use crate::track::{Records, Track};
 use device_port::{
-    Acted, COMMAND_REJECT, Chain, Device, FILE_PROTECTED, FaultScript, Flow, Given, Kind,
+    Acted, COMMAND_REJECT, Chain, Device, FILE_PROTECTED, Fault, FaultScript, Flow, Given, Kind,
+    MountError, is_script,
 };
 use io_area::Area;
 use io_images::Seek;
-use std::alloc::AllocError;
+use std::alloc::{AllocError, Global};
 use std::marker::Model;
 
 /// A disk of count-key-data records.
@@ -43,8 +47,51 @@ impl Disk {
     ghost use Rattle.std.specs.Prelude.{◌≡◌, ◌<◌, [], length};
     ghost use Rattle.device_port.specs.Moves.{AllLie, gathered, stored};
     ghost use Rattle.io_area.specs.Storage.{SamePlace};
-    ghost use Rattle.ckd_disk.specs.Disk.{track_of, control_on, read_on, write_on, seek, is_seek, prefix, command_on, track_number};
-    ghost use Rattle.ckd_disk.specs.Commands.{checked};
+    ghost use Rattle.ckd_disk.specs.Disk.{track_of, control_on, read_on, write_on, seek, is_seek, prefix, track_number};
+    ghost use Rattle.ckd_disk.specs.Mount.{Mounts};
+
+    /// A disk that holds these records behind the R0 of each track, with its heads at the index point of track
+    /// 0, and meets these faults (profile).
+    ///
+    /// Refused in this order: `BadGeometry` where a number of the geometry is outside its range; `BadMedium`
+    /// where a record lies outside the geometry, is R0, has a key over 255 or a data area over 65,535 bytes or
+    /// does not fit its track, or where the faults are no fault script; `NoMemory`.
+    pub fn mount(
+        alloc: Global,
+        geometry: Geometry,
+        records: &[InitialRecord],
+        faults: &[Fault],
+    ) -> Result<Self, MountError>
+        ensures { Mounts geometry records.now faults.now result }
+    {
+        if !is_geometry(geometry) {
+            return Err(MountError::BadGeometry);
+        }
+        if !is_script(faults) || !are_initial(geometry, records) {
+            return Err(MountError::BadMedium);
+        }
+        let Ok(mut tracks) = described_tracks(alloc, geometry) else {
+            return Err(if have_room(geometry, records) {
+                MountError::NoMemory
+            } else {
+                MountError::BadMedium
+            });
+        };
+        if !place(&mut tracks, geometry, records) {
+            return Err(MountError::BadMedium);
+        }
+        let Ok(faults) = FaultScript::new(alloc, faults) else {
+            return Err(MountError::NoMemory);
+        };
+        Ok(Disk {
+            cylinders: geometry.cylinders as u16,
+            heads: geometry.heads as u16,
+            tracks,
+            track: 0,
+            access: Access::start(0),
+            faults,
+        })
+    }
 
     /// The records of a track, from the index point on.
     pub fn records(&self, cylinder: u16, head: u16) -> Records<'_>
