@@ -38,4 +38,3 @@ pub record Begins {X : Type 0} (s : Spelling X) (bytes : List ℕ) (x : X) : Typ
   pub fits : s.Fits x
   pub rest : List ℕ
   pub parts : bytes ≡ s.packed x ++ rest
-

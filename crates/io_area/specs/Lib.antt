@@ -1,0 +1,2 @@
+pub mod AreaFault
+pub mod Storage

@@ -1,0 +1,11 @@
+//! Storage: a map from addresses below 2^24 to bytes, at most 8,192 of them in a row.
+#![tactic(auto)]
+
+mod area;
+mod error;
+
+pub use area::Area;
+pub use error::AreaError;
+
+#[cfg(test)]
+mod tests;
