@@ -1,0 +1,11 @@
+//! What becomes of a request whose channel program has ended: another try, or an end with a code.
+#![tactic(auto)]
+
+mod answer;
+mod table;
+
+pub use answer::Verdict;
+pub use table::{MAX_RETRIES, verdict};
+
+#[cfg(test)]
+mod tests;
