@@ -4,6 +4,7 @@
 #![tactic(auto)]
 
 ghost use Rattle.std.specs.Prelude.{◌≡◌, ◌≤◌, Some, None, MatchOption, min};
+ghost use Rattle.io_area.specs.Storage.{SamePlace};
 ghost use Rattle.ccw_programs.specs.Step.{program};
 ghost use Rattle.subchannel.specs.Subchannel.{Channel, Absent, Idle, Fits, started, ssch_code, hsch_code, tsch_code, halted_phase, no_status, going, RunsAs, status_of, tested_phase, is_pending};
 
@@ -120,6 +121,19 @@ impl<D: Device> Subchannel<D> {
         (0, Some(status))
     }
 
+    /// The status that is pending, which stays so.
+    pub fn status(&self) -> Option<(Csw, u16)>
+        ensures { result ≡ status_of self.now.phase }
+    {
+        if self.device.is_none() {
+            return None;
+        }
+        match &self.phase {
+            Phase::Pending(csw, sense) => Some((csw.copy(), *sense)),
+            Phase::Idle | Phase::Running(_) => None,
+        }
+    }
+
     /// HALT SUBCHANNEL: condition code 0 halted at once, with a status pending, 1 status pending before, 3 not
     /// operational; with another code than 0 nothing has changed.
     pub fn hsch(&mut self) -> u8
@@ -142,7 +156,8 @@ impl<D: Device> Subchannel<D> {
     /// pending. Takes no memory.
     pub fn run(&mut self, area: &mut Area, max: u32) -> Option<Burst>
         requires { 1 ≤ max }
-        ensures { RunsAs D.meaning self.old area.old max (going self.old.device self.old.phase area.old) result self.new area.new }
+        ensures runs { RunsAs D.meaning self.old area.old max (going self.old.device self.old.phase area.old) result self.new area.new }
+        ensures place { SamePlace area.old area.new }
     {
         let Some(device) = &mut self.device else {
             return None;
@@ -176,3 +191,6 @@ fn empty_status() -> Csw
         residual: 0,
     }
 }
+
+#[cfg(test)]
+mod tests;
