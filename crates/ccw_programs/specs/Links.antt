@@ -1,0 +1,95 @@
+-- The CCWs that one command fetches.
+use Rattle.std.specs.Prelude.{ℕ, zero, suc, ◌+◌, ◌-◌, ◌%◌, ◌==◌, nat_lt, ◌<◌, ◌≤◌, ◌^◌, Bool, true, false, not, ◌&&◌, if◌then◌else◌, List, [], ◌∷◌, sum_by, bit_and}
+use Rattle.io_area.specs.Storage.{Storage, lies_in, bytes_at}
+use Rattle.io_images.specs.Images.{ccw_of}
+use Rattle.io_images.specs.declared.ccw.Ccw.{Ccw}
+use Rattle.ccw_programs.specs.declared.fetch.Link.{Link}
+use Rattle.ccw_programs.specs.declared.fetch.Fetch.{Fetch}
+use Rattle.ccw_programs.specs.declared.fetch.Fetch.TheVariants.{Refused, Transfer, More, Last}
+
+-- flags of a CCW
+abbrev pub chains_data : Ccw → Bool
+chains_data ccw = bit_and ccw.flags.0 128 == 128
+
+abbrev pub chains_command : Ccw → Bool
+chains_command ccw = bit_and ccw.flags.0 64 == 64
+
+abbrev pub suppresses_length : Ccw → Bool
+suppresses_length ccw = bit_and ccw.flags.0 32 == 32
+
+abbrev pub skips : Ccw → Bool
+skips ccw = bit_and ccw.flags.0 16 == 16
+
+abbrev pub is_indirect : Ccw → Bool
+is_indirect ccw = bit_and ccw.flags.0 4 == 4
+
+-- transfer in channel
+abbrev pub is_transfer : Ccw → Bool
+is_transfer ccw = ccw.command % 16 == 8
+
+-- a CCW that is no transfer may stand at this place of its chain: the first one has a command that
+-- is no zero in its low bits, the reserved flags are off, it has a count, and there are at most 16
+abbrev pub is_allowed : ℕ → Ccw → Bool
+is_allowed place ccw =
+    not ((place == 0) && (ccw.command % 16 == 0)) && (bit_and ccw.flags.0 3 == 0) && not (ccw.count == 0) && nat_lt place 16
+
+-- what a CCW is at this place, where a transfer may come next or not
+abbrev pub kind_of_fetch : Bool → ℕ → Ccw → Fetch
+kind_of_fetch may_transfer place ccw =
+    if is_transfer ccw then (if may_transfer && (ccw.address % 8 == 0) then Transfer ccw.address else Refused)
+    else (if is_allowed place ccw then (if chains_data ccw then More ccw else Last ccw) else Refused)
+
+-- what is fetched from an address
+abbrev pub fetch_at : Storage → Bool → ℕ → ℕ → Fetch
+fetch_at m may_transfer place at =
+    if (at % 8 == 0) && lies_in m at 8 then kind_of_fetch may_transfer place (ccw_of (bytes_at m at 8)) else Refused
+
+-- the CCWs of a command and the number of fetches after them, or the address of the one that failed
+pub data Fetched : Type 0 where
+  Whole : List Link → ℕ → Fetched
+  Broken : ℕ → Fetched
+
+-- the same chain behind one more CCW
+abbrev pub behind : Link → Fetched → Fetched
+behind link (Whole links fetches) = Whole (link ∷ links) fetches
+behind link (Broken at) = Broken at
+
+-- what a fetch at an address adds to `rest`, which is what comes from a next address on
+abbrev pub chain_by : Fetch → ℕ → ℕ → ℕ → (Bool → ℕ → ℕ → Fetched) → Fetched
+chain_by Refused at place fetches rest = Broken at
+chain_by (Transfer to) at place fetches rest = rest false place to
+chain_by (More ccw) at place fetches rest = behind (record { at = at; ccw = ccw }) (rest true (suc place) (at + 8))
+chain_by (Last ccw) at place fetches rest = Whole (record { at = at; ccw = ccw } ∷ []) fetches
+
+-- the chain from an address on, with so many fetches left of 4,096
+unfoldable pub chain_within : Storage → ℕ → Bool → ℕ → ℕ → Fetched
+chain_within m zero may_transfer place at = Broken at
+chain_within m (suc left) may_transfer place at =
+    chain_by (fetch_at m may_transfer place at) at place (4096 - left) (λ may next to. chain_within m left may next to)
+
+-- THE CHAIN that one command fetches from an address, after so many fetches: a transfer may not be
+-- the first CCW of all
+abbrev pub chain : Storage → ℕ → ℕ → Fetched
+chain m at fetches = chain_within m (4096 - fetches) (not (fetches == 0)) 0 at
+
+-- the bytes that the CCWs of a chain count
+abbrev pub total_count : List Link → ℕ
+total_count links = sum_by (λ l. l.ccw.count) links
+
+-- what a fetch that is not refused tells: the place is in storage, and a CCW has room in its chain
+abbrev pub Tells : Fetch → ℕ → ℕ → Type 0
+Tells Refused place at = Unit {0}
+Tells (Transfer to) place at = (at + 8 ≤ 2 ^ 24) × (to < 2 ^ 24)
+Tells (More ccw) place at = (at + 8 ≤ 2 ^ 24) × (place < 16) × (1 ≤ ccw.count)
+Tells (Last ccw) place at = (at + 8 ≤ 2 ^ 24) × (place < 16) × (1 ≤ ccw.count)
+
+abbrev pub TellsKind : Fetch → ℕ → Type 0
+TellsKind Refused place = Unit {0}
+TellsKind (Transfer to) place = to < 2 ^ 24
+TellsKind (More ccw) place = (place < 16) × (1 ≤ ccw.count)
+TellsKind (Last ccw) place = (place < 16) × (1 ≤ ccw.count)
+
+-- what is known of each CCW of a chain: it lies in storage, and it counts a byte
+pub record Sound (link : Link) : Type 0 where
+  pub in_storage : link.at + 8 ≤ 2 ^ 24
+  pub counted : 1 ≤ link.ccw.count

@@ -1,0 +1,135 @@
+-- One command step, and what comes after so many of them.
+use Rattle.std.specs.Prelude.{◌≡◌, ◌<◌, ◌≤◌, ℕ, zero, suc, ◌+◌, ◌-◌, ◌==◌, nat_lt, min, bit_and, Bool, true, false, not, ◌&&◌, ◌||◌, if◌then◌else◌, List, [], ◌∷◌, length, slice_index_or}
+use Rattle.io_area.specs.Storage.{Storage}
+use Rattle.device_port.specs.Meaning.{Meaning, effect}
+use Rattle.device_port.specs.declared.answer.Acted.{Acted}
+use Rattle.device_port.specs.declared.kind.Flow.{Flow}
+use Rattle.device_port.specs.declared.kind.Flow.TheVariants.{None as NoFlow, Out, Input, Back}
+use Rattle.ccw_programs.specs.declared.fetch.Link.{Link}
+use Rattle.ccw_programs.specs.declared.ending.Ending.{Ending}
+use Rattle.ccw_programs.specs.declared.context.State.{State}
+use Rattle.ccw_programs.specs.declared.context.State.TheVariants.{Running, Ended}
+use Rattle.ccw_programs.specs.Links.{Fetched, Whole, Broken, chain, chains_data, chains_command, suppresses_length, total_count}
+use Rattle.ccw_programs.specs.Areas.{Areas, Parts, Bad, areas}
+use Rattle.ccw_programs.specs.Place.{Place, start_place, ended_place, checked_place, stored_address}
+
+-- a chain has a CCW; this one never comes
+abbrev pub no_link : Link
+no_link = record { at = 0; ccw = record { command = 0; address = 0; flags = record { 0 = 0 }; count = 0 } }
+
+abbrev pub first_of : List Link → Link
+first_of links = slice_index_or links 0 no_link
+
+abbrev pub last_of : List Link → Link
+last_of links = slice_index_or links (length links - 1) no_link
+
+-- WHERE A COMMAND ENDED that moved n bytes: the first CCW of the chain whose count they do not use up,
+-- or the last one, and what is left of its count
+abbrev pub ending : List Link → ℕ → Ending
+ending [] n = record { link = no_link; residual = 0 }
+ending (l ∷ []) n = record { link = l; residual = l.ccw.count - n }
+ending (l ∷ k ∷ ls) n =
+    if nat_lt n l.ccw.count then record { link = l; residual = l.ccw.count - n } else ending (k ∷ ls) (n - l.ccw.count)
+
+-- the length that the program counts is not the one that the device wants, and this is to be shown
+abbrev pub shows_length : Flow → List Link → ℕ → Link → Bool
+shows_length NoFlow links want last = chains_data (first_of links).ccw
+shows_length Out links want last = not (want == total_count links) && (chains_data last.ccw || not (suppresses_length last.ccw))
+shows_length Input links want last = not (want == total_count links) && (chains_data last.ccw || not (suppresses_length last.ccw))
+shows_length Back links want last = not (want == total_count links) && (chains_data last.ccw || not (suppresses_length last.ccw))
+
+-- the subchannel status: an incorrect length is shown beside no other error
+abbrev pub sub_status : Flow → List Link → Acted → Link → ℕ
+sub_status flow links acted last =
+    if (bit_and acted.unit.0 3 == 0) && (acted.sub.0 == 0) && shows_length flow links acted.want last then 64 else acted.sub.0
+
+-- the bytes that are moved
+abbrev pub moved : List Link → Acted → ℕ
+moved links acted = min (total_count links) acted.want
+
+-- the program goes on to another command
+abbrev pub goes_on : List Link → ℕ → ℕ → Bool
+goes_on links unit sub = chains_command (last_of links).ccw && ((unit == 12) || (unit == 76)) && (sub == 0)
+
+-- the address of the next command: behind the last CCW, and behind one more with status modifier
+abbrev pub next_address : List Link → ℕ → ℕ
+next_address links unit = (last_of links).at + (if unit == 76 then 16 else 8)
+
+-- the place after a command that ended there with this subchannel status
+abbrev pub placed : Place → List Link → ℕ → Acted → Ending → ℕ → Place
+placed place links fetches acted end sub =
+    if goes_on links acted.unit.0 sub
+    then record { next = next_address links acted.unit.0; fetched = fetches; address = stored_address end.link.at; residual = end.residual; state = Running }
+    else ended_place place (record { address = stored_address end.link.at; unit = acted.unit; sub = record { 0 = sub }; residual = end.residual }) acted.sense
+
+abbrev pub acted_place : Place → Flow → List Link → ℕ → Acted → Place
+acted_place place flow links fetches acted =
+    placed place links fetches acted (ending links (moved links acted))
+    (sub_status flow links acted (ending links (moved links acted)).link)
+
+-- a channel program in flight: where it stands, the device and the area
+pub record Program (D : Type 0) : Type 0 where
+  pub place : Place
+  pub device : D
+  pub area : Storage
+
+abbrev pub program : {D : Type 0} → Place → D → Storage → Program D
+program place device area = record { place = place; device = device; area = area }
+
+abbrev pub begun : {D : Type 0} → ℕ → D → Storage → Program D
+begun start device area = program (start_place start) device area
+
+abbrev pub is_running : State → Bool
+is_running Running = true
+is_running (Ended csw sense) = false
+
+module _ {D : Type 0} (meaning : Meaning D) where
+  -- the chain lies in these areas: the device acts
+  abbrev pub step_on_areas : Program D → List Link → ℕ → Areas → Program D
+  step_on_areas p links fetches (Bad at) = program (checked_place p.place at) p.device p.area
+  step_on_areas p links fetches (Parts parts) =
+      let done = effect meaning p.device (first_of links).ccw.command parts p.area in
+      program (acted_place p.place (meaning.flow p.device (first_of links).ccw.command) links fetches done.acted) done.device done.area
+
+  -- the command has fetched this chain
+  abbrev pub step_on_chain : Program D → Fetched → Program D
+  step_on_chain p (Broken at) = program (checked_place p.place at) p.device p.area
+  step_on_chain p (Whole links fetches) =
+      step_on_areas p links fetches (areas (meaning.flow p.device (first_of links).ccw.command) p.area links)
+
+  abbrev pub step_from : Program D → State → Program D
+  step_from p Running = step_on_chain p (chain p.area p.place.next p.place.fetched)
+  step_from p (Ended csw sense) = p
+
+  -- ONE COMMAND STEP; a program that has ended stays as it is
+  unfoldable pub step : Program D → Program D
+  step p = step_from p p.place.state
+
+  -- what stands AFTER so many command steps
+  unfoldable pub after : ℕ → Program D → Program D
+  after zero p = p
+  after (suc k) p = step (after k p)
+
+  -- the steps of a program until it has ended, at most so many
+  unfoldable pub steps_within : ℕ → Program D → ℕ
+  steps_within zero p = 0
+  steps_within (suc k) p = if is_running p.place.state then suc (steps_within k (step p)) else 0
+
+  -- THE LENGTH of a program: the number of its command steps, the ending one included
+  abbrev pub length_of : Program D → ℕ
+  length_of p = steps_within 4097 p
+
+  -- the laws of steps: steps after steps are as many together; before its length a program runs, and at
+  -- its length it has ended; what is left of it after some steps; it has at most 4,097
+  pub record StepsCompose : Type 0 where
+    pub together : (j k : ℕ) (p : Program D) → after (j + k) p ≡ after k (after j p)
+    pub runs : (j : ℕ) (p : Program D) → j < length_of p → is_running (after j p).place.state ≡ true
+    pub ends : (p : Program D) → p.place.fetched ≤ 4096 → is_running (after (length_of p) p).place.state ≡ false
+    pub left : (c : ℕ) (p : Program D) → p.place.fetched ≤ 4096 → c ≤ length_of p → length_of (after c p) ≡ length_of p - c
+    pub few : (p : Program D) → length_of p ≤ 4097
+
+  -- kind and geometry of a device stay over every program
+  pub record DeviceStays : Type 0 where
+    pub kind : (k : ℕ) (p : Program D) → meaning.kind (after k p).device ≡ meaning.kind p.device
+    pub cylinders : (k : ℕ) (p : Program D) → meaning.cylinders (after k p).device ≡ meaning.cylinders p.device
+    pub heads : (k : ℕ) (p : Program D) → meaning.heads (after k p).device ≡ meaning.heads p.device

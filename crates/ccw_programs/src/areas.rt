@@ -1,0 +1,143 @@
+ghost use Rattle.std.specs.Prelude.{◌≡◌, ◌≤◌, ◌<◌, ◌+◌, ◌*◌, ◌^◌, ◌-◌, min, List, length, [], MatchResult, MatchOption, OnOk, IfSome, IsSome, All, Some, None, true, false, if◌then◌else◌};
+ghost use Rattle.io_area.specs.Storage.{lies_in};
+ghost use Rattle.device_port.specs.Moves.{CanAct, segment_lies};
+ghost use Rattle.ccw_programs.specs.Links.{Sound, skips};
+ghost use Rattle.ccw_programs.specs.Areas.{areas, parts_of, parts_from, is_usable, room_after, indirect_parts, direct_parts, prefixed, word_at, Parts, Bad};
+
+use crate::fetch::Link;
+use device_port::{Chain, Flow, Segment};
+use io_area::Area;
+use io_images::{AddressWord, Ccw};
+
+fn word_at(area: &Area, at: u32) -> Option<u32>
+    ensures answer { MatchOption result (lies_in area.now at 4 ≡ false) (λ w. (lies_in area.now at 4 ≡ true) × (w ≡ word_at area.now at)) }
+    ensures bound { IsSome result → at + 4 ≤ 2 ^ 24 }
+{
+    match area.get(at, 4) {
+        Some(image) => Some(AddressWord::read(&[image[0], image[1], image[2], image[3]]).get()),
+        None => None,
+    }
+}
+
+fn segment_lies(flow: Flow, area: &Area, segment: &Segment) -> bool
+    ensures { result ≡ segment_lies flow area.now segment.now }
+{
+    match flow {
+        Flow::None => true,
+        Flow::Out | Flow::Input => area.get(segment.address, segment.count as usize).is_some(),
+        Flow::Back => {
+            if segment.count == 0 {
+                return true;
+            }
+            let below = u32::from(segment.count) - 1;
+            below <= segment.address
+                && area
+                    .get(segment.address - below, segment.count as usize)
+                    .is_some()
+        }
+    }
+}
+
+fn push_direct(chain: &mut Chain, flow: Flow, area: &Area, ccw: &Ccw) -> bool
+    requires { length chain.old ≤ 495 }
+    ensures room { length chain.new ≤ length chain.old + 33 }
+    ensures parts { prefixed chain.old (direct_parts flow area.now ccw.now) ≡ (if result then Some chain.new else None) }
+{
+    let segment = Segment {
+        address: ccw.address.get(),
+        count: ccw.count,
+        skip: ccw.flags.skips(),
+    };
+    let lies = segment_lies(flow, area, &segment);
+    if lies {
+        chain.push(segment);
+    }
+    lies
+}
+
+fn push_indirect(chain: &mut Chain, area: &Area, ccw: &Ccw) -> bool
+    requires { length chain.old ≤ 495 }
+    ensures room { length chain.new ≤ length chain.old + 33 }
+    ensures parts { prefixed chain.old (indirect_parts area.now ccw.now) ≡ (if result then Some chain.new else None) }
+{
+    let list = ccw.address.get();
+    if list % 4 != 0 {
+        return false;
+    }
+    let Some(first) = word_at(area, list) else {
+        return false;
+    };
+    let count = ccw.count;
+    let words = (first % 2048 + count as u32 + 2047) / 2048;
+    push_words(chain, area, list, words, count, ccw.flags.skips())
+}
+
+fn push_words(chain: &mut Chain, area: &Area, list: u32, words: u32, bytes: u16, skip: bool) -> bool
+    requires { length chain.old + words ≤ 528 }
+    ensures room { length chain.new ≤ length chain.old + words }
+    ensures parts { prefixed chain.old (parts_from area.now skip true list words bytes) ≡ (if result then Some chain.new else None) }
+{
+    let mut at = list;
+    let mut count = bytes;
+    for place in 0..words {
+        let Some(part) = usable_part(area, place == 0, at, count, skip) else {
+            return false;
+        };
+        chain.push(part);
+        count -= part.count;
+        at += 4;
+    }
+    true
+}
+
+fn usable_part(area: &Area, is_first: bool, at: u32, count: u16, skip: bool) -> Option<Segment>
+    ensures answer { MatchOption result (is_usable area.now is_first at count ≡ false) (λ s. (is_usable area.now is_first at count ≡ true) × (s ≡ record { address = word_at area.now at; count = min count (room_after (word_at area.now at)); skip = skip })) }
+    ensures bound { IfSome result (λ s. (at + 4 ≤ 2 ^ 24) × (s.count ≤ count) × (count - s.count ≡ count - room_after (word_at area.now at))) }
+{
+    let word = word_at(area, at)?;
+    if word >= 0x8000_0000 || (!is_first && word % 2048 != 0) {
+        return None;
+    }
+    let size = u32::from(count).min(2048 - word % 2048);
+    area.get(word, size as usize)?;
+    Some(Segment {
+        address: word,
+        count: size as u16,
+        skip,
+    })
+}
+
+fn push_parts(chain: &mut Chain, flow: Flow, area: &Area, ccw: &Ccw) -> bool
+    requires { length chain.old ≤ 495 }
+    ensures room { length chain.new ≤ length chain.old + 33 }
+    ensures parts { prefixed chain.old (parts_of flow area.now ccw.now) ≡ (if result then Some chain.new else None) }
+{
+    match flow {
+        Flow::None => true,
+        Flow::Back if ccw.flags.is_indirect() => false,
+        _ if ccw.flags.is_indirect() => push_indirect(chain, area, ccw),
+        _ => push_direct(chain, flow, area, ccw),
+    }
+}
+
+/// Puts the parts of a whole chain together, or tells the address of the first CCW that failed.
+pub(crate) fn data_areas(
+    flow: Flow,
+    area: &Area,
+    links: &[Link],
+    chain: &mut Chain,
+) -> Result<(), u32>
+    requires few { length links.now ≤ 16 }
+    requires some { 1 ≤ length links.now }
+    requires sound { All Sound links.now }
+    requires empty { chain.old ≡ [] }
+    ensures value { MatchResult result (λ _. areas flow area.now links.now ≡ Parts chain.new) (λ at. areas flow area.now links.now ≡ Bad at) }
+    ensures can { OnOk result (CanAct flow area.now chain.new) }
+{
+    for link in links {
+        if !push_parts(chain, flow, area, &link.ccw) {
+            return Err(link.at);
+        }
+    }
+    Ok(())
+}

@@ -1,0 +1,62 @@
+ghost use Rattle.std.specs.Prelude.{◌≡◌, ◌≤◌, ◌<◌, ◌+◌, ◌*◌, ◌-◌, length};
+ghost use Rattle.ccw_programs.specs.Step.{ending, last_of, first_of};
+ghost use Rattle.ccw_programs.specs.Links.{total_count};
+
+use crate::fetch::Link;
+
+/// Where a command ended, and what is left of that CCW's count.
+#[derive(Clone, Copy, PartialEq, Eq, Debug)]
+pub struct Ending {
+    pub link: Link,
+    pub residual: u16,
+}
+
+/// Where a command ended that moved `n` bytes.
+pub(crate) fn ending_of(links: &[Link], n: u32) -> Ending
+    requires { 1 ≤ length links.now }
+    ensures { result ≡ ending links.now n }
+{
+    match links {
+        [] => unreachable!(),
+        [only] => ended_in(*only, n),
+        [first, rest @ ..] => {
+            let count = u32::from(first.ccw.count);
+            if n < count {
+                ended_in(*first, n)
+            } else {
+                ending_of(rest, n - count)
+            }
+        }
+    }
+}
+
+fn ended_in(link: Link, n: u32) -> Ending
+    ensures { result ≡ record { link = link; residual = link.ccw.count - n } }
+{
+    Ending {
+        link,
+        residual: u32::from(link.ccw.count).saturating_sub(n) as u16,
+    }
+}
+
+/// The bytes that a chain counts.
+pub(crate) fn total_count(links: &[Link]) -> u32
+    requires { length links.now ≤ 16 }
+    ensures { result ≡ total_count links.now }
+{
+    links.iter().map(|l| u32::from(l.ccw.count)).sum()
+}
+
+pub(crate) fn last_of(links: &[Link]) -> Link
+    requires { 1 ≤ length links.now }
+    ensures { result ≡ last_of links.now }
+{
+    links[links.len() - 1]
+}
+
+pub(crate) fn command_code(links: &[Link]) -> u8
+    requires { 1 ≤ length links.now }
+    ensures { result ≡ (first_of links.now).ccw.command }
+{
+    links[0].ccw.command
+}

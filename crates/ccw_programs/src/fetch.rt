@@ -1,0 +1,128 @@
+ghost use Rattle.std.specs.Prelude.{◌≡◌, ◌<◌, ◌≤◌, ◌+◌, ◌==◌, ◌%◌, not, length, [], MatchResult, IfOk, OnOk, All};
+ghost use Rattle.arrayvec.specs.ArrayVec.{array_vec_len};
+ghost use Rattle.ccw_programs.specs.Links.{Tells, TellsKind, fetch_at, kind_of_fetch, is_transfer, is_allowed, chain, Whole, Broken, Sound};
+ghost use Rattle.io_images.specs.Images.{ccw_of};
+
+use arrayvec::ArrayVec;
+use io_area::Area;
+use io_images::Ccw;
+
+/// A CCW of a chain, and where it was fetched.
+#[derive(Clone, Copy, PartialEq, Eq, Debug, Default)]
+pub struct Link {
+    pub at: u32,
+    pub ccw: Ccw,
+}
+
+/// What a fetched CCW is.
+#[derive(Clone, Copy, PartialEq, Eq, Debug)]
+pub enum Fetch {
+    Refused,
+    Transfer(u32),
+    More(Ccw),
+    Last(Ccw),
+}
+
+fn is_transfer(ccw: &Ccw) -> bool
+    ensures { result ≡ is_transfer ccw.now }
+{
+    ccw.command % 16 == 8
+}
+
+fn is_allowed(place: usize, ccw: &Ccw) -> bool
+    ensures { result ≡ is_allowed place ccw.now }
+{
+    !(place == 0 && ccw.command % 16 == 0)
+        && ccw.flags.reserved_off()
+        && ccw.count != 0
+        && place < 16
+}
+
+fn kind_of_fetch(may_transfer: bool, place: usize, ccw: Ccw) -> Fetch
+    ensures value { result ≡ kind_of_fetch may_transfer place ccw }
+    ensures tells { TellsKind result place }
+{
+    if is_transfer(&ccw) {
+        if may_transfer && ccw.address.get() % 8 == 0 {
+            Fetch::Transfer(ccw.address.get())
+        } else {
+            Fetch::Refused
+        }
+    } else if is_allowed(place, &ccw) {
+        if ccw.flags.chains_data() {
+            Fetch::More(ccw)
+        } else {
+            Fetch::Last(ccw)
+        }
+    } else {
+        Fetch::Refused
+    }
+}
+
+fn fetch_at(area: &Area, may_transfer: bool, place: usize, at: u32) -> Fetch
+    ensures value { result ≡ fetch_at area.now may_transfer place at }
+    ensures tells { Tells result place at }
+{
+    if at % 8 != 0 {
+        return Fetch::Refused;
+    }
+    match area.get(at, 8) {
+        Some(image) => kind_of_fetch(may_transfer, place, read_ccw(image)),
+        None => Fetch::Refused,
+    }
+}
+
+fn read_ccw(image: &[u8]) -> Ccw
+    requires { length image.now ≡ 8 }
+    ensures { result ≡ ccw_of image.now }
+{
+    Ccw::read(&[
+        image[0], image[1], image[2], image[3], image[4], image[5], image[6], image[7],
+    ])
+}
+
+/// CCWs that one attempt may fetch.
+pub(crate) const FETCH_LIMIT: u16 = 4096;
+
+/// The CCWs of one command: at most 16. They are made once and cleared for each command.
+pub type Links = ArrayVec<Link, 16>;
+
+/// Fetches the CCWs of one command, and gives the number of fetches after it, or tells the address of the
+/// CCW that failed.
+pub(crate) fn fetch_chain(
+    area: &Area,
+    start: u32,
+    fetches: u16,
+    links: &mut Links,
+) -> Result<u16, u32>
+    requires limit { fetches ≤ 4096 }
+    requires empty { links.old.items ≡ [] }
+    ensures some { OnOk result (1 ≤ array_vec_len links.new) }
+    ensures few { OnOk result (array_vec_len links.new ≤ 16) }
+    ensures sound { OnOk result (All Sound links.new.items) }
+    ensures fetches { IfOk result (λ after. after ≤ 4096) }
+    ensures later { IfOk result (λ after. fetches < after) }
+    ensures chain { MatchResult result (λ after. chain area.now start fetches ≡ Whole links.new.items after) (λ at. chain area.now start fetches ≡ Broken at) }
+{
+    let mut at = start;
+    let mut may_transfer = fetches != 0;
+    for done in fetches..FETCH_LIMIT {
+        match fetch_at(area, may_transfer, links.len(), at) {
+            Fetch::Refused => return Err(at),
+            Fetch::Transfer(to) => {
+                at = to;
+                may_transfer = false;
+            }
+            Fetch::More(ccw) => {
+                links.push(Link { at, ccw });
+                at += 8;
+                may_transfer = true;
+            }
+            Fetch::Last(ccw) => {
+                links.push(Link { at, ccw });
+                return Ok(done + 1);
+            }
+        }
+    }
+    Err(at)
+}

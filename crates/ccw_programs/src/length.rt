@@ -1,0 +1,66 @@
+ghost use Rattle.std.specs.Prelude.{◌≡◌, ◌≤◌, ◌<◌, ◌+◌, ◌%◌, ◌^◌, length, All};
+ghost use Rattle.ccw_programs.specs.Links.{Sound};
+ghost use Rattle.ccw_programs.specs.Step.{moved, shows_length, sub_status, goes_on, next_address};
+
+use crate::ending::{last_of, total_count};
+use crate::fetch::Link;
+use device_port::{Acted, Flow};
+use io_images::{SubStatus, UnitStatus};
+
+/// The bytes that a command moved.
+pub(crate) fn moved(links: &[Link], acted: Acted) -> u32
+    requires { length links.now ≤ 16 }
+    ensures { result ≡ moved links.now acted }
+{
+    total_count(links).min(acted.want)
+}
+
+fn shows_length(flow: Flow, links: &[Link], want: u32, last: Link) -> bool
+    requires few { length links.now ≤ 16 }
+    requires some { 1 ≤ length links.now }
+    ensures { result ≡ shows_length flow links.now want last }
+{
+    match flow {
+        Flow::None => links[0].ccw.flags.chains_data(),
+        _ => {
+            want != total_count(links)
+                && (last.ccw.flags.chains_data() || !last.ccw.flags.suppresses_length())
+        }
+    }
+}
+
+/// The subchannel status of a command that ended there.
+pub(crate) fn sub_status(flow: Flow, links: &[Link], acted: Acted, last: Link) -> SubStatus
+    requires few { length links.now ≤ 16 }
+    requires some { 1 ≤ length links.now }
+    ensures { result.0 ≡ sub_status flow links.now acted last }
+{
+    if acted.unit.is_normal()
+        && acted.sub.is_clear()
+        && shows_length(flow, links, acted.want, last)
+    {
+        SubStatus::new(0x40)
+    } else {
+        acted.sub
+    }
+}
+
+/// Whether the program goes on to another command.
+pub(crate) fn goes_on(links: &[Link], unit: UnitStatus, sub: SubStatus) -> bool
+    requires { 1 ≤ length links.now }
+    ensures { result ≡ goes_on links.now unit.0 sub.0 }
+{
+    last_of(links).ccw.flags.chains_command()
+        && (unit.bits() == 0x0C || unit.bits() == 0x4C)
+        && sub.is_clear()
+}
+
+/// The address of the next command.
+pub(crate) fn next_address(links: &[Link], unit: UnitStatus) -> u32
+    requires some { 1 ≤ length links.now }
+    requires sound { All Sound links.now }
+    ensures { result ≡ next_address links.now unit.0 }
+{
+    let at = last_of(links).at;
+    if unit.bits() == 0x4C { at + 16 } else { at + 8 }
+}

@@ -1,0 +1,133 @@
+ghost use Rattle.std.specs.Prelude.{◌≡◌, ◌≤◌, ◌<◌, [], length, min, sum, All};
+ghost use Rattle.io_area.specs.Storage.{SamePlace};
+ghost use Rattle.ccw_programs.specs.Links.{chain, Whole, Sound};
+ghost use Rattle.ccw_programs.specs.Step.{Program, program, step, after, length_of};
+
+use crate::areas::data_areas;
+use crate::context::{Burst, Context, State};
+use crate::ending::command_code;
+use crate::fetch::{Link, Links, fetch_chain};
+use device_port::{Chain, Device};
+use io_area::Area;
+
+/// What a command step works on, made once for a burst: the CCWs of the command and the parts of its data.
+#[derive(Drop)]
+struct Workspace {
+    links: Links,
+    parts: Chain,
+}
+
+impl Workspace {
+    fn new() -> Self
+        ensures links { result.links.items ≡ [] }
+        ensures parts { result.parts ≡ [] }
+    {
+        Workspace {
+            links: Links::new(),
+            parts: Chain::new(),
+        }
+    }
+}
+
+/// One command step.
+fn command<D: Device>(context: &mut Context, device: &mut D, area: &mut Area, space: &mut Workspace)
+    requires { context.old.state ≡ State.Running }
+    ensures bound { context.old.fetched ≤ 4096 }
+    ensures place { SamePlace area.old area.new }
+    ensures step { program context.new device.new area.new ≡ step D.meaning (program context.old device.old area.old) }
+{
+    space.links.clear();
+    match fetch_chain(area, context.next(), context.fetched(), &mut space.links) {
+        Err(at) => context.check(at),
+        Ok(fetches) => command_on(
+            context,
+            device,
+            area,
+            space.links.as_slice(),
+            fetches,
+            &mut space.parts,
+        ),
+    }
+}
+
+/// One command step, whose CCWs were fetched.
+fn command_on<D: Device>(
+    context: &mut Context,
+    device: &mut D,
+    area: &mut Area,
+    links: &[Link],
+    fetches: u16,
+    parts: &mut Chain,
+)
+    requires running { context.old.state ≡ State.Running }
+    requires fetched { chain area.old context.old.next context.old.fetched ≡ Whole links.now fetches }
+    requires some { 1 ≤ length links.now }
+    requires few { length links.now ≤ 16 }
+    requires sound { All Sound links.now }
+    requires fetches { fetches ≤ 4096 }
+    ensures place { SamePlace area.old area.new }
+    ensures step { program context.new device.new area.new ≡ step D.meaning (program context.old device.old area.old) }
+{
+    let code = command_code(links);
+    let flow = device.flow(code);
+    parts.clear();
+    match data_areas(flow, area, links, parts) {
+        Err(at) => context.check(at),
+        Ok(()) => {
+            let acted = device.act(code, parts, area);
+            context.advance(flow, links, fetches, acted);
+        }
+    }
+}
+
+/// Goes on with a program, by so many commands at most.
+pub fn burst<D: Device>(context: &mut Context, device: &mut D, area: &mut Area, max: u32) -> Burst
+    requires some { 1 ≤ max }
+    requires running { context.old.state ≡ State.Running }
+    ensures after { program context.new device.new area.new ≡ after D.meaning result.commands (program context.old device.old area.old) }
+    ensures commands { result.commands ≡ min max (length_of D.meaning (program context.old device.old area.old)) }
+    ensures state { result.state ≡ context.new.state }
+    ensures place { SamePlace area.old area.new }
+    ensures full { result.state ≡ State.Running → result.commands ≡ max }
+{
+    let mut space = Workspace::new();
+    for done in 0..max {
+        command(context, device, area, &mut space);
+        let state = context.state();
+        match state {
+            State::Running => {}
+            State::Ended(_, _) => {
+                return Burst {
+                    commands: done + 1,
+                    state,
+                };
+            }
+        }
+    }
+    Burst {
+        commands: max,
+        state: State::Running,
+    }
+}
+
+/// Bursts of these sizes, one after another, until the sizes are used up or the program has ended.
+pub fn bursts<D: Device>(
+    context: &mut Context,
+    device: &mut D,
+    area: &mut Area,
+    sizes: &[u32],
+) -> State
+    requires sizes { All (λ size. 1 ≤ size) sizes.now }
+    requires running { context.old.state ≡ State.Running }
+    ensures after { program context.new device.new area.new ≡ after D.meaning (sum sizes.now) (program context.old device.old area.old) }
+    ensures state { result ≡ context.new.state }
+{
+    for size in sizes {
+        let done = burst(context, device, area, *size);
+        match done.state {
+            State::Running => {}
+            State::Ended(_, _) => return done.state,
+        }
+    }
+    State::Running
+}

@@ -1,0 +1,3 @@
+pub mod Packing
+pub mod Tracks
+pub mod Opening

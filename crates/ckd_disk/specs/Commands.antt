@@ -1,0 +1,203 @@
+-- What the commands of a disk mean on the track under its heads (count-key-data devices, in the profile's choice).
+use Rattle.std.specs.Prelude.{ℕ, ◌+◌, ◌/◌, List, [], ◌∷◌, ◌++◌, Bool, Option, Some, None, nat_lt, ◌==◌, ◌||◌, ◌&&◌, min, if◌then◌else◌, length, take, nat_eq}
+use Rattle.std.specs.List.{starts_with}
+use Rattle.device_port.specs.declared.answer.Acted.{Acted}
+use Rattle.device_port.specs.Answers.{normal_end, status_modifier, unit_check, unit_exception}
+use Rattle.ckd_disk.specs.Record.{Record, count_area, packed, size_at, record_written}
+use Rattle.ckd_disk.specs.Track.{TrackState, record_of, bytes_before, with_content, with_key_and_content, with_record_behind}
+use Rattle.ckd_disk.specs.Access.{Orientation, at_count, at_key, at_end, Armed, unarmed, armed_by_id, armed_by_key, armed_by_format, AccessState}
+use Rattle.ckd_disk.specs.Walk.{Reached, next, next_record, key_record, content_record}
+
+-- what a command answers that leaves the medium as it is: the status, what it leaves for the next command, and
+-- the bytes that it gives to the program
+pub record Answer : Type 0 where
+  pub acted : Acted
+  pub access : AccessState
+  pub bytes : List ℕ
+
+-- what a command answers that writes on the track
+pub record Written : Type 0 where
+  pub acted : Acted
+  pub access : AccessState
+  pub track : TrackState
+
+-- every command that is no search leaves no index point counted
+abbrev pub left : AccessState → Orientation → Armed → AccessState
+left access orientation armed = record { mask = access.mask; orientation = orientation; passes = 0; armed = armed }
+
+-- UNIT CHECK: the heads and the medium stay as they are
+abbrev pub checked : ℕ → AccessState → Answer
+checked sense access = record { acted = unit_check sense; access = left access access.orientation unarmed; bytes = [] }
+
+abbrev pub refused : ℕ → TrackState → AccessState → Written
+refused sense track access = record { acted = unit_check sense; access = left access access.orientation unarmed; track = track }
+
+-- 03 NO-OPERATION
+abbrev pub no_operation : AccessState → Answer
+no_operation access = record { acted = normal_end 0; access = left access access.orientation unarmed; bytes = [] }
+
+-- 04 SENSE: two bytes of zeros, since the sense comes with the status
+abbrev pub sense : AccessState → Answer
+sense access = record { acted = normal_end 2; access = left access access.orientation unarmed; bytes = 0 ∷ 0 ∷ [] }
+
+-- 1F SET FILE MASK: rejected, since the system has set the mask
+abbrev pub set_file_mask : AccessState → Answer
+set_file_mask access = checked 0x8000 access
+
+-- ---- searches
+
+-- the first bytes that a program gives are those of a field, as far as both go
+abbrev pub matches : List ℕ → List ℕ → Bool
+matches field given = starts_with nat_eq field (take (length field) given)
+
+-- a search has compared: an equal field gives status modifier and arms
+abbrev pub searched : AccessState → Reached → Orientation → ℕ → Bool → Armed → Answer
+searched access reached orientation want equal armed = record {
+  acted = if equal then status_modifier want else normal_end want;
+  access = record {
+    mask = access.mask;
+    orientation = orientation;
+    passes = access.passes + reached.passed;
+    armed = if equal then armed else unarmed;
+  };
+  bytes = [];
+}
+
+-- 31 SEARCH ID EQUAL: the next count area's CCHHR. The second index point ends the search
+abbrev pub search_id_at : TrackState → AccessState → List ℕ → Reached → Answer
+search_id_at track access given reached =
+    let equal = matches (record_of track.records reached.place).id given in
+    if nat_lt (access.passes + reached.passed) 2
+    then searched access reached (at_count reached.place) 5 equal (armed_by_id reached.place)
+    else checked 0x0008 access
+
+abbrev pub search_id : TrackState → AccessState → List ℕ → Answer
+search_id track access given = search_id_at track access given (next access.orientation (length track.records))
+
+-- 29 SEARCH KEY EQUAL: at least one byte of a key area
+abbrev pub search_key_at : TrackState → AccessState → List ℕ → Option Reached → Answer
+search_key_at track access given None = checked 0x0008 access
+search_key_at track access given (Some reached) =
+    let key = (record_of track.records reached.place).key in
+    let equal = nat_lt 0 (min (length given) (length key)) && matches key given in
+    if nat_lt (access.passes + reached.passed) 2
+    then searched access reached (at_key reached.place) (length key) equal (armed_by_key reached.place)
+    else checked 0x0008 access
+
+abbrev pub search_key : TrackState → AccessState → List ℕ → Answer
+search_key track access given = search_key_at track access given (key_record access.orientation (length track.records))
+
+-- ---- reads
+
+-- 12 READ COUNT: all bytes of the count area, which are 8
+abbrev pub read_count_at : TrackState → AccessState → Option Reached → Answer
+read_count_at track access None = checked 0x0008 access
+read_count_at track access (Some reached) =
+    let bytes = count_area (record_of track.records reached.place) in
+    record { acted = normal_end (length bytes); access = left access (at_count reached.place) unarmed; bytes = bytes }
+
+abbrev pub read_count : TrackState → AccessState → Answer
+read_count track access = read_count_at track access (next_record access.orientation (length track.records))
+
+-- a read of bytes up to the end of a record: unit exception where its data area is empty
+abbrev pub part_read : AccessState → ℕ → Record → List ℕ → Answer
+part_read access place r bytes = record {
+  acted = if length r.content == 0 then unit_exception (length bytes) else normal_end (length bytes);
+  access = left access (at_end place) unarmed;
+  bytes = bytes;
+}
+
+abbrev pub read_part : (Record → List ℕ) → TrackState → AccessState → Option Reached → Answer
+read_part part track access None = checked 0x0008 access
+read_part part track access (Some reached) =
+    let r = record_of track.records reached.place in
+    part_read access reached.place r (part r)
+
+-- 06 READ DATA
+abbrev pub read_data : TrackState → AccessState → Answer
+read_data track access = read_part (λ r. r.content) track access (content_record access.orientation (length track.records))
+
+-- 0E READ KEY AND DATA
+abbrev pub read_key_and_data : TrackState → AccessState → Answer
+read_key_and_data track access = read_part (λ r. r.key ++ r.content) track access (key_record access.orientation (length track.records))
+
+-- 1E READ COUNT, KEY AND DATA
+abbrev pub read_count_key_and_data : TrackState → AccessState → Answer
+read_count_key_and_data track access = read_part packed track access (next_record access.orientation (length track.records))
+
+-- ---- writes
+
+-- FILE MASK, bits 0 and 1: 01 inhibits all writes, 10 those that format; bits 3 and 4: a seek only if 00
+abbrev pub inhibits_writes : ℕ → Bool
+inhibits_writes mask = mask / 64 == 1
+
+abbrev pub inhibits_formatting : ℕ → Bool
+inhibits_formatting mask = (mask / 64 == 1) || (mask / 64 == 2)
+
+-- the record that may be written on, or behind which a record may be written
+abbrev pub armed_for_data : Armed → Option ℕ
+armed_for_data unarmed = None
+armed_for_data (armed_by_id place) = Some place
+armed_for_data (armed_by_key place) = Some place
+armed_for_data (armed_by_format place) = None
+
+abbrev pub armed_for_key_and_data : Armed → Option ℕ
+armed_for_key_and_data unarmed = None
+armed_for_key_and_data (armed_by_id place) = Some place
+armed_for_key_and_data (armed_by_key place) = None
+armed_for_key_and_data (armed_by_format place) = None
+
+abbrev pub armed_for_format : Armed → Option ℕ
+armed_for_format unarmed = None
+armed_for_format (armed_by_id place) = Some place
+armed_for_format (armed_by_key place) = Some place
+armed_for_format (armed_by_format place) = Some place
+
+-- 05 WRITE DATA: the lengths stay; unit exception where the data area is empty
+abbrev pub write_data_at : TrackState → AccessState → List ℕ → Option ℕ → Written
+write_data_at track access given None = refused 0x8000 track access
+write_data_at track access given (Some place) =
+    let len = length (record_of track.records place).content in
+    record {
+      acted = if len == 0 then unit_exception 0 else normal_end len;
+      access = left access (at_end place) unarmed;
+      track = with_content track place given;
+    }
+
+abbrev pub write_data : TrackState → AccessState → List ℕ → Written
+write_data track access given =
+    if inhibits_writes access.mask then refused 0x8000 track access
+    else write_data_at track access given (armed_for_data access.armed)
+
+-- 0D WRITE KEY AND DATA: the lengths stay
+abbrev pub write_key_and_data_at : TrackState → AccessState → List ℕ → Option ℕ → Written
+write_key_and_data_at track access given None = refused 0x8000 track access
+write_key_and_data_at track access given (Some place) =
+    let r = record_of track.records place in
+    record {
+      acted = normal_end (length r.key + length r.content);
+      access = left access (at_end place) unarmed;
+      track = with_key_and_content track place given;
+    }
+
+abbrev pub write_key_and_data : TrackState → AccessState → List ℕ → Written
+write_key_and_data track access given =
+    if inhibits_writes access.mask then refused 0x8000 track access
+    else write_key_and_data_at track access given (armed_for_key_and_data access.armed)
+
+-- 1D WRITE COUNT, KEY AND DATA: a new record behind a place, and nothing behind that
+abbrev pub write_count_key_and_data_at : TrackState → AccessState → List ℕ → Option ℕ → Written
+write_count_key_and_data_at track access given None = refused 0x8000 track access
+write_count_key_and_data_at track access given (Some place) =
+    if nat_lt (length given) 8 then refused 0x8000 track access
+    else if nat_lt track.size (bytes_before track.records (place + 1) + size_at given) then refused 0x0040 track access
+    else record {
+      acted = normal_end (size_at given);
+      access = left access (at_end (place + 1)) (armed_by_format (place + 1));
+      track = with_record_behind track place (record_written given);
+    }
+
+abbrev pub write_count_key_and_data : TrackState → AccessState → List ℕ → Written
+write_count_key_and_data track access given =
+    if inhibits_formatting access.mask then refused 0x8000 track access
+    else write_count_key_and_data_at track access given (armed_for_format access.armed)

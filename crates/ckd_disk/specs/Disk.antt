@@ -1,0 +1,140 @@
+-- A disk: its tracks, the track under its heads, and what its commands mean.
+use Rattle.std.specs.Prelude.{◌≡◌, ℕ, ◌+◌, ◌*◌, ◌/◌, ◌%◌, ◌<◌, List, [], ◌∷◌, ◌++◌, Option, Some, None, Bool, not, ◌||◌, nat_lt, length, take, slice_index_or, slice_set, ◌==◌, if◌then◌else◌}
+use Rattle.std.specs.List.{AllByRecursion}
+use Rattle.io_images.specs.declared.seek.Seek.{Seek}
+use Rattle.io_images.specs.Images.{seek_of}
+use Rattle.device_port.specs.declared.kind.Kind.TheVariants as kind
+use Rattle.device_port.specs.declared.faults.Fault.{Fault}
+use Rattle.device_port.specs.Answers.{normal_end}
+use Rattle.device_port.specs.Faults.{Ordinals, fault_met, counted, failed}
+use Rattle.device_port.specs.Meaning.{Meaning, Outcome, fits_seek}
+use Rattle.ckd_disk.specs.declared.access.Access.{Access}
+use Rattle.ckd_disk.specs.declared.command.Command.{Command}
+use Rattle.ckd_disk.specs.declared.command.Command.TheVariants.{Control, Read, Write}
+use Rattle.ckd_disk.specs.declared.command.Control.{Control as ControlCommand}
+use Rattle.ckd_disk.specs.declared.command.Control.TheVariants as control
+use Rattle.ckd_disk.specs.declared.command.Read.{Read as ReadCommand}
+use Rattle.ckd_disk.specs.declared.command.Read.TheVariants as read
+use Rattle.ckd_disk.specs.declared.command.Write.{Write as WriteCommand}
+use Rattle.ckd_disk.specs.declared.command.Write.TheVariants as write
+use Rattle.ckd_disk.specs.Track.{TrackState}
+use Rattle.ckd_disk.specs.Access.{AccessState, at_index, unarmed, IsPlaced}
+use Rattle.ckd_disk.specs.Command.{command_of, flow_of}
+use Rattle.ckd_disk.specs.Commands.{Answer, Written, left, checked, no_operation, sense, set_file_mask, search_id, search_key, read_count, read_data, read_key_and_data, read_count_key_and_data, write_data, write_key_and_data, write_count_key_and_data}
+
+-- A DISK: the tracks stand in the order of their numbers, cylinder * heads + head; `track` is the number of the
+-- one under the heads
+pub record DiskState : Type 0 where
+  pub cylinders : ℕ
+  pub heads : ℕ
+  pub tracks : List TrackState
+  pub track : ℕ
+  pub access : AccessState
+  pub ordinals : Ordinals
+
+abbrev pub no_track : TrackState
+no_track = record { size = 0; records = [] }
+
+abbrev pub track_of : List TrackState → ℕ → TrackState
+track_of tracks number = slice_index_or tracks number no_track
+
+-- the track under the heads
+abbrev pub current : DiskState → TrackState
+current disk = track_of disk.tracks disk.track
+
+abbrev pub track_number : ℕ → ℕ → ℕ → ℕ
+track_number heads cylinder head = cylinder * heads + head
+
+-- at the index point of a track, with a file mask
+abbrev pub at_start : ℕ → AccessState
+at_start mask = record { mask = mask; orientation = at_index; passes = 0; armed = unarmed }
+
+-- THE PREFIX: a seek to a track, and a file mask (profile)
+abbrev pub prefix : DiskState → Seek → ℕ → DiskState
+prefix disk seek mask = record disk { track = track_number disk.heads seek.cylinder seek.head; access = at_start mask }
+
+-- ---- commands
+
+-- a command that leaves the medium as it is, and one that writes on the track under the heads
+abbrev pub answered : DiskState → Answer → Outcome DiskState
+answered disk answer = record { acted = answer.acted; device = record disk { access = answer.access }; bytes = answer.bytes }
+
+abbrev pub wrote : DiskState → Written → Outcome DiskState
+wrote disk written = record {
+  acted = written.acted;
+  device = record disk { tracks = slice_set disk.tracks disk.track written.track; access = written.access };
+  bytes = [];
+}
+
+-- 07 SEEK: BBCCHH, the middle of a seek address. Bits 3 and 4 of the file mask let it only where they are 00
+abbrev pub inhibits_seeks : ℕ → Bool
+inhibits_seeks mask = not (mask / 8 % 4 == 0)
+
+abbrev pub seek_given : List ℕ → Seek
+seek_given given = seek_of (0 ∷ (take 6 given ++ 0 ∷ []))
+
+abbrev pub is_seek : DiskState → Seek → Bool
+is_seek disk seek = fits_seek kind.Disk disk.cylinders disk.heads seek
+
+abbrev pub seek : DiskState → List ℕ → Outcome DiskState
+seek disk given =
+    if inhibits_seeks disk.access.mask then answered disk (checked 0x0004 disk.access)
+    else if nat_lt (length given) 6 || not (is_seek disk (seek_given given)) then answered disk (checked 0x8000 disk.access)
+    else record { acted = normal_end 6; device = prefix disk (seek_given given) disk.access.mask; bytes = [] }
+
+-- a command on the disk
+abbrev pub control_on : DiskState → ControlCommand → Outcome DiskState
+control_on disk control.NoOperation = answered disk (no_operation disk.access)
+control_on disk control.SetFileMask = answered disk (set_file_mask disk.access)
+
+abbrev pub read_on : DiskState → ReadCommand → Outcome DiskState
+read_on disk read.Sense = answered disk (sense disk.access)
+read_on disk read.Count = answered disk (read_count (current disk) disk.access)
+read_on disk read.Data = answered disk (read_data (current disk) disk.access)
+read_on disk read.KeyAndData = answered disk (read_key_and_data (current disk) disk.access)
+read_on disk read.CountKeyAndData = answered disk (read_count_key_and_data (current disk) disk.access)
+
+abbrev pub write_on : DiskState → WriteCommand → List ℕ → Outcome DiskState
+write_on disk write.Seek given = seek disk given
+write_on disk write.SearchId given = answered disk (search_id (current disk) disk.access given)
+write_on disk write.SearchKey given = answered disk (search_key (current disk) disk.access given)
+write_on disk write.Data given = wrote disk (write_data (current disk) disk.access given)
+write_on disk write.KeyAndData given = wrote disk (write_key_and_data (current disk) disk.access given)
+write_on disk write.CountKeyAndData given = wrote disk (write_count_key_and_data (current disk) disk.access given)
+
+-- a code that is not listed is rejected
+abbrev pub command_on : DiskState → Option Command → List ℕ → Outcome DiskState
+command_on disk None given = answered disk (checked 0x8000 disk.access)
+command_on disk (Some (Control command)) given = control_on disk command
+command_on disk (Some (Read command)) given = read_on disk command
+command_on disk (Some (Write command)) given = write_on disk command given
+
+-- a command that meets a fault: the heads and the medium stay as they are (profile)
+abbrev pub faulted : DiskState → Fault → Outcome DiskState
+faulted disk fault = record { acted = failed fault; device = record disk { access = left disk.access disk.access.orientation unarmed }; bytes = [] }
+
+abbrev pub act_by : Option Fault → DiskState → ℕ → List ℕ → Outcome DiskState
+act_by None disk code given = command_on disk (command_of code) given
+act_by (Some fault) disk code given = faulted disk fault
+
+-- EVERY COMMAND uses up a number, and meets the fault that stands there or else does what its code says
+abbrev pub act : DiskState → ℕ → List ℕ → Outcome DiskState
+act disk code given = act_by (fault_met disk.ordinals) (record disk { ordinals = counted disk.ordinals }) code given
+
+-- THE MEANING OF A DISK
+abbrev pub disk : Meaning DiskState
+disk = record {
+  kind = λ d. kind.Disk;
+  cylinders = λ d. d.cylinders;
+  heads = λ d. d.heads;
+  flow = λ d code. flow_of (command_of code);
+  prefix = prefix;
+  act = act;
+}
+
+-- what the code keeps true of its tracks and its spots
+pub record IsDisk (disk : DiskState) (access : Access) : Type 0 where
+  pub all : length disk.tracks ≡ disk.cylinders * disk.heads
+  pub here : disk.track < length disk.tracks
+  pub placed : IsPlaced access (current disk)
+  pub filled : AllByRecursion (λ t. 0 < length t.records) disk.tracks

@@ -1,0 +1,56 @@
+ghost use Rattle.std.specs.Prelude.{◌≡◌};
+
+use crate::track::Spot;
+
+/// Where the heads stand on a track: at the index point, or behind the count area, the key area or the
+/// whole of a record.
+#[derive(Clone, Copy, Debug, PartialEq, Eq)]
+pub enum Orientation {
+    Index,
+    Count(Spot),
+    Key(Spot),
+    End(Spot),
+}
+
+/// Which record the command before lets the next one write on or behind.
+#[derive(Clone, Copy, Debug, PartialEq, Eq)]
+pub enum Armed {
+    No,
+    Id(Spot),
+    Key(Spot),
+    Format(Spot),
+}
+
+/// What commands leave for the next one, beside the medium.
+#[derive(Clone, Copy, Debug, PartialEq, Eq)]
+pub struct Access {
+    /// The file mask.
+    pub mask: u8,
+    pub orientation: Orientation,
+    /// How many index points the searches have gone by.
+    pub passes: u8,
+    pub armed: Armed,
+}
+
+impl Access {
+    /// At the index point of a track, with a file mask.
+    pub fn start(mask: u8) -> Self
+        ensures { result ≡ record { mask = mask; orientation = Orientation.Index; passes = 0; armed = Armed.No } }
+    {
+        Access {
+            mask,
+            orientation: Orientation::Index,
+            passes: 0,
+            armed: Armed::No,
+        }
+    }
+
+    /// Ends a command that is no search.
+    pub fn leave(&mut self, orientation: Orientation, armed: Armed)
+        ensures { self.new ≡ record { mask = self.old.mask; orientation = orientation; passes = 0; armed = armed } }
+    {
+        self.orientation = orientation;
+        self.passes = 0;
+        self.armed = armed;
+    }
+}

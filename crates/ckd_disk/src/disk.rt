@@ -1,0 +1,269 @@
+ghost use Rattle.std.specs.Prelude.{◌≡◌, ◌+◌, ◌*◌, ◌<◌, ◌≤◌, ℕ, length, IfOk, [], true};
+ghost use Rattle.ckd_disk.specs.Disk.{disk, seek_given};
+ghost use Rattle.ckd_disk.specs.DiskLaws.{disk_lawful};
+
+use crate::access::{Access, Armed};
+use crate::command::{Command, Control, Read, Write};
+use crate::commands::{
+    check, no_operation, read_count, read_count_key_and_data, read_data, read_key_and_data,
+    search_id, search_key, sense, write_count_key_and_data, write_data, write_key_and_data,
+};
+use crate::mount::{
+    Geometry, InitialRecord, are_initial, described_tracks, have_room, is_geometry, place,
+};
+use crate::track::{Records, Track};
+use device_port::{
+    Acted, COMMAND_REJECT, Chain, Device, FILE_PROTECTED, Fault, FaultScript, Flow, Given, Kind,
+    MountError, is_script,
+};
+use io_area::Area;
+use io_images::Seek;
+use std::alloc::{AllocError, Global};
+use std::marker::Model;
+
+/// A disk of count-key-data records.
+#[derive(Drop)]
+pub struct Disk {
+    cylinders: u16,
+    heads: u16,
+    tracks: Vec<Track>,
+    track: usize,
+    access: Access,
+    faults: FaultScript,
+}
+
+impl Model for Disk {
+    ghost use Rattle.ckd_disk.specs.Access.{access_of};
+    ghost use Rattle.ckd_disk.specs.Disk.{DiskState, IsDisk};
+
+    ghost Value = { DiskState };
+
+    ghost view = { λ d. record { cylinders = d.cylinders; heads = d.heads; tracks = d.tracks.items; track = d.track; access = access_of d.access; ordinals = d.faults } };
+
+    ghost invariant = { λ d. IsDisk (record { cylinders = d.cylinders; heads = d.heads; tracks = d.tracks.items; track = d.track; access = access_of d.access; ordinals = d.faults }) d.access };
+}
+
+impl Disk {
+    ghost use Rattle.std.specs.Prelude.{◌≡◌, ◌<◌, [], length};
+    ghost use Rattle.device_port.specs.Moves.{AllLie, gathered, stored};
+    ghost use Rattle.io_area.specs.Storage.{SamePlace};
+    ghost use Rattle.ckd_disk.specs.Disk.{track_of, control_on, read_on, write_on, seek, is_seek, prefix, track_number};
+    ghost use Rattle.ckd_disk.specs.Mount.{Mounts};
+
+    /// A disk that holds these records behind the R0 of each track, with its heads at the index point of track
+    /// 0, and meets these faults (profile).
+    ///
+    /// Refused in this order: `BadGeometry` where a number of the geometry is outside its range; `BadMedium`
+    /// where a record lies outside the geometry, is R0, has a key over 255 or a data area over 65,535 bytes or
+    /// does not fit its track, or where the faults are no fault script; `NoMemory`.
+    pub fn mount(
+        alloc: Global,
+        geometry: Geometry,
+        records: &[InitialRecord],
+        faults: &[Fault],
+    ) -> Result<Self, MountError>
+        ensures { Mounts geometry records.now faults.now result }
+    {
+        if !is_geometry(geometry) {
+            return Err(MountError::BadGeometry);
+        }
+        if !is_script(faults) || !are_initial(geometry, records) {
+            return Err(MountError::BadMedium);
+        }
+        let Ok(mut tracks) = described_tracks(alloc, geometry) else {
+            return Err(if have_room(geometry, records) {
+                MountError::NoMemory
+            } else {
+                MountError::BadMedium
+            });
+        };
+        if !place(&mut tracks, geometry, records) {
+            return Err(MountError::BadMedium);
+        }
+        let Ok(faults) = FaultScript::new(alloc, faults) else {
+            return Err(MountError::NoMemory);
+        };
+        Ok(Disk {
+            cylinders: geometry.cylinders as u16,
+            heads: geometry.heads as u16,
+            tracks,
+            track: 0,
+            access: Access::start(0),
+            faults,
+        })
+    }
+
+    /// The records of a track, from the index point on.
+    pub fn records(&self, cylinder: u16, head: u16) -> Records<'_>
+        requires cylinder { cylinder < self.now.cylinders }
+        requires head { head < self.now.heads }
+        ensures { result ≡ (track_of self.now.tracks (track_number self.now.heads cylinder head)).records }
+    {
+        let number = usize::from(cylinder) * usize::from(self.heads) + usize::from(head);
+        self.tracks[number].records()
+    }
+
+    /// A command that moves no data.
+    fn control(&mut self, command: Control) -> Acted
+        ensures acted { result ≡ (control_on self.old command).acted }
+        ensures device { self.new ≡ (control_on self.old command).device }
+    {
+        match command {
+            Control::NoOperation => no_operation(&mut self.access),
+            Control::SetFileMask => check(&mut self.access, COMMAND_REJECT),
+        }
+    }
+
+    /// A command that gives data to the program.
+    fn read(&mut self, command: Read, chain: &Chain, area: &mut Area) -> Acted
+        requires { AllLie Flow.Input area.old chain.now }
+        ensures acted { result ≡ (read_on self.old command).acted }
+        ensures device { self.new ≡ (read_on self.old command).device }
+        ensures area { area.new ≡ stored chain.now (read_on self.old command).bytes area.old }
+        ensures place { SamePlace area.old area.new }
+    {
+        let track = &self.tracks[self.track];
+        let access = &mut self.access;
+        let answer = match command {
+            Read::Sense => sense(access),
+            Read::Count => read_count(track, access),
+            Read::Data => read_data(track, access),
+            Read::KeyAndData => read_key_and_data(track, access),
+            Read::CountKeyAndData => read_count_key_and_data(track, access),
+        };
+        chain.store(area, answer.bytes);
+        answer.acted
+    }
+
+    /// A command that takes data from the program.
+    fn write(&mut self, command: Write, chain: &Chain, area: &Area) -> Acted
+        requires { AllLie Flow.Out area.now chain.now }
+        ensures acted { result ≡ (write_on self.old command (gathered area.now chain.now)).acted }
+        ensures device { self.new ≡ (write_on self.old command (gathered area.now chain.now)).device }
+    {
+        let given = &Given::new(chain, area);
+        let track = &mut self.tracks[self.track];
+        let access = &mut self.access;
+        match command {
+            Write::Seek => self.seek(given),
+            Write::SearchId => search_id(track, access, given),
+            Write::SearchKey => search_key(track, access, given),
+            Write::Data => write_data(track, access, given),
+            Write::KeyAndData => write_key_and_data(track, access, given),
+            Write::CountKeyAndData => write_count_key_and_data(track, access, given),
+        }
+    }
+
+    /// SEEK.
+    fn seek(&mut self, given: &Given<'_>) -> Acted
+        ensures acted { result ≡ (seek self.old given.now).acted }
+        ensures device { self.new ≡ (seek self.old given.now).device }
+    {
+        if (self.access.mask >> 3) % 4 != 0b00 {
+            return check(&mut self.access, FILE_PROTECTED);
+        }
+        if given.len() < 6 {
+            return check(&mut self.access, COMMAND_REJECT);
+        }
+        let seek = seek_given(given);
+        if !self.has_track(&seek) {
+            return check(&mut self.access, COMMAND_REJECT);
+        }
+        self.move_to(&seek, self.access.mask);
+        Acted::normal_end(6)
+    }
+
+    /// Whether a seek address names a track of the disk.
+    fn has_track(&self, seek: &Seek) -> bool
+        ensures { result ≡ is_seek self.now seek.now }
+    {
+        seek.bin == 0 && seek.cylinder < self.cylinders && seek.head < self.heads
+    }
+
+    /// Puts the heads on a track, at its index point.
+    fn move_to(&mut self, seek: &Seek, mask: u8)
+        requires { is_seek self.old seek.now ≡ true }
+        ensures { self.new ≡ prefix self.old seek.now mask }
+    {
+        self.track =
+            usize::from(seek.cylinder) * usize::from(self.heads) + usize::from(seek.head);
+        self.access = Access::start(mask);
+    }
+}
+
+impl Device for Disk {
+    ghost meaning = { disk };
+
+    fn kind(&self) -> Kind {
+        Kind::Disk
+    }
+
+    fn cylinders(&self) -> u16 {
+        self.cylinders
+    }
+
+    fn heads(&self) -> u16 {
+        self.heads
+    }
+
+    fn fits(&self, seek: &Seek) -> bool {
+        self.has_track(seek)
+    }
+
+    fn flow(&self, command: u8) -> Flow {
+        Command::flow(Command::decode(command))
+    }
+
+    fn prefix(&mut self, seek: &Seek, mask: u8) {
+        self.move_to(seek, mask);
+    }
+
+    fn act(&mut self, command: u8, chain: &Chain, area: &mut Area) -> Acted {
+        if let Some(fault) = self.faults.count() {
+            let orientation = self.access.orientation;
+            self.access.leave(orientation, Armed::No);
+            return fault.acted();
+        }
+        match Command::decode(command) {
+            None => check(&mut self.access, COMMAND_REJECT),
+            Some(Command::Control(control)) => self.control(control),
+            Some(Command::Read(read)) => self.read(read, chain, area),
+            Some(Command::Write(write)) => self.write(write, chain, area),
+        }
+    }
+
+    fn copy(&self) -> Result<Self, AllocError> {
+        Ok(Disk {
+            cylinders: self.cylinders,
+            heads: self.heads,
+            tracks: copy_tracks(&self.tracks)?,
+            track: self.track,
+            access: self.access,
+            faults: self.faults.copy()?,
+        })
+    }
+
+    ghost lawful = { disk_lawful };
+}
+
+/// The same tracks.
+fn copy_tracks(tracks: &Vec<Track>) -> Result<Vec<Track>, AllocError>
+    ensures { IfOk result (λ copies. copies.items ≡ tracks.now.items) }
+{
+    let alloc = *tracks.allocator();
+    let mut copies = Vec::with_capacity(alloc, tracks.len())?;
+    for track in tracks {
+        copies.push(track.copy()?)?;
+    }
+    Ok(copies)
+}
+
+/// The seek address whose BBCCHH a program gives.
+fn seek_given(given: &Given<'_>) -> Seek
+    requires { 6 ≤ length given.now }
+    ensures { result ≡ seek_given given.now }
+{
+    let mut address = [0; 8];
+    given.fill(&mut address[1..7]);
+    Seek::read(&address)
+}

@@ -1,0 +1,23 @@
+-- How commands end (Principles of Operation, chapter 16, "Unit status"; the rules on `want` are the profile's).
+use Rattle.std.specs.Prelude.{ℕ}
+use Rattle.device_port.specs.declared.answer.Acted.{Acted}
+
+-- a command that ended with this unit status and sense, and no subchannel status
+abbrev pub ended : ℕ → ℕ → ℕ → Acted
+ended unit sense want = record { unit = record { 0 = unit }; sub = record { 0 = 0 }; sense = sense; want = want }
+
+-- channel end and device end
+abbrev pub normal_end : ℕ → Acted
+normal_end want = ended 0x0C 0 want
+
+-- a search that found what it looked for: status modifier too
+abbrev pub status_modifier : ℕ → Acted
+status_modifier want = ended 0x4C 0 want
+
+-- unit check with this sense; no byte is wanted
+abbrev pub unit_check : ℕ → Acted
+unit_check sense = ended 0x0E sense 0
+
+-- unit exception
+abbrev pub unit_exception : ℕ → Acted
+unit_exception want = ended 0x0D 0 want

@@ -1,0 +1,69 @@
+ghost use Rattle.std.specs.Prelude.{◌≡◌};
+
+use io_images::{SubStatus, UnitStatus};
+
+/// Sense byte 0: the command, or its place in the program, is not one that the device takes.
+pub const COMMAND_REJECT: u16 = 0x8000;
+/// Sense byte 0: the operator has to do something first, as to put paper in.
+pub const INTERVENTION_REQUIRED: u16 = 0x4000;
+/// Sense byte 0: the device or its control unit is out of order; on a tape, a block past the medium's end.
+pub const EQUIPMENT_CHECK: u16 = 0x1000;
+/// Sense byte 1 of a disk: a record does not fit its track.
+pub const INVALID_TRACK_FORMAT: u16 = 0x0040;
+/// Sense byte 1 of a disk: no such record on the track.
+pub const NO_RECORD_FOUND: u16 = 0x0008;
+/// Sense byte 1 of a disk: the file mask does not allow the seek.
+pub const FILE_PROTECTED: u16 = 0x0004;
+
+/// What a device answers to a command: unit status and subchannel status, two sense bytes, and the number
+/// of bytes that it wants to move.
+#[derive(Clone, Copy, PartialEq, Eq, Debug)]
+pub struct Acted {
+    pub unit: UnitStatus,
+    pub sub: SubStatus,
+    pub sense: u16,
+    pub want: u32,
+}
+
+impl Acted {
+    ghost use Rattle.device_port.specs.Answers.{normal_end, status_modifier, unit_check, unit_exception, ended};
+
+    fn ended(unit: u8, sense: u16, want: u32) -> Self
+        ensures { result ≡ ended unit sense want }
+    {
+        Acted {
+            unit: UnitStatus::new(unit),
+            sub: SubStatus::new(0),
+            sense,
+            want,
+        }
+    }
+
+    /// Channel end and device end.
+    pub fn normal_end(want: u32) -> Self
+        ensures { result ≡ normal_end want }
+    {
+        Self::ended(0x0C, 0, want)
+    }
+
+    /// Channel end, device end and status modifier: a search has found what it looked for.
+    pub fn status_modifier(want: u32) -> Self
+        ensures { result ≡ status_modifier want }
+    {
+        Self::ended(0x4C, 0, want)
+    }
+
+    /// Channel end, device end and unit check, with this sense; no byte is wanted.
+    pub fn unit_check(sense: u16) -> Self
+        ensures { result ≡ unit_check sense }
+    {
+        Self::ended(0x0E, sense, 0)
+    }
+
+    /// Channel end, device end and unit exception.
+    pub fn unit_exception(want: u32) -> Self
+        ensures { result ≡ unit_exception want }
+    {
+        Self::ended(0x0D, 0, want)
+    }
+}

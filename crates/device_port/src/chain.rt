@@ -1,0 +1,108 @@
+ghost use Rattle.std.specs.Prelude.{◌≡◌, ◌<◌, ◌≤◌, ◌++◌, ◌∷◌, [], length, reverse};
+ghost use Rattle.io_area.specs.Storage.{SamePlace};
+ghost use Rattle.device_port.specs.Moves.{AllLie, total, stored, stored_back};
+
+use crate::kind::Flow;
+use crate::moves::{store, store_back};
+use arrayvec::ArrayVec;
+use io_area::Area;
+use std::marker::Model;
+
+/// The most parts that the data of a command has: 16 CCWs of 33 parts, since a count of 65,535 bytes
+/// from within a block of 2,048 takes 33 words of an address list.
+pub const MOST_SEGMENTS: usize = 528;
+
+/// A part of the data of a command: the address of its first byte to be moved, the number of bytes, and
+/// whether they are to leave storage as it is (SKIP).
+#[derive(Clone, Copy, PartialEq, Eq, Debug, Default)]
+pub struct Segment {
+    pub address: u32,
+    pub count: u16,
+    pub skip: bool,
+}
+
+/// The parts of the data of a command, in order: at most 528. It is made once and cleared for each command.
+#[derive(Drop)]
+pub struct Chain {
+    segments: ArrayVec<Segment, 528>,
+}
+
+impl Model for Chain {
+    ghost use Rattle.std.specs.Prelude.{List};
+    ghost use Rattle.device_port.specs.declared.chain.Segment.{Segment};
+
+    ghost Value = { List Segment };
+
+    ghost view = { λ c. c.segments.items };
+}
+
+impl Chain {
+    /// A chain without parts.
+    pub fn new() -> Self
+        ensures { result ≡ [] }
+    {
+        Chain {
+            segments: ArrayVec::new(),
+        }
+    }
+
+    /// Takes all parts away.
+    pub fn clear(&mut self)
+        ensures { self.new ≡ [] }
+    {
+        self.segments.clear();
+    }
+
+    /// The number of parts.
+    pub fn len(&self) -> usize
+        ensures { result ≡ length self.now }
+    {
+        self.segments.len()
+    }
+
+    /// Adds a part behind the others.
+    pub fn push(&mut self, segment: Segment)
+        requires { length self.old < MOST_SEGMENTS }
+        ensures { self.new ≡ self.old ++ segment ∷ [] }
+    {
+        self.segments.push(segment);
+    }
+
+    /// The parts.
+    pub fn segments(&self) -> &[Segment]
+        ensures value { result.now ≡ self.now }
+        ensures few { length result.now ≤ MOST_SEGMENTS }
+    {
+        self.segments.as_slice()
+    }
+
+    /// The number of bytes that the parts have room for.
+    pub fn total(&self) -> u32
+        ensures { result ≡ total self.now }
+    {
+        self.segments
+            .as_slice()
+            .iter()
+            .map(|s| u32::from(s.count))
+            .sum()
+    }
+
+    /// Moves bytes into storage at rising addresses, as many as there is room for. A part with SKIP is left
+    /// as it is.
+    pub fn store(&self, area: &mut Area, bytes: &[u8])
+        requires { AllLie Flow.Input area.old self.now }
+        ensures place { SamePlace area.old area.new }
+        ensures stored { area.new ≡ stored self.now bytes.now area.old }
+    {
+        store(self.segments.as_slice(), area, bytes);
+    }
+
+    /// Moves a block into storage backward, its last byte first, at falling addresses.
+    pub fn store_back(&self, area: &mut Area, block: &[u8])
+        requires { AllLie Flow.Back area.old self.now }
+        ensures place { SamePlace area.old area.new }
+        ensures stored { area.new ≡ stored_back self.now (reverse block.now) area.old }
+    {
+        store_back(self.segments.as_slice(), area, block);
+    }
+}

@@ -1,0 +1,52 @@
+ghost use Rattle.std.specs.Prelude.{◌≡◌, ◌<◌, ℕ, length, slice_index};
+ghost use Rattle.device_port.specs.Moves.{AllLie, gathered, padded};
+
+use crate::chain::Chain;
+use crate::kind::Flow;
+use crate::moves::gather;
+use io_area::Area;
+use std::marker::Model;
+
+/// The bytes that a chain gives to a command, part after part.
+#[derive(Drop)]
+pub struct Given<'a> {
+    chain: &'a Chain,
+    area: &'a Area,
+}
+
+impl<'a> Model for Given<'a> {
+    ghost use Rattle.std.specs.Prelude.{List, ℕ};
+    ghost use Rattle.device_port.specs.Moves.{AllLie, gathered};
+    ghost use Rattle.device_port.specs.declared.kind.Flow.TheVariants.{Out};
+
+    ghost Value = { List ℕ };
+
+    ghost view = { λ g. gathered g.area.now g.chain.now };
+
+    ghost invariant = { λ g. AllLie Out g.area.now g.chain.now };
+}
+
+impl<'a> Given<'a> {
+    /// The bytes of a chain that lies in the area.
+    pub fn new(chain: &'a Chain, area: &'a Area) -> Self
+        requires { AllLie Flow.Out area.now chain.now }
+        ensures { result ≡ gathered area.now chain.now }
+    {
+        Given { chain, area }
+    }
+
+    /// How many bytes the chain gives.
+    pub fn len(&self) -> usize
+        ensures { result ≡ length self.now }
+    {
+        self.chain.total() as usize
+    }
+
+    /// Fills `into` with the first bytes, and with zeros what they leave.
+    pub fn fill(&self, into: &mut [u8])
+        ensures filled { into.new ≡ padded (length into.old) self.now }
+        ensures bytes { (i : ℕ) → slice_index into.new i < 256 }
+    {
+        gather(self.chain.segments(), self.area, into)
+    }
+}

@@ -1,0 +1,23 @@
+/// The kind of a device.
+#[derive(Clone, Copy, PartialEq, Eq, Debug)]
+pub enum Kind {
+    /// Count-key-data disk.
+    Disk,
+    /// Magnetic tape.
+    Tape,
+    /// Line printer.
+    Printer,
+}
+
+/// Which way the data of a command goes (Principles of Operation, chapter 15, "Commands").
+#[derive(Clone, Copy, PartialEq, Eq, Debug)]
+pub enum Flow {
+    /// The command moves no data: a control command.
+    None,
+    /// From storage to the device: write, search and seek.
+    Out,
+    /// From the device to storage at rising addresses: read and sense.
+    Input,
+    /// From the device to storage at falling addresses: read backward.
+    Back,
+}

@@ -1,0 +1,22 @@
+//! What a channel and a device are to each other: the commands that a device acts on, the bytes that they
+//! move between a program's data areas and the device, and the faults that a device shows.
+#![tactic(auto)]
+
+mod answer;
+mod chain;
+mod device;
+mod faults;
+mod given;
+mod kind;
+mod moves;
+pub mod toy;
+
+pub use answer::{
+    Acted, COMMAND_REJECT, EQUIPMENT_CHECK, FILE_PROTECTED, INTERVENTION_REQUIRED,
+    INVALID_TRACK_FORMAT, NO_RECORD_FOUND,
+};
+pub use chain::{Chain, MOST_SEGMENTS, Segment};
+pub use device::{Device, MountError};
+pub use faults::{Fault, FaultScript, is_script};
+pub use given::Given;
+pub use kind::{Flow, Kind};

@@ -1,0 +1,122 @@
+-- A subchannel: its states, and what its instructions do (Principles of Operation, chapter 14).
+use Rattle.std.specs.Prelude.{◌≡◌, ℕ, Bool, true, false, Option, Some, None, min}
+use Rattle.io_images.specs.declared.csw.Csw.{Csw}
+use Rattle.io_images.specs.declared.seek.Seek.{Seek}
+use Rattle.io_area.specs.Storage.{Storage}
+use Rattle.device_port.specs.Meaning.{Meaning, fits}
+use Rattle.ccw_programs.specs.declared.context.State.{State}
+use Rattle.ccw_programs.specs.declared.context.State.TheVariants.{Running as Goes, Ended}
+use Rattle.ccw_programs.specs.declared.context.Burst.{Burst}
+use Rattle.ccw_programs.specs.Place.{Place, start_place}
+use Rattle.ccw_programs.specs.Step.{Program, program, after, length_of}
+
+-- no device, no function in progress, a channel program in progress, or a status pending
+pub data Phase : Type 0 where
+  Absent : Phase
+  Idle : Phase
+  Running : Place → Phase
+  Pending : Csw → ℕ → Phase
+
+-- a subchannel: its interruption subclass, its device if there is one, and its phase
+pub record Channel (D : Type 0) : Type 0 where
+  pub isc : ℕ
+  pub device : Option D
+  pub phase : Phase
+
+-- CONDITION CODES by state ("Start Subchannel", "Halt Subchannel", "Test Subchannel"); a halt ends at once
+-- (profile), so HSCH never answers 2
+abbrev pub ssch_code : Phase → ℕ
+ssch_code Absent = 3
+ssch_code Idle = 0
+ssch_code (Running place) = 2
+ssch_code (Pending csw sense) = 1
+
+abbrev pub hsch_code : Phase → ℕ
+hsch_code Absent = 3
+hsch_code Idle = 0
+hsch_code (Running place) = 0
+hsch_code (Pending csw sense) = 1
+
+abbrev pub tsch_code : Phase → ℕ
+tsch_code Absent = 3
+tsch_code Idle = 1
+tsch_code (Running place) = 1
+tsch_code (Pending csw sense) = 0
+
+-- the status that TSCH stores, and the phase after it
+abbrev pub status_of : Phase → Option (Csw × ℕ)
+status_of Absent = None
+status_of Idle = None
+status_of (Running place) = None
+status_of (Pending csw sense) = Some (csw, sense)
+
+abbrev pub tested_phase : Phase → Phase
+tested_phase Absent = Absent
+tested_phase Idle = Idle
+tested_phase (Running place) = Running place
+tested_phase (Pending csw sense) = Idle
+
+abbrev pub is_pending : Phase → Bool
+is_pending Absent = false
+is_pending Idle = false
+is_pending (Running place) = false
+is_pending (Pending csw sense) = true
+
+-- THE STATUS AFTER A HALT (profile): channel end and device end, with the CCW address and the residual count
+-- of the last command step done, or the start and 0 if there was none
+abbrev pub halted : Place → Csw
+halted place = record { address = place.address; unit = record { 0 = 12 }; sub = record { 0 = 0 }; residual = place.residual }
+
+-- an idle subchannel that is halted shows zeros (profile)
+abbrev pub no_status : Csw
+no_status = record { address = 0; unit = record { 0 = 0 }; sub = record { 0 = 0 }; residual = 0 }
+
+abbrev pub halted_phase : Phase → Phase
+halted_phase Absent = Absent
+halted_phase Idle = Pending no_status 0
+halted_phase (Running place) = Pending (halted place) 0
+halted_phase (Pending csw sense) = Pending csw sense
+
+-- the phase of a program that stands there
+abbrev pub phase_of : Place → State → Phase
+phase_of place Goes = Running place
+phase_of place (Ended csw sense) = Pending csw sense
+
+-- the device takes the seek, if there is a device
+abbrev pub Fits : {D : Type 0} → Meaning D → Option D → Seek → Type 0
+Fits meaning None seek = Unit {0}
+Fits meaning (Some d) seek = fits meaning d seek ≡ true
+
+module _ {D : Type 0} (meaning : Meaning D) where
+  abbrev pub prefixed : Option D → Seek → ℕ → Option D
+  prefixed None seek mask = None
+  prefixed (Some d) seek mask = Some (meaning.prefix d seek mask)
+
+  -- SSCH starts a program where the subchannel is idle, and changes nothing elsewhere
+  abbrev pub started : Channel D → ℕ → Seek → ℕ → Phase → Channel D
+  started c start seek mask Idle = record { isc = c.isc; device = prefixed c.device seek mask; phase = Running (start_place start) }
+  started c start seek mask Absent = c
+  started c start seek mask (Running place) = c
+  started c start seek mask (Pending csw sense) = c
+
+  -- as many command steps of this program as the answer says, which are `max` or as many as it has left
+  pub record RunsFrom (p : Program D) (isc max : ℕ) (b : Burst) (new : Channel D) (n : Storage) : Type 0 where
+    pub channel : new ≡ record { isc = isc; device = Some (after meaning b.commands p).device; phase = phase_of (after meaning b.commands p).place (after meaning b.commands p).place.state }
+    pub area : n ≡ (after meaning b.commands p).area
+    pub commands : b.commands ≡ min max (length_of meaning p)
+    pub state : b.state ≡ (after meaning b.commands p).place.state
+
+-- the program that goes on, if one does
+abbrev pub going : {D : Type 0} → Option D → Phase → Storage → Option (Program D)
+going None phase m = None
+going (Some d) Absent m = None
+going (Some d) Idle m = None
+going (Some d) (Running place) m = Some (program place d m)
+going (Some d) (Pending csw sense) m = None
+
+-- `run` answers None where no program is in progress, and changes nothing
+abbrev pub RunsAs : {D : Type 0} → Meaning D → Channel D → Storage → ℕ → Option (Program D) → Option Burst → Channel D → Storage → Type 0
+RunsAs meaning old m max None None new n = (new ≡ old) × (n ≡ m)
+RunsAs meaning old m max None (Some b) new n = ⊥
+RunsAs meaning old m max (Some p) None new n = ⊥
+RunsAs meaning old m max (Some p) (Some b) new n = RunsFrom meaning p old.isc max b new n

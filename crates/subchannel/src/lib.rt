@@ -1,0 +1,178 @@
+//! A subchannel: START SUBCHANNEL, TEST SUBCHANNEL, HALT SUBCHANNEL and the running of its channel program
+//! (Principles of Operation, chapter 14). Every answer is a function of its state: not operational, idle, a
+//! program in progress, or a status pending.
+#![tactic(auto)]
+
+ghost use Rattle.std.specs.Prelude.{◌≡◌, ◌≤◌, Some, None, MatchOption, min};
+ghost use Rattle.ccw_programs.specs.Step.{program};
+ghost use Rattle.subchannel.specs.Subchannel.{Channel, Absent, Idle, Fits, started, ssch_code, hsch_code, tsch_code, halted_phase, no_status, going, RunsAs, status_of, tested_phase, is_pending};
+
+use ccw_programs::{Burst, Context, State, burst};
+use device_port::Device;
+use io_area::Area;
+use io_images::{Address, Csw, Seek, SubStatus, UnitStatus};
+use std::marker::Model;
+
+/// What a subchannel that has a device is doing.
+#[derive(Drop)]
+enum Phase {
+    Idle,
+    Running(Context),
+    Pending(Csw, u16),
+}
+
+/// A subchannel with its interruption subclass and its device, if there is one.
+#[derive(Drop)]
+pub struct Subchannel<D: Device> {
+    isc: u8,
+    device: Option<D>,
+    phase: Phase,
+}
+
+impl<D: Device> Model for Subchannel<D> {
+    ghost use Rattle.subchannel.specs.Subchannel.{Channel};
+
+    ghost Value = { Channel D };
+
+    ghost use Rattle.subchannel.specs.Inside.{channel_of, IsGoing};
+
+    ghost view = { λ s. channel_of s.isc s.device s.phase };
+
+    ghost invariant = { λ s. IsGoing s.phase };
+}
+
+impl<D: Device> Subchannel<D> {
+    /// An idle subchannel with this device and interruption subclass (0 to 7).
+    pub fn new(device: D, isc: u8) -> Self
+        requires { isc ≤ 7 }
+        ensures { result ≡ record { isc = isc; device = Some device; phase = Idle } }
+    {
+        Subchannel {
+            isc,
+            device: Some(device),
+            phase: Phase::Idle,
+        }
+    }
+
+    /// A subchannel that has no device and is not operational.
+    pub fn absent(isc: u8) -> Self
+        requires { isc ≤ 7 }
+        ensures { result ≡ record { isc = isc; device = None; phase = Absent } }
+    {
+        Subchannel {
+            isc,
+            device: None,
+            phase: Phase::Idle,
+        }
+    }
+
+    /// The interruption subclass.
+    pub fn isc(&self) -> u8
+        ensures { result ≡ self.now.isc }
+    {
+        self.isc
+    }
+
+    /// The device, if there is one.
+    pub fn device(&self) -> Option<&D>
+        ensures { MatchOption result (self.now.device ≡ None) (λ device. self.now.device ≡ Some device.now) }
+    {
+        self.device.as_ref()
+    }
+
+    /// START SUBCHANNEL: does the prefix (seek and file mask, profile) and starts the program at an address.
+    /// Condition code 0 started, 1 status pending, 2 function in progress, 3 not operational; with another
+    /// code than 0 nothing has changed.
+    pub fn ssch(&mut self, start: Address, seek: &Seek, mask: u8) -> u8
+        requires { Fits D.meaning self.old.device seek.now }
+        ensures code { result ≡ ssch_code self.old.phase }
+        ensures state { self.new ≡ started D.meaning self.old start seek.now mask self.old.phase }
+    {
+        let Some(device) = &mut self.device else {
+            return 3;
+        };
+        match self.phase {
+            Phase::Idle => {
+                device.prefix(seek, mask);
+                self.phase = Phase::Running(Context::begin(start));
+                0
+            }
+            Phase::Running(_) => 2,
+            Phase::Pending(_, _) => 1,
+        }
+    }
+
+    /// TEST SUBCHANNEL: condition code 0 and the status with two sense bytes, which is then cleared, 1 no
+    /// status pending, 3 not operational.
+    pub fn tsch(&mut self) -> (u8, Option<(Csw, u16)>)
+        ensures code { result.0 ≡ tsch_code self.old.phase }
+        ensures status { result.1 ≡ status_of self.old.phase }
+        ensures state { self.new ≡ record self.old { phase = tested_phase self.old.phase } }
+    {
+        if self.device.is_none() {
+            return (3, None);
+        }
+        let Phase::Pending(csw, sense) = &self.phase else {
+            return (1, None);
+        };
+        let status = (csw.copy(), *sense);
+        self.phase = Phase::Idle;
+        (0, Some(status))
+    }
+
+    /// HALT SUBCHANNEL: condition code 0 halted at once, with a status pending, 1 status pending before, 3 not
+    /// operational; with another code than 0 nothing has changed.
+    pub fn hsch(&mut self) -> u8
+        ensures code { result ≡ hsch_code self.old.phase }
+        ensures state { self.new ≡ record self.old { phase = halted_phase self.old.phase } }
+    {
+        if self.device.is_none() {
+            return 3;
+        }
+        let status = match &self.phase {
+            Phase::Idle => empty_status(),
+            Phase::Running(context) => context.halted(),
+            Phase::Pending(_, _) => return 1,
+        };
+        self.phase = Phase::Pending(status, 0);
+        0
+    }
+
+    /// Does up to `max` commands of the program in progress; None where there is none. Its end leaves its status
+    /// pending. Takes no memory.
+    pub fn run(&mut self, area: &mut Area, max: u32) -> Option<Burst>
+        requires { 1 ≤ max }
+        ensures { RunsAs D.meaning self.old area.old max (going self.old.device self.old.phase area.old) result self.new area.new }
+    {
+        let Some(device) = &mut self.device else {
+            return None;
+        };
+        let Phase::Running(context) = &mut self.phase else {
+            return None;
+        };
+        let done = burst(context, device, area, max);
+        let state = done.state;
+        if let State::Ended(csw, sense) = state {
+            self.phase = Phase::Pending(csw, sense);
+        }
+        Some(done)
+    }
+
+    /// Whether a status is pending.
+    pub fn pending(&self) -> bool
+        ensures { result ≡ is_pending self.now.phase }
+    {
+        self.device.is_some() && matches!(&self.phase, Phase::Pending(_, _))
+    }
+}
+
+fn empty_status() -> Csw
+    ensures { result ≡ no_status }
+{
+    Csw {
+        address: Address::new(0),
+        unit: UnitStatus::new(0),
+        sub: SubStatus::new(0),
+        residual: 0,
+    }
+}
