@@ -1,0 +1,5 @@
+pub mod Final
+pub mod Places
+pub mod PostedState
+pub mod Requests
+pub mod Scope

@@ -1,0 +1,17 @@
+//! Requests: what a program issues, as its IOB says, and what is posted back.
+#![tactic(auto)]
+
+mod error;
+mod piece;
+mod posted;
+mod request;
+mod scope;
+
+pub use error::RequestError;
+pub use piece::{Name, Piece};
+pub use posted::Posted;
+pub use request::Request;
+pub use scope::Scope;
+
+#[cfg(test)]
+mod tests;

@@ -1,0 +1,192 @@
+ghost use Rattle.std.specs.Prelude.{◌≡◌, true, false, IfErr, IfOk, IfSome, MatchOption};
+ghost use Rattle.io_area.specs.Storage.{bytes_at, lies_in};
+ghost use Rattle.io_images.specs.Images.{iob_of};
+ghost use Rattle.request_piece.specs.Places.{Placed, is_ecb_place, is_program_place};
+ghost use Rattle.request_piece.specs.Requests.{NoFault, RequestFault, iob_at, request_of};
+
+use crate::error::RequestError;
+use crate::piece::{Name, Piece};
+use io_area::Area;
+use io_images::{Address, Iob, Seek};
+use std::alloc::Global;
+use std::marker::Model;
+
+/// A request as issued, beside the copy that is worked on.
+#[derive(Drop)]
+pub struct Request {
+    issued: Box<Piece>,
+    work: Box<Piece>,
+}
+
+impl Model for Request {
+    ghost use Rattle.std.specs.Prelude.{◌≡◌};
+    ghost use Rattle.request_piece.specs.declared.piece.Piece.{Piece};
+    ghost use Rattle.request_piece.specs.Places.{Placed};
+
+    ghost Value = { Piece };
+
+    ghost view = { λ r. r.issued.value };
+
+    ghost invariant = { (λ r. (r.work.value ≡ r.issued.value) × Placed r.issued.value) };
+}
+
+impl Request {
+    /// The request that the IOB at `iob` of the area describes. It is refused, and the area given
+    /// back, for the first reason that applies: the IOB is not on a fullword in the area; nor is the
+    /// ECB, or it overlaps the IOB; the channel program is not on a doubleword in the area; the IOB
+    /// names another DCB; there is no memory (profile).
+    pub fn new(
+        alloc: Global,
+        name: Name,
+        unit: u16,
+        dcb: u16,
+        iob: u32,
+        area: Area,
+    ) -> Result<Request, (RequestError, Area)>
+        ensures request { IfOk result (λ r. r ≡ request_of name unit dcb iob area) }
+        ensures ok { IfOk result (λ r. NoFault dcb iob area) }
+        ensures refused { IfErr result (λ e. RequestFault dcb iob area e.0) }
+        ensures given_back { IfErr result (λ e. e.1 ≡ area) }
+    {
+        let image = match read_iob(dcb, iob, &area) {
+            Ok(image) => image,
+            Err(error) => return Err((error, area)),
+        };
+        let piece = Piece {
+            name,
+            unit,
+            dcb,
+            related: !image.unrelated,
+            start: image.start,
+            seek: image.seek,
+            iob,
+            ecb: image.ecb.get(),
+            area,
+        };
+        Request::issue(alloc, piece)
+    }
+
+    /// The request with this piece, as issued and to be worked on.
+    fn issue(alloc: Global, work: Piece) -> Result<Request, (RequestError, Area)>
+        requires { Placed work }
+        ensures ok { IfOk result (λ r. r ≡ work) }
+        ensures refused { IfErr result (λ e. e ≡ (RequestError.NoMemory, work.area)) }
+    {
+        let Ok(issued) = work.copy() else {
+            return Err((RequestError::NoMemory, work.area));
+        };
+        let Ok(issued) = Box::new(alloc, issued) else {
+            return Err((RequestError::NoMemory, work.area));
+        };
+        match Box::new(alloc, work) {
+            Ok(work) => Ok(Request { issued, work }),
+            Err(failed) => Err((RequestError::NoMemory, failed.value.area)),
+        }
+    }
+
+    /// The piece as issued, and the piece to be worked on.
+    pub fn into_parts(self) -> (Box<Piece>, Box<Piece>)
+        ensures issued { result.0.value ≡ self }
+        ensures work { result.1.value ≡ self }
+        ensures placed { Placed self }
+    {
+        let Request { issued, work } = self;
+        (issued, work)
+    }
+
+    pub fn name(&self) -> Name
+        ensures { result ≡ self.now.name }
+    {
+        self.issued.name
+    }
+
+    /// The unit that it is for.
+    pub fn unit(&self) -> u16
+        ensures { result ≡ self.now.unit }
+    {
+        self.issued.unit
+    }
+
+    /// The number of its DCB.
+    pub fn dcb(&self) -> u16
+        ensures { result ≡ self.now.dcb }
+    {
+        self.issued.dcb
+    }
+
+    /// Whether it is related to the other requests of its DCB.
+    pub fn is_related(&self) -> bool
+        ensures { result ≡ self.now.related }
+    {
+        self.issued.related
+    }
+
+    /// The address of its channel program.
+    pub fn start(&self) -> Address
+        ensures { result ≡ self.now.start }
+    {
+        self.issued.start
+    }
+
+    /// Its seek address.
+    pub fn seek(&self) -> Seek
+        ensures { result ≡ self.now.seek }
+    {
+        self.issued.seek
+    }
+
+    /// Its storage as issued.
+    pub fn area(&self) -> &Area
+        ensures { result.now ≡ self.now.area }
+    {
+        &self.issued.area
+    }
+}
+
+/// The IOB at a place of the area, where it, its ECB and its channel program have their places and it
+/// names the DCB.
+fn read_iob(dcb: u16, iob: u32, area: &Area) -> Result<Iob, RequestError>
+    ensures iob { IfOk result (λ i. i ≡ iob_at area.now iob) }
+    ensures ok { IfOk result (λ i. NoFault dcb iob area.now) }
+    ensures refused { IfErr result (RequestFault dcb iob area.now) }
+{
+    if iob % 4 != 0 {
+        return Err(RequestError::IobPlace);
+    }
+    let image = iob_image(iob, area).ok_or(RequestError::IobPlace)?;
+    let image = Iob::read(&image);
+    if !has_ecb_place(iob, image.ecb.get(), area) {
+        return Err(RequestError::EcbPlace);
+    }
+    if !has_program_place(image.start.get(), area) {
+        return Err(RequestError::ProgramPlace);
+    }
+    if image.dcb.get() != u32::from(dcb) {
+        return Err(RequestError::DcbMismatch);
+    }
+    Ok(image)
+}
+
+/// The 40 bytes of an IOB, where they lie in the area.
+pub(crate) fn iob_image(iob: u32, area: &Area) -> Option<[u8; 40]>
+    ensures { MatchOption result (lies_in area.now iob 40 ≡ false) (λ image. (lies_in area.now iob 40 ≡ true) × (image ≡ bytes_at area.now iob 40)) }
+{
+    let mut image = [0; 40];
+    image.copy_from_slice(area.get(iob, 40)?);
+    Some(image)
+}
+
+/// Whether an ECB is on a fullword in the area and outside the IOB.
+fn has_ecb_place(iob: u32, ecb: u32, area: &Area) -> bool
+    ensures { result ≡ is_ecb_place area.now iob ecb }
+{
+    let outside = u64::from(ecb) + 4 <= u64::from(iob) || u64::from(iob) + 40 <= u64::from(ecb);
+    ecb % 4 == 0 && area.get(ecb, 4).is_some() && outside
+}
+
+/// Whether a channel program begins on a doubleword in the area.
+fn has_program_place(start: u32, area: &Area) -> bool
+    ensures { result ≡ is_program_place area.now start }
+{
+    start % 8 == 0 && area.get(start, 8).is_some()
+}

@@ -1,0 +1,96 @@
+use crate::{Name, Posted, Request, RequestError, Scope};
+use io_area::Area;
+use io_images::{Address, Code, Csw, SubStatus, UnitStatus};
+use std::process::Abort;
+use std::test::Fail;
+
+const NAME: Name = Name { task: 3, seq: 1 };
+
+/// An area at X'1000' with an unrelated IOB, its ECB at X'1028' and its channel program at X'1030'.
+fn fixture() -> [u8; 104] {
+    let mut bytes = [0; 104];
+    bytes[..8].copy_from_slice(&[0x02, 0, 0, 0, 0, 0x00, 0x10, 0x28]);
+    bytes[16..24].copy_from_slice(&[0, 0x00, 0x10, 0x30, 0, 0, 0, 1]);
+    bytes[32..40].copy_from_slice(&[1, 0, 0, 0, 2, 0, 3, 4]);
+    bytes[48..56].copy_from_slice(&[0x31, 0x00, 0x10, 0x50, 0x40, 0, 0, 5]);
+    bytes
+}
+
+/// The request at `iob` of DCB 1, or why there is none; a refusal gives the area back.
+fn issued(
+    rt: &impl Abort,
+    alloc: std::alloc::Global,
+    bytes: &[u8],
+    iob: u32,
+) -> Result<Request, RequestError> {
+    let area = Area::new(alloc, 0x1000, bytes).map_err(|_| RequestError::NoMemory)?;
+    match Request::new(alloc, NAME, 7, 1, iob, area) {
+        Ok(request) => Ok(request),
+        Err((error, area)) => {
+            assert_eq!(rt; area.get(0x1000, bytes.len()), Some(bytes));
+            Err(error)
+        }
+    }
+}
+
+#[test]
+fn request_places(rt: HostRuntime) {
+    let cases = [
+        (0x1048, 7, 0x28, RequestError::IobPlace),
+        (0x1002, 7, 0x28, RequestError::IobPlace),
+        (0x1000, 7, 0x29, RequestError::EcbPlace),
+        (0x1000, 7, 0x24, RequestError::EcbPlace),
+        (0x1000, 19, 0x68, RequestError::ProgramPlace),
+        (0x1000, 19, 0x34, RequestError::ProgramPlace),
+        (0x1000, 23, 2, RequestError::DcbMismatch),
+    ];
+    for (iob, place, byte, error) in cases {
+        let mut bytes = fixture();
+        bytes[place] = byte;
+        let found = issued(&rt, rt.alloc(), &bytes, iob).err();
+        assert_eq!(rt; found, Some(error));
+    }
+}
+
+#[test]
+fn request_says_what_its_iob_says(rt: HostRuntime) -> Result<(), Fail> {
+    let request = issued(&rt, rt.alloc(), &fixture(), 0x1000)?;
+    assert_eq!(rt; request.name(), NAME);
+    assert_eq!(rt;
+        (request.unit(), request.dcb(), request.is_related()),
+        (7, 1, false)
+    );
+    assert_eq!(rt; request.start().get(), 0x1030);
+    let seek = request.seek();
+    assert_eq!(rt; (seek.extent, seek.bin, seek.cylinder), (1, 0, 2));
+    assert_eq!(rt; (seek.head, seek.record), (3, 4));
+    assert_eq!(rt; request.area().get(0x1000, 104), Some(fixture().as_slice()));
+    let (issued, work) = request.into_parts();
+    assert_eq!(rt; (issued.iob, work.ecb), (0x1000, 0x1028));
+    assert!(rt; Scope::Dcb(1).covers(&issued) && Scope::Task(3).covers(&work));
+    assert!(rt; !Scope::Dcb(3).covers(&issued) && !Scope::Task(1).covers(&work));
+    Ok(())
+}
+
+#[test]
+fn post_writes_iob_and_ecb(rt: HostRuntime) -> Result<(), Fail> {
+    let request = issued(&rt, rt.alloc(), &fixture(), 0x1000)?;
+    let (_, work) = request.into_parts();
+    let csw = Csw {
+        address: Address::new(0x1038),
+        unit: UnitStatus::new(0x0E),
+        sub: SubStatus::new(0x00),
+        residual: 5,
+    };
+    let posted = Posted::new(work, Code::PermanentError, csw, 0x0008);
+    let mut expected = fixture();
+    expected[..8].copy_from_slice(&[0x06, 0, 0x00, 0x08, 0x41, 0x00, 0x10, 0x28]);
+    expected[8..16].copy_from_slice(&[0, 0x00, 0x10, 0x38, 0x0E, 0x00, 0x00, 0x05]);
+    expected[40] = 0x41;
+    assert_eq!(rt; posted.area().get(0x1000, 104), Some(expected.as_slice()));
+    assert_eq!(rt; posted.name(), NAME);
+    assert_eq!(rt; (posted.unit(), posted.dcb(), posted.sense()), (7, 1, 8));
+    assert_eq!(rt; posted.code(), Code::PermanentError);
+    assert_eq!(rt; posted.csw().residual, 5);
+    Ok(())
+}
