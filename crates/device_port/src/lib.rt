@@ -20,3 +20,6 @@ pub use device::{Device, MountError};
 pub use faults::{Fault, FaultScript, is_script};
 pub use given::Given;
 pub use kind::{Flow, Kind};
+
+#[cfg(test)]
+mod tests;
