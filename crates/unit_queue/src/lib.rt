@@ -1,0 +1,11 @@
+//! The requests that wait for a unit, in order of arrival, in a ring whose room is made once.
+#![tactic(auto)]
+
+mod queue;
+mod selection;
+
+pub use queue::WaitQueue;
+pub use selection::Selection;
+
+#[cfg(test)]
+mod tests;
