@@ -1,0 +1,12 @@
+use Rattle.std.proofs.Common.{◌≡◌, arith, reverse}
+use Rattle.unit_book.proofs.Outs.{ties-taken, length-rest}
+use Rattle.unit_book.proofs.ledger.Ledger.take_out.Goals as goal
+
+pub invariant_of-self : goal.invariant_of-self
+invariant_of-self g c =
+    let m = g.D.Device.meaning in
+    let i = c.self.inside in
+    let t = ties-taken m i.mounted (reverse i.trace.items) i.channel i.active i.waiting.pieces i.dcbs i.out.items c.self.invariant.0 in
+    let e = c.pop_front.ensures.items in
+    let room = c.self.invariant.1 in
+    (rw e t, rw e (record { held = omega (arith, room.held, length-rest i.out.items); waiting_room = room.waiting_room; swept_is = room.swept_is }))
