@@ -1,9 +1,10 @@
 -- What is doomed, entry by entry, and that the dooms settle a trace.
-use Rattle.std.proofs.Common.{◌≡◌, ℕ, Bool, true, false, not, ◌&&◌, ◌||◌, Option, Some, None, List, [], ◌∷◌, refl, sym, ap, ◌∙◌, eqb, inl, inr, subst, if◌then◌else◌}
+use Rattle.std.proofs.Common.{◌≡◌, ◌≤◌, ℕ, Bool, true, false, not, ◌&&◌, ◌||◌, Option, Some, None, List, [], ◌∷◌, length, arith, refl, sym, ap, ◌∙◌, eqb, inl, inr, subst, if◌then◌else◌}
 use Rattle.std.proofs.lemmas.Bool.{cases_Bool, and_parts}
 use Rattle.std.specs.List.{filter, list_all}
 use Rattle.io_images.specs.Codes.{is_error}
 use Rattle.io_images.specs.declared.csw.Csw.{Csw}
+use Rattle.io_images.specs.declared.extent.Extent.{Extent}
 use Rattle.io_images.specs.declared.code.Code.{Code}
 use Rattle.io_images.specs.declared.code.Code.TheVariants.{Purged}
 use Rattle.device_port.specs.Meaning.{Meaning}
@@ -11,9 +12,9 @@ use Rattle.subchannel.specs.Subchannel.{no_status}
 use Rattle.request_piece.specs.declared.piece.Name.{Name}
 use Rattle.request_piece.specs.declared.piece.Piece.{Piece}
 use Rattle.unit_book.specs.declared.entry.Entry.{Entry}
-use Rattle.unit_book.specs.declared.entry.Entry.TheVariants.{Start, Ran, Post}
-use Rattle.unit_book.specs.Trace.{same, waiting, arrivals, active, request_of, is_purged}
-use Rattle.unit_book.specs.Dcbs.{doomed, is_doomed, is_open, flag}
+use Rattle.unit_book.specs.declared.entry.Entry.TheVariants.{Opened, Start, Ran, Post}
+use Rattle.unit_book.specs.Trace.{same, waiting, arrivals, active, started, request_of, is_purged}
+use Rattle.unit_book.specs.Dcbs.{doomed, is_doomed, is_open, is_opened, is_closed, flag}
 use Rattle.unit_book.specs.Legal.{ToPost, Free, due, due_by, doomed_first, is_to_halt, Fits, FitsBy, Legal}
 use Rattle.unit_book.specs.Dooms.{all_posted, after_dooms}
 use Rattle.unit_book.specs.Picks.{picks, doomed_by_post, DoomedBy}
@@ -21,6 +22,17 @@ use Rattle.unit_book.proofs.Lists.{filter-filter, all-kept, no_both, without, wi
 use Rattle.unit_book.proofs.Facts.{facts, waiting-start, waiting-post, waiting-apart}
 
 module _ {X : Type 0} where
+  -- what is never picked leaves nothing
+  pub filter-never : (xs : List X) → filter (λ x. false) xs ≡ []
+  filter-never [] = refl
+  filter-never (x ∷ xs) = filter-never xs
+
+  pub length-filter_le : (p : X → Bool) (xs : List X) → length (filter p xs) ≤ length xs
+  length-filter_le p [] = omega arith
+  length-filter_le p (x ∷ xs) =
+      let ih = length-filter_le p xs in
+      elim (cases_Bool (p x)) [ inl e ↦ rw e (omega (arith, ih)) | inr e ↦ rw e (omega (arith, ih)) ]
+
   filters-commute : (p q : X → Bool) (xs : List X) → filter p (filter q xs) ≡ filter q (filter p xs)
   filters-commute p q xs =
       sym (filter-filter q p (λ x. q x && p x) (λ x. by_bools (q x) (p x)) xs) ∙ filter-filter p q (λ x. q x && p x) (λ x. refl) xs where
@@ -146,3 +158,37 @@ module _ {D : Type 0} (meaning : Meaning D) (mounted : D) where
   pub settled-start : (n : Name) (H : List Entry) → due meaning mounted H ≡ Free → due meaning mounted (Start n ∷ H) ≡ Free
   unfolding without
   settled-start n H h = due-no_halt (Start n ∷ H) (λ m a. refl) ∙ ap doomed_first (doomed-start n H ∙ ap (without n) (due-doomed H h))
+
+  not-not : (b : Bool) → not b ≡ true → b ≡ false
+  not-not true h = absurd cc
+  not-not false h = refl
+
+  -- an opened DCB dooms nothing
+  open-spares : (opened now shut purged flagged : Bool) → not (not (opened && not shut) || purged || flagged) ≡ true → (not ((now || opened) && not shut) || purged || flagged) ≡ false
+  open-spares true true false false false h = refl
+  open-spares true false false false false h = refl
+  open-spares true now true purged flagged h = absurd cc
+  open-spares false now shut purged flagged h = absurd cc
+  open-spares true now false true flagged h = absurd cc
+  open-spares true now false false true h = absurd cc
+
+  pub settled-open : (d : ℕ) (input : Bool) (x : List Extent) (H : List Entry) → due meaning mounted H ≡ Free → due meaning mounted (Opened d input x ∷ H) ≡ Free
+  unfolding waiting arrivals flag
+  settled-open d input x H h =
+      let G = Opened d input x ∷ H in
+      let all = none-pass (is_doomed H) (waiting H) (due-doomed H h) in
+      let same = filter-agree (is_doomed G) (λ r. false) (λ r. not (is_doomed H r)) (λ r k. open-spares (is_opened r.dcb H) (eqb d r.dcb) (is_closed r.dcb H) (is_purged r H) (r.related && flag r.dcb H) k) (waiting H) all in
+      due-no_halt G (λ n a. refl) ∙ ap doomed_first (same ∙ filter-never (waiting H))
+
+  -- nothing is due in a trace without entries
+  pub settled-new : due meaning mounted [] ≡ Free
+  unfolding due waiting arrivals active started
+  settled-new = refl
+
+  -- a post dooms at most what waited
+  pub doomed-few : (n : Name) (csw : Csw) (sense : ℕ) (code : Code) (H : List Entry) → length (doomed (Post n csw sense code ∷ H)) ≤ length (waiting H)
+  unfolding without
+  doomed-few n csw sense code H =
+      let G = Post n csw sense code ∷ H in
+      let w = ap length (waiting-post meaning mounted n csw sense code H) in
+      omega (arith, w, length-filter_le (is_doomed G) (waiting G), length-filter_le (λ (r : Piece). not (same n r.name)) (waiting H))

@@ -17,3 +17,4 @@ pub mod Posting
 pub mod Opens
 pub mod Outs
 pub mod Refusals
+pub mod Calls

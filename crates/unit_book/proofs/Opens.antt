@@ -272,3 +272,17 @@ module _ {D : Type 0} (meaning : Meaning D) (mounted : D) where
   ] where
     clash : {x : Dcb} → Some x ≡ None → ⊥
     clash k = cc
+
+  -- at most 65,535 DCBs are opened
+  pub opened-most : (H : List Entry) → Legal meaning mounted H → opened_count H ≤ 65535
+  unfolding Legal
+  opened-most [] l = omega arith
+  opened-most (Opened c i x ∷ H) l = let f = free-open meaning mounted c i x H (due meaning mounted H) l.0 in omega (arith, f.next, f.few)
+  opened-most (Arrive r ∷ H) l = opened-most H l.1
+  opened-most (Start n ∷ H) l = opened-most H l.1
+  opened-most (Ran n j ∷ H) l = opened-most H l.1
+  opened-most (Halted n ∷ H) l = opened-most H l.1
+  opened-most (Purge s m ∷ H) l = opened-most H l.1
+  opened-most (Close c ∷ H) l = opened-most H l.1
+  opened-most (Reset c ∷ H) l = opened-most H l.1
+  opened-most (Post n c s k ∷ H) l = opened-most H l.1

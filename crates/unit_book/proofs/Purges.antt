@@ -5,6 +5,8 @@ use Rattle.std.proofs.lemmas.List.{append-nil}
 use Rattle.std.proofs.Math.Seq.{drop-append_seam, drop-length}
 use Rattle.std.specs.List.{filter, list_all}
 use Rattle.std.specs.Prelude.{drop}
+use Rattle.io_images.specs.declared.csw.Csw.{Csw}
+use Rattle.io_images.specs.declared.code.Code.{Code}
 use Rattle.io_images.specs.declared.code.Code.TheVariants.{Purged}
 use Rattle.device_port.specs.Meaning.{Meaning}
 use Rattle.subchannel.specs.Subchannel.{Channel, no_status}
@@ -15,13 +17,13 @@ use Rattle.request_piece.specs.declared.piece.Piece.{Piece}
 use Rattle.unit_book.specs.declared.active.Active.{Active}
 use Rattle.unit_book.specs.declared.dcb.Dcb.{Dcb}
 use Rattle.unit_book.specs.declared.entry.Entry.{Entry}
-use Rattle.unit_book.specs.declared.entry.Entry.TheVariants.{Post}
+use Rattle.unit_book.specs.declared.entry.Entry.TheVariants.{Arrive, Post}
 use Rattle.unit_book.specs.Trace.{same, waiting, active, request_of}
 use Rattle.unit_book.specs.Dcbs.{doomed, is_doomed, extents_of, flag}
 use Rattle.unit_book.specs.Media.{attempts, area}
 use Rattle.unit_book.specs.Legal.{Fits, FitsBy, Legal, due, doomed_first, ToPost}
 use Rattle.unit_book.specs.Dooms.{all_posted, after_dooms, purged}
-use Rattle.unit_book.specs.Posts.{posted, posted_since}
+use Rattle.unit_book.specs.Posts.{posted, posted_since, posted_value}
 use Rattle.unit_book.specs.Inside.{Ties}
 use Rattle.unit_book.proofs.Lists.{same-true, same-refl, same-not-sym, no_both, without, none_named, Apart, Apart-filter, all-kept, without-first}
 use Rattle.unit_book.specs.Inside.{Each}
@@ -140,17 +142,40 @@ module _ {D : Type 0} (meaning : Meaning D) (mounted : D) where
   pub since-same : (H : List Entry) → posted_since meaning mounted H H ≡ []
   since-same H = drop-length (posted meaning mounted H)
 
+-- WHAT WAS POSTED SINCE a trace, entry by entry
+module _ {D : Type 0} (meaning : Meaning D) (mounted : D) where
+  -- an arrival posts nothing
+  pub since-arrive : (r : Piece) (H : List Entry) → posted_since meaning mounted H (Arrive r ∷ H) ≡ []
+  unfolding posted
+  since-arrive r H = drop-length (posted meaning mounted H)
+
+  posted-more : (rs : List Piece) (G : List Entry) → (vs : List PostedState) × (posted meaning mounted (all_posted rs G) ≡ posted meaning mounted G ++ vs)
+  unfolding posted
+  posted-more [] G = ([], sym (append-nil (posted meaning mounted G)))
+  posted-more (r ∷ rs) G =
+      let v = posted_value (request_of r.name G) no_status 0 Purged (area meaning mounted (request_of r.name G) G) in
+      let m = posted-more rs (Post r.name no_status 0 Purged ∷ G) in
+      (v ∷ m.0, m.1 ∙ append_assoc (posted meaning mounted G) (v ∷ []) m.0)
+
+  -- a post and what it dooms
+  pub since-post : (n : Name) (csw : Csw) (sense : ℕ) (code : Code) (H : List Entry) →
+      let G = Post n csw sense code ∷ H in
+      posted_since meaning mounted H (after_dooms G) ≡ posted_value (request_of n H) csw sense code (area meaning mounted (request_of n H) H) ∷ posted_since meaning mounted G (after_dooms G)
+  unfolding posted
+  since-post n csw sense code H =
+      let G = Post n csw sense code ∷ H in
+      let v = posted_value (request_of n H) csw sense code (area meaning mounted (request_of n H) H) in
+      let m = posted-more (doomed G) G in
+      let own = since-is meaning mounted G (after_dooms G) m.0 m.1 in
+      let all = since-is meaning mounted H (after_dooms G) (v ∷ m.0) (m.1 ∙ append_assoc (posted meaning mounted H) (v ∷ []) m.0) in
+      all ∙ ap (λ x. v ∷ x) (sym own)
+
 -- those that are picked and those that are not are all
 pub length-filters : {X : Type 0} (p : X → Bool) (xs : List X) → length (filter p xs) + length (filter (λ x. not (p x)) xs) ≡ length xs
 length-filters p [] = refl
 length-filters p (x ∷ xs) =
     let ih = length-filters p xs in
     elim (cases_Bool (p x)) [ inl e ↦ rw e (omega (arith, ih)) | inr e ↦ rw e (omega (arith, ih)) ]
-
--- what is never picked leaves nothing
-pub filter-never : {X : Type 0} (xs : List X) → filter (λ x. false) xs ≡ []
-filter-never [] = refl
-filter-never (x ∷ xs) = filter-never xs
 
 -- where nothing is doomed there are no dooms
 pub dooms-none : (H : List Entry) → doomed H ≡ [] → after_dooms H ≡ H

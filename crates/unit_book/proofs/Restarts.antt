@@ -120,3 +120,16 @@ module _ {D : Type 0} (meaning : Meaning D) (mounted : D) where
           out = t.out;
         } in
         subst (λ x. Ties meaning mounted G (ssch_started meaning channel r.start r.seek mask x) (Some (restarted a)) waiters table left) (sym idle) whole
+
+  -- a request that awaits its restart may be started again
+  pub awaits-told : (H : List Entry) (channel : Channel D) (a : Active) (waiters : List Piece) (table : List Dcb) (left : List PostedState) →
+      Ties meaning mounted H channel (Some a) waiters table left → again_by a.doing ≡ true → StartsAgain meaning mounted a.piece.value.name H
+  awaits-told H channel a waiters table left t again = by_doing channel.phase a.doing t.activity.doing again where
+    by_doing : (phase : Phase) (doing : Doing) → DoingTies meaning mounted H phase a doing → again_by doing ≡ true → StartsAgain meaning mounted a.piece.value.name H
+    by_doing Absent doing d h = absurd d
+    by_doing Idle OnChannel d h = absurd d
+    by_doing Idle (Again csw sense) d h = record { active = t.activity.is; csw = csw; sense = sense; ended = d.0; retry = d.1; free = d.2 }
+    by_doing (Running place) OnChannel d h = absurd cc
+    by_doing (Running place) (Again csw sense) d h = absurd d
+    by_doing (Pending csw sense) OnChannel d h = absurd cc
+    by_doing (Pending csw sense) (Again c k) d h = absurd d

@@ -3,11 +3,19 @@
 use io_images::{Code, Csw};
 use request_piece::Name;
 
-/// The request that waits first, and whether it passes the extent check.
+/// What a start comes to.
 #[derive(Clone, Copy, PartialEq, Eq, Debug)]
-pub(crate) struct Check {
-    pub name: Name,
-    pub passes: bool,
+pub(crate) enum Next {
+    /// A program runs, or its status is pending.
+    Busy,
+    /// Nothing is active, and nothing waits.
+    Idle,
+    /// The request that waits first passes the extent check.
+    First(Name),
+    /// The request that waits first fails the extent check.
+    Violated(Name),
+    /// The active request awaits its restart.
+    Again(Name),
 }
 
 /// What becomes of the active request when its status is taken: its completion code if it is posted, or

@@ -4,14 +4,16 @@ mod posts;
 mod programs;
 mod readers;
 
-ghost use Rattle.std.specs.Prelude.{◌≡◌, ◌≤◌, ◌<◌, ◌+◌, ◌-◌, true, ◌∷◌, ◌++◌, [], reverse, length, vec_len, vec_capacity, IfOk, IfErr, OnOk, OnErr};
+ghost use Rattle.std.specs.Prelude.{◌≡◌, ◌≤◌, ◌<◌, ◌+◌, ◌-◌, false, ◌∷◌, ◌++◌, [], reverse, length, vec_len, vec_capacity, IfOk, IfErr, OnOk, OnErr};
 ghost use Rattle.circular_buffer.specs.Buffer.{buffer};
 ghost use Rattle.request_piece.specs.Places.{Placed};
 ghost use Rattle.unit_book.specs.Book.{Book, held, given, opening};
 ghost use Rattle.unit_book.specs.Legal.{Fits, Legal, Settled, OpenFits};
-ghost use Rattle.unit_book.specs.Answers.{Adds};
-ghost use Rattle.unit_book.specs.Dcbs.{opened_count};
+ghost use Rattle.unit_book.specs.Answers.{Adds, Posts};
+ghost use Rattle.unit_book.specs.Dcbs.{is_refused, opened_count};
+ghost use Rattle.unit_book.specs.Dooms.{after_dooms};
 ghost use Rattle.unit_book.specs.Posts.{posted};
+ghost use Rattle.unit_book.specs.Trace.{waiting};
 ghost use Rattle.unit_queue.specs.Queue.{queue};
 
 use crate::active::Active;
@@ -113,15 +115,28 @@ impl<D: Device> Ledger<D> {
         self.trace.reserve(entries)
     }
 
-    /// A request arrives.
+    /// Makes room for a post and for those of all that it may doom.
+    pub fn reserve_posts(&mut self) -> Result<(), AllocError>
+        ensures room { OnOk result (length (waiting self.old.trace) + 1 ≤ self.new.spare) }
+        ensures book { self.new ≡ record self.old { spare = self.new.spare } }
+        ensures err { OnErr result (self.new ≡ self.old) }
+    {
+        let _capacity = self.out.capacity();
+        let entries = self.waiting.len() + 1;
+        self.trace.reserve(entries)
+    }
+
+    /// A request arrives that is not doomed.
     pub fn arrive(&mut self, issued: Issued, piece: Box<Piece>)
         requires spare { 1 ≤ self.old.spare }
         requires room { held self.old < self.old.capacity }
+        requires settled { Settled D.meaning self.old.mounted self.old.trace }
         requires same { piece.value ≡ issued }
         requires placed { Placed issued }
         requires fits { Fits D.meaning self.old.mounted (Entry.Arrive issued) self.old.trace }
-        ensures book { Adds self.old (Entry.Arrive issued) self.new }
-        ensures spare { self.old.spare ≤ self.new.spare + 1 }
+        requires accepted { is_refused issued self.old.trace ≡ false }
+        ensures book { Posts D.meaning self.old (after_dooms (Entry.Arrive issued ∷ self.old.trace)) self.old.again self.new }
+        ensures settled { Settled D.meaning self.new.mounted self.new.trace }
     {
         write(&mut self.trace, Entry::Arrive(issued));
         self.waiting.push(piece);

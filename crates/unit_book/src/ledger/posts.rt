@@ -1,11 +1,11 @@
 //! Posts of requests.
 
-ghost use Rattle.std.specs.Prelude.{◌≡◌, ◌≤◌, ◌<◌, ◌+◌, ◌-◌, ◌∷◌, ◌++◌, [], true, length, map, reverse, vec_len, vec_capacity, slice_get, drop};
+ghost use Rattle.std.specs.Prelude.{◌≡◌, ◌≤◌, ◌<◌, ◌+◌, ◌-◌, ◌∷◌, ◌++◌, [], true, length, map, reverse, vec_len, vec_capacity, slice_get, drop, IfSome};
 ghost use Rattle.circular_buffer.specs.Buffer.{buffer};
 ghost use Rattle.request_piece.specs.Places.{Placed};
 ghost use Rattle.unit_book.specs.Inside.{Each};
 ghost use Rattle.subchannel.specs.Subchannel.{no_status};
-ghost use Rattle.unit_book.specs.Book.{held, IsLastGiven};
+ghost use Rattle.unit_book.specs.Book.{held, given, IsLastGiven};
 ghost use Rattle.unit_book.specs.Legal.{Fits, Settled, due, doomed_first, PostsActive, StartsAgain, FailsCheck};
 ghost use Rattle.unit_book.specs.Media.{Over, stage};
 ghost use Rattle.unit_book.specs.Picks.{DoomedBy};
@@ -178,6 +178,7 @@ impl<D: Device> Ledger<D> {
     pub fn take_out(&mut self) -> Option<Posted>
         ensures first { result ≡ slice_get self.old.out 0 }
         ensures book { self.new ≡ record self.old { out = drop 1 self.old.out } }
+        ensures given { IfSome result (λ value. given D.meaning self.new ≡ given D.meaning self.old ++ value ∷ []) }
     {
         self.out.pop_front()
     }

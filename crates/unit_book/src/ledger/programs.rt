@@ -1,14 +1,15 @@
 //! Starts of requests, and the commands of their programs.
 
-ghost use Rattle.std.specs.Prelude.{◌≡◌, ◌≤◌, ◌+◌, true, false, not, ◌∷◌};
+ghost use Rattle.std.specs.Prelude.{◌≡◌, ◌≤◌, ◌+◌, true, false, not, None};
 ghost use Rattle.ccw_programs.specs.Step.{is_running};
 ghost use Rattle.subchannel.specs.Subchannel.{Fits, started};
 ghost use Rattle.unit_book.specs.Legal.{Settled, StartsFirst, StartsAgain};
-ghost use Rattle.unit_book.specs.Answers.{Adds, Checks, RunsBook};
+ghost use Rattle.unit_book.specs.Answers.{IsNext, RunsBook, StartsOne};
+ghost use Rattle.unit_book.specs.Trace.{active};
 
-use crate::active::Active;
+use crate::active::{Active, Doing};
 use crate::answer::Running;
-use crate::decision::Check;
+use crate::decision::Next;
 use crate::entry::Entry;
 use crate::extents::passes_check;
 use crate::ledger::{Ledger, write};
@@ -36,22 +37,34 @@ fn has_ended(state: State) -> bool
 }
 
 impl<D: Device> Ledger<D> {
-    /// Whether the request that waits first passes the extent check.
-    pub fn first_check(&self) -> Option<Check>
-        ensures { Checks D.meaning self.now result }
+    /// What a start comes to.
+    pub fn next_start(&self) -> Next
+        ensures { IsNext D.meaning self.now result }
+    {
+        match &self.active {
+            Some(active) => match active.doing {
+                Doing::OnChannel => Next::Busy,
+                Doing::Again(_, _) => Next::Again(active.name()),
+            },
+            None => self.first_of_queue(),
+        }
+    }
+
+    /// What a start comes to where nothing is active.
+    fn first_of_queue(&self) -> Next
+        requires { active self.now.trace ≡ None }
+        ensures { IsNext D.meaning self.now result }
     {
         let Some(piece) = self.waiting.front() else {
-            return None;
+            return Next::Idle;
         };
-        let name = piece.name;
         let extents = self.dcbs.extents(piece.dcb);
-        let passes = passes_check(
-            self.mounted.kind(),
-            self.mounted.heads(),
-            extents,
-            &piece.seek,
-        );
-        Some(Check { name, passes })
+        let kind = self.mounted.kind();
+        if passes_check(kind, self.mounted.heads(), extents, &piece.seek) {
+            Next::First(piece.name)
+        } else {
+            Next::Violated(piece.name)
+        }
     }
 
     /// The first start of the request that waits first.
@@ -59,7 +72,7 @@ impl<D: Device> Ledger<D> {
         requires spare { 1 ≤ self.old.spare }
         requires settled { Settled D.meaning self.old.mounted self.old.trace }
         requires fits { StartsFirst D.meaning self.old.mounted name self.old.trace }
-        ensures book { Adds self.old (Entry.Start name) self.new }
+        ensures book { StartsOne self.old name self.new }
         ensures spare { self.old.spare ≤ self.new.spare + 1 }
     {
         let Some(piece) = self.waiting.pop() else {
@@ -77,7 +90,7 @@ impl<D: Device> Ledger<D> {
         requires settled { Settled D.meaning self.old.mounted self.old.trace }
         requires awaits { self.old.again ≡ true }
         requires fits { StartsAgain D.meaning self.old.mounted name self.old.trace }
-        ensures book { self.new ≡ record self.old { trace = Entry.Start name ∷ self.old.trace; again = false; spare = self.new.spare } }
+        ensures book { StartsOne self.old name self.new }
         ensures spare { self.old.spare ≤ self.new.spare + 1 }
     {
         let Some(active) = self.active.take() else {

@@ -1,17 +1,20 @@
 //! What a book tells.
 
-ghost use Rattle.std.specs.Prelude.{◌≡◌, ◌≤◌, ◌<◌, IsTrue, ◌↔◌, reverse, length, is_some};
+ghost use Rattle.std.specs.Prelude.{◌≡◌, ◌≤◌, ◌<◌, IsTrue, ◌↔◌, reverse, length, is_some, false};
 ghost use Rattle.request_piece.specs.declared.piece.Piece.{Piece};
 ghost use Rattle.unit_book.specs.Book.{going, held, is_pending};
-ghost use Rattle.unit_book.specs.Dcbs.{dcb_state, flag, is_refused};
+ghost use Rattle.unit_book.specs.Dcbs.{dcb_state, flag, is_refused, opened_count};
+ghost use Rattle.unit_book.specs.Extents.{takes_extents};
 ghost use Rattle.unit_book.specs.Media.{device};
 ghost use Rattle.unit_book.specs.Trace.{waiting};
 
 use crate::active::Doing;
 use crate::dcb::DcbState;
 use crate::entry::Entry;
+use crate::extents::takes_extents;
 use crate::ledger::Ledger;
 use device_port::Device;
+use io_images::Extent;
 use request_piece::Request;
 
 impl<D: Device> Ledger<D> {
@@ -79,7 +82,8 @@ impl<D: Device> Ledger<D> {
 
     /// Whether there is room for another request.
     pub fn has_room(&self) -> bool
-        ensures { IsTrue result ↔ (held self.now < self.now.capacity) }
+        ensures room { IsTrue result ↔ (held self.now < self.now.capacity) }
+        ensures full { result ≡ false → held self.now ≡ self.now.capacity }
     {
         let capacity = self.out.capacity();
         let held = self.waiting.len() + self.out.len();
@@ -87,6 +91,27 @@ impl<D: Device> Ledger<D> {
             Some(_) => held + 1 < capacity,
             None => held < capacity,
         }
+    }
+
+    /// How many DCBs were opened.
+    pub fn dcb_count(&self) -> usize
+        ensures count { result ≡ opened_count self.now.trace }
+        ensures few { result ≤ 65535 }
+    {
+        self.dcbs.len()
+    }
+
+    /// Whether a DCB may be opened with these extents.
+    pub fn takes_extents(&self, extents: &[Extent]) -> bool
+        ensures { result ≡ takes_extents (D.meaning.kind self.now.mounted) (D.meaning.cylinders self.now.mounted) (D.meaning.heads self.now.mounted) extents.now }
+    {
+        let mounted = &self.mounted;
+        takes_extents(
+            mounted.kind(),
+            mounted.cylinders(),
+            mounted.heads(),
+            extents,
+        )
     }
 
     /// The state of a DCB.
@@ -123,5 +148,12 @@ impl<D: Device> Ledger<D> {
             Some(row) => row.closed || (request.is_related() && row.in_error),
             None => true,
         }
+    }
+
+    /// How many entries there is room for.
+    pub fn spare(&self) -> usize
+        ensures { result ≡ self.now.spare }
+    {
+        self.trace.capacity() - self.trace.len()
     }
 }

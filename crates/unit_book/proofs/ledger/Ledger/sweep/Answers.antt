@@ -17,8 +17,9 @@ use Rattle.unit_book.specs.Legal.{due, doomed_first}
 use Rattle.unit_book.specs.Inside.{Ties}
 use Rattle.unit_book.specs.Posts.{posted}
 use Rattle.unit_book.proofs.Facts.{Each-filter}
+use Rattle.unit_book.proofs.Dooms.{filter-never}
 use Rattle.unit_book.proofs.Posting.{length-map}
-use Rattle.unit_book.proofs.Purges.{length-filters, ties-dooms, since-is, since-same, filter-never, dooms-none}
+use Rattle.unit_book.proofs.Purges.{length-filters, ties-dooms, since-is, since-same, dooms-none}
 use Rattle.unit_book.proofs.ledger.Ledger.sweep.Goals as goal
 
 pub returns-in_default-clause-book : goal.returns-in_default-clause-book
