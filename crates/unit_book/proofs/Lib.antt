@@ -18,3 +18,6 @@ pub mod Opens
 pub mod Outs
 pub mod Refusals
 pub mod Calls
+pub mod NameLaws
+pub mod OrderLaws
+pub mod DoomLaws

@@ -36,7 +36,7 @@ use Rattle.unit_book.proofs.Seeks.{seeks, fits-device}
 use Rattle.unit_book.proofs.Starts.{mask-is, current-start, device-start}
 
 -- only the first ten attempts are tried again
-retry-few : (kind : Kind) (csw : Csw) (sense attempt : ℕ) → verdict kind csw sense attempt ≡ Retry → attempt ≤ 10
+pub retry-few : (kind : Kind) (csw : Csw) (sense attempt : ℕ) → verdict kind csw sense attempt ≡ Retry → attempt ≤ 10
 retry-few kind csw sense attempt h = by_tests (is_success csw) (is_disk kind && nat_le attempt 10 && (is_passing_error csw sense || is_channel_error csw)) refl h where
   by_tests : (a b : Bool) → (is_disk kind && nat_le attempt 10 && (is_passing_error csw sense || is_channel_error csw)) ≡ b → (if a then Final Ended else if b then Retry else Final PermanentError) ≡ Retry → attempt ≤ 10
   by_tests true b e k = absurd cc

@@ -49,7 +49,7 @@ named-more H n (a ∷ rest) h =
     let p = and_parts (named_within H a) (list_all (named_within H) rest) h in
     and_from (same n a.request.name || named_within H a) (list_all (named_within (Start n ∷ H)) rest) (or_right (same n a.request.name) (named_within H a) p.0) (named-more H n rest p.1)
 
-no-starts : (n : Name) (H : List Entry) → has_started n H ≡ false → length (filter (starts n) H) ≡ 0
+pub no-starts : (n : Name) (H : List Entry) → has_started n H ≡ false → length (filter (starts n) H) ≡ 0
 no-starts n [] h = refl
 no-starts n (e ∷ H) h = let p = or_parts (starts n e) (has_started n H) h in let a = p.0 in rw a (no-starts n H p.1)
 

@@ -55,7 +55,7 @@ module _ {D : Type 0} (meaning : Meaning D) (mounted : D) where
   halted-active m H Free e h = absurd h
 
   -- an entry that fits is not of a posted name
-  not-of : (n : Name) (e : Entry) (H : List Entry) → Facts H → is_posted n H ≡ true → Fits meaning mounted e H → is_of_name n e ≡ false
+  pub not-of : (n : Name) (e : Entry) (H : List Entry) → Facts H → is_posted n H ≡ true → Fits meaning mounted e H → is_of_name n e ≡ false
   not-of n (Opened d i x) H f p h = refl
   not-of n (Arrive r) H f p h =
       let new = fresh meaning mounted r H f (fits-arrive meaning mounted r H (due meaning mounted H) h) in

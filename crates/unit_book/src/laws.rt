@@ -1,10 +1,32 @@
-//! Laws of every legal trace.
+//! Laws of every legal trace, those with halts, purges and closed DCBs included.
 
-ghost use Rattle.unit_book.specs.Laws.{PostsLast};
+ghost use Rattle.unit_book.specs.Laws.{FewStarts, NoDoomedStarts, OnePlace, PostsLast, StartsInOrder};
 
 use device_port::Device;
 
 /// A name has at most one post, and none of its entries stand behind it.
 pub fn posts_are_last<D: Device>()
     ensures { PostsLast D.meaning }
+{}
+
+/// A name that arrived waits, is active or was posted, and just one of these.
+pub fn names_have_one_place<D: Device>()
+    ensures { OnePlace D.meaning }
+{}
+
+/// The first starts are a subsequence of the arrivals.
+pub fn first_starts_keep_order<D: Device>()
+    ensures { StartsInOrder D.meaning }
+{}
+
+/// What was doomed is never started, what was covered is not started again; after a close no first start is of
+/// the DCB, and no start at all but of the request that was active then; while a DCB has the error flag
+/// none of its related requests has a first start.
+pub fn doomed_are_not_started<D: Device>()
+    ensures { NoDoomedStarts D.meaning }
+{}
+
+/// At most one request is active, and each has at most eleven starts.
+pub fn starts_are_few<D: Device>()
+    ensures { FewStarts D.meaning }
 {}
