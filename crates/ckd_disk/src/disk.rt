@@ -185,8 +185,7 @@ impl Disk {
         requires { is_seek self.old seek.now ≡ true }
         ensures { self.new ≡ prefix self.old seek.now mask }
     {
-        self.track =
-            usize::from(seek.cylinder) * usize::from(self.heads) + usize::from(seek.head);
+        self.track = usize::from(seek.cylinder) * usize::from(self.heads) + usize::from(seek.head);
         self.access = Access::start(mask);
     }
 }

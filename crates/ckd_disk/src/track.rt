@@ -15,10 +15,11 @@ pub use records::{Records, Stored};
 pub use spot::Spot;
 use std::alloc::{AllocError, Global};
 use std::marker::Model;
-use stored::{
-    COUNT_AREA, content_of, count_area_of, first, id_of, key_of, parts_of, put_record, size_of_first,
-};
 pub use stored::size_given;
+use stored::{
+    COUNT_AREA, content_of, count_area_of, first, id_of, key_of, parts_of, put_record,
+    size_of_first,
+};
 
 /// A track as one image of its size: its records packed in order, and a rest that means nothing.
 #[derive(Debug, Drop)]

@@ -64,11 +64,7 @@ pub fn write_key_and_data(track: &mut Track, access: &mut Access, given: &Given<
 }
 
 /// WRITE COUNT, KEY AND DATA.
-pub fn write_count_key_and_data(
-    track: &mut Track,
-    access: &mut Access,
-    given: &Given<'_>,
-) -> Acted
+pub fn write_count_key_and_data(track: &mut Track, access: &mut Access, given: &Given<'_>) -> Acted
     requires { IsPlaced access.old track.old }
     ensures written { record { acted = result; access = access_of access.new; track = track.new } ≡ write_count_key_and_data track.old (access_of access.old) given.now }
     ensures placed { IsPlaced access.new track.new }
