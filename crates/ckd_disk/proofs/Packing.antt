@@ -1,12 +1,10 @@
 -- A record that was packed is read back.
-use Rattle.std.proofs.Common.{◌≡◌, ℕ, zero, suc, ◌+◌, ◌*◌, ◌-◌, ◌/◌, ◌%◌, ◌^◌, ◌<◌, ◌≤◌, List, [], ◌∷◌, ◌++◌, length, get_or, take, drop, replicate, refl, sym, ap, subst, ◌∙◌, append_assoc, arith, inl, inr}
-use Rattle.std.specs.Int.{w16, to_be_bytes}
-use Rattle.std.proofs.lemmas.Bool.{cases_lt}
-use Rattle.std.proofs.lemmas.List.{take_at, drop_at, take-append-drop, take_all, length-append, length-take, length-drop, length-replicate, get_or_append_left, get_or-append_right, get_or-take, get_or_past, drop-drop, drop_more}
+use Rattle.std.proofs.Common.{◌≡◌, ℕ, ◌+◌, ◌*◌, ◌-◌, ◌/◌, ◌%◌, ◌^◌, ◌<◌, ◌≤◌, List, [], ◌∷◌, ◌++◌, length, get_or, take, drop, replicate, sym, ap, ◌∙◌, append_assoc, arith}
+use Rattle.std.proofs.lemmas.List.{take_at, drop_at, take-append-drop, take_all, length-append, length-take, length-drop, length-replicate, get_or_append_left, get_or-append_right, get_or-take, drop-drop, drop_more}
 use Rattle.device_port.specs.Moves.{padded, written}
 use Rattle.device_port.specs.Packed.{Reads}
 use Rattle.device_port.proofs.Items.{written-written}
-use Rattle.ckd_disk.specs.Record.{Record, ckd, count_area, packed, size_of, Fits, key_len, content_len, record_at, size_at, IsRecord, record_written}
+use Rattle.ckd_disk.specs.Record.{Record, ckd, count_area, packed, size_of, Fits, key_len, content_len, record_at, size_at, IsRecord}
 
 pub length-count_area : (r : Record) → Fits r → length (count_area r) ≡ 8
 length-count_area r fits = length-append r.id _ ∙ omega (arith, fits.id)
