@@ -21,7 +21,8 @@ use io_images::Seek;
 use std::alloc::{AllocError, Global};
 use std::marker::Model;
 
-/// A disk of count-key-data records.
+/// A disk of count-key-data records (profile), as contracts see it: the tracks in the order of their numbers,
+/// which one is under the heads, what the last command left for the next one, and the fault script.
 #[derive(Drop)]
 pub struct Disk {
     cylinders: u16,
