@@ -4,7 +4,7 @@ use Rattle.device_port.specs.declared.faults.Fault.{Fault}
 use Rattle.device_port.specs.Answers.{normal_end, unit_exception}
 use Rattle.device_port.specs.Faults.{fault_met, counted}
 use Rattle.device_port.specs.Meaning.{Outcome, Lawful, GivesWhatItWants}
-use Rattle.device_port.specs.ToyLaws.{gives_nothing}
+use Rattle.device_port.specs.MeaningLaws.{gives_nothing}
 use Rattle.ckd_disk.specs.declared.command.Command.{Command}
 use Rattle.ckd_disk.specs.declared.command.Command.TheVariants.{Control, Read, Write}
 use Rattle.ckd_disk.specs.declared.command.Control.TheVariants as control
