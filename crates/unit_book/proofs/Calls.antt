@@ -1,0 +1,62 @@
+-- What the calls of a book come to, one step of its ledger after another.
+use Rattle.std.proofs.Common.{◌≡◌, ◌≤◌, ◌+◌, ℕ, Bool, true, false, Option, Some, Result, Ok, Err, List, [], ◌∷◌, ◌++◌, append_assoc, length, refl, sym, ap, ◌∙◌, arith}
+use Rattle.std.specs.Prelude.{OnOk, OnErr}
+use Rattle.std.specs.declared.alloc.AllocError.{AllocError}
+use Rattle.io_images.specs.declared.csw.Csw.{Csw}
+use Rattle.io_images.specs.declared.code.Code.{Code}
+use Rattle.io_images.specs.declared.extent.Extent.{Extent}
+use Rattle.device_port.specs.Meaning.{Meaning}
+use Rattle.request_piece.specs.PostedState.{PostedState}
+use Rattle.request_piece.specs.declared.piece.Name.{Name}
+use Rattle.unit_book.specs.declared.answer.Running.{Running}
+use Rattle.unit_book.specs.declared.answer.Running.TheVariants.{Quiet, Ran}
+use Rattle.unit_book.specs.declared.entry.Entry.{Entry}
+use Rattle.unit_book.specs.declared.entry.Entry.TheVariants.{Opened, Post}
+use Rattle.unit_book.specs.Trace.{request_of, waiting}
+use Rattle.unit_book.specs.Dcbs.{opened_count, doomed}
+use Rattle.unit_book.specs.Media.{area}
+use Rattle.unit_book.specs.Posts.{posted_value, posted_since}
+use Rattle.unit_book.specs.Dooms.{after_dooms}
+use Rattle.unit_book.specs.Book.{Book}
+use Rattle.unit_book.specs.Answers.{Adds, Posts, PostsOne, RunsBook}
+use Rattle.unit_book.specs.Legal.{Settled, due, doomed_first}
+use Rattle.unit_book.proofs.Dooms.{settled-ran, settled-open, doomed-few, due-no_halt}
+use Rattle.unit_book.proofs.Purges.{since-post}
+
+-- `run` keeps a book settled
+pub run-settled : {D : Type 0} (meaning : Meaning D) (old new : Book D) (max : ℕ) (answer : Running) → Settled meaning old.mounted old.trace → RunsBook meaning old max answer new → Settled meaning new.mounted new.trace
+run-settled meaning old new max Quiet s r = let e = r.1 in rw e s
+run-settled meaning old new max (Ran c pending) s r = let e = r.adds in rw e (settled-ran meaning old.mounted r.name c old.trace s)
+
+-- `open` keeps a book settled
+pub open-settled : {D : Type 0} (meaning : Meaning D) (old new : Book D) (input : Bool) (extents : List Extent) (result : Result ℕ AllocError) → Settled meaning old.mounted old.trace →
+    OnOk result (Adds old (Opened (opened_count old.trace + 1) input extents) new) → OnErr result (new ≡ old) → Settled meaning new.mounted new.trace
+open-settled meaning old new input extents (Ok d) s a b = let e = a in rw e (settled-open meaning old.mounted (opened_count old.trace + 1) input extents old.trace s)
+open-settled meaning old new input extents (Err x) s a b = let e = b in rw e s
+
+-- a post and what it dooms, as one step
+module _ {D : Type 0} (meaning : Meaning D) (old mid posting new : Book D) (n : Name) (csw : Csw) (sense : ℕ) (code : Code) where
+  pub post-then-sweep : mid ≡ record old { spare = mid.spare } → PostsOne meaning mid n csw sense code posting → Posts meaning posting (after_dooms posting.trace) posting.again new →
+      Posts meaning old (after_dooms (Post n csw sense code ∷ old.trace)) false new
+  post-then-sweep m p s =
+      let v = posted_value (request_of n old.trace) csw sense code (area meaning old.mounted (request_of n old.trace) old.trace) in
+      let since = since-post meaning old.mounted n csw sense code old.trace in
+      let q : posting ≡ record old { trace = Post n csw sense code ∷ old.trace; again = false; out = old.out ++ v ∷ []; spare = posting.spare } = rw m at p in
+      let r = rw q at s in
+      let G = Post n csw sense code ∷ old.trace in
+      let out : old.out ++ v ∷ [] ++ posted_since meaning old.mounted G (after_dooms G) ≡ old.out ++ posted_since meaning old.mounted old.trace (after_dooms G)
+      = append_assoc old.out (v ∷ []) (posted_since meaning old.mounted G (after_dooms G)) ∙ ap (λ x. old.out ++ x) (sym since) in
+      r ∙ ap (λ o. record old { trace = after_dooms G; again = false; out = o; spare = new.spare }) out
+
+  -- there is room for what a post dooms
+  pub sweep-room : mid ≡ record old { spare = mid.spare } → PostsOne meaning mid n csw sense code posting → length (waiting old.trace) + 1 ≤ mid.spare → mid.spare ≤ posting.spare + 1 →
+      length (doomed posting.trace) ≤ posting.spare
+  sweep-room m p r s =
+      let t : posting.trace ≡ Post n csw sense code ∷ old.trace = ap (λ (b : Book D). b.trace) p ∙ ap (λ (b : Book D). Post n csw sense code ∷ b.trace) m in
+      let few = doomed-few meaning old.mounted n csw sense code old.trace in
+      let same = ap (λ x. length (doomed x)) t in
+      omega (arith, r, s, few, same)
+
+  -- only the dooms are due after a post
+  pub sweep-due : PostsOne meaning mid n csw sense code posting → due meaning posting.mounted posting.trace ≡ doomed_first (doomed posting.trace)
+  sweep-due p = rw p (due-no_halt meaning mid.mounted (Post n csw sense code ∷ mid.trace) (λ n a. refl))

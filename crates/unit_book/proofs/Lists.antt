@@ -1,0 +1,144 @@
+-- Names, and filters of lists of requests and names.
+use Rattle.std.proofs.Common.{◌≡◌, ℕ, Bool, true, false, not, ◌&&◌, Some, None, List, [], ◌∷◌, ◌++◌, refl, sym, ap, ◌∙◌, eqb, inl, inr}
+use Rattle.std.proofs.lemmas.Bool.{eqb-true, eq-eqb, and_parts, and_from, or_left, or_right, cases_Bool}
+use Rattle.std.specs.List.{filter, find, list_any, list_all}
+use Rattle.request_piece.specs.declared.piece.Name.{Name}
+use Rattle.request_piece.specs.declared.piece.Piece.{Piece}
+use Rattle.unit_book.specs.Trace.{same}
+
+name-is : (a b : Name) → a.task ≡ b.task → a.seq ≡ b.seq → a ≡ b
+name-is a b t s =
+    let f : ℕ → ℕ → Name = λ x y. record { task = x; seq = y } in
+    ap (λ x. f x a.seq) t ∙ ap (λ y. f b.task y) s
+
+pub same-true : (a b : Name) → same a b ≡ true → a ≡ b
+same-true a b h =
+    let p = and_parts (eqb a.task b.task) (eqb a.seq b.seq) h in
+    name-is a b (eqb-true a.task b.task p.0) (eqb-true a.seq b.seq p.1)
+
+pub same-refl : (a : Name) → same a a ≡ true
+same-refl a = and_from (eqb a.task a.task) (eqb a.seq a.seq) (eq-eqb a.task a.task refl) (eq-eqb a.seq a.seq refl)
+
+pub same-is : (a b : Name) → a ≡ b → same a b ≡ true
+same-is a b e = rw e (same-refl b)
+
+pub same-sym : (a b : Name) → same a b ≡ true → same b a ≡ true
+same-sym a b h = same-is b a (sym (same-true a b h))
+
+pub no_both : {C : Type 0} (b : Bool) → b ≡ true → b ≡ false → C
+no_both b h k = absurd (clash (sym h ∙ k)) where
+  clash : true ≡ false → ⊥
+  clash e = cc
+
+pub same-not-sym : (a b : Name) → same a b ≡ false → same b a ≡ false
+same-not-sym a b h = elim (cases_Bool (same b a)) [ inl e ↦ no_both (same a b) (same-sym b a e) h | inr e ↦ e ]
+
+module _ {X : Type 0} where
+  -- a filter of a filter
+  pub filter-filter : (p q r : X → Bool) → ((x : X) → r x ≡ (q x && p x)) → (xs : List X) → filter r xs ≡ filter q (filter p xs)
+  filter-filter p q r h [] = refl
+  filter-filter p q r h (x ∷ xs) =
+      let ih = filter-filter p q r h xs in
+      elim (cases_Bool (p x)) [
+        | inl e ↦ elim (cases_Bool (q x)) [
+          | inl f ↦ rw (h x, e, f) (ap (λ t. x ∷ t) ih)
+          | inr f ↦ rw (h x, e, f) ih
+        ]
+        | inr e ↦ elim (cases_Bool (q x)) [ inl f ↦ rw (h x, e, f) ih | inr f ↦ rw (h x, e, f) ih ]
+      ]
+
+  pub filter-all : (p : X → Bool) (xs : List X) → list_all p xs ≡ true → filter p xs ≡ xs
+  filter-all p [] h = refl
+  filter-all p (x ∷ xs) h =
+      let a = and_parts (p x) (list_all p xs) h in let e = a.0 in rw e (ap (λ t. x ∷ t) (filter-all p xs a.1))
+
+  -- what passes a filter passes its test
+  pub all-filter : (p : X → Bool) (xs : List X) → list_all p (filter p xs) ≡ true
+  all-filter p [] = refl
+  all-filter p (x ∷ xs) =
+      let ih = all-filter p xs in
+      elim (cases_Bool (p x)) [ inl e ↦ rw e (rw e ih) | inr e ↦ rw e ih ]
+
+  -- what holds of all holds of what passes
+  pub all-kept : (q p : X → Bool) (xs : List X) → list_all q xs ≡ true → list_all q (filter p xs) ≡ true
+  all-kept q p [] h = refl
+  all-kept q p (x ∷ xs) h =
+      let a = and_parts (q x) (list_all q xs) h in
+      let ih = all-kept q p xs a.1 in
+      elim (cases_Bool (p x)) [ inl e ↦ rw e (and_from (q x) _ a.0 ih) | inr e ↦ rw e ih ]
+
+  pub all-weaker : (p q : X → Bool) → ((x : X) → p x ≡ true → q x ≡ true) → (xs : List X) → list_all p xs ≡ true → list_all q xs ≡ true
+  all-weaker p q w [] h = refl
+  all-weaker p q w (x ∷ xs) h = let a = and_parts (p x) (list_all p xs) h in and_from (q x) (list_all q xs) (w x a.0) (all-weaker p q w xs a.1)
+
+  pub all-append : (p : X → Bool) (xs ys : List X) → list_all p xs ≡ true → list_all p ys ≡ true → list_all p (xs ++ ys) ≡ true
+  all-append p [] ys h k = k
+  all-append p (x ∷ xs) ys h k = let a = and_parts (p x) (list_all p xs) h in and_from (p x) (list_all p (xs ++ ys)) a.0 (all-append p xs ys a.1 k)
+
+  -- the first that passes does
+  pub find-passes : (p : X → Bool) (xs : List X) (x : X) → find p xs ≡ Some x → p x ≡ true
+  find-passes p [] x h = absurd cc
+  find-passes p (y ∷ ys) x h =
+      let ih : find p ys ≡ Some x → p x ≡ true = λ k. find-passes p ys x k in
+      elim (cases_Bool (p y)) [
+        | inl e ↦ let h' = rw e at h in let k : y ≡ x = cc in rw (← k) e
+        | inr e ↦ ih (rw e at h)
+      ]
+
+  pub find-any : (p q : X → Bool) (xs : List X) (x : X) → find p xs ≡ Some x → q x ≡ true → list_any q xs ≡ true
+  find-any p q [] x h k = absurd cc
+  find-any p q (y ∷ ys) x h k =
+      let ih : find p ys ≡ Some x → list_any q ys ≡ true = λ t. find-any p q ys x t k in
+      elim (cases_Bool (p y)) [
+        | inl e ↦ let h' = rw e at h in let s : y ≡ x = cc in or_left (q y) (list_any q ys) (rw s k)
+        | inr e ↦ or_right (q y) (list_any q ys) (ih (rw e at h))
+      ]
+
+  -- tests that agree on the elements find the same
+  pub find-agree : (p q m : X → Bool) → ((x : X) → m x ≡ true → p x ≡ q x) → (xs : List X) → list_all m xs ≡ true → find p xs ≡ find q xs
+  find-agree p q m a [] h = refl
+  find-agree p q m a (x ∷ xs) h =
+      let k = and_parts (m x) (list_all m xs) h in
+      let e = a x k.0 in let f = find-agree p q m a xs k.1 in rw (e, f) refl
+
+  pub find-none : (p : X → Bool) (xs : List X) → list_all (λ x. not (p x)) xs ≡ true → find p xs ≡ None
+  find-none p [] h = refl
+  find-none p (x ∷ xs) h =
+      let k = and_parts (not (p x)) (list_all (λ y. not (p y)) xs) h in
+      let ih = find-none p xs k.1 in
+      elim (cases_Bool (p x)) [ inl e ↦ no_both (not (p x)) k.0 (rw e refl) | inr e ↦ rw e ih ]
+
+-- REQUESTS WITH NAMES APART
+unfoldable pub without : Name → List Piece → List Piece
+without n rs = filter (λ r. not (same n r.name)) rs
+
+abbrev pub none_named : Name → List Piece → Bool
+none_named n rs = list_all (λ r. not (same n r.name)) rs
+
+unfoldable pub Apart : List Piece → Type 0
+Apart [] = Unit {0}
+Apart (r ∷ rs) = (none_named r.name rs ≡ true) × Apart rs
+
+pub Apart-filter : (p : Piece → Bool) (rs : List Piece) → Apart rs → Apart (filter p rs)
+unfolding Apart
+Apart-filter p [] h = tt
+Apart-filter p (r ∷ rs) h =
+    let ih = Apart-filter p rs h.1 in
+    let k = all-kept (λ s. not (same r.name s.name)) p rs h.0 in
+    elim (cases_Bool (p r)) [ inl e ↦ rw e (k, ih) | inr e ↦ rw e ih ]
+
+pub Apart-push : (rs : List Piece) (r : Piece) → Apart rs → none_named r.name rs ≡ true → Apart (rs ++ r ∷ [])
+unfolding Apart
+Apart-push [] r h k = (refl, tt)
+Apart-push (s ∷ rs) r h k =
+    let a = and_parts (not (same r.name s.name)) (none_named r.name rs) k in
+    let ih = Apart-push rs r h.1 a.1 in
+    elim (cases_Bool (same r.name s.name)) [
+      | inl e ↦ no_both (not (same r.name s.name)) a.0 (rw e refl)
+      | inr e ↦ let b = same-not-sym r.name s.name e in (all-append (λ t. not (same s.name t.name)) rs (r ∷ []) h.0 (rw b refl), ih)
+    ]
+
+-- the first goes
+pub without-first : (r : Piece) (rs : List Piece) → Apart (r ∷ rs) → without r.name (r ∷ rs) ≡ rs
+unfolding Apart without
+without-first r rs h = let e = same-refl r.name in rw e (filter-all (λ s. not (same r.name s.name)) rs h.0)

@@ -1,0 +1,288 @@
+-- A DCB is opened: the fields stay those of the trace.
+use Rattle.std.proofs.Common.{◌≡◌, ℕ, zero, suc, ◌+◌, ◌-◌, ◌<◌, ◌≤◌, ◌⊎◌, Bool, true, false, not, ◌&&◌, ◌||◌, Option, Some, None, List, [], ◌∷◌, ◌++◌, length, length-append, refl, sym, ap, ◌∙◌, arith, eqb, inl, inr, subst, if◌then◌else◌}
+use Rattle.std.proofs.lemmas.Bool.{cases_Bool, and_parts, or_parts, or_left, or_right, eqb-true, eq-eqb}
+use Rattle.circular_buffer.proofs.Places.{slice_get-append_right}
+use Rattle.std.specs.Prelude.{slice_get}
+use Rattle.io_images.specs.Codes.{is_error}
+use Rattle.io_images.specs.declared.csw.Csw.{Csw}
+use Rattle.io_images.specs.declared.code.Code.{Code}
+use Rattle.io_images.specs.declared.code.Code.TheVariants.{Purged}
+use Rattle.io_images.specs.declared.extent.Extent.{Extent}
+use Rattle.device_port.specs.Meaning.{Meaning}
+use Rattle.subchannel.specs.Subchannel.{Channel, Idle}
+use Rattle.request_piece.specs.PostedState.{PostedState}
+use Rattle.request_piece.specs.declared.piece.Name.{Name}
+use Rattle.request_piece.specs.declared.piece.Piece.{Piece}
+use Rattle.unit_book.specs.declared.active.Active.{Active}
+use Rattle.unit_book.specs.declared.dcb.Dcb.{Dcb}
+use Rattle.unit_book.specs.declared.entry.Entry.{Entry}
+use Rattle.unit_book.specs.declared.entry.Entry.TheVariants.{Opened, Arrive, Start, Ran, Halted, Purge, Close, Reset, Post}
+use Rattle.unit_book.specs.Trace.{same, opens, opens_for_input, has_arrived, has_started, waiting, arrivals, active, started, request_of}
+use Rattle.unit_book.specs.Dcbs.{is_opened, is_closed, is_open, opened_count, extents_of, flag, doomed}
+use Rattle.unit_book.specs.Media.{attempts, stand}
+use Rattle.unit_book.specs.Legal.{Due, ToHalt, ToPost, Free, due, Fits, FitsBy, FitsFree, Legal, StartFits, First, Again, PostFits, OfActive, OfFirst, OpenFits}
+use Rattle.unit_book.specs.Posts.{posted}
+use Rattle.unit_book.specs.Inside.{Ties, dcb_at, dcb_of}
+use Rattle.unit_book.proofs.Lists.{same-true, no_both}
+use Rattle.unit_book.proofs.Facts.{facts, fits-arrive, fits-start, fresh, active-is, first-waits}
+use Rattle.unit_book.proofs.Dooms.{due-doomed}
+use Rattle.unit_book.proofs.Same.{activity-same, fits-free}
+use Rattle.unit_book.proofs.Seeks.{free-start, waits-open}
+use Rattle.unit_book.proofs.Starts.{no-input, no-extents}
+
+more : (d : ℕ) (H : List Entry) (e : Entry) → is_opened d H ≡ true → is_opened d (e ∷ H) ≡ true
+more d H e h = or_right (opens d e) (is_opened d H) h
+
+module _ {D : Type 0} (meaning : Meaning D) (mounted : D) where
+  free-open : (d : ℕ) (input : Bool) (x : List Extent) (H : List Entry) (k : Due) → FitsBy meaning mounted k (Opened d input x) H → OpenFits meaning mounted d x H
+  free-open d input x H (ToHalt n) f = absurd cc
+  free-open d input x H (ToPost n) f = absurd cc
+  free-open d input x H Free f = f
+
+  -- a DCB that was opened has a number from 1 to the count
+  pub opened-few : (d : ℕ) (H : List Entry) → Legal meaning mounted H → is_opened d H ≡ true → (1 ≤ d) × (d ≤ opened_count H)
+  unfolding Legal
+  opened-few d [] l h = absurd cc
+  opened-few d (Opened c i x ∷ H) l h =
+      let ih : is_opened d H ≡ true → (1 ≤ d) × (d ≤ opened_count H) = λ k. opened-few d H l.1 k in
+      let f = (free-open c i x H (due meaning mounted H) l.0).next in
+      elim (cases_Bool (eqb c d)) [
+        | inl e ↦ let k : c ≡ d = eqb-true c d e in (omega (arith, k, f), omega (arith, k, f))
+        | inr e ↦ let k = ih (rw e at h) in (k.0, omega (arith, k.1))
+      ]
+  opened-few d (Arrive r ∷ H) l h = opened-few d H l.1 h
+  opened-few d (Start n ∷ H) l h = opened-few d H l.1 h
+  opened-few d (Ran n j ∷ H) l h = opened-few d H l.1 h
+  opened-few d (Halted n ∷ H) l h = opened-few d H l.1 h
+  opened-few d (Purge s m ∷ H) l h = opened-few d H l.1 h
+  opened-few d (Close c ∷ H) l h = opened-few d H l.1 h
+  opened-few d (Reset c ∷ H) l h = opened-few d H l.1 h
+  opened-few d (Post n c s k ∷ H) l h = opened-few d H l.1 h
+
+  -- a DCB that was closed was opened
+  pub closed-opened : (d : ℕ) (H : List Entry) → Legal meaning mounted H → is_closed d H ≡ true → is_opened d H ≡ true
+  unfolding Legal
+  closed-opened d [] l h = absurd cc
+  closed-opened d (Opened c i x ∷ H) l h = more d H (Opened c i x) (closed-opened d H l.1 h)
+  closed-opened d (Arrive r ∷ H) l h = closed-opened d H l.1 h
+  closed-opened d (Start n ∷ H) l h = closed-opened d H l.1 h
+  closed-opened d (Ran n j ∷ H) l h = closed-opened d H l.1 h
+  closed-opened d (Halted n ∷ H) l h = closed-opened d H l.1 h
+  closed-opened d (Purge s m ∷ H) l h = closed-opened d H l.1 h
+  closed-opened d (Close c ∷ H) l h =
+      let ih : is_closed d H ≡ true → is_opened d H ≡ true = λ k. closed-opened d H l.1 k in
+      elim (cases_Bool (eqb c d)) [
+        | inl e ↦ subst (λ (x : ℕ). is_opened x H ≡ true) (eqb-true c d e) (opened (due meaning mounted H) l.0)
+        | inr e ↦ ih (rw e at h)
+      ] where
+        opened : (k : Due) → FitsBy meaning mounted k (Close c) H → is_opened c H ≡ true
+        opened (ToHalt n) f = absurd cc
+        opened (ToPost n) f = absurd cc
+        opened Free f = (and_parts (is_opened c H) (not (is_closed c H)) f).0
+  closed-opened d (Reset c ∷ H) l h = closed-opened d H l.1 h
+  closed-opened d (Post n c s k ∷ H) l h = closed-opened d H l.1 h
+
+  -- the DCB of what waits first, where nothing is due
+  first-opened : (r : Piece) (H : List Entry) → due meaning mounted H ≡ Free → slice_get (waiting H) 0 ≡ Some r → is_opened r.dcb H ≡ true
+  first-opened r H d s = (and_parts (is_opened r.dcb H) (not (is_closed r.dcb H)) (waits-open meaning mounted r H (due-doomed meaning mounted H d) s)).0
+
+  start-opened : (n : Name) (H : List Entry) → Legal meaning mounted H → due meaning mounted H ≡ Free → StartFits meaning mounted n H → (has_started n H ≡ true → is_opened (request_of n H).dcb H ≡ true) → is_opened (request_of n H).dcb H ≡ true
+  start-opened n H l d (First s) ih =
+      let w = first-waits meaning mounted s.request H (facts meaning mounted H l) s.first in
+      let q : request_of n H ≡ s.request = subst (λ (x : Name). request_of x H ≡ s.request) s.name w.known.0 in
+      rw q (first-opened s.request H d s.first)
+  start-opened n H l d (Again s) ih = ih (active-is n H s.active).0
+
+  -- THE DCB of a request that was started was opened
+  pub started-opened : (n : Name) (H : List Entry) → Legal meaning mounted H → has_started n H ≡ true → is_opened (request_of n H).dcb H ≡ true
+  unfolding Legal request_of
+  started-opened n [] l h = absurd cc
+  started-opened n (Opened d i x ∷ H) l h = more (request_of n H).dcb H (Opened d i x) (started-opened n H l.1 h)
+  started-opened n (Arrive r ∷ H) l h =
+      let f = facts meaning mounted H l.1 in
+      let new = fresh meaning mounted r H f (fits-arrive meaning mounted r H (due meaning mounted H) l.0) in
+      let ih = started-opened n H l.1 h in
+      elim (cases_Bool (same r.name n)) [
+        | inl s ↦ no_both (has_arrived n H) (f.0 n h) (subst (λ (x : Name). has_arrived x H ≡ false) (same-true r.name n s) new)
+        | inr s ↦
+            let q : request_of n (Arrive r ∷ H) ≡ request_of n H = rw s refl in
+            subst (λ (x : Piece). is_opened x.dcb H ≡ true) (sym q) ih
+      ]
+  started-opened n (Start m ∷ H) l h =
+      let ih : has_started n H ≡ true → is_opened (request_of n H).dcb H ≡ true = λ k. started-opened n H l.1 k in
+      let own : has_started m H ≡ true → is_opened (request_of m H).dcb H ≡ true = λ k. started-opened m H l.1 k in
+      elim (cases_Bool (same m n)) [
+        | inl s ↦ subst (λ (x : Name). is_opened (request_of x H).dcb H ≡ true) (same-true m n s)
+            (start-opened m H l.1 (free-start meaning mounted m H (due meaning mounted H) l.0) (fits-start meaning mounted m H (due meaning mounted H) l.0) own)
+        | inr s ↦ ih (rw s at h)
+      ]
+  started-opened n (Ran m j ∷ H) l h = started-opened n H l.1 h
+  started-opened n (Halted m ∷ H) l h = started-opened n H l.1 h
+  started-opened n (Purge s m ∷ H) l h = started-opened n H l.1 h
+  started-opened n (Close d ∷ H) l h = started-opened n H l.1 h
+  started-opened n (Reset d ∷ H) l h = started-opened n H l.1 h
+  started-opened n (Post m c s k ∷ H) l h = started-opened n H l.1 h
+
+  -- whose post has an error was of an opened DCB
+  error-opened : (n : Name) (csw : Csw) (sense : ℕ) (code : Code) (H : List Entry) → Legal meaning mounted H → Fits meaning mounted (Post n csw sense code) H → is_error code ≡ true → is_opened (request_of n H).dcb H ≡ true
+  error-opened n csw sense code H l f e = by_due (due meaning mounted H) refl f where
+    clash : false ≡ true → ⊥
+    clash k = cc
+
+    free : due meaning mounted H ≡ Free → PostFits meaning mounted n csw sense code H → is_opened (request_of n H).dcb H ≡ true
+    free d (OfActive p) = started-opened n H l (active-is n H p.active).0
+    free d (OfFirst p) =
+        let w = first-waits meaning mounted p.fails.request H (facts meaning mounted H l) p.fails.first in
+        let q : request_of n H ≡ p.fails.request = subst (λ (x : Name). request_of x H ≡ p.fails.request) p.fails.name w.known.0 in
+        rw q (first-opened p.fails.request H d p.fails.first)
+
+    by_due : (k : Due) → due meaning mounted H ≡ k → FitsBy meaning mounted k (Post n csw sense code) H → is_opened (request_of n H).dcb H ≡ true
+    by_due (ToHalt m) d g = absurd cc
+    by_due (ToPost m) d g = let p : code ≡ Purged = cc in absurd (clash (ap is_error (sym p) ∙ e))
+    by_due Free d g = free d g
+
+  -- a DCB with the flag was opened
+  pub flag-opened : (d : ℕ) (H : List Entry) → Legal meaning mounted H → flag d H ≡ true → is_opened d H ≡ true
+  unfolding Legal flag
+  flag-opened d [] l h = absurd cc
+  flag-opened d (Opened c i x ∷ H) l h = more d H (Opened c i x) (flag-opened d H l.1 h)
+  flag-opened d (Arrive r ∷ H) l h = flag-opened d H l.1 h
+  flag-opened d (Start n ∷ H) l h = flag-opened d H l.1 h
+  flag-opened d (Ran n j ∷ H) l h = flag-opened d H l.1 h
+  flag-opened d (Halted n ∷ H) l h = flag-opened d H l.1 h
+  flag-opened d (Purge s m ∷ H) l h = flag-opened d H l.1 h
+  flag-opened d (Close c ∷ H) l h = flag-opened d H l.1 h
+  flag-opened d (Reset c ∷ H) l h =
+      let ih : flag d H ≡ true → is_opened d H ≡ true = λ k. flag-opened d H l.1 k in
+      elim (cases_Bool (eqb c d)) [ inl e ↦ absurd (clash (rw e at h)) | inr e ↦ ih (rw e at h) ] where
+        clash : false ≡ true → ⊥
+        clash k = cc
+  flag-opened d (Post n c s k ∷ H) l h =
+      let ih : flag d H ≡ true → is_opened d H ≡ true = λ g. flag-opened d H l.1 g in
+      elim (cases_Bool (is_error k && (request_of n H).related && eqb (request_of n H).dcb d)) [
+        | inl e ↦
+            let a = and_parts (is_error k && (request_of n H).related) (eqb (request_of n H).dcb d) e in
+            let b = and_parts (is_error k) (request_of n H).related a.0 in
+            subst (λ (x : ℕ). is_opened x H ≡ true) (eqb-true (request_of n H).dcb d a.1) (error-opened n c s k H l.1 l.0 b.0)
+        | inr e ↦ ih (rw e at h)
+      ]
+
+  not-so : (a b : Bool) → (a ≡ true → b ≡ true) → b ≡ false → a ≡ false
+  not-so true b f h = no_both b (f refl) h
+  not-so false b f h = refl
+
+  -- what a trace says of a DCB that is opened next
+  pub dcb-new : (d : ℕ) (input : Bool) (x : List Extent) (H : List Entry) → Legal meaning mounted H → d ≡ opened_count H + 1 →
+      dcb_of d (Opened d input x ∷ H) ≡ Some (record { input = input; extents = x; closed = false; in_error = false })
+  unfolding extents_of flag
+  dcb-new d input x H l e =
+      let self : eqb d d ≡ true = eq-eqb d d refl in
+      let new : is_opened d H ≡ false = elim (cases_Bool (is_opened d H)) [ inl o ↦ absurd (omega (arith, (opened-few d H l o).1, e)) | inr o ↦ o ] in
+      let shut = not-so (is_closed d H) (is_opened d H) (closed-opened d H l) new in
+      let flagged = not-so (flag d H) (is_opened d H) (flag-opened d H l) new in
+      let none = no-input d H new in
+      rw (self, shut, flagged, none) (ap row (by_input input)) where
+        row : Bool → Option Dcb
+        row b = Some (record { input = b; extents = x; closed = false; in_error = false })
+
+        by_input : (b : Bool) → (b || false) ≡ b
+        by_input true = refl
+        by_input false = refl
+
+  -- what it says of the others stays
+  dcb-other : (c d : ℕ) (input : Bool) (x : List Extent) (H : List Entry) → eqb d c ≡ false → dcb_of c (Opened d input x ∷ H) ≡ dcb_of c H
+  unfolding extents_of flag
+  dcb-other c d input x H e = rw e refl
+
+at-push : (table : List Dcb) (row : Dcb) (k : ℕ) → slice_get (table ++ row ∷ []) k ≡ slice_get table k ⊎ ((k ≡ length table) × (slice_get (table ++ row ∷ []) k ≡ Some row))
+at-push [] row zero = inr (refl, refl)
+at-push [] row (suc k) = inl refl
+at-push (r ∷ rs) row zero = inl refl
+at-push (r ∷ rs) row (suc k) = elim (at-push rs row k) [ inl e ↦ inl e | inr e ↦ inr (omega (arith, e.0), e.1) ]
+
+module _ {D : Type 0} (meaning : Meaning D) (mounted : D) where
+  pub ties-open : (d : ℕ) (input : Bool) (x : List Extent) (H : List Entry) (channel : Channel D) (o : Option Active) (waiters : List Piece) (table : List Dcb) (left : List PostedState) →
+      due meaning mounted H ≡ Free → OpenFits meaning mounted d x H → Ties meaning mounted H channel o waiters table left →
+      Ties meaning mounted (Opened d input x ∷ H) channel o waiters (table ++ record { input = input; extents = x; closed = false; in_error = false } ∷ []) left
+  unfolding Legal waiting arrivals active started request_of attempts posted
+  ties-open d input x H channel o waiters table left settled f t = record {
+    legal = (fits-free meaning mounted (Opened d input x) H settled f, t.legal);
+    queue = t.queue;
+    placed = t.placed;
+    device = t.device;
+    activity = activity-same meaning mounted H (Opened d input x ∷ H) channel.phase o refl
+        (λ n a. record { active = refl; request = refl; starts = refl; attempts = refl; halted = refl; covered = refl }) t.activity;
+    count = omega (arith, length-append table (row ∷ []), t.count);
+    dcbs = at;
+    out = t.out;
+  } where
+    row : Dcb
+    row = record { input = input; extents = x; closed = false; in_error = false }
+
+    place : d ≡ length table + 1
+    place = omega (arith, f.next, t.count)
+
+    -- a number that is not 0 is one more than a place
+    positive : (c : ℕ) → eqb c 0 ≡ false → 1 ≤ c
+    positive zero z = absurd cc
+    positive (suc c) z = omega arith
+
+    other : (c : ℕ) → eqb d c ≡ false → eqb c 0 ≡ false → slice_get (table ++ row ∷ []) (c - 1) ≡ slice_get table (c - 1)
+    other c e z = elim (at-push table row (c - 1)) [
+      | inl k ↦ k
+      | inr k ↦ no_both (eqb d c) (eq-eqb d c (omega (arith, place, k.0, positive c z))) e
+    ]
+
+    same_at : (c : ℕ) → eqb d c ≡ false → dcb_at (table ++ row ∷ []) c ≡ dcb_at table c
+    same_at c e = elim (cases_Bool (eqb c 0)) [ inl z ↦ rw z refl | inr z ↦ let k = other c e z in rw z k ]
+
+    new_at : dcb_at (table ++ row ∷ []) d ≡ Some row
+    new_at =
+        let z : eqb d 0 ≡ false = elim (cases_Bool (eqb d 0)) [ inl z ↦ absurd (omega (arith, place, eqb-true d 0 z)) | inr z ↦ z ] in
+        rw z (slice_get-append_right table (row ∷ []) (d - 1) 0 (omega (arith, place)))
+
+    at : (c : ℕ) → dcb_at (table ++ row ∷ []) c ≡ dcb_of c (Opened d input x ∷ H)
+    at c = elim (cases_Bool (eqb d c)) [
+      | inl e ↦ subst (λ (y : ℕ). dcb_at (table ++ row ∷ []) y ≡ dcb_of y (Opened d input x ∷ H)) (eqb-true d c e) (new_at ∙ sym (dcb-new meaning mounted d input x H t.legal f.next))
+      | inr e ↦ same_at c e ∙ t.dcbs c ∙ sym (dcb-other meaning mounted c d input x H e)
+    ]
+
+  -- a trace without entries
+  pub ties-new : (isc : ℕ) → Ties meaning mounted [] (record { isc = isc; device = Some mounted; phase = Idle }) None [] [] []
+  unfolding Legal waiting arrivals active started attempts stand posted
+  ties-new isc = record {
+    legal = tt;
+    queue = refl;
+    placed = tt;
+    device = refl;
+    activity = (refl, refl);
+    count = refl;
+    dcbs = λ d. by_zero (eqb d 0) (d - 1);
+    out = ([], refl);
+  } where
+    by_zero : (z : Bool) (k : ℕ) → (if z then None else slice_get [] k) ≡ dcb_of k []
+    by_zero true k = refl
+    by_zero false k = refl
+
+  -- a DCB that was never opened has no flag
+  pub no-flag : (d : ℕ) (H : List Entry) → Legal meaning mounted H → dcb_of d H ≡ None → flag d H ≡ false
+  no-flag d H l h = elim (cases_Bool (is_opened d H)) [
+    | inl o ↦ absurd (clash (rw o at h))
+    | inr o ↦ not-so meaning mounted (flag d H) (is_opened d H) (flag-opened meaning mounted d H l) o
+  ] where
+    clash : {x : Dcb} → Some x ≡ None → ⊥
+    clash k = cc
+
+  -- at most 65,535 DCBs are opened
+  pub opened-most : (H : List Entry) → Legal meaning mounted H → opened_count H ≤ 65535
+  unfolding Legal
+  opened-most [] l = omega arith
+  opened-most (Opened c i x ∷ H) l = let f = free-open meaning mounted c i x H (due meaning mounted H) l.0 in omega (arith, f.next, f.few)
+  opened-most (Arrive r ∷ H) l = opened-most H l.1
+  opened-most (Start n ∷ H) l = opened-most H l.1
+  opened-most (Ran n j ∷ H) l = opened-most H l.1
+  opened-most (Halted n ∷ H) l = opened-most H l.1
+  opened-most (Purge s m ∷ H) l = opened-most H l.1
+  opened-most (Close c ∷ H) l = opened-most H l.1
+  opened-most (Reset c ∷ H) l = opened-most H l.1
+  opened-most (Post n c s k ∷ H) l = opened-most H l.1

@@ -1,0 +1,135 @@
+-- A further start of the active request: the fields stay those of the trace.
+use Rattle.std.proofs.Common.{◌≡◌, ℕ, ◌+◌, ◌<◌, ◌≤◌, Bool, true, false, not, ◌&&◌, ◌||◌, eqb, Option, Some, None, List, [], ◌∷◌, length, refl, sym, ap, ◌∙◌, arith, inl, inr, subst, if◌then◌else◌}
+use Rattle.std.proofs.lemmas.Bool.{cases_Bool, and_parts, leb-true}
+use Rattle.std.specs.Prelude.{nat_le}
+use Rattle.io_images.specs.declared.csw.Csw.{Csw}
+use Rattle.io_images.specs.declared.code.Code.TheVariants.{Ended, PermanentError}
+use Rattle.device_port.specs.Meaning.{Meaning, Lawful}
+use Rattle.device_port.specs.declared.kind.Kind.{Kind}
+use Rattle.ccw_programs.specs.Place.{start_place}
+use Rattle.ccw_programs.specs.Step.{Program, begun}
+use Rattle.subchannel.specs.Subchannel.{Channel, Phase, Absent, Idle, Running, Pending, Fits, prefixed, started as ssch_started}
+use Rattle.recovery.specs.declared.answer.Verdict.{Verdict}
+use Rattle.recovery.specs.declared.answer.Verdict.TheVariants.{Retry, Final}
+use Rattle.recovery.specs.Verdict.{verdict, is_disk, is_success, is_passing_error, is_channel_error}
+use Rattle.request_piece.specs.PostedState.{PostedState}
+use Rattle.request_piece.specs.declared.piece.Name.{Name}
+use Rattle.request_piece.specs.declared.piece.Piece.{Piece}
+use Rattle.unit_book.specs.declared.active.Active.{Active}
+use Rattle.unit_book.specs.declared.active.Doing.{Doing}
+use Rattle.unit_book.specs.declared.active.Doing.TheVariants.{OnChannel, Again}
+use Rattle.unit_book.specs.declared.dcb.Dcb.{Dcb}
+use Rattle.unit_book.specs.declared.entry.Entry.{Entry}
+use Rattle.unit_book.specs.declared.entry.Entry.TheVariants.{Start}
+use Rattle.unit_book.specs.Trace.{same, starts_of, waiting, active, request_of}
+use Rattle.unit_book.specs.Dcbs.{extents_of, flag, mask_of}
+use Rattle.unit_book.specs.Media.{attempts, current, device, area}
+use Rattle.unit_book.specs.Legal.{Legal, due, Free, StartsAgain}
+use Rattle.unit_book.specs.Legal.{Again as Restart}
+use Rattle.unit_book.specs.Posts.{posted}
+use Rattle.unit_book.specs.Inside.{DoingTies, Ties, again_by, dcb_at, mask_at}
+use Rattle.unit_book.proofs.Lists.{same-refl, without, filter-all}
+use Rattle.unit_book.proofs.Facts.{Facts, facts, NewestIs, active-is, active-start, waiting-start, waits}
+use Rattle.unit_book.proofs.Same.{fits-free}
+use Rattle.unit_book.proofs.ActivePosts.{area-current, none-waits}
+use Rattle.unit_book.proofs.Seeks.{seeks, fits-device}
+use Rattle.unit_book.proofs.Starts.{mask-is, current-start, device-start}
+
+-- only the first ten attempts are tried again
+retry-few : (kind : Kind) (csw : Csw) (sense attempt : ℕ) → verdict kind csw sense attempt ≡ Retry → attempt ≤ 10
+retry-few kind csw sense attempt h = by_tests (is_success csw) (is_disk kind && nat_le attempt 10 && (is_passing_error csw sense || is_channel_error csw)) refl h where
+  by_tests : (a b : Bool) → (is_disk kind && nat_le attempt 10 && (is_passing_error csw sense || is_channel_error csw)) ≡ b → (if a then Final Ended else if b then Retry else Final PermanentError) ≡ Retry → attempt ≤ 10
+  by_tests true b e k = absurd cc
+  by_tests false true e k =
+      let p = and_parts (is_disk kind && nat_le attempt 10) (is_passing_error csw sense || is_channel_error csw) e in
+      leb-true attempt 10 (and_parts (is_disk kind) (nat_le attempt 10) p.0).1
+  by_tests false false e k = absurd cc
+
+module _ {D : Type 0} (meaning : Meaning D) (mounted : D) where
+  -- the queue has nothing of the active request
+  queue-restart : (n : Name) (H : List Entry) → Facts H → active H ≡ Some n → waiting (Start n ∷ H) ≡ waiting H
+  unfolding without
+  queue-restart n H f a =
+      waiting-start meaning mounted n H ∙ filter-all (λ (r : Piece). not (same n r.name)) (waiting H) (none-waits meaning mounted n H (waiting H) (active-is n H a).0 (waits H f))
+
+  -- the active request, started once more
+  abbrev pub restarted : Active → Active
+  restarted a = record { piece = a.piece; starts = a.starts + 1; halted = false; covered = false; doing = OnChannel }
+
+  module _ (H : List Entry) (channel : Channel D) (a : Active) (waiters : List Piece) (table : List Dcb) (left : List PostedState) (mask : ℕ)
+      (settled : due meaning mounted H ≡ Free) (s : StartsAgain meaning mounted a.piece.value.name H) (t : Ties meaning mounted H channel (Some a) waiters table left)
+      (again : again_by a.doing ≡ true) where
+    abbrev n : Name
+    n = a.piece.value.name
+
+    is-idle : (phase : Phase) (doing : Doing) → DoingTies meaning mounted H phase a doing → again_by doing ≡ true → phase ≡ Idle
+    is-idle Absent doing d h = absurd d
+    is-idle Idle doing d h = refl
+    is-idle (Running place) OnChannel d h = absurd cc
+    is-idle (Running place) (Again csw sense) d h = absurd d
+    is-idle (Pending csw sense) OnChannel d h = absurd cc
+    is-idle (Pending csw sense) (Again c k) d h = absurd d
+
+    -- it was started at most ten times
+    pub few-starts : a.starts ≤ 10
+    few-starts = let e = t.activity.starts in rw e (retry-few (meaning.kind mounted) s.csw s.sense (starts_of n H) s.retry)
+
+    -- its seek fits the device
+    pub restart-fits : Lawful meaning → Fits meaning channel.device a.piece.value.seek
+    restart-fits law =
+        let f = seeks meaning mounted H t.legal n (active-is n H t.activity.is).0 in
+        let seek_is = ap (λ (r : Piece). r.seek) t.activity.request in
+        let device_is = t.device in
+        rw (seek_is, device_is) (fits-device meaning mounted law H (request_of n H).seek f)
+
+    pub ties-restart : mask ≡ mask_at (dcb_at table a.piece.value.dcb) →
+        Ties meaning mounted (Start n ∷ H) (ssch_started meaning channel a.piece.value.start a.piece.value.seek mask channel.phase) (Some (restarted a)) waiters table left
+    unfolding Legal posted flag extents_of request_of
+    ties-restart mask_is =
+        let f = facts meaning mounted H t.legal in
+        let G = Start n ∷ H in
+        let q = request_of n H in
+        let r = a.piece.value in
+        let w : NewestIs n H = f.4 n t.activity.is in
+        let self : same n n ≡ true = same-refl n in
+        let start_is : r.start ≡ q.start = ap (λ (r : Piece). r.start) t.activity.request in
+        let seek_is : r.seek ≡ q.seek = ap (λ (r : Piece). r.seek) t.activity.request in
+        let dcb_is : r.dcb ≡ q.dcb = ap (λ (r : Piece). r.dcb) t.activity.request in
+        let m : mask ≡ mask_of q.dcb H = mask_is ∙ ap mask_at (t.dcbs r.dcb) ∙ mask-is r.dcb H ∙ ap (λ d. mask_of d H) dcb_is in
+        let c = current-start meaning mounted n H in
+        let device_is : prefixed meaning channel.device r.seek mask ≡ Some (device meaning mounted G) = rw (t.device, m, seek_is) (ap Some (sym (device-start meaning mounted n H))) in
+        let area_is : (current meaning mounted G).area ≡ (current meaning mounted H).area = ap (λ (p : Program D). p.area) c ∙ area-current meaning mounted n H w in
+        let idle = is-idle channel.phase a.doing t.activity.doing again in
+        let running : Channel D = record { device = prefixed meaning channel.device r.seek mask; isc = channel.isc; phase = Running (start_place r.start) } in
+        let whole : Ties meaning mounted G running (Some (restarted a)) waiters table left = record {
+          legal = (fits-free meaning mounted (Start n) H settled (Restart s), t.legal);
+          queue = t.queue ∙ sym (queue-restart n H f t.activity.is);
+          placed = t.placed;
+          device = device_is;
+          activity = record {
+            is = active-start meaning mounted n H (active-is n H t.activity.is).1;
+            request = t.activity.request ∙ ap (λ m. record q { area = m }) (sym area_is);
+            placed = t.activity.placed;
+            starts = let e = t.activity.starts in rw self (omega (arith, e));
+            halted = rw self refl;
+            covered = let e = w.4 in rw (e, self) refl;
+            doing = (ap start_place start_is ∙ sym (ap (λ (p : Program D). p.place) c), rw self (rw c refl));
+          };
+          count = t.count;
+          dcbs = t.dcbs;
+          out = t.out;
+        } in
+        subst (λ x. Ties meaning mounted G (ssch_started meaning channel r.start r.seek mask x) (Some (restarted a)) waiters table left) (sym idle) whole
+
+  -- a request that awaits its restart may be started again
+  pub awaits-told : (H : List Entry) (channel : Channel D) (a : Active) (waiters : List Piece) (table : List Dcb) (left : List PostedState) →
+      Ties meaning mounted H channel (Some a) waiters table left → again_by a.doing ≡ true → StartsAgain meaning mounted a.piece.value.name H
+  awaits-told H channel a waiters table left t again = by_doing channel.phase a.doing t.activity.doing again where
+    by_doing : (phase : Phase) (doing : Doing) → DoingTies meaning mounted H phase a doing → again_by doing ≡ true → StartsAgain meaning mounted a.piece.value.name H
+    by_doing Absent doing d h = absurd d
+    by_doing Idle OnChannel d h = absurd d
+    by_doing Idle (Again csw sense) d h = record { active = t.activity.is; csw = csw; sense = sense; ended = d.0; retry = d.1; free = d.2 }
+    by_doing (Running place) OnChannel d h = absurd cc
+    by_doing (Running place) (Again csw sense) d h = absurd d
+    by_doing (Pending csw sense) OnChannel d h = absurd cc
+    by_doing (Pending csw sense) (Again c k) d h = absurd d

@@ -1,0 +1,171 @@
+-- The program of the active request runs: the fields stay those of the trace.
+use Rattle.std.proofs.Common.{◌≡◌, ℕ, ◌≤◌, Bool, true, false, not, Option, Some, None, List, ◌∷◌, refl, sym, ap, ◌∙◌, arith, subst}
+use Rattle.std.specs.Prelude.{min}
+use Rattle.io_area.specs.Storage.{Storage, SamePlace}
+use Rattle.device_port.specs.Meaning.{Meaning}
+use Rattle.ccw_programs.specs.Place.{Place}
+use Rattle.ccw_programs.specs.declared.context.State.{State}
+use Rattle.ccw_programs.specs.declared.context.State.TheVariants.{Running as Runs, Ended}
+use Rattle.ccw_programs.specs.declared.context.Burst.{Burst}
+use Rattle.ccw_programs.specs.Step.{Program, program, after, length_of, is_running}
+use Rattle.ccw_programs.proofs.StepLaws.{after-add, steps_within-running}
+use Rattle.subchannel.specs.Subchannel.{Channel, Phase, Absent, Idle, Running, Pending, phase_of, going, RunsAs, RunsFrom}
+use Rattle.request_piece.specs.PostedState.{PostedState}
+use Rattle.request_piece.specs.Places.{Placed}
+use Rattle.request_piece.specs.declared.piece.Piece.{Piece}
+use Rattle.request_piece.specs.declared.piece.Name.{Name}
+use Rattle.unit_book.specs.declared.active.Active.{Active}
+use Rattle.unit_book.specs.declared.active.Doing.{Doing}
+use Rattle.unit_book.specs.declared.active.Doing.TheVariants.{OnChannel, Again}
+use Rattle.unit_book.specs.declared.dcb.Dcb.{Dcb}
+use Rattle.unit_book.specs.declared.entry.Entry.{Entry}
+use Rattle.unit_book.specs.declared.entry.Entry.TheVariants.{Ran}
+use Rattle.unit_book.specs.Trace.{same, waiting, arrivals, active, started, request_of, is_halted}
+use Rattle.unit_book.specs.Media.{attempts, stand, newest, current, stage, stage_by, goes, Goes, device, beginning}
+use Rattle.unit_book.specs.Dcbs.{extents_of, flag}
+use Rattle.unit_book.specs.Legal.{Legal, due, Free}
+use Rattle.unit_book.specs.Posts.{posted}
+use Rattle.unit_book.specs.Inside.{DoingTies, Ties, with_area}
+use Rattle.unit_book.proofs.Lists.{same-is}
+use Rattle.unit_book.proofs.Facts.{facts, NewestIs, newest-ran}
+use Rattle.unit_book.proofs.Same.{fits-free}
+use Rattle.unit_book.proofs.Places.{placed-moved}
+
+module _ {D : Type 0} (meaning : Meaning D) (mounted : D) where
+  goes-running : (b : Bool) (place : Place) (state : State) → stage_by b place state ≡ Goes → (b ≡ false) × (state ≡ Runs)
+  goes-running true place state h = absurd cc
+  goes-running false place Runs h = (refl, refl)
+  goes-running false place (Ended csw sense) h = absurd cc
+
+  goes-by : (b : Bool) (place : Place) (state : State) → b ≡ false → goes (stage_by b place state) ≡ is_running state
+  goes-by true place state h = absurd cc
+  goes-by false place Runs h = refl
+  goes-by false place (Ended csw sense) h = refl
+
+  -- the device of a trace is that of its newest attempt
+  pub device-current : (n : Name) (H : List Entry) → NewestIs n H → device meaning mounted H ≡ (current meaning mounted H).device
+  unfolding stand newest
+  device-current n H w =
+      let there : (stand meaning mounted (w.0 ∷ w.1)).device ≡ (newest meaning mounted (w.0 ∷ w.1)).device = refl in
+      ap (λ x. (stand meaning mounted x).device) w.2 ∙ there ∙ sym (ap (λ x. (newest meaning mounted x).device) w.2)
+
+  -- j more commands
+  current-ran : (n : Name) (j : ℕ) (H : List Entry) → NewestIs n H → current meaning mounted (Ran n j ∷ H) ≡ after meaning j (current meaning mounted H)
+  unfolding attempts newest
+  current-ran n j H w =
+      let e = w.2 in
+      let s : same w.0.request.name n ≡ true = same-is w.0.request.name n (ap (λ (r : Piece). r.name) w.3 ∙ w.4) in
+      rw e (rw s (after-add meaning w.0.commands j (beginning meaning mounted (stand meaning mounted w.1) w.0)))
+
+  -- the subchannel of a program
+  abbrev pub ran : ℕ → Program D → Channel D
+  ran isc p = record { isc = isc; device = Some p.device; phase = phase_of p.place p.place.state }
+
+  -- where no program runs nothing changes
+  pub quiet-same : (old new : Channel D) (m n : Storage) (max : ℕ) (p : Option (Program D)) → RunsAs meaning old m max p None new n → (new ≡ old) × (n ≡ m)
+  quiet-same old new m n max None r = r
+  quiet-same old new m n max (Some p) r = absurd r
+
+  module _ (H : List Entry) (channel new : Channel D) (a : Active) (waiters : List Piece) (table : List Dcb) (left : List PostedState) (max : ℕ) (b : Burst) (area : Storage)
+      (settled : due meaning mounted H ≡ Free) (asked : 1 ≤ max) (t : Ties meaning mounted H channel (Some a) waiters table left) where
+    abbrev n : Name
+    n = a.piece.value.name
+
+    abbrev G : List Entry
+    G = Ran n b.commands ∷ H
+
+    -- what a burst of the active request's program says of the trace
+    pub record Told : Type 0 where
+      pub active : active H ≡ Some n
+      pub going : goes (stage meaning mounted n H) ≡ true
+      pub commands : b.commands ≡ min max (length_of meaning (current meaning mounted H))
+      pub ended : goes (stage meaning mounted n G) ≡ is_running b.state
+      pub some : 1 ≤ b.commands
+      pub still : stage meaning mounted n H ≡ Goes
+      pub unhalted : is_halted n H ≡ false
+      pub newest : NewestIs n G
+      pub channel_is : new ≡ ran channel.isc (current meaning mounted G)
+      pub area_is : area ≡ (current meaning mounted G).area
+
+    told_going : (place : Place) (doing : Doing) → DoingTies meaning mounted H (Running place) a doing →
+        RunsFrom meaning (program place (device meaning mounted H) a.piece.value.area) channel.isc max b new area → Told
+    told_going place (Again csw sense) d r = absurd d
+    told_going place OnChannel d r =
+        let w : NewestIs n H = (facts meaning mounted H t.legal).4 n t.activity.is in
+        let same_device = device-current n H w in
+        let same_area : a.piece.value.area ≡ (current meaning mounted H).area = ap (λ (r : Piece). r.area) t.activity.request in
+        let p : program place (device meaning mounted H) a.piece.value.area ≡ current meaning mounted H = rw (d.0, same_device, same_area) refl in
+        let c : current meaning mounted G ≡ after meaning b.commands (current meaning mounted H) = current-ran n b.commands H w in
+        let g = goes-running (is_halted n H) (current meaning mounted H).place (current meaning mounted H).place.state d.1 in
+        let s : b.state ≡ (current meaning mounted G).place.state = rw p at r.state ∙ rw (← c) refl in
+        let j_is : b.commands ≡ min max (length_of meaning (current meaning mounted H)) = rw p at r.commands in
+        let going : is_running (current meaning mounted H).place.state ≡ true = let e = g.1 in rw e refl in
+        let long = steps_within-running meaning 4096 (current meaning mounted H) going in
+        record {
+          active = t.activity.is;
+          going = ap goes d.1;
+          commands = j_is;
+          ended = goes-by (is_halted n G) (current meaning mounted G).place (current meaning mounted G).place.state g.0 ∙ ap is_running (sym s);
+          some = omega (arith, j_is, long, asked);
+          still = d.1;
+          unhalted = g.0;
+          newest = newest-ran meaning mounted n b.commands H t.activity.is w;
+          channel_is = rw p at r.channel ∙ rw (← c) refl;
+          area_is = rw p at r.area ∙ rw (← c) refl;
+        }
+
+    told_by : (phase : Phase) → DoingTies meaning mounted H phase a a.doing → RunsAs meaning channel a.piece.value.area max (going (Some (device meaning mounted H)) phase a.piece.value.area) (Some b) new area → Told
+    told_by Absent d r = absurd r
+    told_by Idle d r = absurd r
+    told_by (Running place) d r = told_going place a.doing d r
+    told_by (Pending csw sense) d r = absurd r
+
+    abbrev pub RunsOne : Type 0
+    RunsOne = RunsAs meaning channel a.piece.value.area max (going channel.device channel.phase a.piece.value.area) (Some b) new area
+
+    with-device : RunsOne → RunsAs meaning channel a.piece.value.area max (going (Some (device meaning mounted H)) channel.phase a.piece.value.area) (Some b) new area
+    with-device r = subst (λ x. RunsAs meaning channel a.piece.value.area max (going x channel.phase a.piece.value.area) (Some b) new area) t.device r
+
+    pub told : RunsOne → Told
+    told r = told_by channel.phase t.activity.doing (with-device r)
+
+    doing-ran : (q : Program D) (state : State) → q.place.state ≡ state → q ≡ current meaning mounted G → is_halted n H ≡ false →
+        DoingTies meaning mounted G (phase_of q.place state) (with_area a area) OnChannel
+    doing-ran q Runs e c h = (ap (λ (p : Program D). p.place) c, rw (h, ← c, e) refl)
+    doing-ran q (Ended csw sense) e c h = let k : a.halted ≡ false = t.activity.halted ∙ h in rw (h, ← c, e, k) refl
+
+    on-channel : (phase : Phase) (doing : Doing) → DoingTies meaning mounted H phase a doing → RunsAs meaning channel a.piece.value.area max (going (Some (device meaning mounted H)) phase a.piece.value.area) (Some b) new area → doing ≡ OnChannel
+    on-channel Absent doing d r = absurd r
+    on-channel Idle doing d r = absurd r
+    on-channel (Running place) OnChannel d r = refl
+    on-channel (Running place) (Again csw sense) d r = absurd d
+    on-channel (Pending csw sense) doing d r = absurd r
+
+    pub ties-ran : RunsOne → SamePlace a.piece.value.area area →
+        Ties meaning mounted G new (Some (with_area a area)) waiters table left
+    unfolding Legal waiting arrivals active started request_of attempts extents_of flag posted
+    ties-ran r place =
+        let k = told r in
+        let i = on-channel channel.phase a.doing t.activity.doing (with-device r) in
+        let dr = doing-ran (current meaning mounted G) (current meaning mounted G).place.state refl refl k.unhalted in
+        let phase_is : new.phase ≡ phase_of (current meaning mounted G).place (current meaning mounted G).place.state = ap (λ (x : Channel D). x.phase) k.channel_is in
+        let f : Piece → Storage → Piece = λ p m. record p { area = m } in
+        record {
+          legal = (fits-free meaning mounted (Ran n b.commands) H settled (record { active = k.active; goes = k.still; some = k.some; left = omega (arith, k.commands) }), t.legal);
+          queue = t.queue;
+          placed = t.placed;
+          device = ap (λ (x : Channel D). x.device) k.channel_is ∙ ap Some (sym (device-current n G k.newest));
+          activity = record {
+            is = t.activity.is;
+            request = ap (λ p. f p area) t.activity.request ∙ ap (f (request_of n H)) k.area_is;
+            placed = placed-moved a.piece.value area t.activity.placed place;
+            starts = t.activity.starts;
+            halted = t.activity.halted;
+            covered = t.activity.covered;
+            doing = subst (λ x. DoingTies meaning mounted G x (with_area a area) a.doing) (sym phase_is)
+                (subst (λ x. DoingTies meaning mounted G (phase_of (current meaning mounted G).place (current meaning mounted G).place.state) (with_area a area) x) (sym i) dr);
+          };
+          count = t.count;
+          dcbs = t.dcbs;
+          out = t.out;
+        }

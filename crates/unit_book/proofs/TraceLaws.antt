@@ -1,0 +1,86 @@
+-- Laws of legal traces.
+use Rattle.std.proofs.Common.{◌≡◌, ℕ, ◌⊎◌, true, false, Option, Some, None, List, [], ◌∷◌, ◌++◌, refl, sym, ap, ◌∙◌, inl, inr, subst}
+use Rattle.std.proofs.lemmas.Bool.{cases_Bool, or_left, or_right, or_from}
+use Rattle.std.specs.List.{list_any}
+use Rattle.io_images.specs.declared.csw.Csw.{Csw}
+use Rattle.device_port.specs.Meaning.{Meaning}
+use Rattle.request_piece.specs.declared.piece.Name.{Name}
+use Rattle.request_piece.specs.declared.piece.Piece.{Piece}
+use Rattle.io_images.specs.declared.code.Code.{Code}
+use Rattle.unit_book.specs.declared.entry.Entry.{Entry}
+use Rattle.unit_book.specs.declared.entry.Entry.TheVariants.{Opened, Arrive, Start, Ran, Halted, Purge, Close, Reset, Post}
+use Rattle.unit_book.specs.Trace.{same, is_posted, active, has_arrived}
+use Rattle.unit_book.specs.Legal.{Due, ToHalt, ToPost, Free, due, due_by, doomed_first, is_to_halt, Fits, FitsBy, Legal, StartFits, First, Again}
+use Rattle.unit_book.specs.Dcbs.{doomed}
+use Rattle.unit_book.specs.Laws.{is_of_name}
+use Rattle.unit_book.proofs.Lists.{same-true, same-refl, no_both}
+use Rattle.unit_book.proofs.Facts.{Facts, facts, active-is, first-waits, fits-arrive, fits-start, fits-ran, fresh, post-whom, WaitsAmong}
+
+module _ {D : Type 0} (meaning : Meaning D) (mounted : D) where
+  -- what is active is not posted
+  unposted : (n m : Name) (H : List Entry) → is_posted n H ≡ true → is_posted m H ≡ false → same m n ≡ false
+  unposted n m H p q =
+      elim (cases_Bool (same m n)) [
+        | inl s ↦ no_both (is_posted n H) p (subst (λ (x : Name). is_posted x H ≡ false) (same-true m n s) q)
+        | inr s ↦ s
+      ]
+
+  pub start-unposted : (m : Name) (H : List Entry) → Facts H → StartFits meaning mounted m H → is_posted m H ≡ false
+  start-unposted m H f (First s) = subst (λ (x : Name). is_posted x H ≡ false) s.name (first-waits meaning mounted s.request H f s.first).unposted
+  start-unposted m H f (Again s) = (active-is m H s.active).1
+
+  whom-unposted : (m : Name) (H : List Entry) → (active H ≡ Some m) ⊎ ((r : Piece) × WaitsAmong H r × (r.name ≡ m)) → is_posted m H ≡ false
+  whom-unposted m H (inl a) = (active-is m H a).1
+  whom-unposted m H (inr w) = subst (λ (x : Name). is_posted x H ≡ false) w.2 w.1.unposted
+
+  no-doomed-halt : (ds : List Piece) (m : Name) → doomed_first ds ≡ ToHalt m → ⊥
+  no-doomed-halt [] m h = cc
+  no-doomed-halt (r ∷ rs) m h = cc
+
+  -- what is halted is active
+  halt-active : (m : Name) (H : List Entry) → due meaning mounted H ≡ ToHalt m → active H ≡ Some m
+  unfolding due
+  halt-active m H h = by_active (active H) h where
+    by_active : (o : Option Name) → due_by meaning mounted H o ≡ ToHalt m → o ≡ Some m
+    by_active None e = absurd (no-doomed-halt (doomed H) m e)
+    by_active (Some k) e =
+        elim (cases_Bool (is_to_halt meaning mounted H k)) [
+          | inl b ↦ let e' = rw b at e in let q : k ≡ m = cc in ap Some q
+          | inr b ↦ absurd (no-doomed-halt (doomed H) m (rw b at e))
+        ]
+
+  halted-active : (m : Name) (H : List Entry) (d : Due) → d ≡ due meaning mounted H → FitsBy meaning mounted d (Halted m) H → active H ≡ Some m
+  halted-active m H (ToHalt k) e h = let q : k ≡ m = cc in halt-active m H (sym e ∙ ap ToHalt q)
+  halted-active m H (ToPost k) e h = absurd cc
+  halted-active m H Free e h = absurd h
+
+  -- an entry that fits is not of a posted name
+  not-of : (n : Name) (e : Entry) (H : List Entry) → Facts H → is_posted n H ≡ true → Fits meaning mounted e H → is_of_name n e ≡ false
+  not-of n (Opened d i x) H f p h = refl
+  not-of n (Arrive r) H f p h =
+      let new = fresh meaning mounted r H f (fits-arrive meaning mounted r H (due meaning mounted H) h) in
+      elim (cases_Bool (same r.name n)) [
+        | inl s ↦ no_both (has_arrived n H) (f.1 n p) (subst (λ (x : Name). has_arrived x H ≡ false) (same-true r.name n s) new)
+        | inr s ↦ s
+      ]
+  not-of n (Start m) H f p h = unposted n m H p (start-unposted m H f (fits-start meaning mounted m H (due meaning mounted H) h))
+  not-of n (Ran m j) H f p h = unposted n m H p (active-is m H (fits-ran meaning mounted m j H (due meaning mounted H) h).active).1
+  not-of n (Halted m) H f p h = unposted n m H p (active-is m H (halted-active m H (due meaning mounted H) refl h)).1
+  not-of n (Purge s m) H f p h = refl
+  not-of n (Close d) H f p h = refl
+  not-of n (Reset d) H f p h = refl
+  not-of n (Post m csw sense code) H f p h = unposted n m H p (whom-unposted m H (post-whom meaning mounted m csw sense code H f h))
+
+  still-posted : (n : Name) (csw : Csw) (sense : ℕ) (code : Code) (later earlier : List Entry) → is_posted n (later ++ Post n csw sense code ∷ earlier) ≡ true
+  still-posted n csw sense code [] earlier = or_left (same n n) (is_posted n earlier) (same-refl n)
+  still-posted n csw sense code (e ∷ later) earlier = or_right _ (is_posted n (later ++ Post n csw sense code ∷ earlier)) (still-posted n csw sense code later earlier)
+
+  pub posts-last : (n : Name) (csw : Csw) (sense : ℕ) (code : Code) (later earlier : List Entry) →
+      Legal meaning mounted (later ++ Post n csw sense code ∷ earlier) → list_any (is_of_name n) later ≡ false
+  unfolding Legal
+  posts-last n csw sense code [] earlier l = refl
+  posts-last n csw sense code (e ∷ later) earlier l =
+      let G = later ++ Post n csw sense code ∷ earlier in
+      or_from (is_of_name n e) (list_any (is_of_name n) later)
+      (not-of n e G (facts meaning mounted G l.1) (still-posted n csw sense code later earlier) l.0)
+      (posts-last n csw sense code later earlier l.1)

@@ -1,0 +1,32 @@
+use Rattle.std.proofs.Common.{subst}
+use Rattle.unit_book.specs.Answers.{DecidedCode}
+use Rattle.unit_book.proofs.Calls.{post-then-sweep, sweep-room, sweep-due}
+use Rattle.unit_book.proofs.book.UnitBook.interrupt.Goals as goal
+
+pub sweep-requires-clause-spare : goal.sweep-requires-clause-spare
+sweep-requires-clause-spare g c =
+    let d = c.in-Some.decision in
+    sweep-room g.D.Device.meaning c.self.inside.ledger c.reserve_posts.new.self c.post-doom.new.self c.post-doom.new.self d.name d.csw d.sense c.in-Some-code.code c.reserve_posts.ensures.book c.post-doom.ensures.book
+    c.in_ok-reserve_posts-in-Some-code.ensures.room c.post-doom.ensures.spare
+
+pub sweep-requires-clause-due : goal.sweep-requires-clause-due
+sweep-requires-clause-due g c =
+    let d = c.in-Some.decision in
+    sweep-due g.D.Device.meaning c.self.inside.ledger c.reserve_posts.new.self c.post-doom.new.self c.post-doom.new.self d.name d.csw d.sense c.in-Some-code.code c.post-doom.ensures.book
+
+pub returns-in_ok-reserve_posts-in-Some-code-clause-ok : goal.returns-in_ok-reserve_posts-in-Some-code-clause-ok
+returns-in_ok-reserve_posts-in-Some-code-clause-ok g c =
+    let m = g.D.Device.meaning in
+    let old = c.self.inside.ledger in
+    let d = c.in-Some.decision in
+    let told = c.in-Some.ensures in
+    let fits = subst (DecidedCode m old d.name d.csw d.sense) c.in-Some-code.is told.1 in
+    rw (← c.self.view_is) (
+      told.0,
+      record {
+        csw = d.csw;
+        sense = d.sense;
+        fits = fits;
+        posts = post-then-sweep m old c.reserve_posts.new.self c.post-doom.new.self c.sweep.new.self d.name d.csw d.sense c.in-Some-code.code c.reserve_posts.ensures.book c.post-doom.ensures.book c.sweep.ensures.book;
+      },
+    )

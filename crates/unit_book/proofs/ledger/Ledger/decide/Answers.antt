@@ -1,0 +1,26 @@
+use Rattle.std.proofs.Common.{◌≡◌, Some, None, Option, ℕ, reverse, refl, sym, ap, subst, ◌∙◌}
+use Rattle.io_images.specs.declared.csw.Csw.{Csw}
+use Rattle.io_images.specs.declared.code.Code.{Code}
+use Rattle.subchannel.specs.Subchannel.{status_of}
+use Rattle.unit_book.specs.declared.active.Active.{Active}
+use Rattle.unit_book.specs.Inside.{Ties, pending_code}
+use Rattle.unit_book.proofs.Decisions.{decided, decided_pending}
+use Rattle.unit_book.proofs.ledger.Ledger.decide.Goals as goal
+
+pub returns : goal.returns
+returns g c =
+    let m = g.D.Device.meaning in
+    let i = c.self.inside in
+    let a = c.in_ok-active.active.now in
+    let csw = c.in_ok-csw.csw in
+    let sense = c.in_ok-csw.sense in
+    let o : i.active ≡ Some a = sym c.in_ok-active.ensures.value in
+    let t = subst (λ (x : Option Active). Ties m i.mounted (reverse i.trace.items) i.channel x i.waiting.pieces i.dcbs i.out.items) o c.self.invariant.0 in
+    let p : status_of i.channel.phase ≡ Some (csw, sense) = sym c.status.ensures ∙ c.in_ok-csw.was in
+    let kind_is = c.kind.ensures in
+    let name_is = c.name.ensures in
+    let d = rw kind_is at c.code-code.ensures in
+    rw (← c.self.view_is, name_is, o) (
+      decided_pending m i.mounted (reverse i.trace.items) i.channel a i.waiting.pieces i.dcbs i.out.items csw sense t p,
+      decided m i.mounted (reverse i.trace.items) i.channel a i.waiting.pieces i.dcbs i.out.items csw sense t p c.code-code.result (sym d),
+    )

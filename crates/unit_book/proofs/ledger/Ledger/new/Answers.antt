@@ -1,0 +1,12 @@
+use Rattle.std.proofs.Common.{[], None, reverse, arith, refl, ap}
+use Rattle.unit_book.proofs.Opens.{ties-new}
+use Rattle.unit_book.proofs.ledger.Ledger.new.Goals as goal
+
+pub invariant_of-result : goal.invariant_of-result
+invariant_of-result g c =
+    let m = g.D.Device.meaning in
+    let p = c.in-Ok.ensures in
+    let channel_is = c.new-in-Ok.ensures in
+    let dcbs_is = c.new-in-Ok-2.ensures in
+    let trace_is = ap reverse c.new-in-Ok-3.ensures.items in
+    (rw (p, trace_is, channel_is, dcbs_is) (ties-new m c.args.device c.args.isc), rw p (record { held = omega arith; waiting_room = refl; swept_is = refl }))

@@ -1,0 +1,137 @@
+-- WHAT THE FIELDS OF A BOOK SAY: they are those of its trace.
+use Rattle.std.specs.Prelude.{◌≡◌, ◌≤◌, ℕ, ◌+◌, ◌-◌, ◌==◌, Bool, true, false, if◌then◌else◌, Option, Some, None, List, [], ◌∷◌, ◌++◌, length, slice_get}
+use Rattle.std.specs.List.{list_any}
+use Rattle.circular_buffer.specs.Buffer.{Buffer}
+use Rattle.std.specs.Box.{with_value}
+use Rattle.io_area.specs.Storage.{Storage}
+use Rattle.io_images.specs.declared.csw.Csw.{Csw}
+use Rattle.io_images.specs.declared.extent.Extent.{Extent}
+use Rattle.io_images.specs.declared.code.Code.{Code}
+use Rattle.io_images.specs.declared.code.Code.TheVariants.{Purged}
+use Rattle.device_port.specs.Meaning.{Meaning}
+use Rattle.device_port.specs.declared.kind.Kind.{Kind}
+use Rattle.subchannel.specs.Subchannel.{Channel, Phase, Absent, Idle, Running, Pending}
+use Rattle.recovery.specs.declared.answer.Verdict.TheVariants.{Retry}
+use Rattle.recovery.specs.Verdict.{verdict}
+use Rattle.request_piece.specs.PostedState.{PostedState}
+use Rattle.request_piece.specs.Places.{Placed}
+use Rattle.request_piece.specs.declared.piece.Piece.{Piece}
+use Rattle.unit_queue.specs.Queue.{Queue, queue}
+use Rattle.unit_book.specs.declared.active.Active.{Active}
+use Rattle.unit_book.specs.declared.active.Doing.{Doing}
+use Rattle.unit_book.specs.declared.active.Doing.TheVariants.{OnChannel, Again}
+use Rattle.unit_book.specs.declared.dcb.Dcb.{Dcb}
+use Rattle.unit_book.specs.declared.entry.Entry.{Entry}
+use Rattle.unit_book.specs.Trace.{waiting, active, request_of, starts_of, is_halted, is_covered, opens_for_input}
+use Rattle.unit_book.specs.Media.{Stage, Goes, Stopped, Over, current, stage, device}
+use Rattle.unit_book.specs.Dcbs.{is_opened, is_closed, extents_of, flag, opened_count}
+use Rattle.unit_book.specs.Legal.{Legal, verdict_of, ended_code}
+use Rattle.unit_book.specs.Posts.{posted}
+
+-- each of a list has the property
+abbrev pub Each : {X : Type 0} → (X → Type 0) → List X → Type 0
+Each P [] = Unit {0}
+Each P (x ∷ xs) = P x × Each P xs
+
+-- THE ACTIVE REQUEST
+
+abbrev pub again_by : Doing → Bool
+again_by OnChannel = false
+again_by (Again csw sense) = true
+
+abbrev pub again_of : Option Active → Bool
+again_of None = false
+again_of (Some a) = again_by a.doing
+
+abbrev pub held_count : Option Active → ℕ
+held_count None = 0
+held_count (Some a) = 1
+
+-- the active request with its storage as it is now
+abbrev pub with_area : Active → Storage → Active
+with_area a m = record a { piece = with_value a.piece (record a.piece.value { area = m }) }
+
+-- the stage of a request whose status is pending
+abbrev pub pending_stage : Bool → Csw → ℕ → Stage
+pending_stage true csw sense = Stopped csw sense
+pending_stage false csw sense = Over csw sense
+
+-- the code of a request whose status is pending, if it is posted
+abbrev pub pending_code : Kind → Csw → ℕ → ℕ → Bool → Bool → Option Code
+pending_code kind csw sense starts halted covered = if halted then Some Purged else ended_code (verdict kind csw sense starts) covered
+
+-- THE TABLE OF DCBS
+
+-- the DCB with a number, counted from 1
+abbrev pub dcb_at : List Dcb → ℕ → Option Dcb
+dcb_at table d = if d == 0 then None else slice_get table (d - 1)
+
+-- what a trace says of a DCB
+abbrev pub dcb_of : ℕ → List Entry → Option Dcb
+dcb_of d H =
+    if is_opened d H
+    then Some (record { input = list_any (opens_for_input d) H; extents = extents_of d H; closed = is_closed d H; in_error = flag d H })
+    else None
+
+-- the file mask
+abbrev pub mask_at : Option Dcb → ℕ
+mask_at None = 0x18
+mask_at (Some c) = if c.input then 0x58 else 0x18
+
+-- the extents
+abbrev pub extents_at : Option Dcb → List Extent
+extents_at None = []
+extents_at (Some c) = c.extents
+
+-- the DCB has the flag, if there was such an error
+abbrev pub noted : Bool → Option Dcb → Option Dcb
+noted error None = None
+noted error (Some c) = Some (record { input = c.input; extents = c.extents; closed = c.closed; in_error = if error then true else c.in_error })
+
+-- THE FIELDS AND THE TRACE
+
+module _ {D : Type 0} (meaning : Meaning D) (mounted : D) where
+  -- what the subchannel does is what the trace says of the active request
+  abbrev pub DoingTies : List Entry → Phase → Active → Doing → Type 0
+  DoingTies H Absent a doing = ⊥
+  DoingTies H Idle a OnChannel = ⊥
+  DoingTies H Idle a (Again csw sense) =
+      (stage meaning mounted a.piece.value.name H ≡ Over csw sense)
+      × (verdict_of meaning mounted a.piece.value.name csw sense H ≡ Retry)
+      × (is_covered (request_of a.piece.value.name H) H ≡ false)
+  DoingTies H (Running place) a OnChannel =
+      (place ≡ (current meaning mounted H).place) × (stage meaning mounted a.piece.value.name H ≡ Goes)
+  DoingTies H (Running place) a (Again csw sense) = ⊥
+  DoingTies H (Pending csw sense) a OnChannel =
+      stage meaning mounted a.piece.value.name H ≡ pending_stage a.halted csw sense
+  DoingTies H (Pending csw sense) a (Again c s) = ⊥
+
+  -- the active request: all but its storage is as it arrived
+  pub record ActiveTies (H : List Entry) (phase : Phase) (a : Active) : Type 0 where
+    pub is : active H ≡ Some a.piece.value.name
+    pub request : a.piece.value ≡ record (request_of a.piece.value.name H) { area = (current meaning mounted H).area }
+    pub placed : Placed a.piece.value
+    pub starts : a.starts ≡ starts_of a.piece.value.name H
+    pub halted : a.halted ≡ is_halted a.piece.value.name H
+    pub covered : a.covered ≡ is_covered (request_of a.piece.value.name H) H
+    pub doing : DoingTies H phase a a.doing
+
+  abbrev pub ActivityTies : List Entry → Phase → Option Active → Type 0
+  ActivityTies H phase None = (active H ≡ None) × (phase ≡ Idle)
+  ActivityTies H phase (Some a) = ActiveTies H phase a
+
+  pub record Ties (H : List Entry) (channel : Channel D) (busy : Option Active) (waiters : List Piece) (table : List Dcb) (left : List PostedState) : Type 0 where
+    pub legal : Legal meaning mounted H
+    pub queue : waiters ≡ waiting H
+    pub placed : Each Placed waiters
+    pub device : channel.device ≡ Some (device meaning mounted H)
+    pub activity : ActivityTies H channel.phase busy
+    pub count : length table ≡ opened_count H
+    pub dcbs : (d : ℕ) → dcb_at table d ≡ dcb_of d H
+    pub out : (given : List PostedState) × (given ++ left ≡ posted meaning mounted H)
+
+-- the room that the book was made with
+pub record Rooms (busy : Option Active) (waiters swept : Queue) (outs : Buffer PostedState) : Type 0 where
+  pub held : length waiters.pieces + held_count busy + length outs.items ≤ outs.capacity
+  pub waiting_room : waiters.capacity ≡ outs.capacity
+  pub swept_is : swept ≡ queue [] outs.capacity

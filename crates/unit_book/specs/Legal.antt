@@ -1,0 +1,160 @@
+-- LEGAL TRACES: each entry fits the entries before it (profile).
+use Rattle.std.specs.Prelude.{◌≡◌, ◌≤◌, ℕ, ◌+◌, Bool, true, false, ◌&&◌, if◌then◌else◌, Option, Some, None, List, [], ◌∷◌, slice_get}
+use Rattle.io_images.specs.declared.csw.Csw.{Csw}
+use Rattle.io_images.specs.declared.extent.Extent.{Extent}
+use Rattle.io_images.specs.declared.code.Code.{Code}
+use Rattle.io_images.specs.declared.code.Code.TheVariants.{ExtentViolated, Purged}
+use Rattle.device_port.specs.Meaning.{Meaning}
+use Rattle.ccw_programs.specs.Step.{length_of}
+use Rattle.subchannel.specs.Subchannel.{no_status}
+use Rattle.recovery.specs.declared.answer.Verdict.{Verdict}
+use Rattle.recovery.specs.declared.answer.Verdict.TheVariants.{Retry, Final}
+use Rattle.recovery.specs.Verdict.{verdict}
+use Rattle.request_piece.specs.declared.piece.Name.{Name}
+use Rattle.request_piece.specs.declared.piece.Piece.{Piece}
+use Rattle.request_piece.specs.Scope.{covers}
+use Rattle.request_piece.specs.declared.scope.Scope.{Scope}
+use Rattle.request_piece.specs.declared.scope.Scope.TheVariants.{Dcb, Task}
+use Rattle.unit_book.specs.declared.entry.Mode.TheVariants.{Halt}
+use Rattle.unit_book.specs.declared.entry.Entry.{Entry}
+use Rattle.unit_book.specs.declared.entry.Entry.TheVariants.{Opened, Arrive, Start, Ran, Halted, Purge, Close, Reset, Post}
+use Rattle.unit_book.specs.Trace.{waiting, active, request_of, arrived_of, starts_of, is_covered}
+use Rattle.unit_book.specs.Extents.{takes_extents, passes_check}
+use Rattle.unit_book.specs.Dcbs.{is_opened, is_open, opened_count, extents_of, doomed}
+use Rattle.unit_book.specs.Media.{Stage, Goes, Stopped, Over, goes, current, stage}
+
+-- WHAT IS DUE: the Halted of a name, the post of a doomed name, or nothing, so that the next entry is free
+pub data Due : Type 0 where
+  ToHalt : Name → Due
+  ToPost : Name → Due
+  Free : Due
+
+abbrev pub doomed_first : List Piece → Due
+doomed_first [] = Free
+doomed_first (r ∷ rs) = ToPost r.name
+
+-- the code of a request that has ended, if it is posted: one that would be tried again is posted only if it
+-- is covered
+abbrev pub ended_code : Verdict → Bool → Option Code
+ended_code (Final code) covered = Some code
+ended_code Retry covered = if covered then Some Purged else None
+
+module _ {D : Type 0} (meaning : Meaning D) (mounted : D) where
+  -- the newest entry is a purge with Halt that covers the active request, whose program runs
+  abbrev pub is_to_halt : List Entry → Name → Bool
+  is_to_halt (Purge scope Halt ∷ H) n = covers scope (request_of n H) && goes (stage meaning mounted n (Purge scope Halt ∷ H))
+  is_to_halt _ n = false
+
+  abbrev pub due_by : List Entry → Option Name → Due
+  due_by H None = doomed_first (doomed H)
+  due_by H (Some n) = if is_to_halt H n then ToHalt n else doomed_first (doomed H)
+
+  unfoldable pub due : List Entry → Due
+  due H = due_by H (active H)
+
+  -- the request passes the extent check of its DCB
+  abbrev pub passes : Piece → List Entry → Bool
+  passes r H = passes_check (meaning.kind mounted) (meaning.heads mounted) (extents_of r.dcb H) r.seek
+
+  -- the verdict on a status of the active request
+  abbrev pub verdict_of : Name → Csw → ℕ → List Entry → Verdict
+  verdict_of n csw sense H = verdict (meaning.kind mounted) csw sense (starts_of n H)
+
+  -- THE FIRST START of n: nothing is active, and n is the first that waits and passes the extent check
+  pub record StartsFirst (n : Name) (H : List Entry) : Type 0 where
+    pub none : active H ≡ None
+    pub request : Piece
+    pub first : slice_get (waiting H) 0 ≡ Some request
+    pub name : request.name ≡ n
+    pub passes : passes request H ≡ true
+
+  -- A FURTHER START of n: it is active and has ended, the verdict is to try again, and it is not covered
+  pub record StartsAgain (n : Name) (H : List Entry) : Type 0 where
+    pub active : active H ≡ Some n
+    pub csw : Csw
+    pub sense : ℕ
+    pub ended : stage meaning mounted n H ≡ Over csw sense
+    pub retry : verdict_of n csw sense H ≡ Retry
+    pub free : is_covered (request_of n H) H ≡ false
+
+  pub data StartFits (n : Name) (H : List Entry) : Type 0 where
+    First : StartsFirst n H → StartFits n H
+    Again : StartsAgain n H → StartFits n H
+
+  -- n is active, its program runs and has at least so many commands left
+  pub record RanFits (n : Name) (j : ℕ) (H : List Entry) : Type 0 where
+    pub active : active H ≡ Some n
+    pub goes : stage meaning mounted n H ≡ Goes
+    pub some : 1 ≤ j
+    pub left : j ≤ length_of meaning (current meaning mounted H)
+
+  -- CSW, sense and code are those of a halted request, purged, or those of one that has ended
+  abbrev pub PostsAt : Csw → ℕ → Code → Stage → (Csw → ℕ → Option Code) → Type 0
+  PostsAt csw sense code Goes ended = ⊥
+  PostsAt csw sense code (Stopped c s) ended = (csw ≡ c) × (sense ≡ s) × (code ≡ Purged)
+  PostsAt csw sense code (Over c s) ended = (csw ≡ c) × (sense ≡ s) × (ended c s ≡ Some code)
+
+  -- THE POST of the active request
+  pub record PostsActive (n : Name) (csw : Csw) (sense : ℕ) (code : Code) (H : List Entry) : Type 0 where
+    pub active : active H ≡ Some n
+    pub as_ended : PostsAt csw sense code (stage meaning mounted n H) (λ c s. ended_code (verdict_of n c s H) (is_covered (request_of n H) H))
+
+  -- THE POST of the first that waits, where nothing is active and it fails the extent check
+  pub record FailsCheck (n : Name) (H : List Entry) : Type 0 where
+    pub none : active H ≡ None
+    pub request : Piece
+    pub first : slice_get (waiting H) 0 ≡ Some request
+    pub name : request.name ≡ n
+    pub fails : passes request H ≡ false
+
+  pub record PostsFirst (n : Name) (csw : Csw) (sense : ℕ) (code : Code) (H : List Entry) : Type 0 where
+    pub fails : FailsCheck n H
+    pub code_is : code ≡ ExtentViolated
+    pub csw_is : csw ≡ no_status
+    pub sense_is : sense ≡ 0
+
+  pub data PostFits (n : Name) (csw : Csw) (sense : ℕ) (code : Code) (H : List Entry) : Type 0 where
+    OfActive : PostsActive n csw sense code H → PostFits n csw sense code H
+    OfFirst : PostsFirst n csw sense code H → PostFits n csw sense code H
+
+  -- the next number, at most 65,535, and extents that may be opened
+  pub record OpenFits (d : ℕ) (extents : List Extent) (H : List Entry) : Type 0 where
+    pub next : d ≡ opened_count H + 1
+    pub few : d ≤ 65535
+    pub taken : takes_extents (meaning.kind mounted) (meaning.cylinders mounted) (meaning.heads mounted) extents ≡ true
+
+  -- a purge of a DCB needs the DCB
+  abbrev pub CanPurge : Scope → List Entry → Type 0
+  CanPurge (Dcb d) H = is_opened d H ≡ true
+  CanPurge (Task t) H = Unit {0}
+
+  -- what fits where nothing is due
+  abbrev pub FitsFree : Entry → List Entry → Type 0
+  FitsFree (Opened d input extents) H = OpenFits d extents H
+  FitsFree (Arrive r) H = r.name.seq ≡ arrived_of r.name.task H + 1
+  FitsFree (Start n) H = StartFits n H
+  FitsFree (Ran n j) H = RanFits n j H
+  FitsFree (Halted n) H = ⊥
+  FitsFree (Purge scope mode) H = CanPurge scope H
+  FitsFree (Close d) H = is_open d H ≡ true
+  FitsFree (Reset d) H = is_open d H ≡ true
+  FitsFree (Post n csw sense code) H = PostFits n csw sense code H
+
+  -- what is due comes next, and nothing else
+  abbrev pub FitsBy : Due → Entry → List Entry → Type 0
+  FitsBy (ToHalt n) e H = e ≡ Halted n
+  FitsBy (ToPost n) e H = e ≡ Post n no_status 0 Purged
+  FitsBy Free e H = FitsFree e H
+
+  -- AN ENTRY FITS the entries before it
+  abbrev pub Fits : Entry → List Entry → Type 0
+  Fits e H = FitsBy (due H) e H
+
+  -- A LEGAL TRACE
+  unfoldable pub Legal : List Entry → Type 0
+  Legal [] = Unit {0}
+  Legal (e ∷ H) = Fits e H × Legal H
+
+  -- SETTLED: nothing is due
+  abbrev pub Settled : List Entry → Type 0
+  Settled H = due H ≡ Free

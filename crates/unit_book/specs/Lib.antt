@@ -1,0 +1,12 @@
+pub mod Trace
+pub mod Extents
+pub mod Dcbs
+pub mod Media
+pub mod Legal
+pub mod Posts
+pub mod Dooms
+pub mod Picks
+pub mod Book
+pub mod Answers
+pub mod Inside
+pub mod Laws

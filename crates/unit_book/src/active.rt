@@ -1,0 +1,103 @@
+//! The active request.
+
+ghost use Rattle.std.specs.Prelude.{◌≡◌, ◌+◌, ◌<◌, ◌≤◌, false};
+ghost use Rattle.io_area.specs.Storage.{SamePlace};
+ghost use Rattle.subchannel.specs.Subchannel.{RunsAs, going};
+ghost use Rattle.unit_book.specs.Inside.{pending_code, with_area};
+
+use ccw_programs::Burst;
+use device_port::{Device, Kind};
+use io_images::{Code, Csw};
+use recovery::{Verdict, verdict};
+use request_piece::{Name, Piece};
+use subchannel::Subchannel;
+
+/// Whether the active request is on the channel, or awaits its restart with the status of its last attempt.
+#[derive(Clone, Copy, PartialEq, Eq, Debug)]
+pub(crate) enum Doing {
+    OnChannel,
+    Again(Csw, u16),
+}
+
+/// The active request: how often it was started, and what happened since its last start.
+#[derive(Drop)]
+pub(crate) struct Active {
+    pub piece: Box<Piece>,
+    pub starts: u32,
+    pub halted: bool,
+    pub covered: bool,
+    pub doing: Doing,
+}
+
+impl Active {
+    /// The name of the request.
+    pub fn name(&self) -> Name
+        ensures { result ≡ self.now.piece.value.name }
+    {
+        self.piece.name
+    }
+
+    /// A request that was started once.
+    pub fn first(piece: Box<Piece>) -> Self
+        ensures { result ≡ record { piece = piece; starts = 1; halted = false; covered = false; doing = Doing.OnChannel } }
+    {
+        Active {
+            piece,
+            starts: 1,
+            halted: false,
+            covered: false,
+            doing: Doing::OnChannel,
+        }
+    }
+
+    /// The request, started once more.
+    pub fn restarted(self) -> Self
+        requires { self.starts ≤ 10 }
+        ensures { result ≡ record { piece = self.piece; starts = self.starts + 1; halted = false; covered = false; doing = Doing.OnChannel } }
+    {
+        Active {
+            piece: self.piece,
+            starts: self.starts + 1,
+            halted: false,
+            covered: false,
+            doing: Doing::OnChannel,
+        }
+    }
+
+    /// The request, which awaits its restart.
+    pub fn awaiting(self, csw: Csw, sense: u16) -> Self
+        ensures { result ≡ record self { doing = Doing.Again csw sense } }
+    {
+        Active {
+            piece: self.piece,
+            starts: self.starts,
+            halted: self.halted,
+            covered: self.covered,
+            doing: Doing::Again(csw, sense),
+        }
+    }
+
+    /// The completion code of a request whose status is this, or None where it is to be tried again.
+    pub fn code(&self, kind: Kind, csw: &Csw, sense: u16) -> Option<Code>
+        ensures { result ≡ pending_code kind csw.now sense self.now.starts self.now.halted self.now.covered }
+    {
+        if self.halted {
+            return Some(Code::Purged);
+        }
+        match verdict(kind, csw, sense, self.starts) {
+            Verdict::Final(code) => Some(code),
+            Verdict::Retry if self.covered => Some(Code::Purged),
+            Verdict::Retry => None,
+        }
+    }
+
+    /// Runs the program of the request, by so many commands at most.
+    pub fn run<D: Device>(&mut self, channel: &mut Subchannel<D>, max: u32) -> Option<Burst>
+        requires { 1 ≤ max }
+        ensures ran { RunsAs D.meaning channel.old self.old.piece.value.area max (going channel.old.device channel.old.phase self.old.piece.value.area) result channel.new self.new.piece.value.area }
+        ensures same { self.new ≡ with_area self.old self.new.piece.value.area }
+        ensures place { SamePlace self.old.piece.value.area self.new.piece.value.area }
+    {
+        channel.run(&mut self.piece.area, max)
+    }
+}

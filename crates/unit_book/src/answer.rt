@@ -1,0 +1,61 @@
+//! What the calls of a book answer.
+
+use io_images::Code;
+use request_piece::Name;
+use thiserror::Error;
+
+/// What `start` did.
+#[derive(Clone, Copy, PartialEq, Eq, Debug)]
+pub enum Starting {
+    /// A program runs, or its status is pending.
+    Busy,
+    /// Nothing is active, and nothing waits.
+    Idle,
+    /// The program of this request was started.
+    Started(Name),
+    /// This request failed the extent check, and was posted 42.
+    Violated(Name),
+}
+
+/// What `run` did.
+#[derive(Clone, Copy, PartialEq, Eq, Debug)]
+pub enum Running {
+    /// No program runs.
+    Quiet,
+    /// So many commands were done; whether a status is pending now.
+    Ran { commands: u32, pending: bool },
+}
+
+/// What `interrupt` did.
+#[derive(Clone, Copy, PartialEq, Eq, Debug)]
+pub enum Interruption {
+    /// No status was pending.
+    Quiet,
+    /// This request is to be started again.
+    Again(Name),
+    /// This request was posted.
+    Ended(Name, Code),
+}
+
+/// Why a request was not taken.
+#[derive(Clone, Copy, PartialEq, Eq, Debug, Error)]
+pub enum ArriveError {
+    /// The book holds as many requests as it may.
+    #[error("the book is full")]
+    Held,
+    #[error("no memory")]
+    NoMemory,
+}
+
+/// Why a DCB was not opened.
+#[derive(Clone, Copy, PartialEq, Eq, Debug, Error)]
+pub enum OpenError {
+    /// The unit has 65,535 DCBs.
+    #[error("the unit has as many DCBs as it may")]
+    TooManyDcbs,
+    /// The extents are not such as the device takes.
+    #[error("an extent is not one of the device")]
+    BadExtent,
+    #[error("no memory")]
+    NoMemory,
+}

@@ -1,0 +1,216 @@
+//! The book of a unit: between two calls nothing is due.
+
+mod readers;
+
+ghost use Rattle.std.specs.Prelude.{◌≡◌, ◌≤◌, ◌<◌, ◌+◌, ◌∷◌, ◌++◌, [], IfOk, IfErr, OnOk, OnErr, IfSome, slice_get, drop};
+ghost use Rattle.unit_book.specs.Answers.{ArriveRefused, InterruptsBook, OpenRefused, OpensBook, Posts, RunsBook, StartsBook};
+ghost use Rattle.unit_book.specs.Book.{IsLastGiven, given, held, opening};
+ghost use Rattle.unit_book.specs.Dooms.{after_dooms};
+ghost use Rattle.unit_book.specs.Legal.{Legal, Settled};
+ghost use Rattle.unit_book.specs.Posts.{posted};
+ghost use Rattle.unit_book.specs.Trace.{arrived_of};
+
+use crate::answer::{ArriveError, Interruption, OpenError, Running, Starting};
+use crate::decision::Next;
+use crate::entry::{Entry, Issued};
+use crate::ledger::Ledger;
+use device_port::Device;
+use io_images::Extent;
+use request_piece::{Posted, Request};
+use std::alloc::{AllocError, AllocFailed, Global};
+use std::marker::Model;
+
+/// The most DCBs that a unit has (profile).
+const MOST_DCBS: usize = 65_535;
+
+/// The book of one unit: what arrived, waits, is active and was posted, with the subchannel that runs it.
+#[derive(Drop)]
+pub struct UnitBook<D: Device> {
+    ledger: Ledger<D>,
+}
+
+impl<D: Device> Model for UnitBook<D> {
+    ghost use Rattle.unit_book.specs.Book.{Book};
+
+    ghost Value = { Book D };
+
+    ghost use Rattle.unit_book.specs.Legal.{Settled};
+
+    ghost view = { λ b. b.ledger };
+
+    ghost invariant = { λ b. Settled D.meaning b.ledger.mounted b.ledger.trace };
+}
+
+impl<D: Device> UnitBook<D> {
+    /// The book of a device that was just mounted, which is copied, on a subchannel with this interruption
+    /// subclass (0 to 7), for so many requests at a time (1 to 65,536). Where there is no memory the device
+    /// is handed back.
+    pub fn new(alloc: Global, device: D, isc: u8, capacity: usize) -> Result<Self, AllocFailed<D>>
+        requires isc { isc ≤ 7 }
+        requires some { 1 ≤ capacity }
+        requires few { capacity ≤ 65536 }
+        ensures ok { IfOk result (λ b. b ≡ record (opening device isc capacity) { spare = b.spare }) }
+        ensures err { IfErr result (λ e. e.value ≡ device) }
+    {
+        Ok(UnitBook {
+            ledger: Ledger::new(alloc, device, isc, capacity)?,
+        })
+    }
+
+    /// What holds of every book: its trace is legal and nothing is due, the posted values are those that
+    /// were taken and those that are out, and it holds no more requests than it may.
+    pub fn holds(&self)
+        ensures legal { Legal D.meaning self.now.mounted self.now.trace }
+        ensures settled { Settled D.meaning self.now.mounted self.now.trace }
+        ensures given { given D.meaning self.now ++ self.now.out ≡ posted D.meaning self.now.mounted self.now.trace }
+        ensures held { held self.now ≤ self.now.capacity }
+    {
+        self.ledger.holds();
+    }
+
+    /// Makes room for the entries of one arrival.
+    pub fn reserve(&mut self) -> Result<(), AllocError>
+        ensures room { OnOk result (2 ≤ self.new.spare) }
+        ensures book { self.new ≡ record self.old { spare = self.new.spare } }
+        ensures spare { self.old.spare ≤ self.new.spare }
+        ensures err { OnErr result (self.new ≡ self.old) }
+        ensures full { OnErr result (self.old.spare < 2) }
+    {
+        self.ledger.reserve(2)
+    }
+
+    /// A request arrives: it waits, or is posted at once where it is doomed, because its DCB is not open or
+    /// it is related and its DCB has the error flag (profile). It is handed back where the book is full, and
+    /// where there is no memory, which cannot be where `reserve` has made room.
+    pub fn arrive(&mut self, request: Request) -> Result<(), (ArriveError, Request)>
+        requires { request.name.seq ≡ arrived_of request.name.task self.old.trace + 1 }
+        ensures ok { OnOk result (Posts D.meaning self.old (after_dooms (Entry.Arrive request ∷ self.old.trace)) self.old.again self.new) }
+        ensures room { OnOk result (held self.old < self.old.capacity) }
+        ensures refused { IfErr result (λ e. ArriveRefused self.old e.0) }
+        ensures given_back { IfErr result (λ e. e.1 ≡ request) }
+        ensures err { OnErr result (self.new ≡ self.old) }
+    {
+        if !self.ledger.has_room() {
+            return Err((ArriveError::Held, request));
+        }
+        if self.ledger.reserve(2).is_err() {
+            return Err((ArriveError::NoMemory, request));
+        }
+        let refused = self.ledger.is_refused(&request);
+        let (issued, work) = request.into_parts();
+        let issued = Issued::new(issued);
+        if refused {
+            self.ledger.refuse(issued, work);
+            return Ok(());
+        }
+        self.ledger.arrive(issued, work);
+        Ok(())
+    }
+
+    /// Opens a DCB for input or for output, with its extents, and answers its number. It is refused, and
+    /// the trace stays, for the first reason that applies: the unit has 65,535 DCBs; the extents are not such
+    /// as the device takes (DFSMSdfp Advanced Services, "Data Extent Block Fields"); there is no memory.
+    pub fn open(&mut self, input: bool, extents: &[Extent]) -> Result<u16, OpenError>
+        ensures ok { IfOk result (λ dcb. OpensBook D.meaning self.old dcb input extents.now self.new) }
+        ensures refused { IfErr result (OpenRefused D.meaning self.old extents.now) }
+        ensures err { OnErr result (self.new ≡ record self.old { spare = self.new.spare }) }
+    {
+        if self.ledger.dcb_count() >= MOST_DCBS {
+            return Err(OpenError::TooManyDcbs);
+        }
+        if !self.ledger.takes_extents(extents) {
+            return Err(OpenError::BadExtent);
+        }
+        if self.ledger.reserve(1).is_err() {
+            return Err(OpenError::NoMemory);
+        }
+        self.ledger
+            .open(input, extents)
+            .map_err(|_| OpenError::NoMemory)
+    }
+
+    /// Starts the program of the active request once more if it awaits its restart, or that of the first
+    /// request that waits if nothing is active. A first request whose seek address fails the extent check is
+    /// posted 42 instead, with what that dooms (profile).
+    pub fn start(&mut self) -> Result<Starting, AllocError>
+        ensures ok { IfOk result (λ answer. StartsBook D.meaning self.old answer self.new) }
+        ensures err { OnErr result (self.new ≡ self.old) }
+    {
+        match self.ledger.next_start() {
+            Next::Busy => Ok(Starting::Busy),
+            Next::Idle => Ok(Starting::Idle),
+            Next::First(name) => {
+                self.ledger.reserve(1)?;
+                self.ledger.start_first(name);
+                Ok(Starting::Started(name))
+            }
+            Next::Again(name) => {
+                self.ledger.reserve(1)?;
+                self.ledger.start_again(name);
+                Ok(Starting::Started(name))
+            }
+            Next::Violated(name) => {
+                self.ledger.reserve_posts()?;
+                let doom = self.ledger.post_violated(name);
+                self.ledger.sweep(doom);
+                Ok(Starting::Violated(name))
+            }
+        }
+    }
+
+    /// Does up to `max` commands of the program that runs.
+    pub fn run(&mut self, max: u32) -> Result<Running, AllocError>
+        requires { 1 ≤ max }
+        ensures ok { IfOk result (λ answer. RunsBook D.meaning self.old max answer self.new) }
+        ensures err { OnErr result (self.new ≡ self.old) }
+    {
+        if !self.ledger.goes() {
+            return Ok(Running::Quiet);
+        }
+        self.ledger.reserve(1)?;
+        Ok(self.ledger.run(max))
+    }
+
+    /// Takes the status that is pending: the active request is posted, with what that dooms, or awaits its
+    /// restart.
+    pub fn interrupt(&mut self) -> Result<Interruption, AllocError>
+        ensures ok { IfOk result (λ answer. InterruptsBook D.meaning self.old answer self.new) }
+        ensures err { OnErr result (self.new ≡ self.old) }
+    {
+        let Some(decision) = self.ledger.decide() else {
+            return Ok(Interruption::Quiet);
+        };
+        let name = decision.name;
+        let sense = decision.sense;
+        match decision.code {
+            Some(code) => {
+                self.ledger.reserve_posts()?;
+                let doom = self.ledger.post(name, decision.csw, sense, code);
+                self.ledger.sweep(doom);
+                Ok(Interruption::Ended(name, code))
+            }
+            None => {
+                self.ledger.await_restart(name, decision.csw, sense);
+                Ok(Interruption::Again(name))
+            }
+        }
+    }
+
+    /// Takes the first posted value out. Takes no memory.
+    pub fn take_out(&mut self) -> Option<Posted>
+        ensures first { result ≡ slice_get self.old.out 0 }
+        ensures book { self.new ≡ record self.old { out = drop 1 self.old.out } }
+        ensures given { IfSome result (λ value. given D.meaning self.new ≡ given D.meaning self.old ++ value ∷ []) }
+    {
+        self.ledger.take_out()
+    }
+
+    /// Puts the value that was taken out last back in front. Takes no memory.
+    pub fn return_out(&mut self, value: Posted)
+        requires last { IsLastGiven D.meaning self.old value }
+        requires room { held self.old < self.old.capacity }
+        ensures { self.new ≡ record self.old { out = value ∷ self.old.out } }
+    {
+        self.ledger.return_out(value);
+    }
+}

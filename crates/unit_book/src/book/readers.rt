@@ -1,0 +1,92 @@
+//! What a book tells. No reader takes memory.
+
+ghost use Rattle.std.specs.Prelude.{◌≡◌, ◌<◌, IsTrue, ◌↔◌, reverse, length};
+ghost use Rattle.unit_book.specs.Book.{held, is_pending};
+ghost use Rattle.unit_book.specs.Dcbs.{dcb_state, flag};
+ghost use Rattle.unit_book.specs.Media.{device};
+ghost use Rattle.unit_book.specs.Trace.{waiting};
+
+use crate::book::UnitBook;
+use crate::dcb::DcbState;
+use crate::entry::Entry;
+use device_port::Device;
+
+impl<D: Device> UnitBook<D> {
+    /// The entries of the trace, oldest first.
+    pub fn trace(&self) -> &[Entry]
+        ensures { reverse result.now ≡ self.now.trace }
+    {
+        self.ledger.trace()
+    }
+
+    /// The device with its medium as it stands.
+    pub fn device(&self) -> &D
+        ensures { result.now ≡ device D.meaning self.now.mounted self.now.trace }
+    {
+        self.ledger.device()
+    }
+
+    /// The device as it was mounted.
+    pub fn mounted(&self) -> &D
+        ensures { result.now ≡ self.now.mounted }
+    {
+        self.ledger.mounted()
+    }
+
+    /// The interruption subclass of the subchannel.
+    pub fn isc(&self) -> u8
+        ensures { result ≡ self.now.isc }
+    {
+        self.ledger.isc()
+    }
+
+    /// Whether a status is pending that no `interrupt` has taken.
+    pub fn pending(&self) -> bool
+        ensures { result ≡ is_pending D.meaning self.now }
+    {
+        self.ledger.pending()
+    }
+
+    /// How many requests wait.
+    pub fn waiting_len(&self) -> usize
+        ensures { result ≡ length (waiting self.now.trace) }
+    {
+        self.ledger.waiting_len()
+    }
+
+    /// How many posted values were not yet taken.
+    pub fn out_len(&self) -> usize
+        ensures { result ≡ length self.now.out }
+    {
+        self.ledger.out_len()
+    }
+
+    /// Whether the book may hold another request.
+    pub fn has_room(&self) -> bool
+        ensures { IsTrue result ↔ (held self.now < self.now.capacity) }
+    {
+        self.ledger.has_room()
+    }
+
+    /// The state of the DCB with a number.
+    pub fn dcb_state(&self, dcb: u16) -> DcbState
+        ensures { result ≡ dcb_state dcb self.now.trace }
+    {
+        self.ledger.dcb_state(dcb)
+    }
+
+    /// Whether the first two bits of DCBIFLGS are 11, permanent error, in place of 00 (DFSMSdfp Advanced
+    /// Services, "Data Control Block Fields"; 01 never comes).
+    pub fn dcb_flag(&self, dcb: u16) -> bool
+        ensures { result ≡ flag dcb self.now.trace }
+    {
+        self.ledger.in_error(dcb)
+    }
+
+    /// How many entries the trace has room for.
+    pub fn spare(&self) -> usize
+        ensures { result ≡ self.now.spare }
+    {
+        self.ledger.spare()
+    }
+}

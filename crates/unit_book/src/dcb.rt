@@ -1,0 +1,122 @@
+//! The DCBs of a unit.
+
+ghost use Rattle.std.specs.Prelude.{◌≡◌, ◌+◌, ◌==◌, ◌&&◌, ℕ, [], ◌∷◌, ◌++◌, length, OnOk, OnErr, true};
+ghost use Rattle.std.specs.Option.{option_copied};
+ghost use Rattle.io_images.specs.Codes.{is_error};
+ghost use Rattle.unit_book.specs.Inside.{dcb_at, mask_at, extents_at, noted};
+
+use crate::extents::Extents;
+use io_images::{Code, Extent};
+use request_piece::Piece;
+use std::alloc::{AllocError, Global};
+use std::marker::Model;
+
+/// The state of a DCB at a unit: closing while a request of it is active, and closed after.
+#[derive(Clone, Copy, PartialEq, Eq, Debug)]
+pub enum DcbState {
+    Unknown,
+    Open,
+    Closing,
+    Closed,
+}
+
+/// What is kept of a DCB.
+#[derive(Drop)]
+pub(crate) struct Dcb {
+    pub input: bool,
+    pub extents: Extents,
+    pub closed: bool,
+    pub in_error: bool,
+}
+
+/// The DCBs of a unit, by their numbers from 1.
+#[derive(Drop)]
+pub(crate) struct DcbTable {
+    rows: Vec<Dcb>,
+}
+
+impl Model for DcbTable {
+    ghost use Rattle.std.specs.Prelude.{List};
+    ghost use Rattle.unit_book.specs.declared.dcb.Dcb.{Dcb};
+
+    ghost Value = { List Dcb };
+
+    ghost view = { λ t. t.rows.items };
+}
+
+impl DcbTable {
+    pub fn new(alloc: Global) -> Self
+        ensures { result ≡ [] }
+    {
+        DcbTable {
+            rows: Vec::new(alloc),
+        }
+    }
+
+    /// How many DCBs were opened.
+    pub fn len(&self) -> usize
+        ensures { result ≡ length self.now }
+    {
+        self.rows.len()
+    }
+
+    /// Adds a DCB, which gets the next number.
+    pub fn push(&mut self, dcb: Dcb) -> Result<(), AllocError>
+        ensures ok { OnOk result (self.new ≡ self.old ++ dcb ∷ []) }
+        ensures err { OnErr result (self.new ≡ self.old) }
+    {
+        self.rows.push(dcb)?;
+        Ok(())
+    }
+
+    /// The DCB with a number.
+    pub fn get(&self, dcb: u16) -> Option<&Dcb>
+        ensures { option_copied result ≡ dcb_at self.now dcb }
+    {
+        if dcb == 0 {
+            return None;
+        }
+        self.rows.get(usize::from(dcb) - 1)
+    }
+
+    /// The file mask of a DCB (profile).
+    pub fn mask(&self, dcb: u16) -> u8
+        ensures { result ≡ mask_at (dcb_at self.now dcb) }
+    {
+        match self.get(dcb) {
+            Some(row) if row.input => 0x58,
+            _ => 0x18,
+        }
+    }
+
+    /// The extents of a DCB.
+    pub fn extents(&self, dcb: u16) -> &[Extent]
+        ensures { result.now ≡ extents_at (dcb_at self.now dcb) }
+    {
+        match self.get(dcb) {
+            Some(row) => row.extents.as_slice(),
+            None => &[],
+        }
+    }
+
+    /// Notes at its DCB that a request was posted.
+    pub fn note_post(&mut self, piece: &Piece, code: Code)
+        ensures dcbs { (d : ℕ) → dcb_at self.new d ≡ noted (is_error code && piece.now.related && (piece.now.dcb == d)) (dcb_at self.old d) }
+        ensures count { length self.new ≡ length self.old }
+    {
+        if !code.is_error() || !piece.related || piece.dcb == 0 {
+            return;
+        }
+        let at = usize::from(piece.dcb) - 1;
+        if at < self.rows.len() {
+            flag(&mut self.rows[at]);
+        }
+    }
+}
+
+/// Sets the error flag.
+fn flag(dcb: &mut Dcb)
+    ensures { dcb.new ≡ record dcb.old { in_error = true } }
+{
+    dcb.in_error = true;
+}

@@ -1,0 +1,68 @@
+//! The trace of a unit: its entries.
+
+ghost use Rattle.std.specs.Prelude.{◌≡◌};
+
+use crate::extents::Extents;
+use io_images::{Code, Csw};
+use request_piece::{Name, Piece, Scope};
+use std::marker::Model;
+
+/// Whether a purge lets the active request go on to its end, or halts its program (DFSMSdfp Advanced
+/// Services, PURGE).
+#[derive(Clone, Copy, PartialEq, Eq, Debug)]
+pub enum Mode {
+    Quiesce,
+    Halt,
+}
+
+/// A request as it was issued.
+#[derive(Drop)]
+pub struct Issued {
+    piece: Box<Piece>,
+}
+
+impl Model for Issued {
+    ghost use Rattle.request_piece.specs.declared.piece.Piece.{Piece};
+
+    ghost Value = { Piece };
+
+    ghost view = { λ i. i.piece.value };
+}
+
+impl Issued {
+    pub(crate) fn new(piece: Box<Piece>) -> Self
+        ensures { result ≡ piece.value }
+    {
+        Issued { piece }
+    }
+
+    /// The request.
+    pub fn piece(&self) -> &Piece
+        ensures { result.now ≡ self.now }
+    {
+        &self.piece
+    }
+}
+
+/// What happened at a unit (profile).
+#[derive(Drop)]
+pub enum Entry {
+    /// A DCB was opened: its number, whether it is for input, and its extents.
+    Opened(u16, bool, Extents),
+    /// A request arrived.
+    Arrive(Issued),
+    /// The program of a request was started.
+    Start(Name),
+    /// So many commands of the active request were done.
+    Ran(Name, u32),
+    /// The program of the active request was halted.
+    Halted(Name),
+    /// A purge of a DCB or of a task.
+    Purge(Scope, Mode),
+    /// A DCB was closed.
+    Close(u16),
+    /// The error flag of a DCB was cleared.
+    Reset(u16),
+    /// A request was posted: its CSW, its sense bytes and its completion code.
+    Post(Name, Csw, u16, Code),
+}

@@ -1,0 +1,23 @@
+//! The book of one unit: the requests that arrived, waited, were started and posted, as a trace that is
+//! proved legal, with the subchannel that runs them.
+//!
+//! What a trace is and which ones are legal stands in `specs/`, from `Trace.antt` to `Legal.antt`; what each
+//! call adds and answers stands in `Answers.antt`.
+#![tactic(auto)]
+
+mod active;
+mod answer;
+mod book;
+mod dcb;
+mod decision;
+mod doom;
+mod entry;
+mod extents;
+pub mod laws;
+mod ledger;
+
+pub use answer::{ArriveError, Interruption, OpenError, Running, Starting};
+pub use book::UnitBook;
+pub use dcb::DcbState;
+pub use entry::{Entry, Issued, Mode};
+pub use extents::Extents;
