@@ -1,3 +1,4 @@
 pub mod Packing
 pub mod Tracks
 pub mod Opening
+mod Worked

@@ -1,12 +1,10 @@
 -- A record that was packed is read back.
-use Rattle.std.proofs.Common.{◌≡◌, ℕ, zero, suc, ◌+◌, ◌*◌, ◌-◌, ◌/◌, ◌%◌, ◌^◌, ◌<◌, ◌≤◌, List, [], ◌∷◌, ◌++◌, length, get_or, take, drop, replicate, refl, sym, ap, subst, ◌∙◌, append_assoc, arith, inl, inr}
-use Rattle.std.specs.Int.{w16, to_be_bytes}
-use Rattle.std.proofs.lemmas.Bool.{cases_lt}
-use Rattle.std.proofs.lemmas.List.{take_at, drop_at, take-append-drop, take_all, length-append, length-take, length-drop, length-replicate, get_or_append_left, get_or-append_right, get_or-take, get_or_past, drop-drop, drop_more}
+use Rattle.std.proofs.Common.{◌≡◌, ℕ, ◌+◌, ◌*◌, ◌-◌, ◌/◌, ◌%◌, ◌^◌, ◌<◌, ◌≤◌, List, [], ◌∷◌, ◌++◌, length, get_or, take, drop, replicate, sym, ap, ◌∙◌, append_assoc, arith}
+use Rattle.std.proofs.lemmas.List.{take_at, drop_at, take-append-drop, take_all, length-append, length-take, length-drop, get_or_append_left, get_or-append_right, get_or-take, drop-drop, drop_more}
 use Rattle.device_port.specs.Moves.{padded, written}
 use Rattle.device_port.specs.Packed.{Reads}
-use Rattle.device_port.proofs.Items.{written-written}
-use Rattle.ckd_disk.specs.Record.{Record, ckd, count_area, packed, size_of, Fits, key_len, content_len, record_at, size_at, IsRecord, record_written}
+use Rattle.device_port.proofs.Items.{length-padded, written-written}
+use Rattle.ckd_disk.specs.Record.{Record, ckd, count_area, packed, size_of, Fits, key_len, content_len, record_at, size_at, IsRecord}
 
 pub length-count_area : (r : Record) → Fits r → length (count_area r) ≡ 8
 length-count_area r fits = length-append r.id _ ∙ omega (arith, fits.id)
@@ -66,12 +64,6 @@ reads = record { item = record_at-packed; size = λ r rest fits. size_at-packed 
 
 abbrev pub IsBytes : List ℕ → Type 0
 IsBytes bytes = (i : ℕ) → get_or bytes i 0 < 256
-
-pub length-padded : (n : ℕ) (given : List ℕ) → length (padded n given) ≡ n
-length-padded n given =
-    let zeros : List ℕ = replicate (n - length given) 0 in
-    let count : length zeros ≡ n - length given = length-replicate (n - length given) 0 in
-    omega (arith, length-append (take n given) zeros, length-take n given, count)
 
 halfword : (high low : ℕ) → high < 256 → low < 256 → ((high * 256 + low) / 256 % 256 ≡ high) × ((high * 256 + low) % 256 ≡ low)
 halfword high low h l = (omega arith, omega arith)

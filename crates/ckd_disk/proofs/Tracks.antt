@@ -1,15 +1,14 @@
 -- What an image of a track shows, and what a write leaves of it.
-use Rattle.std.proofs.Common.{◌≡◌, ℕ, zero, suc, ◌+◌, ◌-◌, ◌*◌, ◌<◌, ◌≤◌, List, [], ◌∷◌, ◌++◌, length, get_or, set, take, drop, refl, sym, ap, subst, ◌∙◌, append_assoc, arith}
+use Rattle.std.proofs.Common.{◌≡◌, ℕ, ◌+◌, ◌*◌, ◌≤◌, List, [], ◌∷◌, ◌++◌, length, take, drop, refl, sym, ap, subst, ◌∙◌, append_assoc, arith}
 use Rattle.std.specs.Int.{w16, to_be_bytes}
-use Rattle.std.specs.List.{AllByRecursion}
 use Rattle.std.proofs.lemmas.List.{length-append, length-take, length-take-le, length-drop, length-set, take-append-drop, take_at, take-set}
 use Rattle.device_port.specs.Moves.{padded, written}
-use Rattle.device_port.specs.Packed.{HoldsItems, items_at, image_of, offset_of, Begins}
-use Rattle.device_port.proofs.Items.{Packs, packs-held, held-packs, length-written, begins_at, Fits-at, offset_of-more, offset_of-within, used-within, image_of-wide, item_put, item_pushed, item_patched}
+use Rattle.device_port.specs.Packed.{HoldsItems, items_at, image_of, Begins}
+use Rattle.device_port.proofs.Items.{Packs, packs-held, held-packs, length-padded, length-written, begins_at, Fits-at, offset_of-more, offset_of-within, used-within, image_of-wide, item_put, item_pushed, item_patched}
 use Rattle.ckd_disk.specs.declared.track.spot.Spot.{Spot}
 use Rattle.ckd_disk.specs.Record.{Record, blank, ckd, count_area, packed, size_of, size_at, Fits, record_written}
 use Rattle.ckd_disk.specs.Track.{TrackState, record_of, bytes_of, bytes_before, IsSpot, with_record, with_content, with_key_and_content, with_record_behind, with_last}
-use Rattle.ckd_disk.proofs.Packing.{IsBytes, reads, length-count_area, length-packed, length-padded, Fits-record_at, packed-record_at, written_whole}
+use Rattle.ckd_disk.proofs.Packing.{IsBytes, reads, length-packed, Fits-record_at, packed-record_at, written_whole}
 
 -- the track that an image is seen as
 abbrev pub seen : List ℕ → ℕ → TrackState

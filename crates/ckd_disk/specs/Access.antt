@@ -1,5 +1,5 @@
 -- Where the heads stand on a track, and what a command leaves for the next one. Places count records, R0 is 0.
-use Rattle.std.specs.Prelude.{ℕ, ◌+◌, ◌<◌, Option, Some, None, List, nat_lt, if◌then◌else◌, length, ⊤}
+use Rattle.std.specs.Prelude.{ℕ, ◌<◌, List, length, ⊤}
 use Rattle.ckd_disk.specs.declared.access.Orientation.{Orientation as CodeOrientation}
 use Rattle.ckd_disk.specs.declared.access.Orientation.TheVariants as at
 use Rattle.ckd_disk.specs.declared.access.Armed.{Armed as CodeArmed}

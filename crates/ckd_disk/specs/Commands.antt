@@ -3,9 +3,10 @@ use Rattle.std.specs.Prelude.{ℕ, ◌+◌, ◌/◌, List, [], ◌∷◌, ◌++�
 use Rattle.std.specs.List.{starts_with}
 use Rattle.device_port.specs.declared.answer.Acted.{Acted}
 use Rattle.device_port.specs.Answers.{normal_end, status_modifier, unit_check, unit_exception}
+use Rattle.ckd_disk.specs.declared.access.Access.{Access}
 use Rattle.ckd_disk.specs.Record.{Record, count_area, packed, size_at, record_written}
 use Rattle.ckd_disk.specs.Track.{TrackState, record_of, bytes_before, with_content, with_key_and_content, with_record_behind}
-use Rattle.ckd_disk.specs.Access.{Orientation, at_count, at_key, at_end, Armed, unarmed, armed_by_id, armed_by_key, armed_by_format, AccessState}
+use Rattle.ckd_disk.specs.Access.{Orientation, at_count, at_key, at_end, Armed, unarmed, armed_by_id, armed_by_key, armed_by_format, AccessState, access_of}
 use Rattle.ckd_disk.specs.Walk.{Reached, next, next_record, key_record, content_record}
 
 -- what a command answers that leaves the medium as it is: the status, what it leaves for the next command, and
@@ -20,6 +21,13 @@ pub record Written : Type 0 where
   pub acted : Acted
   pub access : AccessState
   pub track : TrackState
+
+-- the same, as the code has it
+abbrev pub answer_of : Acted → Access → List ℕ → Answer
+answer_of acted access bytes = record { acted = acted; access = access_of access; bytes = bytes }
+
+abbrev pub written_of : Acted → Access → TrackState → Written
+written_of acted access track = record { acted = acted; access = access_of access; track = track }
 
 -- every command that is no search leaves no index point counted
 abbrev pub left : AccessState → Orientation → Armed → AccessState

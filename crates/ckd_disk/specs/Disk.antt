@@ -18,7 +18,7 @@ use Rattle.ckd_disk.specs.declared.command.Read.TheVariants as read
 use Rattle.ckd_disk.specs.declared.command.Write.{Write as WriteCommand}
 use Rattle.ckd_disk.specs.declared.command.Write.TheVariants as write
 use Rattle.ckd_disk.specs.Track.{TrackState}
-use Rattle.ckd_disk.specs.Access.{AccessState, at_index, unarmed, IsPlaced}
+use Rattle.ckd_disk.specs.Access.{AccessState, access_of, at_index, unarmed, IsPlaced}
 use Rattle.ckd_disk.specs.Command.{command_of, flow_of}
 use Rattle.ckd_disk.specs.Commands.{Answer, Written, left, checked, no_operation, sense, set_file_mask, search_id, search_key, read_count, read_data, read_key_and_data, read_count_key_and_data, write_data, write_key_and_data, write_count_key_and_data}
 
@@ -31,6 +31,17 @@ pub record DiskState : Type 0 where
   pub track : ℕ
   pub access : AccessState
   pub ordinals : Ordinals
+
+-- the same, as the code has it
+abbrev pub disk_state : ℕ → ℕ → List TrackState → ℕ → Access → Ordinals → DiskState
+disk_state cylinders heads tracks track access ordinals = record {
+  cylinders = cylinders;
+  heads = heads;
+  tracks = tracks;
+  track = track;
+  access = access_of access;
+  ordinals = ordinals;
+}
 
 abbrev pub no_track : TrackState
 no_track = record { size = 0; records = [] }

@@ -1,13 +1,10 @@
 -- The disk keeps the laws of a device.
-use Rattle.std.specs.Prelude.{◌≡◌, ℕ, Bool, true, false, List, [], ◌++◌, Option, Some, None, ◌==◌, nat_lt, not, ◌||◌, length, refl, if◌then◌else◌}
-use Rattle.std.proofs.Common.{sym, ◌∙◌}
-use Rattle.device_port.specs.declared.kind.Flow.{Flow}
-use Rattle.device_port.specs.declared.kind.Flow.TheVariants as flow
+use Rattle.std.specs.Prelude.{◌≡◌, ℕ, Bool, true, false, List, ◌++◌, Option, Some, None, nat_lt, not, ◌||◌, length, refl, if◌then◌else◌}
 use Rattle.device_port.specs.declared.faults.Fault.{Fault}
-use Rattle.device_port.specs.declared.answer.Acted.{Acted}
 use Rattle.device_port.specs.Answers.{normal_end, unit_exception}
 use Rattle.device_port.specs.Faults.{fault_met, counted}
-use Rattle.device_port.specs.Meaning.{Meaning, Outcome, Lawful, GivesWhatItWants}
+use Rattle.device_port.specs.Meaning.{Outcome, Lawful, GivesWhatItWants}
+use Rattle.device_port.specs.MeaningLaws.{gives_nothing}
 use Rattle.ckd_disk.specs.declared.command.Command.{Command}
 use Rattle.ckd_disk.specs.declared.command.Command.TheVariants.{Control, Read, Write}
 use Rattle.ckd_disk.specs.declared.command.Control.TheVariants as control
@@ -19,7 +16,7 @@ use Rattle.ckd_disk.specs.Access.{AccessState}
 use Rattle.ckd_disk.specs.Walk.{Reached, next_record, key_record, content_record}
 use Rattle.ckd_disk.specs.Command.{command_of, flow_of}
 use Rattle.ckd_disk.specs.Commands.{read_count_at, read_part}
-use Rattle.ckd_disk.specs.Disk.{DiskState, disk, current, act_by, act, command_on, answered, prefix, inhibits_seeks, is_seek, seek_given}
+use Rattle.ckd_disk.specs.Disk.{DiskState, disk, current, act_by, act, command_on, inhibits_seeks, is_seek, seek_given}
 
 -- a command keeps the geometry
 record Keeps (before after : DiskState) : Type 0 where
@@ -82,15 +79,9 @@ command_gives d (Some (Read read.KeyAndData)) given = part_gives (λ r. r.key ++
 command_gives d (Some (Read read.CountKeyAndData)) given = part_gives packed (current d) d.access (next_record d.access.orientation (length (current d).records))
 command_gives d (Some (Write command)) given = tt
 
-fault_gives : (way : Flow) (o : Outcome DiskState) → length o.bytes ≡ 0 → o.acted.want ≡ 0 → GivesWhatItWants way o
-fault_gives flow.None o bytes want = want
-fault_gives flow.Out o bytes want = tt
-fault_gives flow.Input o bytes want = bytes ∙ sym want
-fault_gives flow.Back o bytes want = bytes ∙ sym want
-
 gives_by : (fault : Option Fault) (d : DiskState) (code : ℕ) (given : List ℕ) → GivesWhatItWants (flow_of (command_of code)) (act_by fault d code given)
 gives_by None d code given = command_gives d (command_of code) given
-gives_by (Some fault) d code given = fault_gives (flow_of (command_of code)) (act_by (Some fault) d code given) refl refl
+gives_by (Some fault) d code given = gives_nothing (flow_of (command_of code)) (act_by (Some fault) d code given) refl refl
 
 -- THE LAWS
 pub disk_lawful : Lawful disk

@@ -1,5 +1,5 @@
 -- What the tests of mounting say, fact by fact.
-use Rattle.std.specs.Prelude.{ℕ, ◌*◌, ◌<◌, ◌≤◌, length}
+use Rattle.std.specs.Prelude.{◌*◌, ◌<◌, ◌≤◌, length}
 use Rattle.ckd_disk.specs.declared.mount.Geometry.{Geometry}
 use Rattle.ckd_disk.specs.declared.mount.InitialRecord.{InitialRecord}
 use Rattle.ckd_disk.specs.Mount.{track_count}

@@ -10,6 +10,9 @@ pub record Record : Type 0 where
   pub key : List ℕ
   pub content : List ℕ
 
+abbrev pub record_with : List ℕ → List ℕ → List ℕ → Record
+record_with id key content = record { id = id; key = key; content = content }
+
 -- a record without bytes, which no track holds
 abbrev pub blank : Record
 blank = record { id = []; key = []; content = [] }

@@ -35,7 +35,8 @@ pub struct Access {
 impl Access {
     /// At the index point of a track, with a file mask.
     pub fn start(mask: u8) -> Self
-        ensures { result ≡ record { mask = mask; orientation = Orientation.Index; passes = 0; armed = Armed.No } }
+        ensures { result
+            ≡ record { mask = mask; orientation = Orientation.Index; passes = 0; armed = Armed.No } }
     {
         Access {
             mask,
@@ -47,7 +48,8 @@ impl Access {
 
     /// Ends a command that is no search.
     pub fn leave(&mut self, orientation: Orientation, armed: Armed)
-        ensures { self.new ≡ record { mask = self.old.mask; orientation = orientation; passes = 0; armed = armed } }
+        ensures { self.new
+            ≡ record { mask = self.old.mask; orientation = orientation; passes = 0; armed = armed } }
     {
         self.orientation = orientation;
         self.passes = 0;

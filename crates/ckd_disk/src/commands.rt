@@ -6,7 +6,7 @@ mod writes;
 
 ghost use Rattle.std.specs.Prelude.{◌≡◌, []};
 ghost use Rattle.ckd_disk.specs.Access.{access_of};
-ghost use Rattle.ckd_disk.specs.Commands.{checked, no_operation};
+ghost use Rattle.ckd_disk.specs.Commands.{answer_of, checked, no_operation};
 
 use crate::access::{Access, Armed};
 use device_port::Acted;
@@ -16,7 +16,7 @@ pub use writes::{write_count_key_and_data, write_data, write_key_and_data};
 
 /// Ends a command with unit check: the heads stay where they are.
 pub fn check(access: &mut Access, sense: u16) -> Acted
-    ensures answer { record { acted = result; access = access_of access.new; bytes = [] } ≡ checked sense (access_of access.old) }
+    ensures answer { answer_of result access.new [] ≡ checked sense (access_of access.old) }
     ensures access { access.new ≡ record access.old { passes = 0; armed = Armed.No } }
 {
     let orientation = access.orientation;
@@ -26,7 +26,7 @@ pub fn check(access: &mut Access, sense: u16) -> Acted
 
 /// NO-OPERATION.
 pub fn no_operation(access: &mut Access) -> Acted
-    ensures answer { record { acted = result; access = access_of access.new; bytes = [] } ≡ no_operation (access_of access.old) }
+    ensures answer { answer_of result access.new [] ≡ no_operation (access_of access.old) }
     ensures access { access.new ≡ record access.old { passes = 0; armed = Armed.No } }
 {
     let orientation = access.orientation;

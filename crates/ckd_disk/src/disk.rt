@@ -21,7 +21,8 @@ use io_images::Seek;
 use std::alloc::{AllocError, Global};
 use std::marker::Model;
 
-/// A disk of count-key-data records.
+/// A disk of count-key-data records (profile), as contracts see it: the tracks in the order of their numbers,
+/// which one is under the heads, what the last command left for the next one, and the fault script.
 #[derive(Drop)]
 pub struct Disk {
     cylinders: u16,
@@ -33,14 +34,13 @@ pub struct Disk {
 }
 
 impl Model for Disk {
-    ghost use Rattle.ckd_disk.specs.Access.{access_of};
-    ghost use Rattle.ckd_disk.specs.Disk.{DiskState, IsDisk};
+    ghost use Rattle.ckd_disk.specs.Disk.{DiskState, disk_state, IsDisk};
 
     ghost Value = { DiskState };
 
-    ghost view = { λ d. record { cylinders = d.cylinders; heads = d.heads; tracks = d.tracks.items; track = d.track; access = access_of d.access; ordinals = d.faults } };
+    ghost view = { λ d. disk_state d.cylinders d.heads d.tracks.items d.track d.access d.faults };
 
-    ghost invariant = { λ d. IsDisk (record { cylinders = d.cylinders; heads = d.heads; tracks = d.tracks.items; track = d.track; access = access_of d.access; ordinals = d.faults }) d.access };
+    ghost invariant = { λ d. IsDisk (disk_state d.cylinders d.heads d.tracks.items d.track d.access d.faults) d.access };
 }
 
 impl Disk {
@@ -185,8 +185,7 @@ impl Disk {
         requires { is_seek self.old seek.now ≡ true }
         ensures { self.new ≡ prefix self.old seek.now mask }
     {
-        self.track =
-            usize::from(seek.cylinder) * usize::from(self.heads) + usize::from(seek.head);
+        self.track = usize::from(seek.cylinder) * usize::from(self.heads) + usize::from(seek.head);
         self.access = Access::start(mask);
     }
 }

@@ -1,5 +1,8 @@
-//! A disk of count-key-data records: its mounting, its commands, and a reader of its medium. Each track is
-//! one image of the track's size, with its records packed in order.
+//! A disk of count-key-data records: its mounting, its commands, and a reader of its medium.
+//!
+//! A track is seen as the list of its records, R0 first; in the code it is one image of the track's size with
+//! the records packed in order, so no command takes memory. A place on a track is kept beside its offset, so a
+//! command costs time in the bytes that it moves.
 #![tactic(auto)]
 
 mod access;

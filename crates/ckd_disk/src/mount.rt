@@ -11,7 +11,7 @@ ghost use Rattle.ckd_disk.specs.MountFacts.{IsGeometry, IsInitial};
 use crate::track::Track;
 use std::alloc::{AllocError, Global};
 
-/// How large a disk is.
+/// How large a disk is (profile). The numbers are as they were read: mounting checks them.
 #[derive(Clone, Copy, Debug, PartialEq, Eq)]
 pub struct Geometry {
     /// At least 1.
@@ -22,7 +22,7 @@ pub struct Geometry {
     pub track_bytes: u64,
 }
 
-/// A record that a disk has when it is mounted.
+/// A record that a disk has when it is mounted (profile).
 #[derive(Debug, Drop)]
 pub struct InitialRecord {
     /// CC, within the geometry.

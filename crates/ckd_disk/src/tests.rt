@@ -78,7 +78,10 @@ fn act(
 /// Searches from the index point on until the CCHHR at X'1050' is found: that of R1.
 fn find(rt: &impl Abort, disk: &mut Disk, area: &mut Area) {
     assert_eq!(rt; act(rt, disk, area, 0x31, 0x1050, 5), Acted::normal_end(5));
-    assert_eq!(rt; act(rt, disk, area, 0x31, 0x1050, 5), Acted::status_modifier(5));
+    assert_eq!(rt;
+        act(rt, disk, area, 0x31, 0x1050, 5),
+        Acted::status_modifier(5)
+    );
 }
 
 fn set_mask(rt: &impl Abort, disk: &mut Disk, cylinder: u16, mask: u8) {
@@ -105,7 +108,10 @@ fn reads(rt: HostRuntime) -> Result<(), Fail> {
     for (command, want, bytes) in cases {
         let mut area = storage(rt.alloc(), &[0xFF; 8])?;
         set_mask(&rt, &mut disk, 0, 0x58);
-        assert_eq!(rt; act(&rt, &mut disk, &mut area, command, 0x1050, 8), Acted::normal_end(want));
+        assert_eq!(rt;
+            act(&rt, &mut disk, &mut area, command, 0x1050, 8),
+            Acted::normal_end(want)
+        );
         assert!(rt; holds(&area, &bytes), "{command}");
     }
     Ok(())
@@ -116,10 +122,19 @@ fn searches_a_key(rt: HostRuntime) -> Result<(), Fail> {
     let mut disk = fixture(rt.alloc(), &[0xD1, 0xD2], &[0xC1, 0xC2, 0xC3, 0xC4], &[])?;
     let mut area = storage(rt.alloc(), &[0xD1, 0xD2])?;
     set_mask(&rt, &mut disk, 0, 0x58);
-    assert_eq!(rt; act(&rt, &mut disk, &mut area, 0x29, 0x1050, 2), Acted::status_modifier(2));
-    assert_eq!(rt; act(&rt, &mut disk, &mut area, 0x06, 0x1050, 2), Acted::normal_end(4));
+    assert_eq!(rt;
+        act(&rt, &mut disk, &mut area, 0x29, 0x1050, 2),
+        Acted::status_modifier(2)
+    );
+    assert_eq!(rt;
+        act(&rt, &mut disk, &mut area, 0x06, 0x1050, 2),
+        Acted::normal_end(4)
+    );
     assert!(rt; holds(&area, &[0xC1, 0xC2]));
-    assert_eq!(rt; act(&rt, &mut disk, &mut area, 0x04, 0x1050, 2), Acted::normal_end(2));
+    assert_eq!(rt;
+        act(&rt, &mut disk, &mut area, 0x04, 0x1050, 2),
+        Acted::normal_end(2)
+    );
     assert!(rt; holds(&area, &[0, 0]));
     Ok(())
 }
@@ -129,7 +144,10 @@ fn no_record_found(rt: HostRuntime) -> Result<(), Fail> {
     let mut disk = fixture(rt.alloc(), &[], &[0xC1, 0xC2, 0xC3, 0xC4], &[])?;
     let mut area = storage(rt.alloc(), &[0, 0, 0, 0, 9])?;
     for _ in 0..4 {
-        assert_eq!(rt; act(&rt, &mut disk, &mut area, 0x31, 0x1050, 5), Acted::normal_end(5));
+        assert_eq!(rt;
+            act(&rt, &mut disk, &mut area, 0x31, 0x1050, 5),
+            Acted::normal_end(5)
+        );
     }
     let missed = Acted::unit_check(NO_RECORD_FOUND);
     assert_eq!(rt; act(&rt, &mut disk, &mut area, 0x31, 0x1050, 5), missed);
@@ -141,7 +159,10 @@ fn empty_data_is_unit_exception(rt: HostRuntime) -> Result<(), Fail> {
     let mut disk = fixture(rt.alloc(), &[], &[], &[])?;
     let mut area = storage(rt.alloc(), &[0, 0, 0, 0, 1])?;
     find(&rt, &mut disk, &mut area);
-    assert_eq!(rt; act(&rt, &mut disk, &mut area, 0x06, 0x1050, 4), Acted::unit_exception(0));
+    assert_eq!(rt;
+        act(&rt, &mut disk, &mut area, 0x06, 0x1050, 4),
+        Acted::unit_exception(0)
+    );
     Ok(())
 }
 
@@ -150,7 +171,9 @@ fn writes(rt: HostRuntime) -> Result<(), Fail> {
     let mut disk = fixture(rt.alloc(), &[0xD1], &[0xC1, 0xC2, 0xC3], &[])?;
     let mut area = storage(
         rt.alloc(),
-        &[0, 0, 0, 0, 1, 0xE1, 0xE2, 0xE3, 0, 0, 0, 0, 2, 0, 0, 5, 1, 2, 3, 4, 5],
+        &[
+            0, 0, 0, 0, 1, 0xE1, 0xE2, 0xE3, 0, 0, 0, 0, 2, 0, 0, 5, 1, 2, 3, 4, 5,
+        ],
     )?;
     let rejected = Acted::unit_check(COMMAND_REJECT);
     set_mask(&rt, &mut disk, 0, 0x58);
@@ -159,15 +182,24 @@ fn writes(rt: HostRuntime) -> Result<(), Fail> {
     set_mask(&rt, &mut disk, 0, 0x18);
     assert_eq!(rt; act(&rt, &mut disk, &mut area, 0x05, 0x1055, 3), rejected);
     find(&rt, &mut disk, &mut area);
-    assert_eq!(rt; act(&rt, &mut disk, &mut area, 0x05, 0x1055, 2), Acted::normal_end(3));
+    assert_eq!(rt;
+        act(&rt, &mut disk, &mut area, 0x05, 0x1055, 2),
+        Acted::normal_end(3)
+    );
     find(&rt, &mut disk, &mut area);
-    assert_eq!(rt; act(&rt, &mut disk, &mut area, 0x0D, 0x1056, 2), Acted::normal_end(4));
+    assert_eq!(rt;
+        act(&rt, &mut disk, &mut area, 0x0D, 0x1056, 2),
+        Acted::normal_end(4)
+    );
     find(&rt, &mut disk, &mut area);
     let full = Acted::unit_check(INVALID_TRACK_FORMAT);
     assert_eq!(rt; act(&rt, &mut disk, &mut area, 0x1D, 0x1058, 13), full);
     assert!(rt; area.put(0x105F, &[4]));
     find(&rt, &mut disk, &mut area);
-    assert_eq!(rt; act(&rt, &mut disk, &mut area, 0x1D, 0x1058, 11), Acted::normal_end(12));
+    assert_eq!(rt;
+        act(&rt, &mut disk, &mut area, 0x1D, 0x1058, 11),
+        Acted::normal_end(12)
+    );
     let expected: [(u8, &[u8], &[u8]); 3] = [
         (0, &[], &[0, 0, 0, 0, 0, 0, 0, 0]),
         (1, &[0xE2], &[0xE3, 0, 0]),
@@ -199,8 +231,14 @@ fn seeks(rt: HostRuntime) -> Result<(), Fail> {
     let protected = Acted::unit_check(FILE_PROTECTED);
     assert_eq!(rt; act(&rt, &mut disk, &mut area, 0x07, 0x1050, 6), protected);
     set_mask(&rt, &mut disk, 0, 0x00);
-    assert_eq!(rt; act(&rt, &mut disk, &mut area, 0x07, 0x1050, 6), Acted::normal_end(6));
-    assert_eq!(rt; act(&rt, &mut disk, &mut area, 0x06, 0x1050, 1), Acted::normal_end(1));
+    assert_eq!(rt;
+        act(&rt, &mut disk, &mut area, 0x07, 0x1050, 6),
+        Acted::normal_end(6)
+    );
+    assert_eq!(rt;
+        act(&rt, &mut disk, &mut area, 0x06, 0x1050, 1),
+        Acted::normal_end(1)
+    );
     assert!(rt; holds(&area, &[0xC1]));
     let rejected = Acted::unit_check(COMMAND_REJECT);
     assert_eq!(rt; act(&rt, &mut disk, &mut area, 0x07, 0x1050, 6), rejected);
@@ -217,7 +255,10 @@ fn faults(rt: HostRuntime) -> Result<(), Fail> {
     };
     let mut disk = fixture(rt.alloc(), &[], &[0xC1], &[fault])?;
     let mut area = storage(rt.alloc(), &[0, 0, 0, 0, 1])?;
-    assert_eq!(rt; act(&rt, &mut disk, &mut area, 0x03, 0x1050, 1), Acted::normal_end(0));
+    assert_eq!(rt;
+        act(&rt, &mut disk, &mut area, 0x03, 0x1050, 1),
+        Acted::normal_end(0)
+    );
     let met = Acted::unit_check(EQUIPMENT_CHECK);
     assert_eq!(rt; act(&rt, &mut disk, &mut area, 0x31, 0x1050, 5), met);
     find(&rt, &mut disk, &mut area);
@@ -235,7 +276,13 @@ fn mount_is_refused(rt: HostRuntime) -> Result<(), Fail> {
     };
     let big = 9_999_999_999;
     let cases: [(Geometry, u16, u8, &[Fault], MountError); 6] = [
-        (geometry(big, big, big), 0, 1, &[no_fault], MountError::BadGeometry),
+        (
+            geometry(big, big, big),
+            0,
+            1,
+            &[no_fault],
+            MountError::BadGeometry,
+        ),
         (geometry(1, 1, 15), 0, 0, &[], MountError::BadGeometry),
         (geometry(1, 1, 27), 0, 1, &[], MountError::BadMedium),
         (geometry(1, 1, 40), 1, 1, &[], MountError::BadMedium),
@@ -243,7 +290,9 @@ fn mount_is_refused(rt: HostRuntime) -> Result<(), Fail> {
         (geometry(1, 1, 40), 0, 1, &[no_fault], MountError::BadMedium),
     ];
     for (shape, cylinder, number, faults, error) in cases {
-        let records = vec![in rt.alloc(); record(rt.alloc(), cylinder, number, &[], &[1, 2, 3, 4])?]?;
+        let records = vec![in rt.alloc();
+            record(rt.alloc(), cylinder, number, &[], &[1, 2, 3, 4])?,
+        ]?;
         match Disk::mount(rt.alloc(), shape, &records, faults) {
             Ok(_) => assert!(rt; false, "mounted {shape:?}"),
             Err(found) => assert_eq!(rt; found, error),
@@ -258,7 +307,13 @@ fn mount_is_refused(rt: HostRuntime) -> Result<(), Fail> {
 fn every_command_without_memory(rt: HostRuntime) -> Result<(), Fail> {
     let mut area = storage(rt.alloc(), &[0; 16])?;
     let records = vec![in rt.alloc(); record(rt.alloc(), 0, 1, &[0xD1], &[0xC1])?]?;
-    let mut disk = match Disk::mount(rt.alloc(), geometry(1, 2, 40), &records, &[]) {
+    let later = Fault {
+        ordinal: 1000,
+        unit: UnitStatus::new(0),
+        sub: SubStatus::new(8),
+        sense: 0,
+    };
+    let mut disk = match Disk::mount(rt.alloc(), geometry(1, 2, 40), &records, &[later]) {
         Ok(disk) => disk,
         Err(error) => {
             assert_eq!(rt; error, MountError::NoMemory);
@@ -274,8 +329,15 @@ fn every_command_without_memory(rt: HostRuntime) -> Result<(), Fail> {
             command,
             3 | 4 | 6 | 0x0E | 0x12 | 0x1E | 0x29 | 0x31 | 0x05 | 0x0D | 0x07 | 0x1D | 0x1F
         );
-        assert!(rt; listed || acted == Acted::unit_check(COMMAND_REJECT), "{command}");
-        assert_eq!(rt; acted, act(&rt, &mut copy, &mut area, command, 0x1050, 8), "{command}");
+        assert!(rt;
+            listed || acted == Acted::unit_check(COMMAND_REJECT),
+            "{command}"
+        );
+        assert_eq!(rt;
+            acted,
+            act(&rt, &mut copy, &mut area, command, 0x1050, 8),
+            "{command}"
+        );
         assert!(rt; listed || disk.flow(command) == Flow::None);
     }
     Ok(())

@@ -6,7 +6,7 @@ mod stored;
 
 ghost use Rattle.std.specs.Prelude.{◌≡◌, ℕ, ◌+◌, ◌*◌, ◌<◌, ◌≤◌, ◌^◌, ◌↔◌, IsTrue, IfOk, MatchOption, [], ◌++◌, length};
 ghost use Rattle.device_port.specs.Packed.{Begins};
-ghost use Rattle.ckd_disk.specs.Record.{Fits, ckd, count_area, packed, size_of, record_at, size_at, IsRecord, record_written};
+ghost use Rattle.ckd_disk.specs.Record.{Fits, record_with, ckd, count_area, packed, size_of, record_at, size_at, IsRecord, record_written};
 ghost use Rattle.ckd_disk.specs.Track.{record_of, bytes_of, bytes_before, IsSpot, with_content, with_key_and_content, with_record_behind, with_last};
 
 use crate::bytes::fill_at;
@@ -15,10 +15,11 @@ pub use records::{Records, Stored};
 pub use spot::Spot;
 use std::alloc::{AllocError, Global};
 use std::marker::Model;
-use stored::{
-    COUNT_AREA, content_of, count_area_of, first, id_of, key_of, parts_of, put_record, size_of_first,
-};
 pub use stored::size_given;
+use stored::{
+    COUNT_AREA, content_of, count_area_of, first, id_of, key_of, parts_of, put_record,
+    size_of_first,
+};
 
 /// A track as one image of its size: its records packed in order, and a rest that means nothing.
 #[derive(Debug, Drop)]
@@ -75,8 +76,8 @@ impl Track {
     pub fn append(&mut self, id: &[u8; 5], key: &[u8], content: &[u8])
         requires key { length key.now < 256 }
         requires content { length content.now < 2 ^ 16 }
-        requires room { bytes_of self.old.records + size_of (record { id = id.now; key = key.now; content = content.now }) ≤ self.old.size }
-        ensures { self.new ≡ with_last self.old (record { id = id.now; key = key.now; content = content.now }) }
+        requires room { bytes_of self.old.records + size_of (record_with id.now key.now content.now) ≤ self.old.size }
+        ensures { self.new ≡ with_last self.old (record_with id.now key.now content.now) }
     {
         put_record(&mut self.bytes, self.used, id, key, content);
         self.used += COUNT_AREA + key.len() + content.len();
@@ -112,7 +113,8 @@ impl Track {
     /// The record behind a record, unless that is the last one.
     pub fn behind(&self, spot: Spot) -> Option<Spot>
         requires { IsSpot self.now.records spot }
-        ensures { MatchOption result (length self.now.records ≡ spot.place + 1) (λ next. IsSpot self.now.records next × (next.place ≡ spot.place + 1)) }
+        ensures { MatchOption result (length self.now.records ≡ spot.place + 1)
+            (λ next. IsSpot self.now.records next × (next.place ≡ spot.place + 1)) }
     {
         let count = self.count;
         let place = spot.place + 1;
@@ -196,7 +198,8 @@ impl Track {
     /// The key and data area of a record.
     pub fn parts(&self, spot: Spot) -> &[u8]
         requires { IsSpot self.now.records spot }
-        ensures parts { result.now ≡ (record_of self.now.records spot.place).key ++ (record_of self.now.records spot.place).content }
+        ensures parts { result.now
+            ≡ (record_of self.now.records spot.place).key ++ (record_of self.now.records spot.place).content }
         ensures short { length result.now < 2 ^ 17 }
     {
         parts_of(self.stored(spot))

@@ -49,7 +49,8 @@ pub fn next(track: &Track, orientation: Orientation) -> Reached
 pub fn next_record(track: &Track, orientation: Orientation) -> Option<Reached>
     requires some { 0 < length track.now.records }
     requires oriented { IsOriented orientation track.now.records }
-    ensures reached { option_map reached_of result ≡ next_record (orientation_of orientation) (length track.now.records) }
+    ensures reached { option_map reached_of result
+        ≡ next_record (orientation_of orientation) (length track.now.records) }
     ensures spot { IfSome result (λ r. IsSpot track.now.records r.spot) }
 {
     let reached = next(track, orientation);
@@ -66,7 +67,8 @@ pub fn next_record(track: &Track, orientation: Orientation) -> Option<Reached>
 pub fn key_record(track: &Track, orientation: Orientation) -> Option<Reached>
     requires some { 0 < length track.now.records }
     requires oriented { IsOriented orientation track.now.records }
-    ensures reached { option_map reached_of result ≡ key_record (orientation_of orientation) (length track.now.records) }
+    ensures reached { option_map reached_of result
+        ≡ key_record (orientation_of orientation) (length track.now.records) }
     ensures spot { IfSome result (λ r. IsSpot track.now.records r.spot) }
 {
     match orientation {
@@ -82,7 +84,8 @@ pub fn key_record(track: &Track, orientation: Orientation) -> Option<Reached>
 pub fn content_record(track: &Track, orientation: Orientation) -> Option<Reached>
     requires some { 0 < length track.now.records }
     requires oriented { IsOriented orientation track.now.records }
-    ensures reached { option_map reached_of result ≡ content_record (orientation_of orientation) (length track.now.records) }
+    ensures reached { option_map reached_of result
+        ≡ content_record (orientation_of orientation) (length track.now.records) }
     ensures spot { IfSome result (λ r. IsSpot track.now.records r.spot) }
 {
     match orientation {

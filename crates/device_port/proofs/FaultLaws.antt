@@ -1,5 +1,5 @@
 -- What a place in a fault script tells of the faults of a command.
-use Rattle.std.proofs.Common.{◌≡◌, ◌≢◌, ◌<◌, ◌≤◌, ℕ, ◌+◌, ◌-◌, ◌^◌, ◌==◌, nat_lt, if◌then◌else◌, cond, Bool, true, false, ◌&&◌, List, [], ◌∷◌, length, take, drop, get_or, Option, Some, None, refl, arith, ◌∙◌, suc, zero, subst, sym, inl, inr, add-one}
+use Rattle.std.proofs.Common.{◌≡◌, ◌<◌, ◌≤◌, ℕ, ◌+◌, ◌-◌, ◌^◌, ◌==◌, nat_lt, if◌then◌else◌, Bool, true, false, ◌&&◌, List, [], ◌∷◌, length, take, drop, get_or, Option, Some, None, refl, arith, ◌∙◌, suc, zero, subst, sym, inl, inr, add-one}
 use Rattle.std.proofs.Math.Seq.{drop-cons}
 use Rattle.std.specs.List.{AllByRecursion}
 use Rattle.std.specs.Option.{is_some}
@@ -7,7 +7,7 @@ use Rattle.std.proofs.lemmas.Bool.{cases_lt}
 use Rattle.std.proofs.lemmas.List.{drop_all, drop-drop}
 use Rattle.std.proofs.lemmas.Bool.Decides.{nat_tests}
 use Rattle.device_port.specs.declared.faults.Fault.{Fault}
-use Rattle.device_port.specs.Faults.{Follows, Ordinals, fault_of, fault_met, are_faults_after, is_fault, next_ordinal}
+use Rattle.device_port.specs.Faults.{Follows, fault_of, fault_met, are_faults_after, is_fault, next_ordinal}
 
 no_fault : Fault
 no_fault = record { ordinal = 0; unit = record { 0 = 0 }; sub = record { 0 = 0 }; sense = 0 }

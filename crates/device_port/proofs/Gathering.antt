@@ -1,15 +1,15 @@
 -- The bytes that go out, part after part.
-use Rattle.std.proofs.Common.{◌≡◌, ℕ, zero, suc, ◌+◌, ◌-◌, ◌<◌, ◌≤◌, ◌==◌, nat_le, Bool, true, false, ◌&&◌, ◌||◌, List, [], ◌∷◌, ◌++◌, length, get_or, take, drop, replicate, min, refl, sym, ap, ◌∙◌, append_assoc, arith, inl, inr, add-one}
-use Rattle.std.specs.List.{All}
+use Rattle.std.proofs.Common.{◌≡◌, ℕ, zero, suc, ◌+◌, ◌-◌, ◌<◌, ◌≤◌, true, List, [], ◌∷◌, ◌++◌, length, get_or, take, drop, replicate, min, refl, sym, ap, ◌∙◌, append_assoc, arith, inl, inr, add-one}
 use Rattle.std.proofs.Math.Seq.{drop-cons}
 use Rattle.std.proofs.lemmas.Bool.{cases_lt}
 use Rattle.std.proofs.lemmas.Bool.Decides.{nat_tests}
-use Rattle.std.proofs.lemmas.List.{take_at, take_all, take-append-le, take-take, length-append, length-take, length-drop, append-nil}
+use Rattle.std.proofs.lemmas.List.{take_at, take_all, take-append-le, length-append, length-take, length-drop, append-nil}
 use Rattle.std.proofs.lemmas.List.Elements.{All-head, All-tail}
 use Rattle.std.proofs.lemmas.List.Sums.{sum_by-cons}
 use Rattle.io_area.specs.Storage.{Storage, lies_in, bytes_at}
 use Rattle.device_port.specs.declared.chain.Segment.{Segment}
 use Rattle.device_port.specs.declared.kind.Flow.TheVariants.{Out}
+use Rattle.device_port.proofs.Items.{length-written}
 use Rattle.device_port.specs.Moves.{AllLie, segment_lies, gathered, padded, total, written}
 
 -- bytes that lie in storage are as many as they are asked for
@@ -55,9 +55,6 @@ padded-append room n xs ys is =
           ∙ ap (λ (k : ℕ). xs ++ (take (room - length xs) ys ++ replicate k 0)) left ∙ ap (λ (k : ℕ). xs ++ (take (room - k) ys ++ replicate ((room - n) - length ys) 0)) (sym all)
           ∙ ap (λ (l : List ℕ). l ++ padded (room - n) ys) (sym (take_all n xs (omega arith)))
     ]
-
-pub length-written : (image : List ℕ) (at : ℕ) (bytes : List ℕ) → at + length bytes ≤ length image → length (written image at bytes) ≡ length image
-length-written image at bytes fit = omega (arith, length-append (take at image) (bytes ++ drop (at + length bytes) image), length-append bytes (drop (at + length bytes) image), length-take at image, length-drop (at + length bytes) image)
 
 -- one step of gathering
 gather_more : (image after : List ℕ) (at n : ℕ) (piece xs ys : List ℕ) → at ≤ length image → n ≡ min (length xs) (length image - at) → piece ≡ take n xs → after ≡ written image at piece

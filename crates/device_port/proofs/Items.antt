@@ -1,10 +1,10 @@
 -- Where packed items lie in a buffer, and what a write leaves of them, whatever the items are.
-use Rattle.std.proofs.Common.{◌≡◌, ℕ, zero, suc, ◌+◌, ◌-◌, ◌*◌, ◌<◌, ◌≤◌, List, [], ◌∷◌, ◌++◌, length, get_or, set, take, drop, refl, sym, ap, subst, ◌∙◌, append_assoc, add-one, arith}
+use Rattle.std.proofs.Common.{◌≡◌, ℕ, zero, suc, ◌+◌, ◌-◌, ◌*◌, ◌<◌, ◌≤◌, List, [], ◌∷◌, ◌++◌, length, get_or, set, take, drop, replicate, refl, sym, ap, subst, ◌∙◌, append_assoc, add-one, arith}
 use Rattle.std.specs.List.{AllByRecursion}
-use Rattle.std.proofs.lemmas.List.{take_at, take_all, drop_at, take-append-drop, length-append, length-take, length-take-le, length-drop, drop_more, take_more, append-nil, drop-drop, set_split, length-set}
+use Rattle.std.proofs.lemmas.List.{take_at, take_all, drop_at, take-append-drop, length-append, length-take, length-take-le, length-drop, drop_more, take_more, append-nil, drop-drop, set_split, length-set, length-replicate}
 use Rattle.std.proofs.lemmas.List.Concat.{flat_map-cons, flat_map-append}
 use Rattle.std.proofs.lemmas.List.Elements.{All-from_recursion}
-use Rattle.device_port.specs.Moves.{written}
+use Rattle.device_port.specs.Moves.{padded, written}
 use Rattle.device_port.specs.Packed.{Spelling, Reads, image_of, offset_of, items_at, HoldsItems, Begins}
 
 -- ---- writes into a buffer
@@ -13,6 +13,12 @@ pub length-written : (buffer : List ℕ) (at : ℕ) (bytes : List ℕ) → at + 
 length-written buffer at bytes fit =
     let rest = drop (at + length bytes) buffer in
     omega (arith, length-append (take at buffer) (bytes ++ rest), length-append bytes rest, length-take at buffer, length-drop (at + length bytes) buffer)
+
+pub length-padded : (n : ℕ) (bytes : List ℕ) → length (padded n bytes) ≡ n
+length-padded n bytes =
+    let zeros : List ℕ = replicate (n - length bytes) 0 in
+    let count : length zeros ≡ n - length bytes = length-replicate (n - length bytes) 0 in
+    omega (arith, length-append (take n bytes) zeros, length-take n bytes, count)
 
 -- two writes, one behind the other
 pub written-written : (buffer : List ℕ) (at next : ℕ) (xs ys : List ℕ) → at + length xs ≤ length buffer → next ≡ at + length xs → written (written buffer at xs) next ys ≡ written buffer at (xs ++ ys)

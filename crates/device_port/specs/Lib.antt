@@ -1,6 +1,7 @@
 pub mod Answers
 pub mod Faults
 pub mod Meaning
+pub mod MeaningLaws
 pub mod Moves
 pub mod MovesLaws
 pub mod Packed

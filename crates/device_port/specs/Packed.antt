@@ -1,5 +1,5 @@
 -- Items packed one behind the other in a buffer, whatever they are: a medium's records, blocks or marks (profile).
-use Rattle.std.specs.Prelude.{◌≡◌, ℕ, zero, suc, ◌+◌, ◌≤◌, List, [], ◌∷◌, ◌++◌, length, take, drop}
+use Rattle.std.specs.Prelude.{◌≡◌, ℕ, zero, suc, ◌≤◌, List, [], ◌∷◌, ◌++◌, length, take, drop}
 use Rattle.std.specs.List.{flat_map, AllByRecursion}
 
 -- how items are spelled: the bytes of an item, the item that bytes begin with, and how many bytes that takes

@@ -1,6 +1,5 @@
 -- The toy device: one block of four bytes (profile; it serves the tests of the crates above).
 use Rattle.std.specs.Prelude.{ℕ, ◌==◌, List, [], length, reverse, Option, Some, None, if◌then◌else◌}
-use Rattle.io_images.specs.declared.seek.Seek.{Seek}
 use Rattle.device_port.specs.declared.kind.Kind.{Kind}
 use Rattle.device_port.specs.declared.kind.Kind.TheVariants.{Disk, Tape, Printer}
 use Rattle.device_port.specs.declared.kind.Flow.{Flow}

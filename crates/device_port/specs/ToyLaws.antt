@@ -2,21 +2,14 @@
 use Rattle.std.specs.Prelude.{◌≡◌, ℕ, ◌==◌, List, [], length, reverse, Bool, true, false, Option, Some, None, if◌then◌else◌}
 use Rattle.std.proofs.Common.{refl, ap}
 use Rattle.std.proofs.lemmas.List.{length-reverse}
-use Rattle.device_port.specs.declared.kind.Flow.{Flow}
 use Rattle.device_port.specs.declared.kind.Flow.TheVariants.{None as NoFlow, Out, Input, Back}
 use Rattle.device_port.specs.declared.faults.Fault.{Fault}
 use Rattle.device_port.specs.Answers.{normal_end, unit_check}
-use Rattle.device_port.specs.Faults.{fault_met, counted, failed}
+use Rattle.device_port.specs.Faults.{fault_met, counted}
 use Rattle.device_port.specs.Meaning.{Outcome, Lawful, GivesWhatItWants}
+use Rattle.device_port.specs.MeaningLaws.{gives_nothing}
 use Rattle.device_port.specs.Moves.{padded}
 use Rattle.device_port.specs.Toy.{ToyBlock, toy, toy_act, toy_act_by, toy_flow, tracks_of}
-
--- a command that gives no byte and wants none keeps the law, whichever way its data goes
-pub gives_nothing : {D : Type 0} (flow : Flow) (o : Outcome D) → o.bytes ≡ [] → o.acted.want ≡ 0 → GivesWhatItWants flow o
-gives_nothing NoFlow o bytes want = want
-gives_nothing Out o bytes want = tt
-gives_nothing Input o bytes want = rw (bytes, want) refl
-gives_nothing Back o bytes want = rw (bytes, want) refl
 
 toy_gives : (is_write is_read is_back is_nothing : Bool) (d : ToyBlock) (given : List ℕ) →
     GivesWhatItWants (if is_write then Out else (if is_read then Input else (if is_back then Back else NoFlow)))

@@ -67,7 +67,8 @@ impl UnitStatus {
 
     /// Writes the byte.
     pub fn write(&self, image: &mut [u8; 1])
-        ensures { image.new ≡ self.now.0 ∷ [] }
+        ensures image { image.new ≡ self.now.0 ∷ [] }
+        ensures reads_back { slice_index image.new 0 ≡ self.now.0 }
     {
         image[0] = self.0;
     }
@@ -144,7 +145,8 @@ impl SubStatus {
 
     /// Writes the byte.
     pub fn write(&self, image: &mut [u8; 1])
-        ensures { image.new ≡ self.now.0 ∷ [] }
+        ensures image { image.new ≡ self.now.0 ∷ [] }
+        ensures reads_back { slice_index image.new 0 ≡ self.now.0 }
     {
         image[0] = self.0;
     }

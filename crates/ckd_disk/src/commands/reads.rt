@@ -3,7 +3,7 @@
 ghost use Rattle.std.specs.Prelude.{◌≡◌, ◌≤◌, ◌<◌, ◌^◌, ◌++◌, length, []};
 ghost use Rattle.ckd_disk.specs.Track.{IsSpot, record_of};
 ghost use Rattle.ckd_disk.specs.Access.{access_of, IsPlaced};
-ghost use Rattle.ckd_disk.specs.Commands.{checked, part_read, sense, read_count, read_data, read_key_and_data, read_count_key_and_data};
+ghost use Rattle.ckd_disk.specs.Commands.{answer_of, checked, part_read, sense, read_count, read_data, read_key_and_data, read_count_key_and_data};
 
 use super::check;
 use crate::access::{Access, Armed, Orientation};
@@ -20,7 +20,7 @@ pub struct Answer<'a> {
 
 /// SENSE: two bytes of zeros, since the sense comes with the status.
 pub fn sense(access: &mut Access) -> Answer<'static>
-    ensures answer { record { acted = result.acted; access = access_of access.new; bytes = result.bytes.now } ≡ sense (access_of access.old) }
+    ensures answer { answer_of result.acted access.new result.bytes.now ≡ sense (access_of access.old) }
     ensures access { access.new ≡ record access.old { passes = 0; armed = Armed.No } }
 {
     let orientation = access.orientation;
@@ -33,7 +33,8 @@ pub fn sense(access: &mut Access) -> Answer<'static>
 
 /// A read that finds no record.
 fn not_found<'a>(access: &mut Access) -> Answer<'a>
-    ensures answer { record { acted = result.acted; access = access_of access.new; bytes = result.bytes.now } ≡ checked NO_RECORD_FOUND (access_of access.old) }
+    ensures answer { answer_of result.acted access.new result.bytes.now
+        ≡ checked NO_RECORD_FOUND (access_of access.old) }
     ensures access { access.new ≡ record access.old { passes = 0; armed = Armed.No } }
 {
     Answer {
@@ -46,8 +47,10 @@ fn not_found<'a>(access: &mut Access) -> Answer<'a>
 fn end_of_read<'a>(track: &Track, access: &mut Access, spot: Spot, bytes: &'a [u8]) -> Answer<'a>
     requires spot { IsSpot track.now.records spot }
     requires short { length bytes.now < 2 ^ 17 }
-    ensures answer { record { acted = result.acted; access = access_of access.new; bytes = result.bytes.now } ≡ part_read (access_of access.old) spot.place (record_of track.now.records spot.place) bytes.now }
-    ensures access { access.new ≡ record { mask = access.old.mask; orientation = Orientation.End spot; passes = 0; armed = Armed.No } }
+    ensures answer { answer_of result.acted access.new result.bytes.now
+        ≡ part_read (access_of access.old) spot.place (record_of track.now.records spot.place) bytes.now }
+    ensures access { access.new
+        ≡ record { mask = access.old.mask; orientation = Orientation.End spot; passes = 0; armed = Armed.No } }
 {
     access.leave(Orientation::End(spot), Armed::No);
     let want = bytes.len() as u32;
@@ -62,7 +65,8 @@ fn end_of_read<'a>(track: &Track, access: &mut Access, spot: Spot, bytes: &'a [u
 /// READ COUNT.
 pub fn read_count<'a>(track: &'a Track, access: &mut Access) -> Answer<'a>
     requires { IsPlaced access.old track.now }
-    ensures answer { record { acted = result.acted; access = access_of access.new; bytes = result.bytes.now } ≡ read_count track.now (access_of access.old) }
+    ensures answer { answer_of result.acted access.new result.bytes.now
+        ≡ read_count track.now (access_of access.old) }
     ensures placed { IsPlaced access.new track.now }
 {
     let Some(reached) = next_record(track, access.orientation) else {
@@ -79,7 +83,8 @@ pub fn read_count<'a>(track: &'a Track, access: &mut Access) -> Answer<'a>
 /// READ DATA.
 pub fn read_data<'a>(track: &'a Track, access: &mut Access) -> Answer<'a>
     requires { IsPlaced access.old track.now }
-    ensures answer { record { acted = result.acted; access = access_of access.new; bytes = result.bytes.now } ≡ read_data track.now (access_of access.old) }
+    ensures answer { answer_of result.acted access.new result.bytes.now
+        ≡ read_data track.now (access_of access.old) }
     ensures placed { IsPlaced access.new track.now }
 {
     let Some(reached) = content_record(track, access.orientation) else {
@@ -91,7 +96,8 @@ pub fn read_data<'a>(track: &'a Track, access: &mut Access) -> Answer<'a>
 /// READ KEY AND DATA.
 pub fn read_key_and_data<'a>(track: &'a Track, access: &mut Access) -> Answer<'a>
     requires { IsPlaced access.old track.now }
-    ensures answer { record { acted = result.acted; access = access_of access.new; bytes = result.bytes.now } ≡ read_key_and_data track.now (access_of access.old) }
+    ensures answer { answer_of result.acted access.new result.bytes.now
+        ≡ read_key_and_data track.now (access_of access.old) }
     ensures placed { IsPlaced access.new track.now }
 {
     let Some(reached) = key_record(track, access.orientation) else {
@@ -103,7 +109,8 @@ pub fn read_key_and_data<'a>(track: &'a Track, access: &mut Access) -> Answer<'a
 /// READ COUNT, KEY AND DATA.
 pub fn read_count_key_and_data<'a>(track: &'a Track, access: &mut Access) -> Answer<'a>
     requires { IsPlaced access.old track.now }
-    ensures answer { record { acted = result.acted; access = access_of access.new; bytes = result.bytes.now } ≡ read_count_key_and_data track.now (access_of access.old) }
+    ensures answer { answer_of result.acted access.new result.bytes.now
+        ≡ read_count_key_and_data track.now (access_of access.old) }
     ensures placed { IsPlaced access.new track.now }
 {
     let Some(reached) = next_record(track, access.orientation) else {

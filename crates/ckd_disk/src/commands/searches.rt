@@ -3,7 +3,7 @@
 ghost use Rattle.std.specs.Prelude.{◌≡◌, ◌≤◌, if◌then◌else◌, length, []};
 ghost use Rattle.device_port.specs.Answers.{normal_end, status_modifier};
 ghost use Rattle.ckd_disk.specs.Access.{access_of, IsPlaced};
-ghost use Rattle.ckd_disk.specs.Commands.{matches, search_id, search_key};
+ghost use Rattle.ckd_disk.specs.Commands.{answer_of, matches, search_id, search_key};
 
 use super::check;
 use crate::access::{Access, Armed, Orientation};
@@ -37,7 +37,7 @@ fn end_of_search(equal: bool, want: u32) -> Acted
 /// SEARCH ID EQUAL.
 pub fn search_id(track: &Track, access: &mut Access, given: &Given<'_>) -> Acted
     requires { IsPlaced access.old track.now }
-    ensures answer { record { acted = result; access = access_of access.new; bytes = [] } ≡ search_id track.now (access_of access.old) given.now }
+    ensures answer { answer_of result access.new [] ≡ search_id track.now (access_of access.old) given.now }
     ensures placed { IsPlaced access.new track.now }
 {
     let reached = next(track, access.orientation);
@@ -58,7 +58,7 @@ pub fn search_id(track: &Track, access: &mut Access, given: &Given<'_>) -> Acted
 /// SEARCH KEY EQUAL.
 pub fn search_key(track: &Track, access: &mut Access, given: &Given<'_>) -> Acted
     requires { IsPlaced access.old track.now }
-    ensures answer { record { acted = result; access = access_of access.new; bytes = [] } ≡ search_key track.now (access_of access.old) given.now }
+    ensures answer { answer_of result access.new [] ≡ search_key track.now (access_of access.old) given.now }
     ensures placed { IsPlaced access.new track.now }
 {
     let Some(reached) = key_record(track, access.orientation) else {

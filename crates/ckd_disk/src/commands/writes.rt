@@ -2,7 +2,7 @@
 
 ghost use Rattle.std.specs.Prelude.{◌≡◌};
 ghost use Rattle.ckd_disk.specs.Access.{access_of, IsPlaced};
-ghost use Rattle.ckd_disk.specs.Commands.{inhibits_writes, inhibits_formatting, write_data, write_key_and_data, write_count_key_and_data};
+ghost use Rattle.ckd_disk.specs.Commands.{written_of, inhibits_writes, inhibits_formatting, write_data, write_key_and_data, write_count_key_and_data};
 
 use super::check;
 use crate::access::{Access, Armed, Orientation};
@@ -26,7 +26,8 @@ fn inhibits_formatting(mask: u8) -> bool
 /// WRITE DATA.
 pub fn write_data(track: &mut Track, access: &mut Access, given: &Given<'_>) -> Acted
     requires { IsPlaced access.old track.old }
-    ensures written { record { acted = result; access = access_of access.new; track = track.new } ≡ write_data track.old (access_of access.old) given.now }
+    ensures written { written_of result access.new track.new
+        ≡ write_data track.old (access_of access.old) given.now }
     ensures placed { IsPlaced access.new track.new }
 {
     let (Armed::Id(spot) | Armed::Key(spot)) = access.armed else {
@@ -48,7 +49,8 @@ pub fn write_data(track: &mut Track, access: &mut Access, given: &Given<'_>) -> 
 /// WRITE KEY AND DATA.
 pub fn write_key_and_data(track: &mut Track, access: &mut Access, given: &Given<'_>) -> Acted
     requires { IsPlaced access.old track.old }
-    ensures written { record { acted = result; access = access_of access.new; track = track.new } ≡ write_key_and_data track.old (access_of access.old) given.now }
+    ensures written { written_of result access.new track.new
+        ≡ write_key_and_data track.old (access_of access.old) given.now }
     ensures placed { IsPlaced access.new track.new }
 {
     let Armed::Id(spot) = access.armed else {
@@ -64,13 +66,10 @@ pub fn write_key_and_data(track: &mut Track, access: &mut Access, given: &Given<
 }
 
 /// WRITE COUNT, KEY AND DATA.
-pub fn write_count_key_and_data(
-    track: &mut Track,
-    access: &mut Access,
-    given: &Given<'_>,
-) -> Acted
+pub fn write_count_key_and_data(track: &mut Track, access: &mut Access, given: &Given<'_>) -> Acted
     requires { IsPlaced access.old track.old }
-    ensures written { record { acted = result; access = access_of access.new; track = track.new } ≡ write_count_key_and_data track.old (access_of access.old) given.now }
+    ensures written { written_of result access.new track.new
+        ≡ write_count_key_and_data track.old (access_of access.old) given.now }
     ensures placed { IsPlaced access.new track.new }
 {
     let (Armed::Id(spot) | Armed::Key(spot) | Armed::Format(spot)) = access.armed else {

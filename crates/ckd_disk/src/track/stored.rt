@@ -2,7 +2,7 @@
 
 ghost use Rattle.std.specs.Prelude.{◌≡◌, ℕ, ◌+◌, ◌*◌, ◌^◌, ◌<◌, ◌≤◌, length, take, drop};
 ghost use Rattle.device_port.specs.Moves.{written};
-ghost use Rattle.ckd_disk.specs.Record.{packed, size_of, key_len, content_len, size_at, record_at, IsRecord};
+ghost use Rattle.ckd_disk.specs.Record.{record_with, packed, size_of, key_len, content_len, size_at, record_at, IsRecord};
 
 use crate::bytes::put_at;
 use device_port::Given;
@@ -14,8 +14,8 @@ pub const COUNT_AREA: usize = 8;
 pub fn put_record(image: &mut [u8], at: usize, id: &[u8; 5], key: &[u8], content: &[u8])
     requires key { length key.now < 256 }
     requires content { length content.now < 2 ^ 16 }
-    requires room { at + size_of (record { id = id.now; key = key.now; content = content.now }) ≤ length image.old }
-    ensures { image.new ≡ written image.old at (packed (record { id = id.now; key = key.now; content = content.now })) }
+    requires room { at + size_of (record_with id.now key.now content.now) ≤ length image.old }
+    ensures { image.new ≡ written image.old at (packed (record_with id.now key.now content.now)) }
 {
     let lengths = [
         key.len() as u8,

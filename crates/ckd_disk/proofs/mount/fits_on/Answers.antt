@@ -1,4 +1,4 @@
-use Rattle.std.proofs.Common.{◌≡◌, ◌+◌, ◌<◌, take, sym, ◌∙◌, ap, arith}
+use Rattle.std.proofs.Common.{◌≡◌, ◌+◌, take, sym, ◌∙◌, arith}
 use Rattle.ckd_disk.proofs.Opening.{opening_bytes, bytes_start, bytes_more_here, bytes_more_elsewhere, item_ok, too_full, room_of_all}
 use Rattle.ckd_disk.proofs.mount.fits_on.Goals as goal
 use Rattle.ckd_disk.proofs.mount.fits_on.Goals.{then-track_of-track, else-track_of-track}

@@ -1,4 +1,4 @@
-use Rattle.std.proofs.Common.{◌≡◌, ◌+◌, ◌==◌, ◌∙◌, get_or, arith, ap, rules, true, false, sym, refl, inl, inr, Some, None, if◌then◌else◌}
+use Rattle.std.proofs.Common.{◌≡◌, ◌+◌, ◌==◌, ◌∙◌, get_or, arith, rules, true, false, sym, refl, inl, inr}
 use Rattle.std.proofs.lemmas.Bool.Decides.{nat_tests}
 use Rattle.device_port.specs.declared.faults.Fault.{Fault}
 use Rattle.device_port.proofs.FaultLaws.{met-late, met-end, met-there}

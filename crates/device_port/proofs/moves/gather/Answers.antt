@@ -1,4 +1,4 @@
-use Rattle.std.proofs.Common.{◌∙◌, ℕ, sym, arith, ◌≡◌, ◌+◌, ◌-◌, ◌≤◌, length, false, refl, rules, get_or, take, drop, ◌++◌, ap, min}
+use Rattle.std.proofs.Common.{◌∙◌, ℕ, sym, arith, ◌-◌, length, false, refl, rules, get_or, ap, min}
 use Rattle.device_port.specs.declared.chain.Segment.{Segment}
 use Rattle.device_port.specs.Moves.{padded, gathered}
 use Rattle.device_port.proofs.Gathering.{gathers-on}

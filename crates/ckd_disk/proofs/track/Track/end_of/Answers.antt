@@ -1,6 +1,6 @@
-use Rattle.std.proofs.Common.{◌≡◌, ◌+◌, ◌≤◌, ap, ◌∙◌, arith}
+use Rattle.std.proofs.Common.{◌∙◌, arith}
 use Rattle.device_port.proofs.Items.{offset_of-more, size_at-begins, begins-within}
-use Rattle.ckd_disk.specs.Record.{ckd, blank, size_of}
+use Rattle.ckd_disk.specs.Record.{ckd, blank}
 use Rattle.ckd_disk.specs.Track.{record_of}
 use Rattle.ckd_disk.proofs.Packing.{reads, length-packed}
 use Rattle.ckd_disk.proofs.track.Track.end_of.Goals as goal

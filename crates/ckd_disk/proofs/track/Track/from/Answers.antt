@@ -1,9 +1,9 @@
-use Rattle.std.proofs.Common.{◌≡◌, ◌+◌, ◌<◌, ◌^◌, List, ℕ, length, drop, ap, subst, sym, ◌∙◌, arith}
+use Rattle.std.proofs.Common.{List, ℕ, length, drop, ap, subst, sym, ◌∙◌, arith}
 use Rattle.std.proofs.lemmas.List.{length-drop}
 use Rattle.device_port.specs.Packed.{Begins}
 use Rattle.ckd_disk.specs.Record.{ckd}
 use Rattle.ckd_disk.specs.Track.{record_of}
-use Rattle.ckd_disk.proofs.Tracks.{Bounds, Ends, bounds, spot_begins, spot_ends}
+use Rattle.ckd_disk.proofs.Tracks.{bounds, spot_begins, spot_ends}
 use Rattle.ckd_disk.proofs.track.Track.from.Goals as goal
 
 pub split_at-requires : goal.split_at-requires

@@ -1,6 +1,5 @@
 use Rattle.std.proofs.Common.{◌≡◌, ◌∙◌, sym, ap, Some}
-use Rattle.device_port.specs.Faults.{Ordinals, fault_met}
-use Rattle.device_port.specs.Moves.{received}
+use Rattle.device_port.specs.Faults.{fault_met}
 use Rattle.device_port.specs.MovesLaws.{received-nothing}
 use Rattle.device_port.specs.Toy.{ToyBlock, toy_flow}
 use Rattle.device_port.proofs.toy.ToyBlockDevice.act.Goals as goal

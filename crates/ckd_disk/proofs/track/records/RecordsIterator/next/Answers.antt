@@ -1,6 +1,6 @@
 use Rattle.std.proofs.Common.{◌≡◌, ◌-◌, ℕ, List, ◌∷◌, [], length, take, drop, sym, ap, subst, ◌∙◌, arith, rules}
 use Rattle.device_port.specs.Packed.{items_at, HoldsItems}
-use Rattle.device_port.proofs.Items.{Splits, splits, item_at-packed}
+use Rattle.device_port.proofs.Items.{splits, item_at-packed}
 use Rattle.ckd_disk.specs.Record.{Record, ckd, packed, record_at, size_at}
 use Rattle.ckd_disk.proofs.Packing.{reads}
 use Rattle.ckd_disk.proofs.Tracks.{packed-wide}
