@@ -21,3 +21,4 @@ pub mod Calls
 pub mod NameLaws
 pub mod OrderLaws
 pub mod DoomLaws
+pub mod Worked
