@@ -22,3 +22,4 @@ pub mod NameLaws
 pub mod OrderLaws
 pub mod DoomLaws
 pub mod Worked
+pub mod Counting

@@ -1,0 +1,3 @@
+pub mod Consuming
+pub mod Counting
+pub mod Rows

@@ -1,0 +1,163 @@
+//! A unit of a run: its book, beside how many requests of each task arrived in it.
+
+ghost use Rattle.std.specs.Prelude.{◌≡◌, ◌≤◌, IfOk, replicate};
+ghost use Rattle.excp_job.specs.Counts.{IsNext};
+ghost use Rattle.unit_book.specs.Trace.{arrivals};
+
+use crate::fault::{Fault, FaultName, LineFault};
+use ckd_disk::Disk;
+use io_images::Extent;
+use request_piece::{Name, Posted, Request};
+use std::alloc::Global;
+use std::marker::Model;
+use unit_book::{OpenError, Starting, UnitBook};
+
+/// The most commands of one burst: a program has no more.
+const WHOLE_PROGRAM: u32 = 4097;
+
+/// The book of a unit, and the number of the last request of each task.
+#[derive(Drop)]
+pub struct Station {
+    book: UnitBook<Disk>,
+    issued: [u32; 64],
+}
+
+impl Model for Station {
+    ghost use Rattle.unit_book.specs.Book.{Book};
+    ghost use Rattle.ckd_disk.specs.Disk.{DiskState};
+    ghost use Rattle.excp_job.specs.Counts.{Counts};
+
+    ghost Value = { Book DiskState };
+
+    ghost view = { λ s. s.book };
+
+    ghost invariant = { λ s. Counts s.issued s.book.trace };
+}
+
+impl Station {
+    /// A unit whose book holds up to `capacity` requests.
+    pub fn new(alloc: Global, disk: Disk, isc: u8, capacity: usize) -> Result<Self, Fault>
+        requires isc { isc ≤ 7 }
+        requires some { 1 ≤ capacity }
+        requires few { capacity ≤ 65536 }
+    {
+        let book = UnitBook::new(alloc, disk, isc, capacity)?;
+        let issued = none_issued();
+        Ok(Station { book, issued })
+    }
+
+    /// Opens a DCB.
+    pub fn open(&mut self, input: bool, extents: &[Extent]) -> Result<u16, OpenError> {
+        open(&mut self.book, input, extents)
+    }
+
+    /// The name of the next request of a task.
+    pub fn next_name(&self, task: u16) -> Result<Name, FaultName>
+        ensures { IfOk result (λ name. IsNext name self.now.trace) }
+    {
+        let at = usize::from(task);
+        if at >= 64 || self.issued[at] == u32::MAX {
+            return Err(FaultName::Name);
+        }
+        Ok(Name {
+            task,
+            seq: self.issued[at] + 1,
+        })
+    }
+
+    /// A request arrives, which has the next name of its task.
+    pub fn issue(&mut self, request: Request) -> Result<(), LineFault>
+        requires { IsNext request.name self.old.trace }
+    {
+        let name = request.name();
+        // the book has room for every request of the script, so what is refused is refused for want of memory
+        match self.book.arrive(request) {
+            Ok(()) => {
+                self.issued[usize::from(name.task)] = name.seq;
+                Ok(())
+            }
+            Err(_) => Err(LineFault::NoMemory),
+        }
+    }
+
+    /// Starts, runs and interrupts until nothing waits or is active.
+    pub fn drive(&mut self) -> Result<(), Fault> {
+        drive(&mut self.book)
+    }
+
+    /// How many requests were posted and not taken out.
+    pub fn posted(&self) -> usize {
+        self.book.out_len()
+    }
+
+    /// The next request that was posted.
+    pub fn take_out(&mut self) -> Option<Posted> {
+        self.book.take_out()
+    }
+}
+
+/// No task has issued a request.
+fn none_issued() -> [u32; 64]
+    ensures { result ≡ replicate 64 0 }
+{
+    [0; 64]
+}
+
+fn open(book: &mut UnitBook<Disk>, input: bool, extents: &[Extent]) -> Result<u16, OpenError>
+    ensures { arrivals book.new.trace ≡ arrivals book.old.trace }
+{
+    match book.open(input, extents) {
+        Ok(dcb) => Ok(dcb),
+        Err(error) => Err(error),
+    }
+}
+
+fn drive(book: &mut UnitBook<Disk>) -> Result<(), Fault>
+    ensures { arrivals book.new.trace ≡ arrivals book.old.trace }
+{
+    for _ in 0..u64::MAX {
+        if cycle(book)? {
+            return Ok(());
+        }
+    }
+    Ok(())
+}
+
+/// Starts, runs and interrupts once, and tells whether the unit was idle.
+fn cycle(book: &mut UnitBook<Disk>) -> Result<bool, Fault>
+    ensures { arrivals book.new.trace ≡ arrivals book.old.trace }
+{
+    let idle = start(book)?;
+    if !idle {
+        run(book)?;
+        interrupt(book)?;
+    }
+    Ok(idle)
+}
+
+fn start(book: &mut UnitBook<Disk>) -> Result<bool, Fault>
+    ensures { arrivals book.new.trace ≡ arrivals book.old.trace }
+{
+    match book.start() {
+        Ok(answer) => Ok(matches!(answer, Starting::Idle)),
+        Err(_) => Err(Fault::NoMemory),
+    }
+}
+
+fn run(book: &mut UnitBook<Disk>) -> Result<(), Fault>
+    ensures { arrivals book.new.trace ≡ arrivals book.old.trace }
+{
+    match book.run(WHOLE_PROGRAM) {
+        Ok(_) => Ok(()),
+        Err(_) => Err(Fault::NoMemory),
+    }
+}
+
+fn interrupt(book: &mut UnitBook<Disk>) -> Result<(), Fault>
+    ensures { arrivals book.new.trace ≡ arrivals book.old.trace }
+{
+    match book.interrupt() {
+        Ok(_) => Ok(()),
+        Err(_) => Err(Fault::NoMemory),
+    }
+}

@@ -1,0 +1,495 @@
+//! Runs of whole scripts: channel programs on a disk, faults and retries, extents, and broken scripts. Expected
+//! values are those of the profile's worked rows.
+
+use crate::fault::{Fault, FaultName};
+use crate::run::run_script;
+use std::alloc::AllocError;
+use std::io;
+use std::io::{Read, Write};
+use std::process::Abort;
+use std::test::Fail;
+
+/// One task, and a disk of one track with R1, whose data are C1C2C3C4.
+const DISK: &str = "tasks 1\ndisk 0 0 1 1 40\nrec 0 0 0 1 - C1C2C3C4\n";
+/// DCB 1, for output.
+const OUTPUT: &str = "open 0 out 18000000000000000000000000000001\n";
+/// An unrelated IOB at X'1000' that has its ECB at X'1028' and its channel program at X'1030'.
+const IOB: &str =
+    "area 0 001000 4200000000001028 0000000000000000 0000103000000001 0000000000000000 0000000000000001 0000000000000000 ";
+/// From X'1030': search of the ID at X'1050', and back until it is found.
+const SEARCH: &str = "3100105040000005 0800103000000000 ";
+/// From X'1048': nothing, the ID of R1, and a buffer of zeros.
+const BEHIND: &str = "0000000000000000 0000000001000000 0000000000000000 0000000000000000";
+
+const EXCP: &str = "\nexcp 0 0 1 001000 0 001060 4\n";
+
+/// The parts of a script, joined.
+fn joined<R: AllocGlobal>(rt: &R, parts: &[&str]) -> Result<Vec<u8>, AllocError> {
+    let mut text = Vec::new(rt.alloc());
+    for part in parts {
+        text.extend_from_slice(part.as_bytes())?;
+    }
+    Ok(text)
+}
+
+/// What a run prints, or its fault.
+fn printed<R: AllocGlobal>(rt: &R, text: &[u8]) -> Result<Vec<u8>, Fault> {
+    let mut output = Vec::new(rt.alloc());
+    let mut reader = text;
+    run_script(rt.alloc(), &mut reader, &mut output, 1, 1)?;
+    Ok(output)
+}
+
+/// Asserts that the run of these parts prints these lines.
+fn expect_lines<R: Abort + AllocGlobal>(
+    rt: &R,
+    parts: &[&str],
+    lines: &[&str],
+) -> Result<(), Fail> {
+    let text = joined(rt, parts)?;
+    let wanted = joined(rt, lines)?;
+    match printed(rt, &text) {
+        Ok(output) => assert_eq!(rt; output, wanted),
+        Err(fault) => assert_eq!(rt; fault, Fault::NoMemory),
+    }
+    Ok(())
+}
+
+/// Asserts that the run of these parts ends with this fault and prints nothing.
+fn expect_fault<R: Abort + AllocGlobal>(
+    rt: &R,
+    parts: &[&str],
+    line: usize,
+    name: FaultName,
+) -> Result<(), Fail> {
+    let text = joined(rt, parts)?;
+    match printed(rt, &text) {
+        Ok(_) => assert!(rt; false, "no fault at line {line}"),
+        Err(fault) => assert_eq!(rt; fault, Fault::Line { line, name }),
+    }
+    Ok(())
+}
+
+/// Channel programs behind the search, as far as the buffer, and how the post of each begins and what it shows.
+const PROGRAMS: [(&str, &str); 14] = [
+    // reads one record
+    (
+        "0600106000000004 0000000000000000 0000000001000000 0000000000000000 0000000000000000",
+        "7F 001048 0C00 0000 0000 C1C2C3C4",
+    ),
+    // incorrect length, and its suppression
+    (
+        "0600106000000008 0000000000000000 0000000001000000 0000000000000000 0000000000000000",
+        "41 001048 0C40 0004 0000 C1C2C3C4",
+    ),
+    (
+        "0600106020000008 0000000000000000 0000000001000000 0000000000000000 0000000000000000",
+        "7F 001048 0C00 0004 0000 C1C2C3C4",
+    ),
+    // no record found
+    (
+        "0600106000000004 0000000000000000 0000000009000000 0000000000000000 0000000000000000",
+        "41 001038 0E00 0005 0008 00000000",
+    ),
+    // a data chain ends where its bytes are used up
+    (
+        "0600106080000002 0000106200000002 0000000001000000 0000000000000000 0000000000000000",
+        "7F 001050 0C00 0000 0000 C1C2C3C4",
+    ),
+    (
+        "06001060A0000002 0000106200000006 0000000001000000 0000000000000000 0000000000000000",
+        "41 001050 0C40 0004 0000 C1C2C3C4",
+    ),
+    // chain data shows length, whatever SLI says
+    (
+        "06001060A0000008 0000106000000001 0000000001000000 0000000000000000 0000000000000000",
+        "41 001048 0C40 0004 0000 C1C2C3C4",
+    ),
+    // SKIP leaves storage
+    (
+        "0600106090000002 0000106200000002 0000000001000000 0000000000000000 0000000000000000",
+        "7F 001050 0C00 0000 0000 0000C3C4",
+    ),
+    // a flag that may not be on
+    (
+        "0600106002000004 0000000000000000 0000000001000000 0000000000000000 0000000000000000",
+        "41 001048 0020 0000 0000 00000000",
+    ),
+    // indirect addressing: a list of one word; a word whose bit 0 is on; a list off its fullword
+    (
+        "0600105804000004 0000000000000000 0000000001000000 0000106000000000 0000000000000000",
+        "7F 001048 0C00 0000 0000 C1C2C3C4",
+    ),
+    (
+        "0600105804000004 0000000000000000 0000000001000000 8000106000000000 0000000000000000",
+        "41 001048 0020 0000 0000 00000000",
+    ),
+    (
+        "0600105A04000004 0000000000000000 0000000001000000 0000106000000000 0000000000000000",
+        "41 001048 0020 0000 0000 00000000",
+    ),
+    // a read over the next CCW, whose command becomes C1
+    (
+        "0600104840000004 0000000000000001 0000000001000000 0000000000000000 0000000000000000",
+        "41 001050 0E00 0001 8000 00000000",
+    ),
+    // a write of two bytes, filled up with zeros
+    (
+        "0500106020000002 0000000000000000 0000000001000000 0000000000000000 E1E2E3E400000000",
+        "7F 001048 0C00 0000 0000 E1E2E3E4",
+    ),
+];
+
+#[test]
+fn programs_behind_a_search(rt: HostRuntime) -> Result<(), Fail> {
+    for (program, post) in PROGRAMS {
+        expect_lines(
+            &rt,
+            &[DISK, OUTPUT, IOB, SEARCH, program, EXCP],
+            &["post 0 0 1 ", post, "\nend 1\n"],
+        )?;
+    }
+    Ok(())
+}
+
+/// Whole channel programs from X'1030', 56 bytes.
+const WHOLE: [(&str, &str); 9] = [
+    // a transfer first
+    (
+        "0800103800000000 0000000000000000 0000000000000000 0000000000000000 0000000000000000 0000000000000000 0000000000000000",
+        "41 001038 0020 0000 0000 00000000",
+    ),
+    // the fetch limit ends a loop
+    (
+        "0300000060000001 0800103000000000 0000000000000000 0000000000000000 0000000000000000 0000000000000000 0000000000000000",
+        "41 001038 0020 0000 0000 00000000",
+    ),
+    // the seventeenth CCW of a data chain
+    (
+        "0300000080000001 0800103000000000 0000000000000000 0000000000000000 0000000000000000 0000000000000000 0000000000000000",
+        "41 001038 0020 0000 0000 00000000",
+    ),
+    // a search argument of zeros finds R0
+    (
+        "3100105000000005 0000000000000000 0000000000000000 0000000000000000 0000000000000000 0000000000000000 0000000000000000",
+        "7F 001038 4C00 0000 0000 00000000",
+    ),
+    // a seek under the file mask
+    (
+        "0700105000000006 0000000000000000 0000000000000000 0000000000000000 0000000000000000 0000000000000000 0000000000000000",
+        "41 001038 0E00 0006 0004 00000000",
+    ),
+    // no-operation, with and without the flag for indirect addressing
+    (
+        "0300000000000001 0000000000000000 0000000000000000 0000000000000000 0000000000000000 0000000000000000 0000000000000000",
+        "7F 001038 0C00 0001 0000 00000000",
+    ),
+    (
+        "0300105704000001 0000000000000000 0000000000000000 0000000000000000 0000000000000000 0000000000000000 0000000000000000",
+        "7F 001038 0C00 0001 0000 00000000",
+    ),
+    // sense
+    (
+        "0400106000000002 0000000000000000 0000000000000000 0000000000000000 0000000000000000 0000000000000000 FFFFFFFF00000000",
+        "7F 001038 0C00 0000 0000 0000FFFF",
+    ),
+    // it runs off the area: seven commands, each chained to the next
+    (
+        "0300000060000001 0300000060000001 0300000060000001 0300000060000001 0300000060000001 0300000060000001 0300000060000001",
+        "41 001070 0020 0000 0000 03000000",
+    ),
+];
+
+#[test]
+fn whole_programs(rt: HostRuntime) -> Result<(), Fail> {
+    for (program, post) in WHOLE {
+        expect_lines(
+            &rt,
+            &[DISK, OUTPUT, IOB, program, EXCP],
+            &["post 0 0 1 ", post, "\nend 1\n"],
+        )?;
+    }
+    Ok(())
+}
+
+/// Set-up lines in place of the disk or the DCB, and how the post of the read begins and what it shows.
+const SETUPS: [(&str, &str, &str); 4] = [
+    // an empty data area
+    (
+        "tasks 1\ndisk 0 0 1 1 40\nrec 0 0 0 1 - -\n",
+        OUTPUT,
+        "41 001048 0D00 0004 0000 00000000",
+    ),
+    // a channel-data check is tried again, a channel-control check is not
+    (
+        DISK,
+        "fault 0 1 00 08 0000\nopen 0 out 18000000000000000000000000000001\n",
+        "7F 001048 0C00 0000 0000 C1C2C3C4",
+    ),
+    (
+        DISK,
+        "fault 0 1 00 04 0000\nopen 0 out 18000000000000000000000000000001\n",
+        "41 001038 0004 0005 0000 00000000",
+    ),
+    // command reject is not tried again
+    (
+        DISK,
+        "fault 0 1 0E 00 8000\nopen 0 out 18000000000000000000000000000001\n",
+        "41 001038 0E00 0005 8000 00000000",
+    ),
+];
+
+#[test]
+fn set_ups(rt: HostRuntime) -> Result<(), Fail> {
+    let read = "0600106000000004 ";
+    for (disk, rest, post) in SETUPS {
+        expect_lines(
+            &rt,
+            &[disk, rest, IOB, SEARCH, read, BEHIND, EXCP],
+            &["post 0 0 1 ", post, "\nend 1\n"],
+        )?;
+    }
+    Ok(())
+}
+
+#[test]
+fn ten_retries_and_no_more(rt: HostRuntime) -> Result<(), Fail> {
+    let ten =
+        "fault 0 1 0E 00 1000\nfault 0 2 0E 00 1000\nfault 0 3 0E 00 1000\nfault 0 4 0E 00 1000\nfault 0 5 0E 00 1000\nfault 0 6 0E 00 1000\nfault 0 7 0E 00 1000\nfault 0 8 0E 00 1000\nfault 0 9 0E 00 1000\nfault 0 10 0E 00 1000\n";
+    let read = "0600106000000004 ";
+    expect_lines(
+        &rt,
+        &[DISK, ten, OUTPUT, IOB, SEARCH, read, BEHIND, EXCP],
+        &["post 0 0 1 7F 001048 0C00 0000 0000 C1C2C3C4\nend 1\n"],
+    )?;
+    expect_lines(
+        &rt,
+        &[
+            DISK,
+            ten,
+            "fault 0 11 0E 00 1000\n",
+            OUTPUT,
+            IOB,
+            SEARCH,
+            read,
+            BEHIND,
+            EXCP,
+        ],
+        &["post 0 0 1 41 001038 0E00 0005 1000 00000000\nend 1\n"],
+    )
+}
+
+#[test]
+fn requests_in_order(rt: HostRuntime) -> Result<(), Fail> {
+    let read = "0600106000000004 ";
+    // a wait between two requests, and LEN 0
+    expect_lines(
+        &rt,
+        &[
+            DISK, OUTPUT, IOB, SEARCH, read, BEHIND, EXCP, "wait 0", EXCP,
+        ],
+        &[
+            "post 0 0 1 7F 001048 0C00 0000 0000 C1C2C3C4\npost 0 0 2 7F 001048 0C00 0000 0000 C1C2C3C4\nend 2\n",
+        ],
+    )?;
+    expect_lines(
+        &rt,
+        &[
+            DISK,
+            OUTPUT,
+            IOB,
+            SEARCH,
+            read,
+            BEHIND,
+            "\nexcp 0 0 1 001000 0 001060 0",
+        ],
+        &["post 0 0 1 7F 001048 0C00 0000 0000 -\nend 1\n"],
+    )?;
+    expect_lines(&rt, &["tasks 1\ndisk 0 0 1 1 40\n"], &["end 0\n"])?;
+    // an extent that is not there: posted 42 without a Start
+    let violated =
+        "area 0 001000 4200000000001028 0000000000000000 0000103000000001 0000000000000000 0100000000000001 0000000000000000 ";
+    expect_lines(
+        &rt,
+        &[DISK, OUTPUT, violated, SEARCH, read, BEHIND, EXCP],
+        &["post 0 0 1 42 000000 0000 0000 0000 00000000\nend 1\n"],
+    )
+}
+
+/// Broken scripts, each with the line of its fault.
+const BROKEN: [(&str, usize, FaultName); 17] = [
+    ("", 0, FaultName::Order),
+    ("tasks 1\n", 0, FaultName::Order),
+    ("tasks\n", 1, FaultName::Words),
+    ("tapes 1\n", 1, FaultName::Words),
+    ("tasks\t1\n", 1, FaultName::Words),
+    ("tasks 65\n", 1, FaultName::Number),
+    ("# none\n\ntasks 12345678901\n", 3, FaultName::Number),
+    ("tasks 1\ntasks 1\n", 2, FaultName::Order),
+    ("tasks 1\ndisk 1 0 1 1 40\n", 2, FaultName::Order),
+    ("tasks 1\ndisk 0 8 1 1 40\n", 2, FaultName::Number),
+    (
+        "tasks 1\ndisk 0 0 9999999999 9999999999 9999999999\n",
+        2,
+        FaultName::Medium,
+    ),
+    (
+        "tasks 1\ndisk 0 0 1 1 27\nrec 0 0 0 1 - C1C2C3C4\n",
+        2,
+        FaultName::Medium,
+    ),
+    (
+        "tasks 1\ndisk 0 0 1 1 40\nfault 0 0 0E 00 1000\n",
+        2,
+        FaultName::Medium,
+    ),
+    (
+        "tasks 1\ndisk 0 0 1 1 40\nopen 0 out 18000000000000000000000000000002\n",
+        3,
+        FaultName::Extent,
+    ),
+    (
+        "tasks 1\ndisk 0 0 1 1 40\nopen 0 out 18000000000000000000000100000001\n",
+        3,
+        FaultName::Extent,
+    ),
+    (
+        "tasks 1\ndisk 0 0 1 1 40\nopen 0 in\n",
+        3,
+        FaultName::Extent,
+    ),
+    (
+        "tasks 1\ndisk 0 0 1 1 40\narea 0 001004 00\n",
+        3,
+        FaultName::Area,
+    ),
+];
+
+/// The stored script with another last line.
+const BROKEN_EXCP: [(&str, FaultName); 6] = [
+    ("\nexcp 0 0 1 001048 0 001060 4", FaultName::Request),
+    ("\nexcp 0 0 1 001000 0 001064 5", FaultName::Request),
+    ("\nexcp 0 0 2 001000 0 001060 4", FaultName::Name),
+    ("\nexcp 1 0 1 001000 0 001060 4", FaultName::Name),
+    ("\nexcp 0 0 0 001000 0 001060 4", FaultName::Number),
+    ("\nexcp 0 0 1 001000 0 001060", FaultName::Words),
+];
+
+#[test]
+fn broken_scripts(rt: HostRuntime) -> Result<(), Fail> {
+    for (text, line, name) in BROKEN {
+        expect_fault(&rt, &[text], line, name)?;
+    }
+    let read = "0600106000000004 ";
+    for (last, name) in BROKEN_EXCP {
+        expect_fault(
+            &rt,
+            &[DISK, OUTPUT, IOB, SEARCH, read, BEHIND, last],
+            6,
+            name,
+        )?;
+    }
+    // a related request
+    let related =
+        "area 0 001000 4000000000001028 0000000000000000 0000103000000001 0000000000000000 0000000000000001 0000000000000000 ";
+    expect_fault(
+        &rt,
+        &[DISK, OUTPUT, related, SEARCH, read, BEHIND, EXCP],
+        6,
+        FaultName::Request,
+    )
+}
+
+/// The stored script cut after each byte, and with each byte replaced, prints posts or ends with a named fault.
+#[test]
+fn cut_and_replaced(rt: HostRuntime) -> Result<(), Fail> {
+    let mut text = joined(
+        &rt,
+        &[DISK, OUTPUT, IOB, SEARCH, "0600106000000004 ", BEHIND, EXCP],
+    )?;
+    for cut in 0..text.len() {
+        if let Err(fault) = printed(&rt, &text[..cut]) {
+            assert_eq!(rt; fault.status(), 1);
+        }
+    }
+    for place in 0..text.len() {
+        let kept = text[place];
+        for byte in [b'0', b'F', b' ', 0xFF] {
+            text[place] = byte;
+            if let Err(fault) = printed(&rt, &text) {
+                assert_eq!(rt; fault.status(), 1);
+            }
+        }
+        text[place] = kept;
+    }
+    Ok(())
+}
+
+#[test]
+fn long_scripts(rt: HostRuntime) -> Result<(), Fail> {
+    let mut text = vec![in rt.alloc(); b'#'; 1_048_576]?;
+    match printed(&rt, &text) {
+        Ok(_) => assert!(rt; false, "no fault"),
+        Err(fault) => assert_eq!(rt;
+            fault,
+            Fault::Line {
+                line: 0,
+                name: FaultName::Order
+            }
+        ),
+    }
+    text.push(b'#')?;
+    match printed(&rt, &text) {
+        Ok(_) => assert!(rt; false, "no fault"),
+        Err(fault) => assert_eq!(rt; fault, Fault::TooLong),
+    }
+    Ok(())
+}
+
+/// A reader that fails behind its bytes, and a writer that takes no byte.
+#[derive(Drop)]
+struct Broken<'a> {
+    bytes: &'a [u8],
+}
+
+impl Read for Broken<'_> {
+    fn read(&mut self, buf: &mut [u8]) -> io::Result<usize> {
+        if self.bytes.is_empty() {
+            return Err(io::Error::from(io::ErrorKind::Other));
+        }
+        self.bytes.read(buf)
+    }
+}
+
+#[derive(Drop)]
+struct Full;
+
+impl Write for Full {
+    fn write(&mut self, _buf: &[u8]) -> io::Result<usize> {
+        Err(io::Error::from(io::ErrorKind::Other))
+    }
+
+    fn flush(&mut self) -> io::Result<()> {
+        Err(io::Error::from(io::ErrorKind::Other))
+    }
+}
+
+#[test]
+fn unreadable_and_not_written(rt: HostRuntime) -> Result<(), Fail> {
+    let text = joined(&rt, &["tasks 1\ndisk 0 0 1 1 40\n"])?;
+    for count in 0..text.len() {
+        let mut reader = Broken {
+            bytes: &text[..count],
+        };
+        match run_script(rt.alloc(), &mut reader, Full, 1, 1) {
+            Ok(()) => assert!(rt; false, "no fault"),
+            Err(fault) => assert_eq!(rt; fault, Fault::Unreadable),
+        }
+    }
+    let mut reader = text.as_slice();
+    match run_script(rt.alloc(), &mut reader, Full, 1, 1) {
+        Ok(()) => assert!(rt; false, "no fault"),
+        Err(fault) => assert_eq!(rt; fault, Fault::NotWritten),
+    }
+    Ok(())
+}

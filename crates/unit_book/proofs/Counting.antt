@@ -1,0 +1,69 @@
+-- What the entries of a trace add to the arrivals of a task: only an arrival adds one, and the calls of a book that
+-- run programs add none.
+use Rattle.std.proofs.Common.{◌≡◌, ◌≢◌, ◌<◌, ℕ, ◌+◌, ◌==◌, Bool, true, false, List, [], ◌∷◌, ◌++◌, length, length-append, replicate, slice_index, slice_set, get_or, set, refl, sym, ap, ◌∙◌, arith, if◌then◌else◌, inl, inr, add-zero}
+use Rattle.std.specs.List.{filter}
+use Rattle.std.proofs.lemmas.Bool.{cases_Bool}
+use Rattle.std.proofs.lemmas.Bool.Decides.{nat_tests}
+use Rattle.std.proofs.lemmas.List.Elements.{filter-append}
+use Rattle.std.proofs.lemmas.List.{get_or-set_same, get_or-set_other, get_or-replicate}
+use Rattle.request_piece.specs.declared.piece.Piece.{Piece}
+use Rattle.unit_book.specs.declared.entry.Entry.{Entry}
+use Rattle.unit_book.specs.declared.entry.Entry.TheVariants.{Arrive, Start, Ran, Post, Opened}
+use Rattle.io_images.specs.declared.code.Code.TheVariants.{ExtentViolated}
+use Rattle.io_images.specs.declared.extent.Extent.{Extent}
+use Rattle.device_port.specs.Meaning.{Meaning}
+use Rattle.subchannel.specs.Subchannel.{no_status}
+use Rattle.unit_book.specs.declared.answer.Starting.{Starting}
+use Rattle.unit_book.specs.declared.answer.Starting.TheVariants.{Busy, Idle, Started, Violated}
+use Rattle.unit_book.specs.declared.answer.Running.{Running}
+use Rattle.unit_book.specs.declared.answer.Running.TheVariants.{Quiet as NothingRuns, Ran as RanSome}
+use Rattle.unit_book.specs.declared.answer.Interruption.{Interruption}
+use Rattle.unit_book.specs.declared.answer.Interruption.TheVariants.{Quiet as NothingPending, Again as TriedAgain, Ended as WasPosted}
+use Rattle.unit_book.specs.Answers.{OpensBook, StartsBook, RunsBook, InterruptsBook}
+use Rattle.unit_book.specs.Book.{Book}
+use Rattle.unit_book.specs.Trace.{arrivals, arrived_of}
+use Rattle.unit_book.specs.Dooms.{all_posted, after_dooms}
+use Rattle.unit_book.specs.Dcbs.{doomed}
+
+-- posts add none
+arrivals-all_posted : (rs : List Piece) (H : List Entry) → arrivals (all_posted rs H) ≡ arrivals H
+unfolding arrivals
+arrivals-all_posted [] H = refl
+arrivals-all_posted (r ∷ rs) H = arrivals-all_posted rs _
+
+pub arrivals-after_dooms : (H : List Entry) → arrivals (after_dooms H) ≡ arrivals H
+arrivals-after_dooms H = arrivals-all_posted (doomed H) H
+
+one_more : (b : Bool) (task : ℕ) (r : Piece) → (r.name.task == task) ≡ b → length (filter (λ (p : Piece). p.name.task == task) (r ∷ [])) ≡ (if b then 1 else 0)
+one_more true task r e = rw e refl
+one_more false task r e = rw e refl
+
+pub arrived_of-arrive : (b : Bool) (task : ℕ) (r : Piece) (H : List Entry) → (r.name.task == task) ≡ b → arrived_of task (Arrive r ∷ H) ≡ arrived_of task H + (if b then 1 else 0)
+unfolding arrivals
+arrived_of-arrive b task r H e =
+    let test = λ (p : Piece). p.name.task == task in
+    ap length (filter-append test (arrivals H) (r ∷ [])) ∙ length-append (filter test (arrivals H)) (filter test (r ∷ [])) ∙ rw (one_more b task r e) refl
+
+-- the calls of a book that run programs add no arrival
+module _ {D : Type 0} (meaning : Meaning D) where
+  pub starts-keep : (old : Book D) (answer : Starting) (new : Book D) → StartsBook meaning old answer new → arrivals new.trace ≡ arrivals old.trace
+  unfolding arrivals
+  starts-keep old Busy new h = ap (λ (b : Book D). arrivals b.trace) h.2
+  starts-keep old Idle new h = ap (λ (b : Book D). arrivals b.trace) h.2
+  starts-keep old (Started n) new h = ap (λ (b : Book D). arrivals b.trace) h.1
+  starts-keep old (Violated n) new h = ap (λ (b : Book D). arrivals b.trace) h.1 ∙ arrivals-after_dooms (Post n no_status 0 ExtentViolated ∷ old.trace)
+
+  pub runs-keep : (old : Book D) (max : ℕ) (answer : Running) (new : Book D) → RunsBook meaning old max answer new → arrivals new.trace ≡ arrivals old.trace
+  unfolding arrivals
+  runs-keep old max NothingRuns new h = ap (λ (b : Book D). arrivals b.trace) h.1
+  runs-keep old max (RanSome commands pending) new h = ap (λ (b : Book D). arrivals b.trace) h.adds
+
+  pub interrupts-keep : (old : Book D) (answer : Interruption) (new : Book D) → InterruptsBook meaning old answer new → arrivals new.trace ≡ arrivals old.trace
+  unfolding arrivals
+  interrupts-keep old NothingPending new h = ap (λ (b : Book D). arrivals b.trace) h.1
+  interrupts-keep old (TriedAgain n) new h = ap (λ (b : Book D). arrivals b.trace) h.2
+  interrupts-keep old (WasPosted n code) new h = ap (λ (b : Book D). arrivals b.trace) h.1.posts ∙ arrivals-after_dooms (Post n h.1.csw h.1.sense code ∷ old.trace)
+
+  pub opens-keep : (old : Book D) (dcb : ℕ) (input : Bool) (extents : List Extent) (new : Book D) → OpensBook meaning old dcb input extents new → arrivals new.trace ≡ arrivals old.trace
+  unfolding arrivals
+  opens-keep old dcb input extents new h = ap (λ (b : Book D). arrivals b.trace) h.adds
