@@ -7,6 +7,10 @@ use Rattle.fifo_row.specs.Lists.{of, Met}
 abbrev pub RowName : Type 0
 RowName = TableId
 
+-- the name of no row, where a row is picked only later
+abbrev pub no_name : RowName
+no_name = record { words = 0; slots = 0; views_name = 0; atom = 0; block = 0; offset = 0; slot_names = [] }
+
 -- a row: how many items it holds at most, whose row it is, how many senders it has, and whether its ends were given out
 pub record Fresh : Type 0 where
   pub row : RowName

@@ -1,5 +1,5 @@
 //! The end of a row that sends.
-ghost use Rattle.std.specs.Prelude.{◌≡◌, ◌∷◌, ◌++◌, [], length, suc, IfErr, OnErr, OnOk};
+ghost use Rattle.std.specs.Prelude.{◌≡◌, ◌≤◌, ◌^◌, ◌∷◌, ◌++◌, [], length, suc, IfErr, OnErr, OnOk};
 ghost use Rattle.crossbeam_queue.specs.Passes.{IsPassOf, ruled_capacity};
 ghost use Rattle.fifo_row.specs.Steps.{WasFull};
 ghost use Rattle.fifo_row.specs.Views.{known, sender_view};
@@ -11,7 +11,7 @@ use crossbeam_queue::Pass;
 use std::marker::Model;
 use std::sync::Wait;
 
-/// More items than any sender sends.
+/// What a sender sends at most, so that the ends can count it.
 const MOST: u64 = 1 << 62;
 
 /// An item that found no place, because the row was full.
@@ -29,7 +29,7 @@ pub struct Sender<'r, I: Item> {
 }
 
 impl<'r, I: Item> Model for Sender<'r, I> {
-    ghost use Rattle.std.specs.Prelude.{◌≡◌, length};
+    ghost use Rattle.std.specs.Prelude.{◌≡◌, ◌≤◌, ◌^◌, length};
     ghost use Rattle.crossbeam_queue.specs.Passes.{IsPassOf, ruled_capacity};
     ghost use Rattle.fifo_row.specs.Ends.{Sending};
     ghost use Rattle.fifo_row.specs.Views.{known, sender_view};
@@ -38,7 +38,7 @@ impl<'r, I: Item> Model for Sender<'r, I> {
 
     ghost view = { λ s. record { row = s.pass.table_id; capacity = ruled_capacity s.queue.now; tag = s.tag; number = s.number; sent = (known s.pass).sent } };
 
-    ghost invariant = { λ s. IsPassOf s.queue.now s.pass × (known s.pass ≡ sender_view s.tag s.number (known s.pass).sent) × (s.count ≡ length (known s.pass).sent) };
+    ghost invariant = { λ s. IsPassOf s.queue.now s.pass × (known s.pass ≡ sender_view s.tag s.number (known s.pass).sent) × (s.count ≡ length (known s.pass).sent) × (s.count ≤ 2 ^ 62) };
 }
 
 impl<'r, I: Item> Sender<'r, I> {
@@ -71,12 +71,14 @@ impl<'r, I: Item> Sender<'r, I> {
 
     /// How many items it has sent. It takes no memory.
     pub fn sent_len(&self) -> u64
-        ensures { result ≡ length self.now.sent }
+        ensures len { result ≡ length self.now.sent }
+        ensures few { result ≤ 2 ^ 62 }
     {
         self.count
     }
 
-    /// Sends an item of this sender, which has its fact at the place behind all that was sent. It takes no memory, and may wait.
+    /// Sends an item of this sender, which has its fact at the place behind all that was sent. It takes no memory, and may wait;
+    /// after 2^62 items it waits for ever.
     ///
     /// The item comes back only where the row was full at one moment of the call, and then nothing was sent.
     pub fn send<R: Wait>(&mut self, rt: &R, item: I) -> Result<(), Full<I>>
