@@ -1,0 +1,60 @@
+-- A row and its ends, as contracts see them. Profile.
+use Rattle.std.specs.Prelude.{◌≡◌, ◌<◌, ℕ, suc, List, [], length, Bool, Some, slice_get}
+use Rattle.atomic_table.specs.Seated.{TableId}
+use Rattle.fifo_row.specs.Lists.{of, Met}
+
+-- which row it is
+abbrev pub RowName : Type 0
+RowName = TableId
+
+-- the name of no row, where a row is picked only later
+abbrev pub no_name : RowName
+no_name = record { words = 0; slots = 0; views_name = 0; atom = 0; block = 0; offset = 0; slot_names = [] }
+
+-- a row: how many items it holds at most, whose row it is, how many senders it has, and whether its ends were given out
+pub record Fresh : Type 0 where
+  pub row : RowName
+  pub capacity : ℕ
+  pub tag : ℕ
+  pub senders : ℕ
+  pub seated : Bool
+
+-- the seat of a sender: its number, and what it sent
+pub record Sending (I : Type 0) : Type 0 where
+  pub row : RowName
+  pub capacity : ℕ
+  pub tag : ℕ
+  pub number : ℕ
+  pub sent : List I
+
+-- the seat of the taker: what it took, and the senders that it met, the last in front, each with all that it sent
+pub record Taking (I : Type 0) : Type 0 where
+  pub row : RowName
+  pub capacity : ℕ
+  pub tag : ℕ
+  pub senders : ℕ
+  pub taken : List I
+  pub met : List (ℕ × List I)
+
+-- the sender k of a row, which has sent nothing
+abbrev pub fresh_sender : {I : Type 0} → Fresh → ℕ → Sending I
+fresh_sender r k = record { row = r.row; capacity = r.capacity; tag = r.tag; number = k; sent = [] }
+
+-- the taker of a row, which has taken nothing and met nobody
+abbrev pub fresh_taker : {I : Type 0} → Fresh → Taking I
+fresh_taker r = record { row = r.row; capacity = r.capacity; tag = r.tag; senders = r.senders; taken = []; met = [] }
+
+-- the ends of a row: its senders by number, and its taker
+pub record Seats {I : Type 0} (senders : List (Sending I)) (taker : Taking I) (row : Fresh) : Type 0 where
+  pub count : length senders ≡ row.senders
+  pub each : (k : ℕ) → k < row.senders → slice_get senders k ≡ Some (fresh_sender row k)
+  pub taker_is : taker ≡ fresh_taker row
+
+-- an item is the next of its sender: that sender is of the row, and the item has its fact at the place behind those that were taken
+pub record IsNext {I : Type 0} (from : I → ℕ) (fact : I → ℕ → ℕ → ℕ → Type 0) (t : Taking I) (x : I) : Type 0 where
+  pub of_row : from x < t.senders
+  pub lawful : fact x (from x) (suc (length (of from (from x) t.taken))) t.tag
+
+-- of each sender that was met, all was taken
+abbrev pub AllEnded : {I : Type 0} → (I → ℕ) → Taking I → Type 0
+AllEnded {I} from t = (k : ℕ) (sent : List I) → Met t.met k sent → of from k t.taken ≡ sent

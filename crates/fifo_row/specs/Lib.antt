@@ -1,0 +1,5 @@
+pub mod Lists
+pub mod Ends
+pub mod Views
+pub mod Rule
+pub mod Steps

@@ -1,0 +1,211 @@
+ghost use Rattle.std.specs.Prelude.{◌≡◌, ◌+◌, length};
+
+use crate::{Full, Item, Row, Sender, Taker};
+use std::marker::Brand;
+use std::sync::Wait;
+use std::test::Fail;
+use std::thread;
+use std::thread::{Threads, join};
+
+/// Whose row it is.
+const TAG: u16 = 7;
+
+/// How many items each sender sends.
+const EACH: usize = 1000;
+
+/// An item that names its sender, its place among that sender's items, and its row.
+#[derive(Drop)]
+struct Parcel {
+    sender: u16,
+    place: u64,
+    row: u16,
+}
+
+impl Item for Parcel {
+    ghost use Rattle.std.specs.Prelude.{◌≡◌};
+
+    ghost from = { λ parcel. parcel.sender };
+
+    ghost fact = { λ parcel k place tag. (parcel.place ≡ place) × (parcel.row ≡ tag) };
+
+    fn sender(&self) -> u16 {
+        self.sender
+    }
+}
+
+/// The row that threads share, which a call picks.
+trait Shared {
+    ghost use Rattle.fifo_row.specs.Ends.{RowName};
+
+    ghost home: { RowName };
+}
+
+impl Shared for Brand {
+    ghost use Rattle.fifo_row.specs.Ends.{no_name};
+
+    ghost home = { no_name };
+}
+
+/// The next parcel of this sender, which has this number.
+fn next_of(sender: &Sender<'_, Parcel>, number: u16) -> Parcel
+    requires { sender.now.tag ≡ TAG }
+    ensures { result ≡ record { sender = number; place = length sender.now.sent + 1; row = sender.now.tag } }
+{
+    Parcel {
+        sender: number,
+        place: sender.sent_len() + 1,
+        row: TAG,
+    }
+}
+
+/// Sends the next parcel, and answers the place of the one that came back.
+fn offer<R: Wait>(rt: &R, sender: &mut Sender<'_, Parcel>, number: u16) -> Option<u64>
+    requires { (sender.old.number ≡ number) × (sender.old.tag ≡ TAG) }
+    ensures { (sender.new.row ≡ sender.old.row) × (sender.new.number ≡ number) × (sender.new.tag ≡ TAG) }
+{
+    let parcel = next_of(sender, number);
+    match sender.send(rt, parcel) {
+        Ok(()) => None,
+        Err(Full(parcel)) => Some(parcel.place),
+    }
+}
+
+/// Sends the next parcel as soon as there is room.
+fn send_next<R: Wait>(rt: &R, sender: &mut Sender<'_, Parcel>, number: u16)
+    requires { (sender.old.number ≡ number) × (sender.old.tag ≡ TAG) }
+    ensures { (sender.new.row ≡ sender.old.row) × (sender.new.number ≡ number) × (sender.new.tag ≡ TAG) }
+{
+    for _ in rt.forever() {
+        if offer(rt, sender, number).is_none() {
+            return;
+        }
+        thread::yield_now();
+    }
+    unreachable!()
+}
+
+/// Sends the parcels of one sender.
+fn send_all<'r, S: Shared, R: Wait>(
+    rt: &R,
+    mut sender: Sender<'r, Parcel>,
+    number: u16,
+) -> Sender<'r, Parcel>
+    requires { (sender.row ≡ S.home) × (sender.number ≡ number) × (sender.tag ≡ TAG) }
+    ensures { result.row ≡ S.home }
+{
+    for _ in 0..EACH {
+        send_next(rt, &mut sender, number);
+    }
+    sender
+}
+
+/// Takes the next parcel as soon as there is one.
+fn take_next<R: Wait>(rt: &R, taker: &mut Taker<'_, Parcel>) -> Parcel
+    ensures { (taker.new.row ≡ taker.old.row) × (taker.new.senders ≡ taker.old.senders) }
+{
+    for _ in rt.forever() {
+        if let Some(parcel) = taker.take(rt) {
+            return parcel;
+        }
+        thread::yield_now();
+    }
+    unreachable!()
+}
+
+/// Takes the parcels of both senders.
+fn take_all<'r, S: Shared, R: Wait>(
+    rt: &R,
+    mut taker: Taker<'r, Parcel>,
+    mut parcels: Vec<Parcel>,
+) -> (Taker<'r, Parcel>, Vec<Parcel>)
+    requires { (taker.row ≡ S.home) × (taker.senders ≡ 2) }
+    ensures { (result.0.row ≡ S.home) × (result.0.senders ≡ 2) }
+{
+    for _ in 0..2 * EACH {
+        let _ = parcels.push(take_next(rt, &mut taker));
+    }
+    (taker, parcels)
+}
+
+/// Runs both senders and the taker, each in a thread of its own.
+fn exchange<'r, S: Shared + Send + Sync, R: Threads + Wait + Sync>(
+    rt: &R,
+    first: Sender<'r, Parcel>,
+    second: Sender<'r, Parcel>,
+    taker: Taker<'r, Parcel>,
+    parcels: Vec<Parcel>,
+) -> (
+    Sender<'r, Parcel>,
+    (Sender<'r, Parcel>, (Taker<'r, Parcel>, Vec<Parcel>)),
+)
+    requires first { (first.row ≡ S.home) × (first.number ≡ 0) × (first.tag ≡ TAG) }
+    requires second { (second.row ≡ S.home) × (second.number ≡ 1) × (second.tag ≡ TAG) }
+    requires taker { (taker.row ≡ S.home) × (taker.senders ≡ 2) }
+    ensures first { result.0.row ≡ S.home }
+    ensures second { result.1.0.row ≡ S.home }
+    ensures taker { (result.1.1.0.row ≡ S.home) × (result.1.1.0.senders ≡ 2) }
+{
+    join(
+        rt,
+        move || -> Sender<'_, Parcel>
+            requires { (first.row ≡ S.home) × (first.number ≡ 0) × (first.tag ≡ TAG) }
+            ensures { result.row ≡ S.home }
+        { send_all::<S, R>(rt, first, 0) },
+        move || -> (Sender<'_, Parcel>, (Taker<'_, Parcel>, Vec<Parcel>))
+            requires { (second.row ≡ S.home) × (second.number ≡ 1) × (second.tag ≡ TAG) × (taker.row ≡ S.home) × (taker.senders ≡ 2) }
+            ensures { (result.0.row ≡ S.home) × (result.1.0.row ≡ S.home) × (result.1.0.senders ≡ 2) }
+        {
+            join(
+                rt,
+                move || -> Sender<'_, Parcel>
+                    requires { (second.row ≡ S.home) × (second.number ≡ 1) × (second.tag ≡ TAG) }
+                    ensures { result.row ≡ S.home }
+                { send_all::<S, R>(rt, second, 1) },
+                move || -> (Taker<'_, Parcel>, Vec<Parcel>)
+                    requires { (taker.row ≡ S.home) × (taker.senders ≡ 2) }
+                    ensures { (result.0.row ≡ S.home) × (result.0.senders ≡ 2) }
+                { take_all::<S, R>(rt, taker, parcels) },
+            )
+        },
+    )
+}
+
+#[test]
+fn two_senders_and_a_taker(rt: HostRuntime) -> Result<(), Fail> {
+    let parcels = Vec::with_capacity(rt.alloc(), 2 * EACH)?;
+    let mut row = Row::<Parcel>::new(rt.alloc(), 2, 4, TAG)?;
+    let (mut senders, taker) = row.seats()?;
+    let second = senders.pop().ok_or("a second sender")?;
+    let first = senders.pop().ok_or("a first sender")?;
+    let (first, (second, (mut taker, parcels))) = exchange::<Brand, _>(
+        &rt, first, second, taker, parcels,
+    );
+    assert_eq!(rt; (first.sent_len(), second.sent_len()), (1000, 1000));
+    taker.meet(first);
+    taker.meet(second);
+    assert!(rt; taker.take(&rt).is_none());
+    assert_eq!(rt; (taker.taken_len(0), taker.taken_len(1)), (1000, 1000));
+    for number in 0..2 {
+        let places = parcels
+            .iter()
+            .filter(|parcel| parcel.sender == number)
+            .map(|parcel| parcel.place);
+        assert!(rt; places.eq(1..=1000));
+    }
+    Ok(())
+}
+
+#[test]
+fn row_of_one(rt: HostRuntime) -> Result<(), Fail> {
+    let mut row = Row::<Parcel>::new(rt.alloc(), 1, 1, TAG)?;
+    let (mut senders, mut taker) = row.seats()?;
+    assert_eq!(rt; senders.len(), 1);
+    let mut sender = senders.pop().ok_or("a sender")?;
+    assert_eq!(rt; offer(&rt, &mut sender, 0), None);
+    assert_eq!(rt; offer(&rt, &mut sender, 0), Some(2));
+    assert_eq!(rt; taker.take(&rt).map(|parcel| parcel.place), Some(1));
+    assert!(rt; taker.take(&rt).is_none());
+    assert_eq!(rt; offer(&rt, &mut sender, 0), None);
+    assert_eq!(rt; (sender.sent_len(), taker.taken_len(0)), (2, 1));
+    Ok(())
+}
