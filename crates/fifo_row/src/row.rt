@@ -43,7 +43,8 @@ impl<I: Item> Model for Row<I> {
 }
 
 impl<I: Item> Row<I> {
-    /// A row that holds nothing. Its ends take memory once more, at [`Row::seats`].
+    /// A row that holds nothing, of at least one sender and with room for at least one item. It takes memory for its capacity, and its ends
+    /// take some once more, at [`Row::seats`].
     pub fn new(alloc: Global, senders: u16, capacity: usize, tag: u16) -> Result<Row<I>, AllocError>
         requires senders { 0 < senders }
         requires capacity { 0 < capacity }

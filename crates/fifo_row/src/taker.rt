@@ -103,7 +103,7 @@ impl<'r, I: Item> Taker<'r, I> {
         }
     }
 
-    /// Takes in a sender of this row that has ended, with all that it sent. It takes no memory.
+    /// Takes in a sender of this row that has ended, with all that it sent. What was taken of it so far begins that. It takes no memory.
     pub fn meet(&mut self, sender: Sender<'r, I>)
         requires { sender.row ≡ self.old.row }
         ensures met { self.new ≡ record self.old { met = (sender.entry.number, sender.entry.sent) ∷ self.old.met } }
