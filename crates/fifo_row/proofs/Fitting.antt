@@ -1,9 +1,8 @@
 -- What the rule says of single passes, and of a row that opens.
-use Rattle.std.proofs.Common.{◌≡◌, ◌≢◌, ℕ, zero, suc, true, false, true≢false, List, [], ◌∷◌, ◌++◌, refl, ap, sym, ◌∙◌, subst, arith, Some, None, Option}
+use Rattle.std.proofs.Common.{◌≡◌, ◌≢◌, ℕ, zero, suc, true, false, true≢false, List, [], ◌∷◌, refl, ap, sym, ◌∙◌, subst, arith, Some, None, Option}
 use mathlib.Core.Option.{some, some-injective, some-ne-none}
 use lib.ListN.{get_elem?}
 use Rattle.fifo_row.specs.declared.view.View.{View}
-use Rattle.fifo_row.specs.Lists.{of, Met}
 use Rattle.fifo_row.specs.Views.{opening_view, sender_view, taker_view, spent_view}
 use Rattle.fifo_row.specs.Rule.{FitsSender, FitsTaker, Fits, Kept}
 use Rattle.fifo_row.specs.Steps.{IsState}
@@ -64,10 +63,3 @@ module _ {I : Type 0} (from : I → ℕ) (fact : I → ℕ → ℕ → ℕ → T
   -- a pass learns that there is such a state
   pub is_state : (pass : ℕ) (v : View I) → Learns (Kept from fact) pass v (IsState from fact v)
   is_state pass v items views h at = (views, pass, h, at)
-
-  -- of a sender that was met, what was taken and then what the row holds is all that it sent
-  pub met_flows : (items : List I) (views : List (View I)) (p k : ℕ) (v : View I) (sent : List I)
-      → Kept from fact items views → get_elem? views p ≡ some v → v.takes ≡ true → Met v.met k sent → of from k (v.taken ++ items) ≡ sent
-  met_flows items views p k v sent h at takes m =
-      let mine = (h.fair.fits p v at).as_taker takes in
-      ap (λ l. of from k (l ++ items)) mine.taken_is ∙ (mine.ended k sent m).2

@@ -1,6 +1,7 @@
 pub mod Filters
 pub mod Places
 pub mod Fitting
+pub mod Flowing
 pub mod Sending
 pub mod Taking
 pub mod Seating

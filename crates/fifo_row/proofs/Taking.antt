@@ -14,7 +14,8 @@ use Rattle.fifo_row.specs.Rule.{Fits, Fair, Kept}
 use Rattle.fifo_row.specs.Steps.{Takes, IsState, WasEmpty}
 use Rattle.fifo_row.proofs.Filters.{of-append, of-at}
 use Rattle.fifo_row.proofs.Places.{get-seam, all_set}
-use Rattle.fifo_row.proofs.Fitting.{as_taker, met_flows}
+use Rattle.fifo_row.proofs.Fitting.{as_taker}
+use Rattle.fifo_row.proofs.Flowing.{met_flows}
 
 module _ {I : Type 0} (from : I → ℕ) (fact : I → ℕ → ℕ → ℕ → Type 0) where
   takes_fair : (tag reader : ℕ) (seat : ℕ → Option ℕ) (all taken : List I) (views : List (View I)) (pass t made : ℕ) (got : List I) (met : List (ℕ × List I)) (x : I)
@@ -71,11 +72,13 @@ module _ {I : Type 0} (from : I → ℕ) (fact : I → ℕ → ℕ → ℕ → T
   -- an empty row: of each sender that was met, all was taken
   pub all_ended : (t : Taking I) → WasEmpty from fact t → AllEnded from t
   all_ended t (views, pass, h, at) k sent m =
-      ap (of from k) (sym (append-nil t.taken)) ∙ met_flows from fact [] views pass k (taker_view t.tag t.senders t.taken t.met) sent h at refl m
+      let v : View I = taker_view t.tag t.senders t.taken t.met in
+      ap (of from k) (sym (append-nil t.taken)) ∙ met_flows from fact [] views v k sent (record { kept = h; pass = pass; at = at; takes = refl }) m
 
   -- what was taken of a sender that was met begins all that it sent
   pub begins_as : (v : View I) (t made : ℕ) (taken : List I) (met : List (ℕ × List I)) (k : ℕ) (sent : List I)
       → v ≡ taker_view t made taken met → ((items : List I) × IsState from fact v items) → Met met k sent → Begins (of from k taken) sent
   begins_as v t made taken met k sent is seen m =
-      let (views, pass, h, at) = subst (λ (u : View I). IsState from fact u seen.0) is seen.1 in
-      (of from k seen.0, sym (of-append from k taken seen.0) ∙ met_flows from fact seen.0 views pass k (taker_view t made taken met) sent h at refl m)
+      let u : View I = taker_view t made taken met in
+      let (views, pass, h, at) = subst (λ (x : View I). IsState from fact x seen.0) is seen.1 in
+      (of from k seen.0, sym (of-append from k taken seen.0) ∙ met_flows from fact seen.0 views u k sent (record { kept = h; pass = pass; at = at; takes = refl }) m)

@@ -1,5 +1,5 @@
 -- A row and its ends, as contracts see them. Profile.
-use Rattle.std.specs.Prelude.{◌≡◌, ◌<◌, ℕ, suc, List, [], length, Bool, Some, slice_get}
+use Rattle.std.specs.Prelude.{◌≡◌, ◌<◌, ℕ, suc, List, [], length, Bool, false, Some, slice_get}
 use Rattle.atomic_table.specs.Seated.{TableId}
 use Rattle.fifo_row.specs.Lists.{of, Met}
 
@@ -18,6 +18,10 @@ pub record Fresh : Type 0 where
   pub tag : ℕ
   pub senders : ℕ
   pub seated : Bool
+
+-- a row whose ends were not given out
+abbrev pub unseated : RowName → ℕ → ℕ → ℕ → Fresh
+unseated row capacity tag senders = record { row = row; capacity = capacity; tag = tag; senders = senders; seated = false }
 
 -- the seat of a sender: its number, and what it sent
 pub record Sending (I : Type 0) : Type 0 where

@@ -3,3 +3,4 @@ pub mod Ends
 pub mod Views
 pub mod Rule
 pub mod Steps
+pub mod Flows

@@ -1,7 +1,7 @@
 //! A row before its ends are given out.
 ghost use Rattle.std.specs.Prelude.{◌≡◌, ◌<◌, ◌+◌, [], false, IfOk};
 ghost use Rattle.crossbeam_queue.specs.Passes.{IsPassOf, ruled_capacity};
-ghost use Rattle.fifo_row.specs.Ends.{Seats};
+ghost use Rattle.fifo_row.specs.Ends.{Seats, unseated};
 ghost use Rattle.fifo_row.specs.Views.{known, opening_view, sender_view, taker_view};
 
 use crate::item::Item;
@@ -31,19 +31,24 @@ impl<I: Item> Model for Row<I> {
 
     ghost Value = { Fresh };
 
-    ghost view = { λ r. record { row = r.queue.table.shared.table_id; capacity = ruled_capacity r.queue; tag = r.tag; senders = r.senders; seated = is_none r.first } };
+    ghost view = { λ r. record {
+      row = r.queue.table.shared.table_id;
+      capacity = ruled_capacity r.queue;
+      tag = r.tag;
+      senders = r.senders;
+      seated = is_none r.first;
+    } };
 
     ghost invariant = { λ r. (0 < r.senders) × IfSome r.first (λ p. IsPassOf r.queue p × (known p ≡ opening_view)) };
 }
 
 impl<I: Item> Row<I> {
-    /// A row that holds nothing. Its ends take memory once more, at [`Row::seats`].
+    /// A row that holds nothing, of at least one sender and with room for at least one item. It takes memory for its capacity, and its ends
+    /// take some once more, at [`Row::seats`].
     pub fn new(alloc: Global, senders: u16, capacity: usize, tag: u16) -> Result<Row<I>, AllocError>
         requires senders { 0 < senders }
         requires capacity { 0 < capacity }
-        ensures sizes { IfOk result (λ row. (row.capacity ≡ capacity) × (row.senders ≡ senders)) }
-        ensures tag { IfOk result (λ row. row.tag ≡ tag) }
-        ensures seated { IfOk result (λ row. row.seated ≡ false) }
+        ensures { IfOk result (λ row. row ≡ unseated row.row capacity tag senders) }
     {
         let (queue, first) = Queue::ruled(alloc, capacity)?;
         Ok(Row {
@@ -78,7 +83,8 @@ fn seat_all<'r, I: Item>(
 ) -> Result<(Vec<Sender<'r, I>>, Taker<'r, I>), AllocError>
     requires senders { 0 < senders }
     requires pass { IsPassOf queue.now pass × (known pass ≡ opening_view) }
-    ensures { IfOk result (λ ends. Seats ends.0.items ends.1 (record { row = queue.now.table.shared.table_id; capacity = ruled_capacity queue.now; tag = tag; senders = senders; seated = false })) }
+    ensures { IfOk result (λ ends. Seats ends.0.items ends.1
+        (unseated queue.now.table.shared.table_id (ruled_capacity queue.now) tag senders)) }
 {
     let counts = Vec::from_elem(alloc, 0u64, usize::from(senders))?;
     let mut ends = Vec::with_capacity(alloc, usize::from(senders))?;

@@ -36,9 +36,18 @@ impl<'r, I: Item> Model for Sender<'r, I> {
 
     ghost Value = { Sending I };
 
-    ghost view = { λ s. record { row = s.pass.table_id; capacity = ruled_capacity s.queue.now; tag = s.tag; number = s.number; sent = (known s.pass).sent } };
+    ghost view = { λ s. record {
+      row = s.pass.table_id;
+      capacity = ruled_capacity s.queue.now;
+      tag = s.tag;
+      number = s.number;
+      sent = (known s.pass).sent;
+    } };
 
-    ghost invariant = { λ s. IsPassOf s.queue.now s.pass × (known s.pass ≡ sender_view s.tag s.number (known s.pass).sent) × (s.count ≡ length (known s.pass).sent) × (s.count ≤ 2 ^ 62) };
+    ghost invariant = { λ s. IsPassOf s.queue.now s.pass
+        × (known s.pass ≡ sender_view s.tag s.number (known s.pass).sent)
+        × (s.count ≡ length (known s.pass).sent)
+        × (s.count ≤ 2 ^ 62) };
 }
 
 impl<'r, I: Item> Sender<'r, I> {
@@ -50,7 +59,13 @@ impl<'r, I: Item> Sender<'r, I> {
         number: u16,
     ) -> Sender<'r, I>
         requires { IsPassOf queue.now pass × (known pass ≡ sender_view tag number []) }
-        ensures { result ≡ record { row = queue.now.table.shared.table_id; capacity = ruled_capacity queue.now; tag = tag; number = number; sent = [] } }
+        ensures { result ≡ record {
+          row = queue.now.table.shared.table_id;
+          capacity = ruled_capacity queue.now;
+          tag = tag;
+          number = number;
+          sent = [];
+        } }
     {
         Sender {
             queue,

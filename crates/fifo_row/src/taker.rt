@@ -32,9 +32,18 @@ impl<'r, I: Item> Model for Taker<'r, I> {
 
     ghost Value = { Taking I };
 
-    ghost view = { λ t. record { row = t.pass.table_id; capacity = ruled_capacity t.queue.now; tag = t.tag; senders = length t.counts.items; taken = (known t.pass).taken; met = (known t.pass).met } };
+    ghost view = { λ t. record {
+      row = t.pass.table_id;
+      capacity = ruled_capacity t.queue.now;
+      tag = t.tag;
+      senders = length t.counts.items;
+      taken = (known t.pass).taken;
+      met = (known t.pass).met;
+    } };
 
-    ghost invariant = { λ t. IsPassOf t.queue.now t.pass × (known t.pass ≡ taker_view t.tag (length t.counts.items) (known t.pass).taken (known t.pass).met) × ((k : ℕ) → k < length t.counts.items → slice_index t.counts.items k ≡ length (of I.from k (known t.pass).taken)) };
+    ghost invariant = { λ t. IsPassOf t.queue.now t.pass
+        × (known t.pass ≡ taker_view t.tag (length t.counts.items) (known t.pass).taken (known t.pass).met)
+        × ((k : ℕ) → k < length t.counts.items → slice_index t.counts.items k ≡ length (of I.from k (known t.pass).taken)) };
 }
 
 impl<'r, I: Item> Taker<'r, I> {
@@ -47,7 +56,14 @@ impl<'r, I: Item> Taker<'r, I> {
     ) -> Taker<'r, I>
         requires pass { IsPassOf queue.now pass × (known pass ≡ taker_view tag (length counts.items) [] []) }
         requires counts { counts.items ≡ replicate (length counts.items) 0 }
-        ensures { result ≡ record { row = queue.now.table.shared.table_id; capacity = ruled_capacity queue.now; tag = tag; senders = length counts.items; taken = []; met = [] } }
+        ensures { result ≡ record {
+          row = queue.now.table.shared.table_id;
+          capacity = ruled_capacity queue.now;
+          tag = tag;
+          senders = length counts.items;
+          taken = [];
+          met = [];
+        } }
     {
         Taker {
             queue,
@@ -87,7 +103,7 @@ impl<'r, I: Item> Taker<'r, I> {
         }
     }
 
-    /// Takes in a sender of this row that has ended, with all that it sent. It takes no memory.
+    /// Takes in a sender of this row that has ended, with all that it sent. What was taken of it so far begins that. It takes no memory.
     pub fn meet(&mut self, sender: Sender<'r, I>)
         requires { sender.row ≡ self.old.row }
         ensures met { self.new ≡ record self.old { met = (sender.entry.number, sender.entry.sent) ∷ self.old.met } }

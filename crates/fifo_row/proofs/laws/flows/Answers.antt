@@ -1,11 +1,14 @@
-use Rattle.std.proofs.Common.{◌++◌, ap, ◌∙◌}
-use Rattle.fifo_row.specs.Lists.{of}
-use Rattle.fifo_row.proofs.Fitting.{met_flows}
+use Rattle.fifo_row.proofs.Flowing.{seated_flows, met_flows, of_senders, keeps_facts}
 use Rattle.fifo_row.proofs.laws.flows.Goals as goal
 
 pub returns-clause-seated : goal.returns-clause-seated
-returns-clause-seated g c = λ items views p q v w h at takes at' sends.
-    ap (λ l. of g.I.Item.from w.number (l ++ items)) ((h.fair.fits p v at).as_taker takes).taken_is ∙ ((h.fair.fits q w at').as_sender sends).sent_is
+returns-clause-seated g c = seated_flows g.I.Item.from g.I.Item.fact
 
 pub returns-clause-met : goal.returns-clause-met
 returns-clause-met g c = met_flows g.I.Item.from g.I.Item.fact
+
+pub returns-clause-of_senders : goal.returns-clause-of_senders
+returns-clause-of_senders g c = of_senders g.I.Item.from g.I.Item.fact
+
+pub returns-clause-facts : goal.returns-clause-facts
+returns-clause-facts g c = keeps_facts g.I.Item.from g.I.Item.fact
