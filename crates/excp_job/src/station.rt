@@ -10,7 +10,7 @@ use io_images::Extent;
 use request_piece::{Name, Posted, Request};
 use std::alloc::Global;
 use std::marker::Model;
-use unit_book::{OpenError, Starting, UnitBook};
+use unit_book::{Interruption, OpenError, Running, Starting, UnitBook};
 
 /// The most commands of one burst: a program has no more.
 const WHOLE_PROGRAM: u32 = 4097;
@@ -127,37 +127,41 @@ fn drive(book: &mut UnitBook<Disk>) -> Result<(), Fault>
 fn cycle(book: &mut UnitBook<Disk>) -> Result<bool, Fault>
     ensures { arrivals book.new.trace ≡ arrivals book.old.trace }
 {
-    let idle = start(book)?;
+    let idle = matches!(start(book)?, Starting::Idle);
     if !idle {
-        run(book)?;
+        run(book, WHOLE_PROGRAM)?;
         interrupt(book)?;
     }
     Ok(idle)
 }
 
-fn start(book: &mut UnitBook<Disk>) -> Result<bool, Fault>
+fn start(book: &mut UnitBook<Disk>) -> Result<Starting, Fault>
     ensures { arrivals book.new.trace ≡ arrivals book.old.trace }
 {
     match book.start() {
-        Ok(answer) => Ok(matches!(answer, Starting::Idle)),
+        Ok(answer) => Ok(answer),
         Err(_) => Err(Fault::NoMemory),
     }
 }
 
-fn run(book: &mut UnitBook<Disk>) -> Result<(), Fault>
+fn run(book: &mut UnitBook<Disk>, max: u32) -> Result<Running, Fault>
+    requires { 1 ≤ max }
     ensures { arrivals book.new.trace ≡ arrivals book.old.trace }
 {
-    match book.run(WHOLE_PROGRAM) {
-        Ok(_) => Ok(()),
+    match book.run(max) {
+        Ok(answer) => Ok(answer),
         Err(_) => Err(Fault::NoMemory),
     }
 }
 
-fn interrupt(book: &mut UnitBook<Disk>) -> Result<(), Fault>
+fn interrupt(book: &mut UnitBook<Disk>) -> Result<Interruption, Fault>
     ensures { arrivals book.new.trace ≡ arrivals book.old.trace }
 {
     match book.interrupt() {
-        Ok(_) => Ok(()),
+        Ok(answer) => Ok(answer),
         Err(_) => Err(Fault::NoMemory),
     }
 }
+
+#[cfg(test)]
+mod tests;

@@ -316,6 +316,46 @@ fn requests_in_order(rt: HostRuntime) -> Result<(), Fail> {
     )
 }
 
+/// A read by a list of two words on an area of 4,100 bytes: the first word leads to the last two bytes of a block of
+/// 2,048, and the second to another block, or to none.
+#[test]
+fn words_over_two_blocks(rt: HostRuntime) -> Result<(), Fail> {
+    let read = "0600105804000004 0000000000000000 0000000001000000 ";
+    let zeros = "00000000000000000000000000000000";
+    for (words, show, post) in [
+        (
+            "000017FE00002000 ",
+            "0017FE 4",
+            "7F 001048 0C00 0000 0000 C1C20000",
+        ),
+        (
+            "000017FE00002000 ",
+            "002000 4",
+            "7F 001048 0C00 0000 0000 C3C40000",
+        ),
+        (
+            "000017FE00001804 ",
+            "0017FE 4",
+            "41 001048 0020 0000 0000 00000000",
+        ),
+    ] {
+        let mut text = joined(&rt, &[DISK, OUTPUT, IOB, SEARCH, read, words])?;
+        // 4,100 bytes in all: 96 stand there, and 250 times 16 and 4 follow
+        for _ in 0..250 {
+            text.extend_from_slice(zeros.as_bytes())?;
+        }
+        for part in ["00000000", "\nexcp 0 0 1 001000 0 ", show] {
+            text.extend_from_slice(part.as_bytes())?;
+        }
+        let wanted = joined(&rt, &["post 0 0 1 ", post, "\nend 1\n"])?;
+        match printed(&rt, &text) {
+            Ok(output) => assert_eq!(rt; output, wanted),
+            Err(fault) => assert_eq!(rt; fault, Fault::NoMemory),
+        }
+    }
+    Ok(())
+}
+
 /// Broken scripts, each with the line of its fault.
 const BROKEN: [(&str, usize, FaultName); 17] = [
     ("", 0, FaultName::Order),

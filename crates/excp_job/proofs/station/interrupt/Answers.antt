@@ -3,4 +3,4 @@ use Rattle.unit_book.proofs.Counting.{interrupts-keep}
 use Rattle.excp_job.proofs.station.interrupt.Goals as goal
 
 pub returns-in-Ok : goal.returns-in-Ok
-returns-in-Ok c = interrupts-keep disk _ c.in-Ok.field-0 _ c.in-Ok.ensures.ok
+returns-in-Ok c = interrupts-keep disk _ c.in-Ok.answer _ c.in-Ok.ensures.ok

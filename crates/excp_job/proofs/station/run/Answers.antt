@@ -3,4 +3,4 @@ use Rattle.unit_book.proofs.Counting.{runs-keep}
 use Rattle.excp_job.proofs.station.run.Goals as goal
 
 pub returns-in-Ok : goal.returns-in-Ok
-returns-in-Ok c = runs-keep disk _ 4097 c.in-Ok.field-0 _ c.in-Ok.ensures.ok
+returns-in-Ok c = runs-keep disk _ c.args.max c.in-Ok.answer _ c.in-Ok.ensures.ok

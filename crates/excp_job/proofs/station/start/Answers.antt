@@ -2,5 +2,5 @@ use Rattle.ckd_disk.specs.Disk.{disk}
 use Rattle.unit_book.proofs.Counting.{starts-keep}
 use Rattle.excp_job.proofs.station.start.Goals as goal
 
-pub returns-in_default : goal.returns-in_default
-returns-in_default c = starts-keep disk _ c.in-Ok.answer _ c.in-Ok.ensures.ok
+pub returns-in-Ok : goal.returns-in-Ok
+returns-in-Ok c = starts-keep disk _ c.in-Ok.answer _ c.in-Ok.ensures.ok
