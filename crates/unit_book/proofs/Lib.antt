@@ -22,3 +22,6 @@ pub mod NameLaws
 pub mod OrderLaws
 pub mod DoomLaws
 pub mod Worked
+pub mod Controls
+pub mod Halts
+pub mod Awaiting
