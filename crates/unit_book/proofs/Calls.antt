@@ -1,6 +1,6 @@
 -- What the calls of a book come to, one step of its ledger after another.
 use Rattle.std.proofs.Common.{◌≡◌, ◌≤◌, ◌+◌, ℕ, Bool, true, false, Option, Some, Result, Ok, Err, List, [], ◌∷◌, ◌++◌, append_assoc, length, refl, sym, ap, ◌∙◌, arith}
-use Rattle.std.specs.Prelude.{OnOk, OnErr}
+use Rattle.std.specs.Prelude.{OnOk, OnErr, drop}
 use Rattle.std.specs.declared.alloc.AllocError.{AllocError}
 use Rattle.io_images.specs.declared.csw.Csw.{Csw}
 use Rattle.io_images.specs.declared.code.Code.{Code}
@@ -10,16 +10,19 @@ use Rattle.request_piece.specs.PostedState.{PostedState}
 use Rattle.request_piece.specs.declared.piece.Name.{Name}
 use Rattle.unit_book.specs.declared.answer.Running.{Running}
 use Rattle.unit_book.specs.declared.answer.Running.TheVariants.{Quiet, Ran}
+use Rattle.request_piece.specs.declared.scope.Scope.{Scope}
+use Rattle.unit_book.specs.declared.entry.Mode.{Mode}
 use Rattle.unit_book.specs.declared.entry.Entry.{Entry}
-use Rattle.unit_book.specs.declared.entry.Entry.TheVariants.{Opened, Post}
+use Rattle.unit_book.specs.declared.entry.Entry.TheVariants.{Opened, Purge, Close, Post}
 use Rattle.unit_book.specs.Trace.{request_of, waiting}
 use Rattle.unit_book.specs.Dcbs.{opened_count, doomed}
 use Rattle.unit_book.specs.Media.{area}
-use Rattle.unit_book.specs.Posts.{posted_value, posted_since}
+use Rattle.unit_book.specs.Posts.{posted, posted_value, posted_since}
+use Rattle.unit_book.specs.Controls.{halted_by, after_halt}
 use Rattle.unit_book.specs.Dooms.{after_dooms}
 use Rattle.unit_book.specs.Book.{Book}
 use Rattle.unit_book.specs.Answers.{Adds, Posts, PostsOne, RunsBook}
-use Rattle.unit_book.specs.Legal.{Settled, due, doomed_first}
+use Rattle.unit_book.specs.Legal.{Due, ToHalt, ToPost, Free, Settled, due, doomed_first}
 use Rattle.unit_book.proofs.Dooms.{settled-ran, settled-open, doomed-few, due-no_halt}
 use Rattle.unit_book.proofs.Purges.{since-post}
 
@@ -60,3 +63,24 @@ module _ {D : Type 0} (meaning : Meaning D) (old mid posting new : Book D) (n : 
   -- only the dooms are due after a post
   pub sweep-due : PostsOne meaning mid n csw sense code posting → due meaning posting.mounted posting.trace ≡ doomed_first (doomed posting.trace)
   sweep-due p = rw p (due-no_halt meaning mid.mounted (Post n csw sense code ∷ mid.trace) (λ n a. refl))
+
+-- entries that post nothing, and what they doom, as one step
+module _ {D : Type 0} (meaning : Meaning D) where
+  pub add-then-sweep : (old adding new : Book D) (G : List Entry) → posted meaning old.mounted G ≡ posted meaning old.mounted old.trace → adding ≡ record old { trace = G; spare = adding.spare } →
+      Posts meaning adding (after_dooms adding.trace) adding.again new → Posts meaning old (after_dooms G) old.again new
+  add-then-sweep old adding new G p a s =
+      let r = rw a at s in
+      let out : posted_since meaning old.mounted G (after_dooms G) ≡ posted_since meaning old.mounted old.trace (after_dooms G) = ap (λ x. drop (length x) (posted meaning old.mounted (after_dooms G))) p in
+      r ∙ ap (λ o. record old { trace = after_dooms G; out = old.out ++ o; spare = new.spare }) out
+
+  pub posted-close : (mounted : D) (d : ℕ) (H : List Entry) → posted meaning mounted (Close d ∷ H) ≡ posted meaning mounted H
+  unfolding posted
+  posted-close mounted d H = refl
+
+  pub posted-halt : (mounted : D) (scope : Scope) (mode : Mode) (H : List Entry) → posted meaning mounted (after_halt meaning mounted (Purge scope mode ∷ H)) ≡ posted meaning mounted H
+  unfolding posted
+  posted-halt mounted scope mode H = by_due (due meaning mounted (Purge scope mode ∷ H)) where
+    by_due : (d : Due) → posted meaning mounted (halted_by d (Purge scope mode ∷ H)) ≡ posted meaning mounted H
+    by_due (ToHalt n) = refl
+    by_due (ToPost n) = refl
+    by_due Free = refl

@@ -23,3 +23,6 @@ pub mod OrderLaws
 pub mod DoomLaws
 pub mod Worked
 pub mod Counting
+pub mod Controls
+pub mod Halts
+pub mod Awaiting

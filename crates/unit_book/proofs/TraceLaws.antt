@@ -38,7 +38,7 @@ module _ {D : Type 0} (meaning : Meaning D) (mounted : D) where
   no-doomed-halt (r ∷ rs) m h = cc
 
   -- what is halted is active
-  halt-active : (m : Name) (H : List Entry) → due meaning mounted H ≡ ToHalt m → active H ≡ Some m
+  pub halt-active : (m : Name) (H : List Entry) → due meaning mounted H ≡ ToHalt m → active H ≡ Some m
   unfolding due
   halt-active m H h = by_active (active H) h where
     by_active : (o : Option Name) → due_by meaning mounted H o ≡ ToHalt m → o ≡ Some m

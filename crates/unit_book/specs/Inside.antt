@@ -1,5 +1,5 @@
 -- WHAT THE FIELDS OF A BOOK SAY: they are those of its trace.
-use Rattle.std.specs.Prelude.{◌≡◌, ◌≤◌, ℕ, ◌+◌, ◌-◌, ◌==◌, Bool, true, false, if◌then◌else◌, Option, Some, None, List, [], ◌∷◌, ◌++◌, length, slice_get}
+use Rattle.std.specs.Prelude.{◌≡◌, ◌≤◌, ℕ, ◌+◌, ◌-◌, ◌==◌, Bool, true, false, ◌||◌, ◌&&◌, if◌then◌else◌, Option, Some, None, List, [], ◌∷◌, ◌++◌, length, slice_get}
 use Rattle.std.specs.List.{list_any}
 use Rattle.circular_buffer.specs.Buffer.{Buffer}
 use Rattle.std.specs.Box.{with_value}
@@ -10,19 +10,22 @@ use Rattle.io_images.specs.declared.code.Code.{Code}
 use Rattle.io_images.specs.declared.code.Code.TheVariants.{Purged}
 use Rattle.device_port.specs.Meaning.{Meaning}
 use Rattle.device_port.specs.declared.kind.Kind.{Kind}
-use Rattle.subchannel.specs.Subchannel.{Channel, Phase, Absent, Idle, Running, Pending}
+use Rattle.subchannel.specs.Subchannel.{Channel, no_status, Phase, Absent, Idle, Running, Pending}
 use Rattle.recovery.specs.declared.answer.Verdict.TheVariants.{Retry}
 use Rattle.recovery.specs.Verdict.{verdict}
 use Rattle.request_piece.specs.PostedState.{PostedState}
 use Rattle.request_piece.specs.Places.{Placed}
 use Rattle.request_piece.specs.declared.piece.Piece.{Piece}
+use Rattle.request_piece.specs.Scope.{covers}
+use Rattle.request_piece.specs.declared.scope.Scope.{Scope}
 use Rattle.unit_queue.specs.Queue.{Queue, queue}
 use Rattle.unit_book.specs.declared.active.Active.{Active}
 use Rattle.unit_book.specs.declared.active.Doing.{Doing}
 use Rattle.unit_book.specs.declared.active.Doing.TheVariants.{OnChannel, Again}
 use Rattle.unit_book.specs.declared.dcb.Dcb.{Dcb}
 use Rattle.unit_book.specs.declared.entry.Entry.{Entry}
-use Rattle.unit_book.specs.Trace.{waiting, active, request_of, starts_of, is_halted, is_covered, opens_for_input}
+use Rattle.unit_book.specs.declared.entry.Mode.{Mode}
+use Rattle.unit_book.specs.Trace.{waiting, active, request_of, starts_of, is_halt, is_halted, is_covered, opens_for_input}
 use Rattle.unit_book.specs.Media.{Stage, Goes, Stopped, Over, current, stage, device}
 use Rattle.unit_book.specs.Dcbs.{is_opened, is_closed, extents_of, flag, opened_count}
 use Rattle.unit_book.specs.Legal.{Legal, verdict_of, ended_code}
@@ -39,6 +42,11 @@ abbrev pub again_by : Doing → Bool
 again_by OnChannel = false
 again_by (Again csw sense) = true
 
+-- the status that is kept of an attempt that is to be tried again
+abbrev pub kept_by : Doing → Csw × ℕ
+kept_by OnChannel = (no_status, 0)
+kept_by (Again csw sense) = (csw, sense)
+
 abbrev pub again_of : Option Active → Bool
 again_of None = false
 again_of (Some a) = again_by a.doing
@@ -50,6 +58,10 @@ held_count (Some a) = 1
 -- the active request with its storage as it is now
 abbrev pub with_area : Active → Storage → Active
 with_area a m = record a { piece = with_value a.piece (record a.piece.value { area = m }) }
+
+-- the active request after a purge
+abbrev pub after_cover : Scope → Mode → Active → Active
+after_cover scope mode a = record a { covered = (covers scope a.piece.value && is_halt mode) || a.covered }
 
 -- the stage of a request whose status is pending
 abbrev pub pending_stage : Bool → Csw → ℕ → Stage
@@ -87,6 +99,16 @@ extents_at (Some c) = c.extents
 abbrev pub noted : Bool → Option Dcb → Option Dcb
 noted error None = None
 noted error (Some c) = Some (record { input = c.input; extents = c.extents; closed = c.closed; in_error = if error then true else c.in_error })
+
+-- the DCB is closed, if it is this one
+abbrev pub shut : Bool → Option Dcb → Option Dcb
+shut here None = None
+shut here (Some c) = Some (record { input = c.input; extents = c.extents; closed = here || c.closed; in_error = c.in_error })
+
+-- the DCB loses its flag, if it is this one
+abbrev pub unflagged : Bool → Option Dcb → Option Dcb
+unflagged here None = None
+unflagged here (Some c) = Some (record { input = c.input; extents = c.extents; closed = c.closed; in_error = if here then false else c.in_error })
 
 -- THE FIELDS AND THE TRACE
 

@@ -10,3 +10,4 @@ pub mod Book
 pub mod Answers
 pub mod Inside
 pub mod Laws
+pub mod Controls

@@ -1,15 +1,17 @@
 //! The active request.
 
-ghost use Rattle.std.specs.Prelude.{◌≡◌, ◌+◌, ◌<◌, ◌≤◌, false};
+ghost use Rattle.std.specs.Prelude.{◌≡◌, ◌+◌, ◌<◌, ◌≤◌, false, true};
 ghost use Rattle.io_area.specs.Storage.{SamePlace};
 ghost use Rattle.subchannel.specs.Subchannel.{RunsAs, going};
-ghost use Rattle.unit_book.specs.Inside.{pending_code, with_area};
+ghost use Rattle.unit_book.specs.Inside.{after_cover, again_by, kept_by, pending_code, with_area};
 
+use crate::entry::Mode;
+use crate::ledger::empty_status;
 use ccw_programs::Burst;
 use device_port::{Device, Kind};
 use io_images::{Code, Csw};
 use recovery::{Verdict, verdict};
-use request_piece::{Name, Piece};
+use request_piece::{Name, Piece, Scope};
 use subchannel::Subchannel;
 
 /// Whether the active request is on the channel, or awaits its restart with the status of its last attempt.
@@ -74,6 +76,53 @@ impl Active {
             halted: self.halted,
             covered: self.covered,
             doing: Doing::Again(csw, sense),
+        }
+    }
+
+    /// Whether the request awaits its restart.
+    pub fn awaits(&self) -> bool
+        ensures { result ≡ again_by self.now.doing }
+    {
+        match self.doing {
+            Doing::OnChannel => false,
+            Doing::Again(_, _) => true,
+        }
+    }
+
+    /// The status of the last attempt of a request that awaits its restart.
+    pub fn kept_status(&self) -> (Csw, u16)
+        ensures { result ≡ kept_by self.now.doing }
+    {
+        match self.doing {
+            Doing::OnChannel => (empty_status(), 0),
+            Doing::Again(csw, sense) => (csw, sense),
+        }
+    }
+
+    /// The request after a purge, which covers it if it is with Halt and of its scope.
+    pub fn purged(self, scope: Scope, mode: Mode) -> Self
+        ensures { result ≡ after_cover scope mode self }
+    {
+        let covers = mode == Mode::Halt && scope.covers(&self.piece);
+        Active {
+            piece: self.piece,
+            starts: self.starts,
+            halted: self.halted,
+            covered: covers || self.covered,
+            doing: self.doing,
+        }
+    }
+
+    /// The request, whose program was halted.
+    pub fn stopped(self) -> Self
+        ensures { result ≡ record self { halted = true } }
+    {
+        Active {
+            piece: self.piece,
+            starts: self.starts,
+            halted: true,
+            covered: self.covered,
+            doing: self.doing,
         }
     }
 

@@ -37,6 +37,24 @@ pub enum Interruption {
     Ended(Name, Code),
 }
 
+/// What a purge left.
+#[derive(Clone, Copy, PartialEq, Eq, Debug)]
+pub enum Purging {
+    /// No request that it covers is active.
+    Quiet,
+    /// This one is.
+    Active(Name),
+}
+
+/// What `close` left.
+#[derive(Clone, Copy, PartialEq, Eq, Debug)]
+pub enum Closing {
+    /// This request of the DCB is active.
+    Closing(Name),
+    /// None is.
+    Closed,
+}
+
 /// Why a request was not taken.
 #[derive(Clone, Copy, PartialEq, Eq, Debug, Error)]
 pub enum ArriveError {
@@ -56,6 +74,16 @@ pub enum OpenError {
     /// The extents are not such as the device takes.
     #[error("an extent is not one of the device")]
     BadExtent,
+    #[error("no memory")]
+    NoMemory,
+}
+
+/// Why a DCB was not purged, closed or reset.
+#[derive(Clone, Copy, PartialEq, Eq, Debug, Error)]
+pub enum DcbError {
+    /// No DCB with this number was opened; for a reset, none is open.
+    #[error("no such DCB")]
+    NoSuchDcb,
     #[error("no memory")]
     NoMemory,
 }

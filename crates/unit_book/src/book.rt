@@ -1,5 +1,6 @@
 //! The book of a unit: between two calls nothing is due.
 
+mod controls;
 mod readers;
 
 ghost use Rattle.std.specs.Prelude.{◌≡◌, ◌≤◌, ◌<◌, ◌+◌, ◌∷◌, ◌++◌, [], IfOk, IfErr, OnOk, OnErr, IfSome, slice_get, drop};
@@ -150,7 +151,7 @@ impl<D: Device> UnitBook<D> {
                 Ok(Starting::Started(name))
             }
             Next::Violated(name) => {
-                self.ledger.reserve_posts()?;
+                self.ledger.reserve_posts(1)?;
                 let doom = self.ledger.post_violated(name);
                 self.ledger.sweep(doom);
                 Ok(Starting::Violated(name))
@@ -184,7 +185,7 @@ impl<D: Device> UnitBook<D> {
         let sense = decision.sense;
         match decision.code {
             Some(code) => {
-                self.ledger.reserve_posts()?;
+                self.ledger.reserve_posts(1)?;
                 let doom = self.ledger.post(name, decision.csw, sense, code);
                 self.ledger.sweep(doom);
                 Ok(Interruption::Ended(name, code))

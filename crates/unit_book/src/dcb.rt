@@ -1,9 +1,9 @@
 //! The DCBs of a unit.
 
-ghost use Rattle.std.specs.Prelude.{◌≡◌, ◌+◌, ◌==◌, ◌&&◌, ℕ, [], ◌∷◌, ◌++◌, length, OnOk, OnErr, true};
+ghost use Rattle.std.specs.Prelude.{◌≡◌, ◌+◌, ◌==◌, ◌&&◌, ℕ, [], ◌∷◌, ◌++◌, length, OnOk, OnErr, true, false};
 ghost use Rattle.std.specs.Option.{option_copied};
 ghost use Rattle.io_images.specs.Codes.{is_error};
-ghost use Rattle.unit_book.specs.Inside.{dcb_at, mask_at, extents_at, noted};
+ghost use Rattle.unit_book.specs.Inside.{dcb_at, mask_at, extents_at, noted, shut, unflagged};
 
 use crate::extents::Extents;
 use io_images::{Code, Extent};
@@ -112,6 +112,48 @@ impl DcbTable {
             flag(&mut self.rows[at]);
         }
     }
+
+    /// Closes a DCB.
+    pub fn close(&mut self, dcb: u16)
+        ensures dcbs { (d : ℕ) → dcb_at self.new d ≡ shut (dcb == d) (dcb_at self.old d) }
+        ensures count { length self.new ≡ length self.old }
+    {
+        if dcb == 0 {
+            return;
+        }
+        let at = usize::from(dcb) - 1;
+        if at < self.rows.len() {
+            close(&mut self.rows[at]);
+        }
+    }
+
+    /// Clears the error flag of a DCB.
+    pub fn reset(&mut self, dcb: u16)
+        ensures dcbs { (d : ℕ) → dcb_at self.new d ≡ unflagged (dcb == d) (dcb_at self.old d) }
+        ensures count { length self.new ≡ length self.old }
+    {
+        if dcb == 0 {
+            return;
+        }
+        let at = usize::from(dcb) - 1;
+        if at < self.rows.len() {
+            unflag(&mut self.rows[at]);
+        }
+    }
+}
+
+/// Notes that the DCB is closed.
+fn close(dcb: &mut Dcb)
+    ensures { dcb.new ≡ record dcb.old { closed = true } }
+{
+    dcb.closed = true;
+}
+
+/// Clears the error flag.
+fn unflag(dcb: &mut Dcb)
+    ensures { dcb.new ≡ record dcb.old { in_error = false } }
+{
+    dcb.in_error = false;
 }
 
 /// Sets the error flag.

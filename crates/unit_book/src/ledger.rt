@@ -1,5 +1,6 @@
 //! A book whose calls add one entry each.
 
+mod controls;
 mod posts;
 mod programs;
 mod readers;
@@ -23,6 +24,7 @@ use crate::extents::Extents;
 use circular_buffer::HeapCircularBuffer;
 use device_port::Device;
 use io_images::Extent;
+pub(crate) use posts::empty_status;
 use request_piece::{Piece, Posted};
 use std::alloc::{AllocError, AllocFailed, Global};
 use std::marker::Model;
@@ -115,14 +117,15 @@ impl<D: Device> Ledger<D> {
         self.trace.reserve(entries)
     }
 
-    /// Makes room for a post and for those of all that it may doom.
-    pub fn reserve_posts(&mut self) -> Result<(), AllocError>
-        ensures room { OnOk result (length (waiting self.old.trace) + 1 ≤ self.new.spare) }
+    /// Makes room for so many entries and for the posts of all that they may doom.
+    pub fn reserve_posts(&mut self, entries: usize) -> Result<(), AllocError>
+        requires { entries ≤ 2 }
+        ensures room { OnOk result (length (waiting self.old.trace) + entries ≤ self.new.spare) }
         ensures book { self.new ≡ record self.old { spare = self.new.spare } }
         ensures err { OnErr result (self.new ≡ self.old) }
     {
         let _capacity = self.out.capacity();
-        let entries = self.waiting.len() + 1;
+        let entries = self.waiting.len() + entries;
         self.trace.reserve(entries)
     }
 

@@ -16,7 +16,9 @@ mod extents;
 pub mod laws;
 mod ledger;
 
-pub use answer::{ArriveError, Interruption, OpenError, Running, Starting};
+pub use answer::{
+    ArriveError, Closing, DcbError, Interruption, OpenError, Purging, Running, Starting,
+};
 pub use book::UnitBook;
 pub use dcb::DcbState;
 pub use entry::{Entry, Issued, Mode};

@@ -26,7 +26,7 @@ use request_piece::{Name, Piece, Posted};
 use unit_queue::{Selection, WaitQueue};
 
 /// The status of a request that was never started.
-fn empty_status() -> Csw
+pub(crate) fn empty_status() -> Csw
     ensures { result ≡ no_status }
 {
     Csw {
@@ -38,7 +38,7 @@ fn empty_status() -> Csw
 }
 
 /// The value that a post hands out.
-fn posted_from(piece: Box<Piece>, csw: Csw, sense: u16, code: Code) -> Posted
+pub(super) fn posted_from(piece: Box<Piece>, csw: Csw, sense: u16, code: Code) -> Posted
     requires { Placed piece.value }
     ensures { result ≡ posted_value piece.value csw sense code piece.value.area }
 {
@@ -60,7 +60,11 @@ fn post_purged(piece: Box<Piece>, trace: &mut Vec<Entry>, out: &mut HeapCircular
 }
 
 /// Posts all requests of a queue as purged, in order.
-fn post_all(swept: &mut WaitQueue, trace: &mut Vec<Entry>, out: &mut HeapCircularBuffer<Posted>)
+pub(super) fn post_all(
+    swept: &mut WaitQueue,
+    trace: &mut Vec<Entry>,
+    out: &mut HeapCircularBuffer<Posted>,
+)
     requires spare { length swept.old.pieces + vec_len trace.old ≤ vec_capacity trace.old }
     requires room { length swept.old.pieces + length out.old.items ≤ out.old.capacity }
     requires placed { Each Placed swept.old.pieces }

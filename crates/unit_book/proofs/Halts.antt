@@ -1,0 +1,201 @@
+-- A halt, a close and a reset: the fields stay those of the trace.
+use Rattle.std.proofs.Common.{◌≡◌, ℕ, Bool, true, false, not, ◌&&◌, ◌||◌, Option, Some, None, List, [], ◌∷◌, length, refl, sym, ap, ◌∙◌, eqb, inl, inr, subst, if◌then◌else◌}
+use Rattle.std.proofs.lemmas.Bool.{cases_Bool, and_parts}
+use Rattle.std.specs.Prelude.{is_some}
+use Rattle.io_images.specs.declared.csw.Csw.{Csw}
+use Rattle.device_port.specs.Meaning.{Meaning}
+use Rattle.ccw_programs.specs.Place.{Place}
+use Rattle.ccw_programs.specs.declared.context.State.{State}
+use Rattle.ccw_programs.specs.declared.context.State.TheVariants.{Running as Runs, Ended}
+use Rattle.subchannel.specs.Subchannel.{Channel, Phase, Absent, Idle, Running, Pending, halted, halted_phase}
+use Rattle.request_piece.specs.PostedState.{PostedState}
+use Rattle.request_piece.specs.declared.piece.Name.{Name}
+use Rattle.request_piece.specs.declared.piece.Piece.{Piece}
+use Rattle.request_piece.specs.Scope.{covers}
+use Rattle.request_piece.specs.declared.scope.Scope.{Scope}
+use Rattle.unit_book.specs.declared.active.Active.{Active}
+use Rattle.unit_book.specs.declared.active.Doing.{Doing}
+use Rattle.unit_book.specs.declared.active.Doing.TheVariants.{OnChannel, Again}
+use Rattle.unit_book.specs.declared.dcb.Dcb.{Dcb as Row}
+use Rattle.unit_book.specs.declared.entry.Mode.{Mode}
+use Rattle.unit_book.specs.declared.entry.Mode.TheVariants.{Quiesce, Halt}
+use Rattle.unit_book.specs.declared.entry.Entry.{Entry}
+use Rattle.unit_book.specs.declared.entry.Entry.TheVariants.{Opened, Arrive, Start, Ran, Halted, Purge, Close, Reset, Post}
+use Rattle.unit_book.specs.Trace.{same, waiting, arrivals, active, started, request_of, is_halt, is_halted}
+use Rattle.unit_book.specs.Dcbs.{doomed, is_open, is_opened, flag, extents_of}
+use Rattle.unit_book.specs.Media.{attempts, current, stage, stage_by, goes, Goes, Stopped, Over, Stage}
+use Rattle.unit_book.specs.Legal.{Fits, FitsBy, Legal, Due, ToHalt, ToPost, Free, due, due_by, doomed_first, is_to_halt}
+use Rattle.unit_book.specs.Posts.{posted}
+use Rattle.unit_book.specs.Book.{Book, going, going_by}
+use Rattle.unit_book.specs.Controls.{active_of, covered_by, due_after, halted_by, after_halt}
+use Rattle.unit_book.specs.Inside.{ActiveTies, ActivityTies, DoingTies, Ties, dcb_at, dcb_of, shut, unflagged, pending_stage}
+use Rattle.unit_book.proofs.Lists.{same-refl, no_both}
+use Rattle.unit_book.proofs.Dooms.{due-no_halt}
+use Rattle.unit_book.proofs.Controls.{doomed-halted}
+use Rattle.unit_book.proofs.Same.{activity-same, fits-free}
+use Rattle.unit_book.proofs.TraceLaws.{halt-active}
+
+module _ {D : Type 0} (meaning : Meaning D) (mounted : D) where
+  -- WHOM A PURGE HALTS
+  pub quiesces : (scope : Scope) (H : List Entry) → due meaning mounted (Purge scope Quiesce ∷ H) ≡ doomed_first (doomed (Purge scope Quiesce ∷ H))
+  quiesces scope H = due-no_halt meaning mounted (Purge scope Quiesce ∷ H) (λ n a. refl)
+
+  -- none, if no program runs
+  pub halts-none : (scope : Scope) (mode : Mode) (H : List Entry) → is_some (going_by meaning mounted H (active H)) ≡ false → due meaning mounted (Purge scope mode ∷ H) ≡ due_after None (doomed (Purge scope mode ∷ H))
+  unfolding active started attempts request_of
+  halts-none scope Quiesce H g = quiesces scope H
+  halts-none scope Halt H g = due-no_halt meaning mounted (Purge scope Halt ∷ H) (λ n a. still n (rw a at g)) where
+    still : (n : Name) → is_some (if goes (stage meaning mounted n H) then Some n else None) ≡ false → is_to_halt meaning mounted (Purge scope Halt ∷ H) n ≡ false
+    still n h = by_bools (goes (stage meaning mounted n H)) (covers scope (request_of n H)) h where
+      by_bools : (b c : Bool) → is_some (if b then Some n else None) ≡ false → c && b ≡ false
+      by_bools true c k = absurd cc
+      by_bools false true k = refl
+      by_bools false false k = refl
+
+  -- the one that it covers, if its program runs
+  pub halts-active : (scope : Scope) (H : List Entry) → is_some (going_by meaning mounted H (active H)) ≡ true → due meaning mounted (Purge scope Halt ∷ H) ≡ due_after (active_of scope H) (doomed (Purge scope Halt ∷ H))
+  unfolding due active started attempts request_of
+  halts-active scope H g = by_active (active H) g where
+    P : List Entry
+    P = Purge scope Halt ∷ H
+
+    by_active : (o : Option Name) → is_some (going_by meaning mounted H o) ≡ true → due_by meaning mounted P o ≡ due_after (covered_by scope H o) (doomed P)
+    by_active None h = absurd cc
+    by_active (Some n) h = by_bools (covers scope (request_of n H)) (goes (stage meaning mounted n H)) h where
+      by_bools : (c b : Bool) → is_some (if b then Some n else None) ≡ true → (if c && b then ToHalt n else doomed_first (doomed P)) ≡ due_after (if c then Some n else None) (doomed P)
+      by_bools true true k = refl
+      by_bools false true k = refl
+      by_bools c false k = absurd cc
+
+  -- what is to be halted has a program that runs
+  to-halt : (H : List Entry) (n : Name) → is_to_halt meaning mounted H n ≡ true → goes (stage meaning mounted n H) ≡ true
+  to-halt [] n h = absurd cc
+  to-halt (Purge scope Quiesce ∷ H) n h = absurd cc
+  to-halt (Purge scope Halt ∷ H) n h = (and_parts (covers scope (request_of n H)) _ h).1
+  to-halt (Opened d i x ∷ H) n h = absurd cc
+  to-halt (Arrive r ∷ H) n h = absurd cc
+  to-halt (Start m ∷ H) n h = absurd cc
+  to-halt (Ran m j ∷ H) n h = absurd cc
+  to-halt (Halted m ∷ H) n h = absurd cc
+  to-halt (Close d ∷ H) n h = absurd cc
+  to-halt (Reset d ∷ H) n h = absurd cc
+  to-halt (Post m csw sense code ∷ H) n h = absurd cc
+
+  no-halt-first : (rs : List Piece) (n : Name) → doomed_first rs ≡ ToHalt n → ⊥
+  no-halt-first [] n h = cc
+  no-halt-first (r ∷ rs) n h = cc
+
+  pub halt-goes : (n : Name) (H : List Entry) → due meaning mounted H ≡ ToHalt n → goes (stage meaning mounted n H) ≡ true
+  unfolding due
+  halt-goes n H h = by_active (active H) h where
+    by_active : (o : Option Name) → due_by meaning mounted H o ≡ ToHalt n → goes (stage meaning mounted n H) ≡ true
+    by_active None e = absurd (no-halt-first (doomed H) n e)
+    by_active (Some k) e =
+        elim (cases_Bool (is_to_halt meaning mounted H k)) [
+          | inl b ↦ let e' = rw b at e in let q : k ≡ n = cc in subst (λ (x : Name). goes (stage meaning mounted x H) ≡ true) q (to-halt H k b)
+          | inr b ↦ absurd (no-halt-first (doomed H) n (rw b at e))
+        ]
+
+  -- A HALT
+  module _ (H : List Entry) (channel : Channel D) (a : Active) (waiters : List Piece) (table : List Row) (left : List PostedState)
+      (d : due meaning mounted H ≡ ToHalt a.piece.value.name) (t : Ties meaning mounted H channel (Some a) waiters table left) where
+    abbrev n : Name
+    n = a.piece.value.name
+
+    abbrev G : List Entry
+    G = Halted n ∷ H
+
+    -- where a program goes
+    record Going (phase : Phase) (doing : Doing) : Type 0 where
+      place : Place
+      phase_is : phase ≡ Running place
+      place_is : place ≡ (current meaning mounted H).place
+      doing_is : doing ≡ OnChannel
+
+    not-over : (s : Stage) → goes s ≡ true → (b : Bool) (csw : Csw) (sense : ℕ) → s ≡ pending_stage b csw sense → ⊥
+    not-over s g true csw sense e = let k : goes s ≡ false = ap goes e in no_both (goes s) g k
+    not-over s g false csw sense e = let k : goes s ≡ false = ap goes e in no_both (goes s) g k
+
+    runs : (phase : Phase) (doing : Doing) → goes (stage meaning mounted n H) ≡ true → DoingTies meaning mounted H phase a doing → Going phase doing
+    runs Absent doing g k = absurd k
+    runs Idle OnChannel g k = absurd k
+    runs Idle (Again csw sense) g k = absurd (not-over (stage meaning mounted n H) g false csw sense k.0)
+    runs (Running place) OnChannel g k = record { place = place; phase_is = refl; place_is = k.0; doing_is = refl }
+    runs (Running place) (Again csw sense) g k = absurd k
+    runs (Pending csw sense) OnChannel g k = absurd (not-over (stage meaning mounted n H) g a.halted csw sense k)
+    runs (Pending csw sense) (Again c s) g k = absurd k
+
+    stopped : Active
+    stopped = record a { halted = true }
+
+    doing-halt : (phase : Phase) (doing : Doing) → Going phase doing → DoingTies meaning mounted G (halted_phase phase) (record a { halted = true }) doing
+    unfolding attempts
+    doing-halt phase doing k =
+        let e = k.phase_is in
+        let i = k.doing_is in
+        let p = k.place_is in
+        let s = same-refl n in
+        rw (e, i, p, s) refl
+
+    pub ties-halt : Ties meaning mounted G (record channel { phase = halted_phase channel.phase }) (Some (record a { halted = true })) waiters table left
+    unfolding Legal waiting arrivals active started request_of attempts extents_of flag posted
+    ties-halt =
+        let fits : Fits meaning mounted (Halted n) H = subst (λ x. FitsBy meaning mounted x (Halted n) H) (sym d) refl in
+        let s = same-refl n in
+        record {
+          legal = (fits, t.legal);
+          queue = t.queue;
+          placed = t.placed;
+          device = t.device;
+          activity = record {
+            is = t.activity.is;
+            request = t.activity.request;
+            placed = t.activity.placed;
+            starts = t.activity.starts;
+            halted = rw s refl;
+            covered = t.activity.covered;
+            doing = doing-halt channel.phase a.doing (runs channel.phase a.doing (halt-goes n H d) t.activity.doing);
+          };
+          count = t.count;
+          dcbs = t.dcbs;
+          out = t.out;
+        }
+
+  -- A CLOSE AND A RESET
+  module _ (H : List Entry) (channel : Channel D) (o : Option Active) (waiters : List Piece) (table : List Row) (left : List PostedState) (c : ℕ)
+      (settled : due meaning mounted H ≡ Free) (opened : is_open c H ≡ true) (t : Ties meaning mounted H channel o waiters table left) where
+    dcb-closed : (d : ℕ) → shut (eqb c d) (dcb_of d H) ≡ dcb_of d (Close c ∷ H)
+    unfolding flag extents_of
+    dcb-closed d = elim (cases_Bool (is_opened d H)) [ inl i ↦ rw i refl | inr i ↦ rw i refl ]
+
+    dcb-reset : (d : ℕ) → unflagged (eqb c d) (dcb_of d H) ≡ dcb_of d (Reset c ∷ H)
+    unfolding flag extents_of
+    dcb-reset d = elim (cases_Bool (is_opened d H)) [ inl i ↦ rw i refl | inr i ↦ rw i refl ]
+
+    pub ties-close : (new : List Row) → ((d : ℕ) → dcb_at new d ≡ shut (eqb c d) (dcb_at table d)) → length new ≡ length table → Ties meaning mounted (Close c ∷ H) channel o waiters new left
+    unfolding Legal waiting arrivals active started request_of attempts extents_of flag posted
+    ties-close new rows count = record {
+      legal = (fits-free meaning mounted (Close c) H settled opened, t.legal);
+      queue = t.queue;
+      placed = t.placed;
+      device = t.device;
+      activity = activity-same meaning mounted H (Close c ∷ H) channel.phase o refl
+          (λ m e. record { active = refl; request = refl; starts = refl; attempts = refl; halted = refl; covered = refl }) t.activity;
+      count = count ∙ t.count;
+      dcbs = λ d. rows d ∙ ap (shut (eqb c d)) (t.dcbs d) ∙ dcb-closed d;
+      out = t.out;
+    }
+
+    pub ties-reset : (new : List Row) → ((d : ℕ) → dcb_at new d ≡ unflagged (eqb c d) (dcb_at table d)) → length new ≡ length table → Ties meaning mounted (Reset c ∷ H) channel o waiters new left
+    unfolding Legal waiting arrivals active started request_of attempts extents_of flag posted
+    ties-reset new rows count = record {
+      legal = (fits-free meaning mounted (Reset c) H settled opened, t.legal);
+      queue = t.queue;
+      placed = t.placed;
+      device = t.device;
+      activity = activity-same meaning mounted H (Reset c ∷ H) channel.phase o refl
+          (λ m e. record { active = refl; request = refl; starts = refl; attempts = refl; halted = refl; covered = refl }) t.activity;
+      count = count ∙ t.count;
+      dcbs = λ d. rows d ∙ ap (unflagged (eqb c d)) (t.dcbs d) ∙ dcb-reset d;
+      out = t.out;
+    }

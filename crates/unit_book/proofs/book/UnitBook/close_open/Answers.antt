@@ -1,0 +1,13 @@
+use Rattle.std.proofs.Common.{◌∷◌, refl, ◌∙◌, ap}
+use Rattle.unit_book.specs.declared.entry.Entry.TheVariants.{Close}
+use Rattle.unit_book.specs.Book.{Book}
+use Rattle.unit_book.proofs.Calls.{add-then-sweep, posted-close}
+use Rattle.unit_book.proofs.book.UnitBook.close_open.Goals as goal
+
+pub returns-clause-ok : goal.returns-clause-ok
+returns-clause-ok g c =
+    let m = g.D.Device.meaning in
+    let old = c.self.inside.ledger in
+    let r = c.in_ok-reserve_posts.ensures.book in
+    let a = rw r at c.close.ensures.book in
+    rw (← c.self.view_is) (add-then-sweep m old c.close.new.self c.sweep.new.self (Close c.args.dcb ∷ old.trace) (posted-close m old.mounted c.args.dcb old.trace) a c.sweep.ensures.book)

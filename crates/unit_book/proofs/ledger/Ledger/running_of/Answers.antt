@@ -1,0 +1,15 @@
+use Rattle.std.proofs.Common.{◌≡◌, refl, sym, ap, ◌∙◌}
+use Rattle.unit_book.specs.declared.entry.Mode.TheVariants.{Halt}
+use Rattle.unit_book.proofs.Halts.{halts-none, halts-active}
+use Rattle.unit_book.proofs.ledger.Ledger.running_of.Goals as goal
+
+pub returns-then-not-goes : goal.returns-then-not-goes
+returns-then-not-goes g c =
+    let b = c.args.self.now in
+    halts-none g.D.Device.meaning b.mounted c.args.scope Halt b.trace (sym c.goes.ensures ∙ c.if-not-goes.true)
+
+pub returns : goal.returns
+returns g c =
+    let b = c.args.self.now in
+    let e = c.active_of.ensures in
+    rw e (halts-active g.D.Device.meaning b.mounted c.args.scope b.trace (sym c.goes.ensures ∙ c.if-not-goes.false))

@@ -1,0 +1,136 @@
+//! Purges, closes and resets.
+
+ghost use Rattle.std.specs.Prelude.{◌≡◌, ◌≤◌, ◌+◌, true, length, IfOk, IfErr, OnOk, OnErr};
+ghost use Rattle.unit_book.specs.Answers.{Adds};
+ghost use Rattle.unit_book.specs.Controls.{ClosesBook, ClosesBy, DcbRefused, PurgesBook, PurgesBy, ResetRefused, closing, covers_awaiting, purging};
+ghost use Rattle.unit_book.specs.Dcbs.{is_opened, is_open};
+ghost use Rattle.unit_book.specs.Legal.{CanPurge};
+ghost use Rattle.unit_book.specs.Trace.{waiting};
+
+use crate::answer::{Closing, DcbError, Purging};
+use crate::book::UnitBook;
+use crate::dcb::DcbState;
+use crate::entry::{Entry, Mode};
+use device_port::Device;
+use request_piece::{Name, Scope};
+use std::alloc::AllocError;
+use unit_queue::Selection;
+
+/// What a purge answers.
+fn purging(active: Option<Name>) -> Purging
+    ensures { result ≡ purging active }
+{
+    match active {
+        Some(name) => Purging::Active(name),
+        None => Purging::Quiet,
+    }
+}
+
+/// What a close answers.
+fn closing(active: Option<Name>) -> Closing
+    ensures { result ≡ closing active }
+{
+    match active {
+        Some(name) => Closing::Closing(name),
+        None => Closing::Closed,
+    }
+}
+
+impl<D: Device> UnitBook<D> {
+    /// Purges the requests of a DCB (DFSMSdfp Advanced Services, PURGE): those that wait are posted 48. With
+    /// `Halt` the active request is covered too: its program is halted, if one runs, and posted 48 by the next
+    /// `interrupt`; where its status is pending it is posted 48 only if it would be tried again; where it awaits its
+    /// restart it is posted 48 at once, behind the others (profile). Answers what is active then.
+    pub fn purge(&mut self, dcb: u16, mode: Mode) -> Result<Purging, DcbError>
+        ensures opened { OnOk result (is_opened dcb self.old.trace ≡ true) }
+        ensures ok { IfOk result (λ answer. PurgesBook D.meaning self.old (Scope.Dcb dcb) mode answer self.new) }
+        ensures refused { IfErr result (DcbRefused self.old dcb) }
+        ensures err { OnErr result (self.new ≡ self.old) }
+    {
+        if self.ledger.dcb_state(dcb) == DcbState::Unknown {
+            return Err(DcbError::NoSuchDcb);
+        }
+        self.purge_scope(Scope::Dcb(dcb), mode)
+            .map_err(|_| DcbError::NoMemory)
+    }
+
+    /// Purges the requests of a task, as `purge` those of a DCB (profile).
+    pub fn purge_task(&mut self, task: u16, mode: Mode) -> Result<Purging, AllocError>
+        ensures ok { IfOk result (λ answer. PurgesBook D.meaning self.old (Scope.Task task) mode answer self.new) }
+        ensures err { OnErr result (self.new ≡ self.old) }
+    {
+        self.purge_scope(Scope::Task(task), mode)
+    }
+
+    /// Purges the requests of a scope.
+    fn purge_scope(&mut self, scope: Scope, mode: Mode) -> Result<Purging, AllocError>
+        requires { CanPurge D.meaning self.old.mounted scope self.old.trace }
+        ensures ok { IfOk result (λ answer. PurgesBook D.meaning self.old scope mode answer self.new) }
+        ensures err { OnErr result (self.new ≡ self.old) }
+    {
+        self.ledger.reserve_posts(2)?;
+        self.purge_in_room(scope, mode);
+        Ok(purging(self.ledger.active_of(scope)))
+    }
+
+    /// Purges the requests of a scope, where there is room for the entries.
+    fn purge_in_room(&mut self, scope: Scope, mode: Mode)
+        requires spare { length (waiting self.old.trace) + 2 ≤ self.old.spare }
+        requires can { CanPurge D.meaning self.old.mounted scope self.old.trace }
+        ensures { PurgesBy D.meaning (covers_awaiting self.old scope mode) self.old scope mode self.new }
+    {
+        if self.ledger.covers_awaiting(scope, mode) {
+            self.ledger.purge_awaiting(scope, mode);
+            return;
+        }
+        self.ledger.purge(scope, mode);
+        self.ledger.sweep(Some(Selection::Scope(scope)));
+    }
+
+    /// Closes a DCB (DFSMSdfp Advanced Services, CLOSE): its requests that wait are posted 48, an active one goes
+    /// on (profile). Where the DCB was closed before nothing changes. Answers whether a request of it is active.
+    pub fn close(&mut self, dcb: u16) -> Result<Closing, DcbError>
+        ensures ok { IfOk result (λ answer. ClosesBook D.meaning self.old dcb answer self.new) }
+        ensures refused { IfErr result (DcbRefused self.old dcb) }
+        ensures err { OnErr result (self.new ≡ self.old) }
+    {
+        let state = self.ledger.dcb_state(dcb);
+        if state == DcbState::Unknown {
+            return Err(DcbError::NoSuchDcb);
+        }
+        if state == DcbState::Open && self.close_open(dcb).is_err() {
+            return Err(DcbError::NoMemory);
+        }
+        Ok(closing(self.ledger.active_of(Scope::Dcb(dcb))))
+    }
+
+    /// Closes a DCB that is open.
+    fn close_open(&mut self, dcb: u16) -> Result<(), AllocError>
+        requires { is_open dcb self.old.trace ≡ true }
+        ensures ok { OnOk result (ClosesBy D.meaning true self.old dcb self.new) }
+        ensures err { OnErr result (self.new ≡ self.old) }
+    {
+        self.ledger.reserve_posts(1)?;
+        self.ledger.close(dcb);
+        self.ledger.sweep(Some(Selection::Scope(Scope::Dcb(dcb))));
+        Ok(())
+    }
+
+    /// Clears the error flag of an open DCB, as storing 00 in DCBIFLGS (DFSMSdfp Advanced Services, "Data
+    /// Control Block Fields").
+    pub fn reset(&mut self, dcb: u16) -> Result<(), DcbError>
+        ensures ok { OnOk result (Adds self.old (Entry.Reset dcb) self.new) }
+        ensures opened { OnOk result (is_open dcb self.old.trace ≡ true) }
+        ensures refused { IfErr result (ResetRefused self.old dcb) }
+        ensures err { OnErr result (self.new ≡ self.old) }
+    {
+        if self.ledger.dcb_state(dcb) != DcbState::Open {
+            return Err(DcbError::NoSuchDcb);
+        }
+        if self.ledger.reserve(1).is_err() {
+            return Err(DcbError::NoMemory);
+        }
+        self.ledger.reset(dcb);
+        Ok(())
+    }
+}
