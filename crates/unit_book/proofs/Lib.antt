@@ -26,3 +26,5 @@ pub mod Counting
 pub mod Controls
 pub mod Halts
 pub mod Awaiting
+pub mod WorldTraces
+pub mod WorldBooks

@@ -149,7 +149,7 @@ module _ {D : Type 0} (meaning : Meaning D) (mounted : D) where
   unfolding posted
   since-arrive r H = drop-length (posted meaning mounted H)
 
-  posted-more : (rs : List Piece) (G : List Entry) → (vs : List PostedState) × (posted meaning mounted (all_posted rs G) ≡ posted meaning mounted G ++ vs)
+  pub posted-more : (rs : List Piece) (G : List Entry) → (vs : List PostedState) × (posted meaning mounted (all_posted rs G) ≡ posted meaning mounted G ++ vs)
   unfolding posted
   posted-more [] G = ([], sym (append-nil (posted meaning mounted G)))
   posted-more (r ∷ rs) G =

@@ -11,3 +11,5 @@ pub mod Answers
 pub mod Inside
 pub mod Laws
 pub mod Controls
+pub mod World
+pub mod WorldLaws

@@ -1,0 +1,174 @@
+-- What each call of a book keeps: a legal trace with nothing due, and that what is posted is out.
+use Rattle.std.proofs.Common.{◌≡◌, ◌≤◌, ℕ, zero, suc, ◌+◌, Bool, true, false, Option, Some, None, List, [], ◌∷◌, ◌++◌, refl, sym, ap, ◌∙◌, arith, inl, inr, subst, if◌then◌else◌}
+use Rattle.std.proofs.lemmas.Bool.{cases_Bool}
+use Rattle.std.proofs.lemmas.List.{append-nil}
+use Rattle.std.specs.Prelude.{min}
+use Rattle.io_images.specs.declared.csw.Csw.{Csw}
+use Rattle.io_images.specs.declared.code.Code.{Code}
+use Rattle.io_images.specs.declared.code.Code.TheVariants.{ExtentViolated}
+use Rattle.io_images.specs.declared.extent.Extent.{Extent}
+use Rattle.device_port.specs.Meaning.{Meaning}
+use Rattle.ccw_programs.specs.Place.{Place}
+use Rattle.ccw_programs.specs.declared.context.State.{State}
+use Rattle.ccw_programs.specs.declared.context.State.TheVariants.{Running as Runs, Ended}
+use Rattle.ccw_programs.specs.Step.{length_of, is_running}
+use Rattle.ccw_programs.proofs.StepLaws.{steps_within-running}
+use Rattle.subchannel.specs.Subchannel.{no_status}
+use Rattle.request_piece.specs.PostedState.{PostedState}
+use Rattle.request_piece.specs.declared.piece.Name.{Name}
+use Rattle.request_piece.specs.declared.piece.Piece.{Piece}
+use Rattle.request_piece.specs.declared.scope.Scope.{Scope}
+use Rattle.unit_book.specs.declared.answer.Starting.{Starting}
+use Rattle.unit_book.specs.declared.answer.Starting.TheVariants.{Busy, Idle, Started, Violated}
+use Rattle.unit_book.specs.declared.answer.Running.{Running}
+use Rattle.unit_book.specs.declared.answer.Running.TheVariants.{Quiet as NothingRuns, Ran as RanSome}
+use Rattle.unit_book.specs.declared.answer.Interruption.{Interruption}
+use Rattle.unit_book.specs.declared.answer.Interruption.TheVariants.{Quiet as NothingPending, Again as TriedAgain, Ended as WasPosted}
+use Rattle.unit_book.specs.declared.answer.Purging.{Purging}
+use Rattle.unit_book.specs.declared.answer.Closing.{Closing}
+use Rattle.unit_book.specs.declared.entry.Mode.{Mode}
+use Rattle.unit_book.specs.declared.entry.Entry.{Entry}
+use Rattle.unit_book.specs.declared.entry.Entry.TheVariants.{Opened, Arrive, Start, Ran, Purge, Close, Reset, Post}
+use Rattle.unit_book.specs.Trace.{arrivals, arrived_of, active}
+use Rattle.unit_book.specs.Dcbs.{is_open}
+use Rattle.unit_book.specs.Media.{Stage, Goes, goes, stage, stage_by, current}
+use Rattle.unit_book.specs.Legal.{Free, due, Legal, Settled, StartFits, First, Again, OfActive, OfFirst, RanFits, CanPurge}
+use Rattle.unit_book.specs.Posts.{posted, posted_since}
+use Rattle.unit_book.specs.Dooms.{after_dooms}
+use Rattle.unit_book.specs.Book.{Book, going, going_by}
+use Rattle.unit_book.specs.Answers.{Adds, Posts, OpensBook, MayStart, MayFirst, MayAgain, StartsBook, RunsBook, RunsOn, InterruptsBook}
+use Rattle.unit_book.specs.Controls.{PurgesBy, PurgesBook, ClosesBy, ClosesBook, covers_awaiting, after_purge}
+use Rattle.unit_book.proofs.Purges.{since-is}
+use Rattle.unit_book.proofs.WorldTraces.{Grows, grows-not, grows-open, grows-arrive, grows-start, grows-ran, grows-post, grows-close, grows-reset, grows-purge, grows-purged}
+
+-- one command is left at least, where a program runs
+goes-running : (b : Bool) (place : Place) (state : State) → goes (stage_by b place state) ≡ true → (stage_by b place state ≡ Goes) × (is_running state ≡ true)
+goes-running true place state h = absurd cc
+goes-running false place Runs h = (refl, refl)
+goes-running false place (Ended csw sense) h = absurd cc
+
+module _ {D : Type 0} (meaning : Meaning D) where
+  -- A CALL KEEPS A BOOK: the trace stays legal and nothing is due; these requests arrived; what was posted is out
+  pub record Keeps (old : Book D) (more : List Piece) (new : Book D) : Type 0 where
+    pub mounted : new.mounted ≡ old.mounted
+    pub legal : Legal meaning old.mounted new.trace
+    pub settled : due meaning old.mounted new.trace ≡ Free
+    pub arrived : arrivals new.trace ≡ arrivals old.trace ++ more
+    pub values : List PostedState
+    pub posted_is : posted meaning old.mounted new.trace ≡ posted meaning old.mounted old.trace ++ values
+    pub out : new.out ≡ old.out ++ values
+
+  -- a book whose calls find and leave this
+  abbrev pub Sound : Book D → Type 0
+  Sound b = Legal meaning b.mounted b.trace × (due meaning b.mounted b.trace ≡ Free)
+
+  keeps-posts : (old new : Book D) (H : List Entry) (again : Bool) (more : List Piece) → Posts meaning old H again new → Grows meaning old.mounted old.trace H more → Keeps old more new
+  keeps-posts old new H again more p g =
+      let t : new.trace ≡ H = ap (λ (b : Book D). b.trace) p in
+      let s = since-is meaning old.mounted old.trace H g.values g.posted_is in
+      record {
+        mounted = ap (λ (b : Book D). b.mounted) p;
+        legal = subst (Legal meaning old.mounted) (sym t) g.legal;
+        settled = ap (due meaning old.mounted) t ∙ g.settled;
+        arrived = ap arrivals t ∙ g.arrived;
+        values = g.values;
+        posted_is = ap (posted meaning old.mounted) t ∙ g.posted_is;
+        out = ap (λ (b : Book D). b.out) p ∙ ap (λ x. old.out ++ x) s;
+      }
+
+  -- a call that posts nothing
+  keeps-adds : (old new : Book D) (H : List Entry) (again : Bool) → new ≡ record old { trace = H; again = again; spare = new.spare } → Grows meaning old.mounted old.trace H [] →
+      posted meaning old.mounted H ≡ posted meaning old.mounted old.trace → Keeps old [] new
+  keeps-adds old new H again p g q =
+      let t : new.trace ≡ H = ap (λ (b : Book D). b.trace) p in
+      record {
+        mounted = ap (λ (b : Book D). b.mounted) p;
+        legal = subst (Legal meaning old.mounted) (sym t) g.legal;
+        settled = ap (due meaning old.mounted) t ∙ g.settled;
+        arrived = ap arrivals t ∙ g.arrived;
+        values = [];
+        posted_is = ap (posted meaning old.mounted) t ∙ q ∙ sym (append-nil (posted meaning old.mounted old.trace));
+        out = ap (λ (b : Book D). b.out) p ∙ sym (append-nil old.out);
+      }
+
+  keeps-again : (old new : Book D) (again : Bool) → Sound old → new ≡ record old { again = again; spare = new.spare } → Keeps old [] new
+  keeps-again old new again s p = keeps-adds old new old.trace again p (grows-not meaning old.mounted old.trace s.0 s.1) refl
+
+  -- nothing changes
+  keeps-same : (old new : Book D) → Sound old → new ≡ old → Keeps old [] new
+  keeps-same old new s p = keeps-again old new old.again s (p ∙ ap (λ n. record old { spare = n }) (sym (ap (λ (b : Book D). b.spare) p)))
+
+  pub keeps-arrive : (old new : Book D) (r : Piece) → Sound old → r.name.seq ≡ arrived_of r.name.task old.trace + 1 →
+      Posts meaning old (after_dooms (Arrive r ∷ old.trace)) old.again new → Keeps old (r ∷ []) new
+  keeps-arrive old new r s n p = keeps-posts old new (after_dooms (Arrive r ∷ old.trace)) old.again (r ∷ []) p (grows-arrive meaning old.mounted r old.trace s.0 s.1 n)
+
+  pub keeps-open : (old new : Book D) (dcb : ℕ) (input : Bool) (extents : List Extent) → Sound old → OpensBook meaning old dcb input extents new → Keeps old [] new
+  unfolding posted
+  keeps-open old new dcb input extents s h = keeps-adds old new (Opened dcb input extents ∷ old.trace) old.again h.adds (grows-open meaning old.mounted dcb input extents old.trace s.0 s.1 h.fits) refl
+
+  start-fits : (old : Book D) (n : Name) → MayStart meaning old n → StartFits meaning old.mounted n old.trace
+  start-fits old n (MayFirst f) = First f
+  start-fits old n (MayAgain a f) = Again f
+
+  pub keeps-start : (old new : Book D) (answer : Starting) → Sound old → StartsBook meaning old answer new → Keeps old [] new
+  unfolding posted
+  keeps-start old new Busy s h = keeps-same old new s h.2
+  keeps-start old new Idle s h = keeps-same old new s h.2
+  keeps-start old new (Started n) s h = keeps-adds old new (Start n ∷ old.trace) false h.1 (grows-start meaning old.mounted n old.trace s.0 s.1 (start-fits old n h.0)) refl
+  keeps-start old new (Violated n) s h =
+      let f = OfFirst (record { fails = h.0; code_is = refl; csw_is = refl; sense_is = refl }) in
+      keeps-posts old new (after_dooms (Post n no_status 0 ExtentViolated ∷ old.trace)) false [] h.1 (grows-post meaning old.mounted n no_status 0 ExtentViolated old.trace s.0 s.1 f)
+
+  -- a program that is to run is that of the active request, and goes
+  going-is : (mounted : D) (H : List Entry) (n : Name) → going_by meaning mounted H (active H) ≡ Some n → (active H ≡ Some n) × (goes (stage meaning mounted n H) ≡ true)
+  going-is mounted H n h = by_active (active H) h where
+    by_active : (o : Option Name) → going_by meaning mounted H o ≡ Some n → (o ≡ Some n) × (goes (stage meaning mounted n H) ≡ true)
+    by_active None e = absurd cc
+    by_active (Some m) e =
+        elim (cases_Bool (goes (stage meaning mounted m H))) [
+          | inl b ↦ let e' = rw b at e in let q : m ≡ n = cc in (ap Some q, subst (λ (x : Name). goes (stage meaning mounted x H) ≡ true) q b)
+          | inr b ↦ let e' = rw b at e in absurd cc
+        ]
+
+  ran-fits : (old new : Book D) (max commands : ℕ) (pending : Bool) → 1 ≤ max → (h : RunsOn meaning old max commands pending new) → RanFits meaning old.mounted h.name commands old.trace
+  ran-fits old new max commands pending m h =
+      let p = current meaning old.mounted old.trace in
+      let a = going-is old.mounted old.trace h.name h.going in
+      let g = goes-running _ p.place p.place.state a.1 in
+      let n : length_of meaning p ≡ suc _ = steps_within-running meaning 4096 p g.1 in
+      record { active = a.0; goes = g.0; some = omega (arith, m, n, h.count); left = omega (arith, h.count) }
+
+  pub keeps-run : (old new : Book D) (max : ℕ) (answer : Running) → Sound old → 1 ≤ max → RunsBook meaning old max answer new → Keeps old [] new
+  unfolding posted
+  keeps-run old new max NothingRuns s m h = keeps-same old new s h.1
+  keeps-run old new max (RanSome commands pending) s m h =
+      keeps-adds old new (Ran h.name commands ∷ old.trace) old.again h.adds (grows-ran meaning old.mounted h.name commands old.trace s.0 s.1 (ran-fits old new max commands pending m h)) refl
+
+  pub keeps-interrupt : (old new : Book D) (answer : Interruption) → Sound old → InterruptsBook meaning old answer new → Keeps old [] new
+  keeps-interrupt old new NothingPending s h = keeps-same old new s h.1
+  keeps-interrupt old new (TriedAgain n) s h = keeps-again old new true s h.2
+  keeps-interrupt old new (WasPosted n code) s h =
+      keeps-posts old new (after_dooms (Post n h.1.csw h.1.sense code ∷ old.trace)) false [] h.1.posts (grows-post meaning old.mounted n h.1.csw h.1.sense code old.trace s.0 s.1 (OfActive h.1.fits))
+
+  pub keeps-purge : (old new : Book D) (scope : Scope) (mode : Mode) (answer : Purging) → Sound old → CanPurge meaning old.mounted scope old.trace → PurgesBook meaning old scope mode answer new → Keeps old [] new
+  keeps-purge old new scope mode answer s can h = by_test (covers_awaiting old scope mode) h.purges where
+    after : List Entry
+    after = after_purge meaning old.mounted scope mode old.trace
+
+    grows : Grows meaning old.mounted old.trace after []
+    grows = grows-purge meaning old.mounted scope mode old.trace s.0 s.1 can
+
+    by_test : (b : Bool) → PurgesBy meaning b old scope mode new → Keeps old [] new
+    by_test false p = keeps-posts old new after old.again [] p grows
+    by_test true p = keeps-posts old new (Post p.name p.csw p.sense _ ∷ after) false [] p.posts (grows-purged meaning old.mounted p.name p.csw p.sense old.trace after grows p.fits)
+
+  pub keeps-close : (old new : Book D) (dcb : ℕ) (answer : Closing) → Sound old → ClosesBook meaning old dcb answer new → Keeps old [] new
+  keeps-close old new dcb answer s h =
+      elim (cases_Bool (is_open dcb old.trace)) [
+        | inl o ↦ keeps-posts old new (after_dooms (Close dcb ∷ old.trace)) old.again [] (subst (λ b. ClosesBy meaning b old dcb new) o h.closes) (grows-close meaning old.mounted dcb old.trace s.0 s.1 o)
+        | inr o ↦ keeps-same old new s (subst (λ b. ClosesBy meaning b old dcb new) o h.closes)
+      ]
+
+  pub keeps-reset : (old new : Book D) (dcb : ℕ) → Sound old → is_open dcb old.trace ≡ true → Adds old (Reset dcb) new → Keeps old [] new
+  unfolding posted
+  keeps-reset old new dcb s o h = keeps-adds old new (Reset dcb ∷ old.trace) old.again h (grows-reset meaning old.mounted dcb old.trace s.0 s.1 o) refl

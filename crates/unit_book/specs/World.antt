@@ -1,0 +1,121 @@
+-- THE WORLD OF A UNIT: the tasks that send it requests and collect what was posted, its book, and what is under way
+-- between them (profile).
+use Rattle.std.specs.Prelude.{◌≡◌, ◌≤◌, ◌<◌, ℕ, ◌+◌, ◌==◌, Bool, true, if◌then◌else◌, Some, None, List, [], ◌∷◌, ◌++◌, length, drop, slice_get}
+use Rattle.std.specs.List.{filter, list_all}
+use Rattle.io_images.specs.declared.extent.Extent.{Extent}
+use Rattle.device_port.specs.Meaning.{Meaning}
+use Rattle.request_piece.specs.PostedState.{PostedState}
+use Rattle.request_piece.specs.declared.piece.Piece.{Piece}
+use Rattle.request_piece.specs.declared.scope.Scope.{Scope}
+use Rattle.unit_book.specs.declared.answer.Closing.{Closing}
+use Rattle.unit_book.specs.declared.answer.Interruption.{Interruption}
+use Rattle.unit_book.specs.declared.answer.Purging.{Purging}
+use Rattle.unit_book.specs.declared.answer.Running.{Running}
+use Rattle.unit_book.specs.declared.answer.Starting.{Starting}
+use Rattle.unit_book.specs.declared.entry.Mode.{Mode}
+use Rattle.unit_book.specs.declared.entry.Entry.TheVariants.{Arrive, Reset as ResetOf}
+use Rattle.unit_book.specs.Trace.{is_opening, waiting, active}
+use Rattle.unit_book.specs.Dcbs.{is_open}
+use Rattle.unit_book.specs.Legal.{Legal, CanPurge}
+use Rattle.unit_book.specs.Dooms.{after_dooms}
+use Rattle.unit_book.specs.Book.{Book, held}
+use Rattle.unit_book.specs.Answers.{Adds, Posts, OpensBook, StartsBook, RunsBook, InterruptsBook}
+use Rattle.unit_book.specs.Controls.{PurgesBook, ClosesBook}
+
+-- the requests of a task, in order
+abbrev pub requests_of : ℕ → List Piece → List Piece
+requests_of task rs = filter (λ r. r.name.task == task) rs
+
+-- the posted values of a task, in order
+abbrev pub values_of : ℕ → List PostedState → List PostedState
+values_of task vs = filter (λ v. v.name.task == task) vs
+
+-- the number of the unit; how many requests may be in flight to it, and how many posted values on the way back to a
+-- task; by task, what was sent, in order; what is in flight, in the order of sending; the book; by task, the posted
+-- values on the way back, and those that the task has got
+pub record World (D : Type 0) : Type 0 where
+  pub unit : ℕ
+  pub intake_room : ℕ
+  pub post_room : ℕ
+  pub sent : ℕ → List Piece
+  pub flight : List Piece
+  pub book : Book D
+  pub back : ℕ → List PostedState
+  pub got : ℕ → List PostedState
+
+-- one more item behind those of the task
+abbrev pub behind : {X : Type 0} → (ℕ → List X) → ℕ → X → ℕ → List X
+behind lists task x t = if task == t then lists t ++ x ∷ [] else lists t
+
+-- the first item of the task is gone
+abbrev pub without_first : {X : Type 0} → (ℕ → List X) → ℕ → ℕ → List X
+without_first lists task t = if task == t then drop 1 (lists t) else lists t
+
+module _ {D : Type 0} (meaning : Meaning D) where
+  -- a request is accepted: it is for this unit, has the next number of its task, and there is room
+  pub record Accepts (old : World D) (r : Piece) (new : World D) : Type 0 where
+    pub of_unit : r.unit ≡ old.unit
+    pub next : r.name.seq ≡ length (old.sent r.name.task) + 1
+    pub room : length old.flight < old.intake_room
+    pub is : new ≡ record old { sent = behind old.sent r.name.task r; flight = old.flight ++ r ∷ [] }
+
+  -- the first request in flight arrives at the book, which has room
+  pub record Takes (old new : World D) : Type 0 where
+    pub request : Piece
+    pub first : slice_get old.flight 0 ≡ Some request
+    pub room : held old.book < old.book.capacity
+    pub arrives : Posts meaning old.book (after_dooms (Arrive request ∷ old.book.trace)) old.book.again new.book
+    pub is : new ≡ record old { flight = drop 1 old.flight; book = new.book }
+
+  -- the first posted value that is out goes on its way back to its task, if there is room
+  pub record Delivers (old new : World D) : Type 0 where
+    pub value : PostedState
+    pub first : slice_get old.book.out 0 ≡ Some value
+    pub room : length (old.back value.name.task) < old.post_room
+    pub is : new ≡ record old { book = record old.book { out = drop 1 old.book.out }; back = behind old.back value.name.task value }
+
+  -- a task collects the first posted value that is on its way back to it
+  pub record Collects (old : World D) (task : ℕ) (new : World D) : Type 0 where
+    pub value : PostedState
+    pub first : slice_get (old.back task) 0 ≡ Some value
+    pub is : new ≡ record old { back = without_first old.back task; got = behind old.got task value }
+
+  -- nothing but the book changes
+  abbrev pub InBook : World D → World D → Type 0
+  InBook old new = new ≡ record old { book = new.book }
+
+  -- A STEP of the world
+  pub data Step (old new : World D) : Type 0 where
+    Accept : (r : Piece) → Accepts old r new → Step old new
+    Take : Takes old new → Step old new
+    Open : (dcb : ℕ) (input : Bool) (extents : List Extent) → OpensBook meaning old.book dcb input extents new.book → InBook old new → Step old new
+    Start : (answer : Starting) → StartsBook meaning old.book answer new.book → InBook old new → Step old new
+    Run : (max : ℕ) (answer : Running) → 1 ≤ max → RunsBook meaning old.book max answer new.book → InBook old new → Step old new
+    Interrupt : (answer : Interruption) → InterruptsBook meaning old.book answer new.book → InBook old new → Step old new
+    Purge : (scope : Scope) (mode : Mode) (answer : Purging) → CanPurge meaning old.book.mounted scope old.book.trace →
+        PurgesBook meaning old.book scope mode answer new.book → InBook old new → Step old new
+    Close : (dcb : ℕ) (answer : Closing) → ClosesBook meaning old.book dcb answer new.book → InBook old new → Step old new
+    Reset : (dcb : ℕ) → is_open dcb old.book.trace ≡ true → Adds old.book (ResetOf dcb) new.book → InBook old new → Step old new
+    Deliver : Delivers old new → Step old new
+    Collect : (task : ℕ) → Collects old task new → Step old new
+
+  -- A LIST OF STEPS, one after another, leads from one world to another
+  pub data Reaches (first : World D) : World D → Type 0 where
+    Stay : Reaches first first
+    Go : {old new : World D} → Reaches first old → Step old new → Reaches first new
+
+  -- THE OPENING WORLD: nothing was sent, and at most DCBs were opened
+  pub record IsOpening (w : World D) : Type 0 where
+    pub legal : Legal meaning w.book.mounted w.book.trace
+    pub opened : list_all is_opening w.book.trace ≡ true
+    pub out : w.book.out ≡ []
+    pub sent : (task : ℕ) → w.sent task ≡ []
+    pub flight : w.flight ≡ []
+    pub back : (task : ℕ) → w.back task ≡ []
+    pub got : (task : ℕ) → w.got task ≡ []
+
+  -- A FINISHED WORLD: nothing is in flight or waits, and nothing is active
+  pub record IsFinished (w : World D) : Type 0 where
+    pub flight : w.flight ≡ []
+    pub waiting : waiting w.book.trace ≡ []
+    pub active : active w.book.trace ≡ None
