@@ -28,3 +28,4 @@ pub mod Halts
 pub mod Awaiting
 pub mod WorldTraces
 pub mod WorldBooks
+pub mod WorldSteps

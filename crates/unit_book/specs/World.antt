@@ -51,21 +51,13 @@ behind lists task x t = if task == t then lists t ++ x ∷ [] else lists t
 abbrev pub without_first : {X : Type 0} → (ℕ → List X) → ℕ → ℕ → List X
 without_first lists task t = if task == t then drop 1 (lists t) else lists t
 
-module _ {D : Type 0} (meaning : Meaning D) where
+module _ {D : Type 0} where
   -- a request is accepted: it is for this unit, has the next number of its task, and there is room
   pub record Accepts (old : World D) (r : Piece) (new : World D) : Type 0 where
     pub of_unit : r.unit ≡ old.unit
     pub next : r.name.seq ≡ length (old.sent r.name.task) + 1
     pub room : length old.flight < old.intake_room
     pub is : new ≡ record old { sent = behind old.sent r.name.task r; flight = old.flight ++ r ∷ [] }
-
-  -- the first request in flight arrives at the book, which has room
-  pub record Takes (old new : World D) : Type 0 where
-    pub request : Piece
-    pub first : slice_get old.flight 0 ≡ Some request
-    pub room : held old.book < old.book.capacity
-    pub arrives : Posts meaning old.book (after_dooms (Arrive request ∷ old.book.trace)) old.book.again new.book
-    pub is : new ≡ record old { flight = drop 1 old.flight; book = new.book }
 
   -- the first posted value that is out goes on its way back to its task, if there is room
   pub record Delivers (old new : World D) : Type 0 where
@@ -83,6 +75,21 @@ module _ {D : Type 0} (meaning : Meaning D) where
   -- nothing but the book changes
   abbrev pub InBook : World D → World D → Type 0
   InBook old new = new ≡ record old { book = new.book }
+
+  -- A FINISHED WORLD: nothing is in flight or waits, and nothing is active
+  pub record IsFinished (w : World D) : Type 0 where
+    pub flight : w.flight ≡ []
+    pub waiting : waiting w.book.trace ≡ []
+    pub active : active w.book.trace ≡ None
+
+module _ {D : Type 0} (meaning : Meaning D) where
+  -- the first request in flight arrives at the book, which has room
+  pub record Takes (old new : World D) : Type 0 where
+    pub request : Piece
+    pub first : slice_get old.flight 0 ≡ Some request
+    pub room : held old.book < old.book.capacity
+    pub arrives : Posts meaning old.book (after_dooms (Arrive request ∷ old.book.trace)) old.book.again new.book
+    pub is : new ≡ record old { flight = drop 1 old.flight; book = new.book }
 
   -- A STEP of the world
   pub data Step (old new : World D) : Type 0 where
@@ -113,9 +120,3 @@ module _ {D : Type 0} (meaning : Meaning D) where
     pub flight : w.flight ≡ []
     pub back : (task : ℕ) → w.back task ≡ []
     pub got : (task : ℕ) → w.got task ≡ []
-
-  -- A FINISHED WORLD: nothing is in flight or waits, and nothing is active
-  pub record IsFinished (w : World D) : Type 0 where
-    pub flight : w.flight ≡ []
-    pub waiting : waiting w.book.trace ≡ []
-    pub active : active w.book.trace ≡ None

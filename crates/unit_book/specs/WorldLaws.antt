@@ -29,7 +29,7 @@ module _ {D : Type 0} (meaning : Meaning D) where
     pub legal : Legal meaning w.book.mounted w.book.trace
     pub settled : Settled meaning w.book.mounted w.book.trace
     -- in a finished world each request that was sent has one post
-    pub finished : IsFinished meaning w → (task : ℕ) → Each (λ r. posts_of r.name w.book.trace ≡ 1) (w.sent task)
+    pub finished : IsFinished w → (task : ℕ) → Each (λ r. posts_of r.name w.book.trace ≡ 1) (w.sent task)
 
 -- EVERY LIST OF STEPS from an opening world leads to a world that keeps its requests, and whose trace, being legal, has
 -- the laws of legal traces
