@@ -47,7 +47,7 @@ pub Each-push : (P : Piece → Type 0) (rs : List Piece) (r : Piece) → Each P 
 Each-push P [] r h k = (k, tt)
 Each-push P (s ∷ rs) r h k = (h.0, Each-push P rs r h.1 k)
 
-Each-weaker : (P Q : Piece → Type 0) → ((r : Piece) → P r → Q r) → (rs : List Piece) → Each P rs → Each Q rs
+pub Each-weaker : (P Q : Piece → Type 0) → ((r : Piece) → P r → Q r) → (rs : List Piece) → Each P rs → Each Q rs
 Each-weaker P Q w [] h = tt
 Each-weaker P Q w (r ∷ rs) h = (w r h.0, Each-weaker P Q w rs h.1)
 

@@ -29,3 +29,4 @@ pub mod Awaiting
 pub mod WorldTraces
 pub mod WorldBooks
 pub mod WorldSteps
+pub mod Worlds

@@ -1,6 +1,7 @@
 //! Laws of every legal trace, those with halts, purges and closed DCBs included.
 
 ghost use Rattle.unit_book.specs.Laws.{FewStarts, NoDoomedStarts, OnePlace, PostsLast, StartsInOrder};
+ghost use Rattle.unit_book.specs.WorldLaws.{WorldLaws};
 
 use device_port::Device;
 
@@ -29,4 +30,12 @@ pub fn doomed_are_not_started<D: Device>()
 /// At most one request is active, and each has at most eleven starts.
 pub fn starts_are_few<D: Device>()
     ensures { FewStarts D.meaning }
+{}
+
+/// After every list of steps of a unit's world, what arrived of a task and what is in flight of it is what the
+/// task sent, numbered in the order of sending; what was posted of it is what it has got, what is on the way
+/// back to it and what is out; the trace is legal and nothing is due. Once nothing is in flight, waits or is
+/// active, each request that was sent has exactly one post.
+pub fn worlds_keep_requests<D: Device>()
+    ensures { WorldLaws D.meaning }
 {}

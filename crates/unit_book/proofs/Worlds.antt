@@ -1,0 +1,88 @@
+-- The laws of worlds: in a finished one each request that was sent has one post.
+use Rattle.std.proofs.Common.{◌≡◌, ℕ, ◌+◌, ◌==◌, Bool, true, false, Option, Some, None, List, [], ◌∷◌, ◌++◌, length, refl, sym, ap, ◌∙◌, arith, inl, inr, subst, if◌then◌else◌}
+use Rattle.std.proofs.lemmas.Bool.{cases_Bool}
+use Rattle.std.proofs.lemmas.List.{append-nil}
+use Rattle.std.specs.List.{filter}
+use Rattle.device_port.specs.Meaning.{Meaning}
+use Rattle.request_piece.specs.declared.piece.Name.{Name}
+use Rattle.request_piece.specs.declared.piece.Piece.{Piece}
+use Rattle.unit_book.specs.declared.entry.Entry.{Entry}
+use Rattle.unit_book.specs.declared.entry.Entry.TheVariants.{Opened, Arrive, Start, Ran, Halted, Purge, Close, Reset, Post}
+use Rattle.unit_book.specs.Trace.{same, posts, arrivals, has_arrived, is_posted, waiting, active}
+use Rattle.unit_book.specs.Legal.{Legal}
+use Rattle.unit_book.specs.Inside.{Each}
+use Rattle.unit_book.specs.Laws.{times, waits, is_active, is_one}
+use Rattle.unit_book.specs.World.{World, IsOpening, IsFinished, Reaches, requests_of}
+use Rattle.unit_book.specs.WorldLaws.{posts_of, KeepsRequests, WorldLaws}
+use Rattle.unit_book.proofs.Lists.{same-true, no_both}
+use Rattle.unit_book.proofs.Facts.{Known, Each-filter, Each-weaker, facts}
+use Rattle.unit_book.proofs.TraceLaws.{not-of, posts-last}
+use Rattle.unit_book.proofs.NameLaws.{one-place, few-starts}
+use Rattle.unit_book.proofs.OrderLaws.{starts-in-order}
+use Rattle.unit_book.proofs.DoomLaws.{no-doomed-starts}
+use Rattle.unit_book.proofs.WorldSteps.{Kept, steps-kept}
+
+module _ {D : Type 0} (meaning : Meaning D) where
+  module _ (mounted : D) where
+    -- a name has one post, if it is posted
+    posts-once : (n : Name) (H : List Entry) → Legal meaning mounted H → posts_of n H ≡ times (is_posted n H)
+    unfolding Legal
+    posts-once n [] l = refl
+    posts-once n (Opened d i x ∷ H) l = posts-once n H l.1
+    posts-once n (Arrive r ∷ H) l = posts-once n H l.1
+    posts-once n (Start m ∷ H) l = posts-once n H l.1
+    posts-once n (Ran m j ∷ H) l = posts-once n H l.1
+    posts-once n (Halted m ∷ H) l = posts-once n H l.1
+    posts-once n (Purge s m ∷ H) l = posts-once n H l.1
+    posts-once n (Close d ∷ H) l = posts-once n H l.1
+    posts-once n (Reset d ∷ H) l = posts-once n H l.1
+    posts-once n (Post m csw sense code ∷ H) l =
+        let ih = posts-once n H l.1 in
+        elim (cases_Bool (same m n)) [
+          | inl s ↦ elim (cases_Bool (is_posted n H)) [
+            | inl p ↦ no_both (same m n) s (not-of meaning mounted n (Post m csw sense code) H (facts meaning mounted H l.1) p l.0)
+            | inr p ↦ let z : posts_of n H ≡ 0 = ih ∙ ap times p in rw s (omega (arith, z))
+          ]
+          | inr s ↦ rw s ih
+        ]
+
+    -- what arrived and neither waits nor is active was posted
+    arrived-posted : (n : Name) (H : List Entry) → Legal meaning mounted H → waiting H ≡ [] → active H ≡ None → has_arrived n H ≡ true → is_posted n H ≡ true
+    arrived-posted n H l w a h =
+        let one = one-place meaning mounted n H l h in
+        let o : 0 + times (is_posted n H) ≡ 1 = rw (w, a) at one in
+        elim (cases_Bool (is_posted n H)) [ inl p ↦ p | inr p ↦ absurd (clash (ap times p) o) ] where
+          clash : {k : ℕ} → k ≡ 0 → 0 + k ≡ 1 → ⊥
+          clash z u = omega (arith, z, u)
+
+  finished-posts : (w : World D) → Kept meaning w → IsFinished w → (task : ℕ) → Each (λ r. posts_of r.name w.book.trace ≡ 1) (w.sent task)
+  finished-posts w k f task = subst (Each (λ r. posts_of r.name w.book.trace ≡ 1)) sent (Each-filter (λ r. posts_of r.name w.book.trace ≡ 1) (λ (r : Piece). r.name.task == task) (arrivals w.book.trace) all) where
+    sent : requests_of task (arrivals w.book.trace) ≡ w.sent task
+    sent = sym (append-nil (requests_of task (arrivals w.book.trace))) ∙ ap (λ x. requests_of task (arrivals w.book.trace) ++ requests_of task x) (sym f.flight) ∙ k.received task
+
+    all : Each (λ r. posts_of r.name w.book.trace ≡ 1) (arrivals w.book.trace)
+    all = Each-weaker (Known w.book.trace) (λ r. posts_of r.name w.book.trace ≡ 1)
+        (λ r h. posts-once w.book.mounted r.name w.book.trace k.legal ∙ ap times (arrived-posted w.book.mounted r.name w.book.trace k.legal f.waiting f.active h.1))
+        (arrivals w.book.trace) (facts meaning w.book.mounted w.book.trace k.legal).6
+
+  worlds-keep : (first last : World D) → IsOpening meaning first → Reaches meaning first last → KeepsRequests meaning last
+  worlds-keep first last o r =
+      let k = steps-kept meaning first last o r in
+      record {
+        received = k.received;
+        numbered = k.numbered;
+        returned = k.returned;
+        legal = k.legal;
+        settled = k.settled;
+        finished = finished-posts last k;
+      }
+
+  pub world-laws : WorldLaws meaning
+  world-laws = record {
+    keeps = worlds-keep;
+    posts_last = posts-last meaning;
+    one_place = one-place meaning;
+    in_order = starts-in-order meaning;
+    none_doomed = no-doomed-starts meaning;
+    few_starts = few-starts meaning;
+  }
