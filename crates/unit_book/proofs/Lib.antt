@@ -30,3 +30,4 @@ pub mod WorldTraces
 pub mod WorldBooks
 pub mod WorldSteps
 pub mod Worlds
+mod WorldRows
