@@ -16,6 +16,8 @@ use Rattle.unit_book.specs.Legal.{Free, due, Legal, Settled}
 use Rattle.unit_book.specs.Posts.{posted}
 use Rattle.unit_book.specs.Book.{Book}
 use Rattle.unit_book.specs.World.{World, requests_of, values_of, behind, without_first, InBook, Accepts, Takes, Delivers, Collects, Step, Accept, Take, Open, Start, Run, Interrupt, Purge, Close, Reset, Deliver, Collect, Reaches, Stay, Go, IsOpening}
+use Rattle.unit_book.specs.Inside.{Each}
+use Rattle.unit_book.proofs.Facts.{Each-push}
 use Rattle.unit_book.proofs.WorldTraces.{opened-only}
 use Rattle.unit_book.proofs.WorldBooks.{Keeps, Sound, keeps-arrive, keeps-open, keeps-start, keeps-run, keeps-interrupt, keeps-purge, keeps-close, keeps-reset}
 
@@ -44,6 +46,7 @@ module _ {D : Type 0} (meaning : Meaning D) where
   pub record Kept (w : World D) : Type 0 where
     pub received : (task : ℕ) → requests_of task (arrivals w.book.trace) ++ requests_of task w.flight ≡ w.sent task
     pub numbered : (task at : ℕ) (r : Piece) → slice_get (w.sent task) at ≡ Some r → r.name ≡ record { task = task; seq = at + 1 }
+    pub for_unit : (task : ℕ) → Each (λ r. r.unit ≡ w.unit) (w.sent task)
     pub returned : (task : ℕ) → values_of task (posted meaning w.book.mounted w.book.trace) ≡ (w.got task ++ w.back task) ++ values_of task w.book.out
     pub legal : Legal meaning w.book.mounted w.book.trace
     pub settled : Settled meaning w.book.mounted w.book.trace
@@ -53,7 +56,7 @@ module _ {D : Type 0} (meaning : Meaning D) where
 
   -- A CALL OF THE BOOK, at which these requests arrive
   module _ (old new : World D) (more rest : List Piece) (k : Kept old) (c : Keeps meaning old.book more new.book) (before : old.flight ≡ more ++ rest) (after : new.flight ≡ rest)
-      (sent : new.sent ≡ old.sent) (back : new.back ≡ old.back) (got : new.got ≡ old.got) where
+      (unit : new.unit ≡ old.unit) (sent : new.sent ≡ old.sent) (back : new.back ≡ old.back) (got : new.got ≡ old.got) where
     call-received : (task : ℕ) → requests_of task (arrivals new.book.trace) ++ requests_of task new.flight ≡ new.sent task
     call-received task =
         let A = requests_of task (arrivals old.book.trace) in
@@ -79,6 +82,7 @@ module _ {D : Type 0} (meaning : Meaning D) where
         record {
           received = call-received;
           numbered = λ task at r h. k.numbered task at r (ap (λ s. slice_get (s task) at) (sym sent) ∙ h);
+          for_unit = λ task. rw (unit, sent) (k.for_unit task);
           returned = call-returned;
           legal = rw m c.legal;
           settled = rw m c.settled;
@@ -86,7 +90,7 @@ module _ {D : Type 0} (meaning : Meaning D) where
 
   in-book : (old new : World D) → Kept old → InBook old new → Keeps meaning old.book [] new.book → Kept new
   in-book old new k e c =
-      call-kept old new [] old.flight k c refl (ap (λ (w : World D). w.flight) e) (ap (λ (w : World D). w.sent) e) (ap (λ (w : World D). w.back) e) (ap (λ (w : World D). w.got) e)
+      call-kept old new [] old.flight k c refl (ap (λ (w : World D). w.flight) e) (ap (λ (w : World D). w.unit) e) (ap (λ (w : World D). w.sent) e) (ap (λ (w : World D). w.back) e) (ap (λ (w : World D). w.got) e)
 
   -- A REQUEST IS ACCEPTED
   module _ (old new : World D) (r : Piece) (k : Kept old) (s : Accepts old r new) where
@@ -124,6 +128,15 @@ module _ {D : Type 0} (meaning : Meaning D) where
               let n : r.name.seq ≡ length (old.sent task) + 1 = subst (λ x. r.name.seq ≡ length (old.sent x) + 1) t s.next in
               name-of q.name task (at + 1) (ap (λ (p : Piece). p.name.task) e.1 ∙ t) (ap (λ (p : Piece). p.name.seq) e.1 ∙ n ∙ ap (λ x. x + 1) (sym e.0))
 
+    accept-unit : (task : ℕ) → Each (λ q. q.unit ≡ new.unit) (new.sent task)
+    accept-unit task =
+        let e = sent-is task in
+        let u : new.unit ≡ old.unit = ap (λ (w : World D). w.unit) s.is in
+        rw (u, e) (elim (cases_Bool (eqb r.name.task task)) [
+          | inl t ↦ rw t (Each-push (λ q. q.unit ≡ old.unit) (old.sent task) r (k.for_unit task) s.of_unit)
+          | inr t ↦ rw t (k.for_unit task)
+        ])
+
     accept-kept : Kept new
     accept-kept =
         let b = book-is in
@@ -132,6 +145,7 @@ module _ {D : Type 0} (meaning : Meaning D) where
         record {
           received = accept-received;
           numbered = accept-numbered;
+          for_unit = accept-unit;
           returned = λ task. rw (b, g, c) (k.returned task);
           legal = rw b k.legal;
           settled = rw b k.settled;
@@ -152,7 +166,7 @@ module _ {D : Type 0} (meaning : Meaning D) where
   take-kept old new k s =
       let e = first-rest old.flight s.request s.first in
       call-kept old new (s.request ∷ []) (drop 1 old.flight) k (keeps-arrive meaning old.book new.book s.request (sound old k) (next-number old s.request (drop 1 old.flight) k e) s.arrives) e
-      (ap (λ (w : World D). w.flight) s.is) (ap (λ (w : World D). w.sent) s.is) (ap (λ (w : World D). w.back) s.is) (ap (λ (w : World D). w.got) s.is)
+      (ap (λ (w : World D). w.flight) s.is) (ap (λ (w : World D). w.unit) s.is) (ap (λ (w : World D). w.sent) s.is) (ap (λ (w : World D). w.back) s.is) (ap (λ (w : World D). w.got) s.is)
 
   -- A VALUE GOES BACK
   deliver-kept : (old new : World D) → Kept old → Delivers old new → Kept new
@@ -160,9 +174,11 @@ module _ {D : Type 0} (meaning : Meaning D) where
       let b : new.book ≡ record old.book { out = drop 1 old.book.out } = ap (λ (w : World D). w.book) s.is in
       let f : new.flight ≡ old.flight = ap (λ (w : World D). w.flight) s.is in
       let c : new.sent ≡ old.sent = ap (λ (w : World D). w.sent) s.is in
+      let u : new.unit ≡ old.unit = ap (λ (w : World D). w.unit) s.is in
       record {
         received = λ task. rw (b, f, c) (k.received task);
         numbered = λ task at r h. k.numbered task at r (ap (λ x. slice_get (x task) at) (sym c) ∙ h);
+        for_unit = λ task. rw (u, c) (k.for_unit task);
         returned = returned;
         legal = rw b k.legal;
         settled = rw b k.settled;
@@ -186,9 +202,11 @@ module _ {D : Type 0} (meaning : Meaning D) where
       let b : new.book ≡ old.book = ap (λ (w : World D). w.book) s.is in
       let f : new.flight ≡ old.flight = ap (λ (w : World D). w.flight) s.is in
       let c : new.sent ≡ old.sent = ap (λ (w : World D). w.sent) s.is in
+      let u : new.unit ≡ old.unit = ap (λ (w : World D). w.unit) s.is in
       record {
         received = λ t. rw (b, f, c) (k.received t);
         numbered = λ t at r h. k.numbered t at r (ap (λ x. slice_get (x t) at) (sym c) ∙ h);
+        for_unit = λ t. rw (u, c) (k.for_unit t);
         returned = λ t. rw b (k.returned t ∙ ap (λ x. x ++ values_of t old.book.out) (moved t));
         legal = rw b k.legal;
         settled = rw b k.settled;
@@ -228,6 +246,7 @@ module _ {D : Type 0} (meaning : Meaning D) where
       record {
         received = λ task. let s = o.sent task in rw (a, f, s) refl;
         numbered = λ task at r h. absurd (none at r (ap (λ x. slice_get x at) (sym (o.sent task)) ∙ h));
+        for_unit = λ task. let s = o.sent task in rw s tt;
         returned = λ task. let b = o.back task in let g = o.got task in rw (p, u, b, g) refl;
         legal = o.legal;
         settled = t.2;

@@ -71,6 +71,7 @@ module _ {D : Type 0} (meaning : Meaning D) where
       record {
         received = k.received;
         numbered = k.numbered;
+        for_unit = k.for_unit;
         returned = k.returned;
         legal = k.legal;
         settled = k.settled;

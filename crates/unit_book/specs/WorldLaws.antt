@@ -23,6 +23,8 @@ module _ {D : Type 0} (meaning : Meaning D) where
     pub received : (task : ℕ) → requests_of task (arrivals w.book.trace) ++ requests_of task w.flight ≡ w.sent task
     -- the requests that a task sent have its number, and are numbered from 1 in the order of sending
     pub numbered : (task at : ℕ) (r : Piece) → slice_get (w.sent task) at ≡ Some r → r.name ≡ record { task = task; seq = at + 1 }
+    -- each is for this unit
+    pub for_unit : (task : ℕ) → Each (λ r. r.unit ≡ w.unit) (w.sent task)
     -- what was posted of a task is what it has got, and then what is on the way back to it, and then what is out
     pub returned : (task : ℕ) → values_of task (posted meaning w.book.mounted w.book.trace) ≡ w.got task ++ w.back task ++ values_of task w.book.out
     -- the trace is legal, and nothing is due
