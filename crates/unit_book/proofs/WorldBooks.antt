@@ -5,7 +5,7 @@ use Rattle.std.proofs.lemmas.List.{append-nil}
 use Rattle.std.specs.Prelude.{min}
 use Rattle.io_images.specs.declared.csw.Csw.{Csw}
 use Rattle.io_images.specs.declared.code.Code.{Code}
-use Rattle.io_images.specs.declared.code.Code.TheVariants.{ExtentViolated}
+use Rattle.io_images.specs.declared.code.Code.TheVariants.{ExtentViolated, Purged}
 use Rattle.io_images.specs.declared.extent.Extent.{Extent}
 use Rattle.device_port.specs.Meaning.{Meaning}
 use Rattle.ccw_programs.specs.Place.{Place}
@@ -42,7 +42,8 @@ use Rattle.unit_book.proofs.Purges.{since-is}
 use Rattle.unit_book.proofs.WorldTraces.{Grows, grows-not, grows-open, grows-arrive, grows-start, grows-ran, grows-post, grows-close, grows-reset, grows-purge, grows-purged}
 
 -- one command is left at least, where a program runs
-goes-running : (b : Bool) (place : Place) (state : State) → goes (stage_by b place state) ≡ true → (stage_by b place state ≡ Goes) × (is_running state ≡ true)
+goes-running : (b : Bool) (place : Place) (state : State) → goes (stage_by b place state) ≡ true →
+    (stage_by b place state ≡ Goes) × (is_running state ≡ true)
 goes-running true place state h = absurd cc
 goes-running false place Runs h = (refl, refl)
 goes-running false place (Ended csw sense) h = absurd cc
@@ -62,7 +63,8 @@ module _ {D : Type 0} (meaning : Meaning D) where
   abbrev pub Sound : Book D → Type 0
   Sound b = Legal meaning b.mounted b.trace × (due meaning b.mounted b.trace ≡ Free)
 
-  keeps-posts : (old new : Book D) (H : List Entry) (again : Bool) (more : List Piece) → Posts meaning old H again new → Grows meaning old.mounted old.trace H more → Keeps old more new
+  keeps-posts : (old new : Book D) (H : List Entry) (again : Bool) (more : List Piece) → Posts meaning old H again new →
+      Grows meaning old.mounted old.trace H more → Keeps old more new
   keeps-posts old new H again more p g =
       let t : new.trace ≡ H = ap (λ (b : Book D). b.trace) p in
       let s = since-is meaning old.mounted old.trace H g.values g.posted_is in
@@ -77,7 +79,8 @@ module _ {D : Type 0} (meaning : Meaning D) where
       }
 
   -- a call that posts nothing
-  keeps-adds : (old new : Book D) (H : List Entry) (again : Bool) → new ≡ record old { trace = H; again = again; spare = new.spare } → Grows meaning old.mounted old.trace H [] →
+  keeps-adds : (old new : Book D) (H : List Entry) (again : Bool) → new ≡ record old { trace = H; again = again; spare = new.spare } →
+      Grows meaning old.mounted old.trace H [] →
       posted meaning old.mounted H ≡ posted meaning old.mounted old.trace → Keeps old [] new
   keeps-adds old new H again p g q =
       let t : new.trace ≡ H = ap (λ (b : Book D). b.trace) p in
@@ -100,11 +103,15 @@ module _ {D : Type 0} (meaning : Meaning D) where
 
   pub keeps-arrive : (old new : Book D) (r : Piece) → Sound old → r.name.seq ≡ arrived_of r.name.task old.trace + 1 →
       Posts meaning old (after_dooms (Arrive r ∷ old.trace)) old.again new → Keeps old (r ∷ []) new
-  keeps-arrive old new r s n p = keeps-posts old new (after_dooms (Arrive r ∷ old.trace)) old.again (r ∷ []) p (grows-arrive meaning old.mounted r old.trace s.0 s.1 n)
+  keeps-arrive old new r s n p =
+      keeps-posts old new (after_dooms (Arrive r ∷ old.trace)) old.again (r ∷ []) p (grows-arrive meaning old.mounted r old.trace s.0 s.1 n)
 
-  pub keeps-open : (old new : Book D) (dcb : ℕ) (input : Bool) (extents : List Extent) → Sound old → OpensBook meaning old dcb input extents new → Keeps old [] new
+  pub keeps-open : (old new : Book D) (dcb : ℕ) (input : Bool) (extents : List Extent) → Sound old → OpensBook meaning old dcb input extents new →
+      Keeps old [] new
   unfolding posted
-  keeps-open old new dcb input extents s h = keeps-adds old new (Opened dcb input extents ∷ old.trace) old.again h.adds (grows-open meaning old.mounted dcb input extents old.trace s.0 s.1 h.fits) refl
+  keeps-open old new dcb input extents s h =
+      keeps-adds old new (Opened dcb input extents ∷ old.trace) old.again h.adds
+      (grows-open meaning old.mounted dcb input extents old.trace s.0 s.1 h.fits) refl
 
   start-fits : (old : Book D) (n : Name) → MayStart meaning old n → StartFits meaning old.mounted n old.trace
   start-fits old n (MayFirst f) = First f
@@ -114,13 +121,16 @@ module _ {D : Type 0} (meaning : Meaning D) where
   unfolding posted
   keeps-start old new Busy s h = keeps-same old new s h.2
   keeps-start old new Idle s h = keeps-same old new s h.2
-  keeps-start old new (Started n) s h = keeps-adds old new (Start n ∷ old.trace) false h.1 (grows-start meaning old.mounted n old.trace s.0 s.1 (start-fits old n h.0)) refl
+  keeps-start old new (Started n) s h =
+      keeps-adds old new (Start n ∷ old.trace) false h.1 (grows-start meaning old.mounted n old.trace s.0 s.1 (start-fits old n h.0)) refl
   keeps-start old new (Violated n) s h =
       let f = OfFirst (record { fails = h.0; code_is = refl; csw_is = refl; sense_is = refl }) in
-      keeps-posts old new (after_dooms (Post n no_status 0 ExtentViolated ∷ old.trace)) false [] h.1 (grows-post meaning old.mounted n no_status 0 ExtentViolated old.trace s.0 s.1 f)
+      keeps-posts old new (after_dooms (Post n no_status 0 ExtentViolated ∷ old.trace)) false [] h.1
+      (grows-post meaning old.mounted n no_status 0 ExtentViolated old.trace s.0 s.1 f)
 
   -- a program that is to run is that of the active request, and goes
-  going-is : (mounted : D) (H : List Entry) (n : Name) → going_by meaning mounted H (active H) ≡ Some n → (active H ≡ Some n) × (goes (stage meaning mounted n H) ≡ true)
+  going-is : (mounted : D) (H : List Entry) (n : Name) → going_by meaning mounted H (active H) ≡ Some n →
+      (active H ≡ Some n) × (goes (stage meaning mounted n H) ≡ true)
   going-is mounted H n h = by_active (active H) h where
     by_active : (o : Option Name) → going_by meaning mounted H o ≡ Some n → (o ≡ Some n) × (goes (stage meaning mounted n H) ≡ true)
     by_active None e = absurd cc
@@ -130,7 +140,8 @@ module _ {D : Type 0} (meaning : Meaning D) where
           | inr b ↦ let e' = rw b at e in absurd cc
         ]
 
-  ran-fits : (old new : Book D) (max commands : ℕ) (pending : Bool) → 1 ≤ max → (h : RunsOn meaning old max commands pending new) → RanFits meaning old.mounted h.name commands old.trace
+  ran-fits : (old new : Book D) (max commands : ℕ) (pending : Bool) → 1 ≤ max → (h : RunsOn meaning old max commands pending new) →
+      RanFits meaning old.mounted h.name commands old.trace
   ran-fits old new max commands pending m h =
       let p = current meaning old.mounted old.trace in
       let a = going-is old.mounted old.trace h.name h.going in
@@ -142,15 +153,18 @@ module _ {D : Type 0} (meaning : Meaning D) where
   unfolding posted
   keeps-run old new max NothingRuns s m h = keeps-same old new s h.1
   keeps-run old new max (RanSome commands pending) s m h =
-      keeps-adds old new (Ran h.name commands ∷ old.trace) old.again h.adds (grows-ran meaning old.mounted h.name commands old.trace s.0 s.1 (ran-fits old new max commands pending m h)) refl
+      keeps-adds old new (Ran h.name commands ∷ old.trace) old.again h.adds
+      (grows-ran meaning old.mounted h.name commands old.trace s.0 s.1 (ran-fits old new max commands pending m h)) refl
 
   pub keeps-interrupt : (old new : Book D) (answer : Interruption) → Sound old → InterruptsBook meaning old answer new → Keeps old [] new
   keeps-interrupt old new NothingPending s h = keeps-same old new s h.1
   keeps-interrupt old new (TriedAgain n) s h = keeps-again old new true s h.2
   keeps-interrupt old new (WasPosted n code) s h =
-      keeps-posts old new (after_dooms (Post n h.1.csw h.1.sense code ∷ old.trace)) false [] h.1.posts (grows-post meaning old.mounted n h.1.csw h.1.sense code old.trace s.0 s.1 (OfActive h.1.fits))
+      keeps-posts old new (after_dooms (Post n h.1.csw h.1.sense code ∷ old.trace)) false [] h.1.posts
+      (grows-post meaning old.mounted n h.1.csw h.1.sense code old.trace s.0 s.1 (OfActive h.1.fits))
 
-  pub keeps-purge : (old new : Book D) (scope : Scope) (mode : Mode) (answer : Purging) → Sound old → CanPurge meaning old.mounted scope old.trace → PurgesBook meaning old scope mode answer new → Keeps old [] new
+  pub keeps-purge : (old new : Book D) (scope : Scope) (mode : Mode) (answer : Purging) → Sound old → CanPurge meaning old.mounted scope old.trace →
+      PurgesBook meaning old scope mode answer new → Keeps old [] new
   keeps-purge old new scope mode answer s can h = by_test (covers_awaiting old scope mode) h.purges where
     after : List Entry
     after = after_purge meaning old.mounted scope mode old.trace
@@ -160,15 +174,20 @@ module _ {D : Type 0} (meaning : Meaning D) where
 
     by_test : (b : Bool) → PurgesBy meaning b old scope mode new → Keeps old [] new
     by_test false p = keeps-posts old new after old.again [] p grows
-    by_test true p = keeps-posts old new (Post p.name p.csw p.sense _ ∷ after) false [] p.posts (grows-purged meaning old.mounted p.name p.csw p.sense old.trace after grows p.fits)
+    by_test true p =
+        keeps-posts old new (Post p.name p.csw p.sense Purged ∷ after) false [] p.posts
+        (grows-purged meaning old.mounted p.name p.csw p.sense old.trace after grows p.fits)
 
   pub keeps-close : (old new : Book D) (dcb : ℕ) (answer : Closing) → Sound old → ClosesBook meaning old dcb answer new → Keeps old [] new
   keeps-close old new dcb answer s h =
       elim (cases_Bool (is_open dcb old.trace)) [
-        | inl o ↦ keeps-posts old new (after_dooms (Close dcb ∷ old.trace)) old.again [] (subst (λ b. ClosesBy meaning b old dcb new) o h.closes) (grows-close meaning old.mounted dcb old.trace s.0 s.1 o)
+        | inl o ↦
+            keeps-posts old new (after_dooms (Close dcb ∷ old.trace)) old.again [] (subst (λ b. ClosesBy meaning b old dcb new) o h.closes)
+            (grows-close meaning old.mounted dcb old.trace s.0 s.1 o)
         | inr o ↦ keeps-same old new s (subst (λ b. ClosesBy meaning b old dcb new) o h.closes)
       ]
 
   pub keeps-reset : (old new : Book D) (dcb : ℕ) → Sound old → is_open dcb old.trace ≡ true → Adds old (Reset dcb) new → Keeps old [] new
   unfolding posted
-  keeps-reset old new dcb s o h = keeps-adds old new (Reset dcb ∷ old.trace) old.again h (grows-reset meaning old.mounted dcb old.trace s.0 s.1 o) refl
+  keeps-reset old new dcb s o h =
+      keeps-adds old new (Reset dcb ∷ old.trace) old.again h (grows-reset meaning old.mounted dcb old.trace s.0 s.1 o) refl

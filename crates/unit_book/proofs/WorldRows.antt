@@ -29,25 +29,35 @@ use Rattle.unit_book.specs.World.{World, behind, without_first, Accepts, Step, A
 use Rattle.unit_book.specs.WorldLaws.{posts_of}
 
 -- a device of which every command ends normally, without data
-quiet : Meaning (Unit {0})
+abbrev quiet : Meaning (Unit {0})
 quiet = record {
   kind = λ d. Printer;
   cylinders = λ d. 0;
   heads = λ d. 0;
   flow = λ d command. NoFlow;
   prefix = λ d seek mask. d;
-  act = λ d command bytes. record { acted = record { unit = record { 0 = 12 }; sub = record { 0 = 0 }; sense = 0; want = 0 }; device = d; bytes = [] };
+  act = λ d command bytes. record {
+    acted = record { unit = record { 0 = 12 }; sub = record { 0 = 0 }; sense = 0; want = 0 };
+    device = d;
+    bytes = [];
+  };
 }
 
 -- request k of task 0 for DCB 1: its program is one CCW with a count of 1; the IOB stands behind it, and then the ECB
-n : ℕ → Name
+abbrev n : ℕ → Name
 n k = record { task = 0; seq = k }
 
-r : ℕ → Piece
-r k = record no_request { name = record { task = 0; seq = k }; dcb = 1; iob = 8; ecb = 48; area = record { base = 0; bytes = 3 ∷ 0 ∷ 0 ∷ 0 ∷ 0 ∷ 0 ∷ 0 ∷ 1 ∷ replicate 44 0 } }
+abbrev r : ℕ → Piece
+r k = record no_request {
+  name = record { task = 0; seq = k };
+  dcb = 1;
+  iob = 8;
+  ecb = 48;
+  area = record { base = 0; bytes = 3 ∷ 0 ∷ 0 ∷ 0 ∷ 0 ∷ 0 ∷ 0 ∷ 1 ∷ replicate 44 0 };
+}
 
 -- a world where nothing happened yet but the opening of DCBs, with room for one request on each way
-world : List Entry → World (Unit {0})
+abbrev world : List Entry → World (Unit {0})
 world H = record {
   unit = 0;
   intake_room = 1;
@@ -60,47 +70,47 @@ world H = record {
 }
 
 -- task 0 has sent its request 1
-sent : World (Unit {0}) → World (Unit {0})
+abbrev sent : World (Unit {0}) → World (Unit {0})
 sent w = record w { sent = behind w.sent 0 (r 1); flight = r 1 ∷ [] }
 
 -- the book has this trace, and these values are out
-taken : List Entry → List PostedState → World (Unit {0}) → World (Unit {0})
+abbrev taken : List Entry → List PostedState → World (Unit {0}) → World (Unit {0})
 taken H out w = record w { flight = []; book = record w.book { trace = H; out = out } }
 
 -- the value goes on its way back to task 0
-delivered : PostedState → World (Unit {0}) → World (Unit {0})
+abbrev delivered : PostedState → World (Unit {0}) → World (Unit {0})
 delivered v w = record w { book = record w.book { out = [] }; back = behind w.back 0 v }
 
 -- task 0 collects it
-collected : PostedState → World (Unit {0}) → World (Unit {0})
+abbrev collected : PostedState → World (Unit {0}) → World (Unit {0})
 collected v w = record w { back = without_first w.back 0; got = behind w.got 0 v }
 
 -- the posted value of request 1
-value : Csw → Code → PostedState
+abbrev value : Csw → Code → PostedState
 value csw code = posted_value (r 1) csw 0 code (r 1).area
 
 -- 1. A REQUEST OF A DCB THAT WAS NEVER OPENED is posted as purged as it arrives
-purged : List Entry
+abbrev purged : List Entry
 purged = Post (n 1) no_status 0 Purged ∷ Arrive (r 1) ∷ []
 
-stray_sent : World (Unit {0})
+abbrev stray_sent : World (Unit {0})
 stray_sent = sent (world [])
 
-stray_taken : World (Unit {0})
+abbrev stray_taken : World (Unit {0})
 stray_taken = taken purged (value no_status Purged ∷ []) stray_sent
 
-stray_delivered : World (Unit {0})
+abbrev stray_delivered : World (Unit {0})
 stray_delivered = delivered (value no_status Purged) stray_taken
 
-stray_collected : World (Unit {0})
+abbrev stray_collected : World (Unit {0})
 stray_collected = collected (value no_status Purged) stray_delivered
 
 stray_opens : IsOpening quiet (world [])
-unfolding world Legal
+unfolding Legal
 stray_opens = record { legal = tt; opened = refl; out = refl; sent = λ task. refl; flight = refl; back = λ task. refl; got = λ task. refl }
 
 stray_is_purged : Reaches quiet (world []) stray_collected
-unfolding world sent taken delivered collected stray_sent stray_taken stray_delivered stray_collected purged value r n arrivals waiting started active request_of flag attempts stand posted posted_value
+unfolding arrivals waiting started active request_of flag attempts stand posted posted_value
 stray_is_purged =
     Go (Go (Go (Go Stay
     (Accept (r 1) (record { of_unit = refl; next = refl; room = omega arith; is = refl })))
@@ -108,43 +118,44 @@ stray_is_purged =
     (Deliver (record { value = value no_status Purged; first = refl; room = omega arith; is = refl })))
     (Collect 0 (record { value = value no_status Purged; first = refl; is = refl }))
 
-stray_is_finished : IsFinished stray_collected × (posts_of (n 1) stray_collected.book.trace ≡ 1) × (stray_collected.got 0 ≡ value no_status Purged ∷ [])
-unfolding world sent taken delivered collected stray_sent stray_taken stray_delivered stray_collected purged value r n arrivals waiting started active
+stray_is_finished : IsFinished stray_collected × (posts_of (n 1) stray_collected.book.trace ≡ 1)
+    × (stray_collected.got 0 ≡ value no_status Purged ∷ [])
+unfolding arrivals waiting started active
 stray_is_finished = (record { flight = refl; waiting = refl; active = refl }, refl, refl)
 
 -- 2. A REQUEST WHOSE PROGRAM IS ONE COMMAND is started, run to its end and posted 7F
-normal_end : Csw
+abbrev normal_end : Csw
 normal_end = record { address = 8; unit = record { 0 = 12 }; sub = record { 0 = 0 }; residual = 1 }
 
-opened : List Entry
+abbrev opened : List Entry
 opened = Opened 1 false [] ∷ []
 
-arrived : List Entry
+abbrev arrived : List Entry
 arrived = Arrive (r 1) ∷ opened
 
-running : List Entry
+abbrev running : List Entry
 running = StartOf (n 1) ∷ arrived
 
-ended : List Entry
+abbrev ended : List Entry
 ended = Ran (n 1) 1 ∷ running
 
-over : List Entry
+abbrev over : List Entry
 over = Post (n 1) normal_end 0 Ended ∷ ended
 
-began : World (Unit {0})
+abbrev began : World (Unit {0})
 began = world opened
 
-ready : World (Unit {0})
+abbrev ready : World (Unit {0})
 ready = sent began
 
-posted_world : World (Unit {0})
+abbrev posted_world : World (Unit {0})
 posted_world = taken over (value normal_end Ended ∷ []) ready
 
-done : World (Unit {0})
+abbrev done : World (Unit {0})
 done = collected (value normal_end Ended) (delivered (value normal_end Ended) posted_world)
 
 began_opens : IsOpening quiet began
-unfolding began world opened quiet Legal due arrivals waiting started active flag
+unfolding Legal due arrivals waiting started active flag
 began_opens = record {
   legal = (record { next = refl; few = omega arith; taken = refl }, tt);
   opened = refl;
@@ -156,29 +167,32 @@ began_opens = record {
 }
 
 request_is_posted : Reaches quiet began done
-unfolding began ready posted_world done world sent taken delivered collected opened arrived running ended over normal_end quiet value r n arrivals waiting started active request_of flag extents_of attempts stand newest chain_within step after steps_within posted posted_value
+unfolding arrivals waiting started active request_of flag extents_of attempts stand newest chain_within step after steps_within posted posted_value
 request_is_posted =
     let w1 : Reaches quiet began ready = Go Stay (Accept (r 1) (record { of_unit = refl; next = refl; room = omega arith; is = refl })) in
-    let w2 : Reaches quiet began (taken arrived [] ready) = Go w1 (Take (record { request = r 1; first = refl; room = omega arith; arrives = refl; is = refl })) in
-    let w3 : Reaches quiet began (taken running [] ready) = Go w2 (Start (Started (n 1)) (MayFirst (record { none = refl; request = r 1; first = refl; name = refl; passes = refl }), refl) refl) in
-    let w4 : Reaches quiet began (taken ended [] ready) = Go w3 (Run 5 (RanSome 1 true) (omega arith) (record { name = n 1; going = refl; count = refl; adds = refl; pending_is = refl }) refl) in
-    let w5 : Reaches quiet began posted_world = Go w4 (Interrupt (WasPosted (n 1) Ended) (refl, record { csw = normal_end; sense = 0; fits = record { active = refl; as_ended = (refl, refl, refl) }; posts = refl }) refl) in
-    let w6 : Reaches quiet began (delivered (value normal_end Ended) posted_world) = Go w5 (Deliver (record { value = value normal_end Ended; first = refl; room = omega arith; is = refl })) in
+    let w2 : Reaches quiet began (taken arrived [] ready)
+    = Go w1 (Take (record { request = r 1; first = refl; room = omega arith; arrives = refl; is = refl })) in
+    let w3 : Reaches quiet began (taken running [] ready)
+    = Go w2 (Start (Started (n 1)) (MayFirst (record { none = refl; request = r 1; first = refl; name = refl; passes = refl }), refl) refl) in
+    let w4 : Reaches quiet began (taken ended [] ready)
+    = Go w3 (Run 5 (RanSome 1 true) (omega arith) (record { name = n 1; going = refl; count = refl; adds = refl; pending_is = refl }) refl) in
+    let w5 : Reaches quiet began posted_world
+    = Go w4 (Interrupt (WasPosted (n 1) Ended)
+    (refl, record { csw = normal_end; sense = 0; fits = record { active = refl; as_ended = (refl, refl, refl) }; posts = refl }) refl) in
+    let w6 : Reaches quiet began (delivered (value normal_end Ended) posted_world)
+    = Go w5 (Deliver (record { value = value normal_end Ended; first = refl; room = omega arith; is = refl })) in
     Go w6 (Collect 0 (record { value = value normal_end Ended; first = refl; is = refl }))
 
 request_is_finished : IsFinished done × (posts_of (n 1) done.book.trace ≡ 1) × (done.got 0 ≡ value normal_end Ended ∷ [])
-unfolding began ready posted_world done world sent taken delivered collected opened arrived running ended over normal_end value r n arrivals waiting started active
+unfolding arrivals waiting started active
 request_is_finished = (record { flight = refl; waiting = refl; active = refl }, refl, refl)
 
 -- 3. A task's second request is not accepted before its first, nor one for another unit, nor a second one where the intake is full
 none_out_of_turn : (w : World (Unit {0})) → Accepts (world []) (r 2) w → ⊥
-unfolding world r
 none_out_of_turn w s = omega (arith, s.next)
 
 none_for_another : (w : World (Unit {0})) → Accepts (record (world []) { unit = 1 }) (r 1) w → ⊥
-unfolding world r
 none_for_another w s = omega (arith, s.of_unit)
 
 none_beyond_room : (w : World (Unit {0})) → Accepts (sent (world [])) (r 2) w → ⊥
-unfolding world sent r
 none_beyond_room w s = omega (arith, s.room)

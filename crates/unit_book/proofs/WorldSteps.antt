@@ -27,7 +27,8 @@ first-rest [] x h = absurd cc
 first-rest (y ∷ xs) x h = let e : y ≡ x = cc in ap (λ z. z ∷ xs) e
 
 -- what is at a place of a list with one more item
-at-push : {X : Type 0} (xs : List X) (x y : X) (at : ℕ) → slice_get (xs ++ x ∷ []) at ≡ Some y → (slice_get xs at ≡ Some y) ⊎ ((at ≡ length xs) × (y ≡ x))
+at-push : {X : Type 0} (xs : List X) (x y : X) (at : ℕ) → slice_get (xs ++ x ∷ []) at ≡ Some y →
+    (slice_get xs at ≡ Some y) ⊎ ((at ≡ length xs) × (y ≡ x))
 at-push [] x y zero h = inr (refl, cc)
 at-push [] x y (suc at) h = absurd cc
 at-push (z ∷ xs) x y zero h = inl h
@@ -55,26 +56,36 @@ module _ {D : Type 0} (meaning : Meaning D) where
   sound w k = (k.legal, k.settled)
 
   -- A CALL OF THE BOOK, at which these requests arrive
-  module _ (old new : World D) (more rest : List Piece) (k : Kept old) (c : Keeps meaning old.book more new.book) (before : old.flight ≡ more ++ rest) (after : new.flight ≡ rest)
+  module _ (old new : World D) (more rest : List Piece) (k : Kept old) (c : Keeps meaning old.book more new.book)
+      (before : old.flight ≡ more ++ rest) (after : new.flight ≡ rest)
       (unit : new.unit ≡ old.unit) (sent : new.sent ≡ old.sent) (back : new.back ≡ old.back) (got : new.got ≡ old.got) where
     call-received : (task : ℕ) → requests_of task (arrivals new.book.trace) ++ requests_of task new.flight ≡ new.sent task
     call-received task =
         let A = requests_of task (arrivals old.book.trace) in
         let test = λ (r : Piece). r.name.task == task in
-        let a : requests_of task (arrivals new.book.trace) ≡ A ++ requests_of task more = ap (requests_of task) c.arrived ∙ filter-append test (arrivals old.book.trace) more in
-        let f : requests_of task old.flight ≡ requests_of task more ++ requests_of task rest = ap (requests_of task) before ∙ filter-append test more rest in
-        rw (after, a) (append_assoc A (requests_of task more) (requests_of task rest)) ∙ ap (λ x. A ++ x) (sym f) ∙ k.received task ∙ ap (λ g. g task) (sym sent)
+        let a : requests_of task (arrivals new.book.trace) ≡ A ++ requests_of task more
+        = ap (requests_of task) c.arrived ∙ filter-append test (arrivals old.book.trace) more in
+        let f : requests_of task old.flight ≡ requests_of task more ++ requests_of task rest
+        = ap (requests_of task) before ∙ filter-append test more rest in
+        rw (after, a) (append_assoc A (requests_of task more) (requests_of task rest)) ∙ ap (λ x. A ++ x) (sym f) ∙ k.received task
+        ∙ ap (λ g. g task) (sym sent)
 
-    call-returned : (task : ℕ) → values_of task (posted meaning new.book.mounted new.book.trace) ≡ (new.got task ++ new.back task) ++ values_of task new.book.out
+    call-returned : (task : ℕ) →
+        values_of task (posted meaning new.book.mounted new.book.trace) ≡ (new.got task ++ new.back task) ++ values_of task new.book.out
     call-returned task =
         let G = old.got task ++ old.back task in
         let test = λ (v : PostedState). v.name.task == task in
         let m = c.mounted in
-        let p : values_of task (posted meaning new.book.mounted new.book.trace) ≡ values_of task (posted meaning old.book.mounted old.book.trace) ++ values_of task c.values
-        = ap (λ d. values_of task (posted meaning d new.book.trace)) m ∙ ap (values_of task) c.posted_is ∙ filter-append test (posted meaning old.book.mounted old.book.trace) c.values in
-        let o : values_of task new.book.out ≡ values_of task old.book.out ++ values_of task c.values = ap (values_of task) c.out ∙ filter-append test old.book.out c.values in
-        p ∙ ap (λ x. x ++ values_of task c.values) (k.returned task) ∙ append_assoc G (values_of task old.book.out) (values_of task c.values) ∙ ap (λ x. G ++ x) (sym o)
-        ∙ ap (λ g. (g task ++ old.back task) ++ values_of task new.book.out) (sym got) ∙ ap (λ b. (new.got task ++ b task) ++ values_of task new.book.out) (sym back)
+        let p : values_of task (posted meaning new.book.mounted new.book.trace)
+            ≡ values_of task (posted meaning old.book.mounted old.book.trace) ++ values_of task c.values
+        = ap (λ d. values_of task (posted meaning d new.book.trace)) m ∙ ap (values_of task) c.posted_is
+        ∙ filter-append test (posted meaning old.book.mounted old.book.trace) c.values in
+        let o : values_of task new.book.out ≡ values_of task old.book.out ++ values_of task c.values
+        = ap (values_of task) c.out ∙ filter-append test old.book.out c.values in
+        p ∙ ap (λ x. x ++ values_of task c.values) (k.returned task) ∙ append_assoc G (values_of task old.book.out) (values_of task c.values)
+        ∙ ap (λ x. G ++ x) (sym o)
+        ∙ ap (λ g. (g task ++ old.back task) ++ values_of task new.book.out) (sym got)
+        ∙ ap (λ b. (new.got task ++ b task) ++ values_of task new.book.out) (sym back)
 
     call-kept : Kept new
     call-kept =
@@ -90,7 +101,8 @@ module _ {D : Type 0} (meaning : Meaning D) where
 
   in-book : (old new : World D) → Kept old → InBook old new → Keeps meaning old.book [] new.book → Kept new
   in-book old new k e c =
-      call-kept old new [] old.flight k c refl (ap (λ (w : World D). w.flight) e) (ap (λ (w : World D). w.unit) e) (ap (λ (w : World D). w.sent) e) (ap (λ (w : World D). w.back) e) (ap (λ (w : World D). w.got) e)
+      call-kept old new [] old.flight k c refl (ap (λ (w : World D). w.flight) e) (ap (λ (w : World D). w.unit) e)
+      (ap (λ (w : World D). w.sent) e) (ap (λ (w : World D). w.back) e) (ap (λ (w : World D). w.got) e)
 
   -- A REQUEST IS ACCEPTED
   module _ (old new : World D) (r : Piece) (k : Kept old) (s : Accepts old r new) where
@@ -107,7 +119,8 @@ module _ {D : Type 0} (meaning : Meaning D) where
     accept-received task =
         let A = requests_of task (arrivals old.book.trace) in
         let F = requests_of task old.flight in
-        let f : requests_of task new.flight ≡ F ++ requests_of task (r ∷ []) = ap (requests_of task) flight-is ∙ filter-append (λ (q : Piece). q.name.task == task) old.flight (r ∷ []) in
+        let f : requests_of task new.flight ≡ F ++ requests_of task (r ∷ [])
+        = ap (requests_of task) flight-is ∙ filter-append (λ (q : Piece). q.name.task == task) old.flight (r ∷ []) in
         let a : requests_of task (arrivals new.book.trace) ≡ A = ap (λ (b : Book D). requests_of task (arrivals b.trace)) book-is in
         let e = sent-is task in
         let o = k.received task in
@@ -119,14 +132,18 @@ module _ {D : Type 0} (meaning : Meaning D) where
     accept-numbered : (task at : ℕ) (q : Piece) → slice_get (new.sent task) at ≡ Some q → q.name ≡ record { task = task; seq = at + 1 }
     accept-numbered task at q h =
         elim (cases_Bool (eqb r.name.task task)) [
-          | inl t ↦ of_task (eqb-true r.name.task task t) (at-push (old.sent task) r q at (ap (λ x. slice_get x at) (sym (rw t at (sent-is task))) ∙ h))
+          | inl t ↦
+              of_task (eqb-true r.name.task task t)
+              (at-push (old.sent task) r q at (ap (λ x. slice_get x at) (sym (rw t at (sent-is task))) ∙ h))
           | inr t ↦ k.numbered task at q (ap (λ x. slice_get x at) (sym (rw t at (sent-is task))) ∙ h)
         ] where
-          of_task : r.name.task ≡ task → (slice_get (old.sent task) at ≡ Some q) ⊎ ((at ≡ length (old.sent task)) × (q ≡ r)) → q.name ≡ record { task = task; seq = at + 1 }
+          of_task : r.name.task ≡ task → (slice_get (old.sent task) at ≡ Some q) ⊎ ((at ≡ length (old.sent task)) × (q ≡ r)) →
+              q.name ≡ record { task = task; seq = at + 1 }
           of_task t (inl e) = k.numbered task at q e
           of_task t (inr e) =
               let n : r.name.seq ≡ length (old.sent task) + 1 = subst (λ x. r.name.seq ≡ length (old.sent x) + 1) t s.next in
-              name-of q.name task (at + 1) (ap (λ (p : Piece). p.name.task) e.1 ∙ t) (ap (λ (p : Piece). p.name.seq) e.1 ∙ n ∙ ap (λ x. x + 1) (sym e.0))
+              name-of q.name task (at + 1) (ap (λ (p : Piece). p.name.task) e.1 ∙ t)
+              (ap (λ (p : Piece). p.name.seq) e.1 ∙ n ∙ ap (λ x. x + 1) (sym e.0))
 
     accept-unit : (task : ℕ) → Each (λ q. q.unit ≡ new.unit) (new.sent task)
     accept-unit task =
@@ -159,14 +176,16 @@ module _ {D : Type 0} (meaning : Meaning D) where
       let t : eqb r.name.task task ≡ true = eq-eqb task task refl in
       let f : requests_of task w.flight ≡ r ∷ requests_of task rest = ap (requests_of task) e ∙ rw t refl in
       let p : slice_get (w.sent task) (length A) ≡ Some r
-      = ap (λ x. slice_get x (length A)) (sym (k.received task) ∙ ap (λ x. A ++ x) f) ∙ slice_get-append_right A (r ∷ requests_of task rest) (length A) 0 (omega arith) in
+      = ap (λ x. slice_get x (length A)) (sym (k.received task) ∙ ap (λ x. A ++ x) f)
+      ∙ slice_get-append_right A (r ∷ requests_of task rest) (length A) 0 (omega arith) in
       ap (λ (n : Name). n.seq) (k.numbered task (length A) r p)
 
   take-kept : (old new : World D) → Kept old → Takes meaning old new → Kept new
   take-kept old new k s =
       let e = first-rest old.flight s.request s.first in
-      call-kept old new (s.request ∷ []) (drop 1 old.flight) k (keeps-arrive meaning old.book new.book s.request (sound old k) (next-number old s.request (drop 1 old.flight) k e) s.arrives) e
-      (ap (λ (w : World D). w.flight) s.is) (ap (λ (w : World D). w.unit) s.is) (ap (λ (w : World D). w.sent) s.is) (ap (λ (w : World D). w.back) s.is) (ap (λ (w : World D). w.got) s.is)
+      let c = keeps-arrive meaning old.book new.book s.request (sound old k) (next-number old s.request (drop 1 old.flight) k e) s.arrives in
+      call-kept old new (s.request ∷ []) (drop 1 old.flight) k c e (ap (λ (w : World D). w.flight) s.is) (ap (λ (w : World D). w.unit) s.is)
+      (ap (λ (w : World D). w.sent) s.is) (ap (λ (w : World D). w.back) s.is) (ap (λ (w : World D). w.got) s.is)
 
   -- A VALUE GOES BACK
   deliver-kept : (old new : World D) → Kept old → Delivers old new → Kept new
@@ -183,16 +202,21 @@ module _ {D : Type 0} (meaning : Meaning D) where
         legal = rw b k.legal;
         settled = rw b k.settled;
       } where
-        returned : (task : ℕ) → values_of task (posted meaning new.book.mounted new.book.trace) ≡ (new.got task ++ new.back task) ++ values_of task new.book.out
+        returned : (task : ℕ) →
+            values_of task (posted meaning new.book.mounted new.book.trace) ≡ (new.got task ++ new.back task) ++ values_of task new.book.out
         returned task =
             let b : new.book ≡ record old.book { out = drop 1 old.book.out } = ap (λ (w : World D). w.book) s.is in
             let g : new.got ≡ old.got = ap (λ (w : World D). w.got) s.is in
-            let c : new.back task ≡ (if eqb s.value.name.task task then old.back task ++ s.value ∷ [] else old.back task) = ap (λ (w : World D). w.back task) s.is in
+            let c : new.back task ≡ (if eqb s.value.name.task task then old.back task ++ s.value ∷ [] else old.back task)
+            = ap (λ (w : World D). w.back task) s.is in
             let R = values_of task (drop 1 old.book.out) in
-            let o : values_of task old.book.out ≡ values_of task (s.value ∷ drop 1 old.book.out) = ap (values_of task) (first-rest old.book.out s.value s.first) in
+            let o : values_of task old.book.out ≡ values_of task (s.value ∷ drop 1 old.book.out)
+            = ap (values_of task) (first-rest old.book.out s.value s.first) in
             let p = k.returned task ∙ ap (λ x. (old.got task ++ old.back task) ++ x) o in
             rw (b, g, c) (p ∙ elim (cases_Bool (eqb s.value.name.task task)) [
-              | inl t ↦ rw t (sym (append_assoc (old.got task ++ old.back task) (s.value ∷ []) R) ∙ ap (λ x. x ++ R) (append_assoc (old.got task) (old.back task) (s.value ∷ [])))
+              | inl t ↦
+                  rw t (sym (append_assoc (old.got task ++ old.back task) (s.value ∷ []) R)
+                  ∙ ap (λ x. x ++ R) (append_assoc (old.got task) (old.back task) (s.value ∷ [])))
               | inr t ↦ rw t refl
             ])
 
@@ -218,7 +242,8 @@ module _ {D : Type 0} (meaning : Meaning D) where
             rw (g, h) (elim (cases_Bool (eqb task t)) [
               | inl e ↦
                   let first = subst (λ x. slice_get (old.back x) 0 ≡ Some s.value) (eqb-true task t e) s.first in
-                  rw e (ap (λ x. old.got t ++ x) (first-rest (old.back t) s.value first) ∙ sym (append_assoc (old.got t) (s.value ∷ []) (drop 1 (old.back t))))
+                  rw e (ap (λ x. old.got t ++ x) (first-rest (old.back t) s.value first)
+                  ∙ sym (append_assoc (old.got t) (s.value ∷ []) (drop 1 (old.back t))))
               | inr e ↦ rw e refl
             ])
 
@@ -230,7 +255,8 @@ module _ {D : Type 0} (meaning : Meaning D) where
   step-kept old new k (Start answer s e) = in-book old new k e (keeps-start meaning old.book new.book answer (sound old k) s)
   step-kept old new k (Run max answer m s e) = in-book old new k e (keeps-run meaning old.book new.book max answer (sound old k) m s)
   step-kept old new k (Interrupt answer s e) = in-book old new k e (keeps-interrupt meaning old.book new.book answer (sound old k) s)
-  step-kept old new k (Purge scope mode answer c s e) = in-book old new k e (keeps-purge meaning old.book new.book scope mode answer (sound old k) c s)
+  step-kept old new k (Purge scope mode answer c s e) =
+      in-book old new k e (keeps-purge meaning old.book new.book scope mode answer (sound old k) c s)
   step-kept old new k (Close dcb answer s e) = in-book old new k e (keeps-close meaning old.book new.book dcb answer (sound old k) s)
   step-kept old new k (Reset dcb o s e) = in-book old new k e (keeps-reset meaning old.book new.book dcb (sound old k) o s)
   step-kept old new k (Deliver s) = deliver-kept old new k s

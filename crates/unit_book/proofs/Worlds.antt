@@ -47,7 +47,8 @@ module _ {D : Type 0} (meaning : Meaning D) where
         ]
 
     -- what arrived and neither waits nor is active was posted
-    arrived-posted : (n : Name) (H : List Entry) → Legal meaning mounted H → waiting H ≡ [] → active H ≡ None → has_arrived n H ≡ true → is_posted n H ≡ true
+    arrived-posted : (n : Name) (H : List Entry) → Legal meaning mounted H → waiting H ≡ [] → active H ≡ None → has_arrived n H ≡ true →
+        is_posted n H ≡ true
     arrived-posted n H l w a h =
         let one = one-place meaning mounted n H l h in
         let o : 0 + times (is_posted n H) ≡ 1 = rw (w, a) at one in
@@ -56,13 +57,18 @@ module _ {D : Type 0} (meaning : Meaning D) where
           clash z u = omega (arith, z, u)
 
   finished-posts : (w : World D) → Kept meaning w → IsFinished w → (task : ℕ) → Each (λ r. posts_of r.name w.book.trace ≡ 1) (w.sent task)
-  finished-posts w k f task = subst (Each (λ r. posts_of r.name w.book.trace ≡ 1)) sent (Each-filter (λ r. posts_of r.name w.book.trace ≡ 1) (λ (r : Piece). r.name.task == task) (arrivals w.book.trace) all) where
+  finished-posts w k f task =
+      subst (Each (λ r. posts_of r.name w.book.trace ≡ 1)) sent
+      (Each-filter (λ r. posts_of r.name w.book.trace ≡ 1) (λ (r : Piece). r.name.task == task) (arrivals w.book.trace) all) where
     sent : requests_of task (arrivals w.book.trace) ≡ w.sent task
-    sent = sym (append-nil (requests_of task (arrivals w.book.trace))) ∙ ap (λ x. requests_of task (arrivals w.book.trace) ++ requests_of task x) (sym f.flight) ∙ k.received task
+    sent =
+        sym (append-nil (requests_of task (arrivals w.book.trace)))
+        ∙ ap (λ x. requests_of task (arrivals w.book.trace) ++ requests_of task x) (sym f.flight) ∙ k.received task
 
     all : Each (λ r. posts_of r.name w.book.trace ≡ 1) (arrivals w.book.trace)
     all = Each-weaker (Known w.book.trace) (λ r. posts_of r.name w.book.trace ≡ 1)
-        (λ r h. posts-once w.book.mounted r.name w.book.trace k.legal ∙ ap times (arrived-posted w.book.mounted r.name w.book.trace k.legal f.waiting f.active h.1))
+        (λ r h. posts-once w.book.mounted r.name w.book.trace k.legal
+        ∙ ap times (arrived-posted w.book.mounted r.name w.book.trace k.legal f.waiting f.active h.1))
         (arrivals w.book.trace) (facts meaning w.book.mounted w.book.trace k.legal).6
 
   worlds-keep : (first last : World D) → IsOpening meaning first → Reaches meaning first last → KeepsRequests meaning last

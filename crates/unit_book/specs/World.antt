@@ -31,8 +31,8 @@ abbrev pub values_of : ℕ → List PostedState → List PostedState
 values_of task vs = filter (λ v. v.name.task == task) vs
 
 -- the number of the unit; how many requests may be in flight to it, and how many posted values on the way back to a
--- task; by task, what was sent, in order; what is in flight, in the order of sending; the book; by task, the posted
--- values on the way back, and those that the task has got
+-- task; what each task sent, in order; what is in flight, in the order of sending; the book; the posted values on the
+-- way back to each task, and those that it has got, in order
 pub record World (D : Type 0) : Type 0 where
   pub unit : ℕ
   pub intake_room : ℕ
@@ -91,7 +91,8 @@ module _ {D : Type 0} (meaning : Meaning D) where
     pub arrives : Posts meaning old.book (after_dooms (Arrive request ∷ old.book.trace)) old.book.again new.book
     pub is : new ≡ record old { flight = drop 1 old.flight; book = new.book }
 
-  -- A STEP of the world
+  -- A STEP of the world: a request is accepted or taken, the book does a call, a posted value is delivered or collected.
+  -- What is refused is no step, nor is `reserve`: it changes nothing but the room for entries
   pub data Step (old new : World D) : Type 0 where
     Accept : (r : Piece) → Accepts old r new → Step old new
     Take : Takes old new → Step old new
@@ -111,7 +112,7 @@ module _ {D : Type 0} (meaning : Meaning D) where
     Stay : Reaches first first
     Go : {old new : World D} → Reaches first old → Step old new → Reaches first new
 
-  -- THE OPENING WORLD: nothing was sent, and at most DCBs were opened
+  -- THE OPENING WORLD: nothing was sent, and the trace tells of opened DCBs alone
   pub record IsOpening (w : World D) : Type 0 where
     pub legal : Legal meaning w.book.mounted w.book.trace
     pub opened : list_all is_opening w.book.trace ≡ true
