@@ -1,10 +1,7 @@
 -- What each call of a book keeps: a legal trace with nothing due, and that what is posted is out.
-use Rattle.std.proofs.Common.{◌≡◌, ◌≤◌, ℕ, zero, suc, ◌+◌, Bool, true, false, Option, Some, None, List, [], ◌∷◌, ◌++◌, refl, sym, ap, ◌∙◌, arith, inl, inr, subst, if◌then◌else◌}
+use Rattle.std.proofs.Common.{◌≡◌, ◌≤◌, ℕ, suc, ◌+◌, Bool, true, false, Option, Some, None, List, [], ◌∷◌, ◌++◌, refl, sym, ap, ◌∙◌, arith, inl, inr, subst}
 use Rattle.std.proofs.lemmas.Bool.{cases_Bool}
 use Rattle.std.proofs.lemmas.List.{append-nil}
-use Rattle.std.specs.Prelude.{min}
-use Rattle.io_images.specs.declared.csw.Csw.{Csw}
-use Rattle.io_images.specs.declared.code.Code.{Code}
 use Rattle.io_images.specs.declared.code.Code.TheVariants.{ExtentViolated, Purged}
 use Rattle.io_images.specs.declared.extent.Extent.{Extent}
 use Rattle.device_port.specs.Meaning.{Meaning}
@@ -28,14 +25,14 @@ use Rattle.unit_book.specs.declared.answer.Purging.{Purging}
 use Rattle.unit_book.specs.declared.answer.Closing.{Closing}
 use Rattle.unit_book.specs.declared.entry.Mode.{Mode}
 use Rattle.unit_book.specs.declared.entry.Entry.{Entry}
-use Rattle.unit_book.specs.declared.entry.Entry.TheVariants.{Opened, Arrive, Start, Ran, Purge, Close, Reset, Post}
+use Rattle.unit_book.specs.declared.entry.Entry.TheVariants.{Opened, Arrive, Start, Ran, Close, Reset, Post}
 use Rattle.unit_book.specs.Trace.{arrivals, arrived_of, active}
 use Rattle.unit_book.specs.Dcbs.{is_open}
-use Rattle.unit_book.specs.Media.{Stage, Goes, goes, stage, stage_by, current}
-use Rattle.unit_book.specs.Legal.{Free, due, Legal, Settled, StartFits, First, Again, OfActive, OfFirst, RanFits, CanPurge}
-use Rattle.unit_book.specs.Posts.{posted, posted_since}
+use Rattle.unit_book.specs.Media.{Goes, goes, stage, stage_by, current}
+use Rattle.unit_book.specs.Legal.{Free, due, Legal, StartFits, First, Again, OfActive, OfFirst, RanFits, CanPurge}
+use Rattle.unit_book.specs.Posts.{posted}
 use Rattle.unit_book.specs.Dooms.{after_dooms}
-use Rattle.unit_book.specs.Book.{Book, going, going_by}
+use Rattle.unit_book.specs.Book.{Book, going_by}
 use Rattle.unit_book.specs.Answers.{Adds, Posts, OpensBook, MayStart, MayFirst, MayAgain, StartsBook, RunsBook, RunsOn, InterruptsBook}
 use Rattle.unit_book.specs.Controls.{PurgesBy, PurgesBook, ClosesBy, ClosesBook, covers_awaiting, after_purge}
 use Rattle.unit_book.proofs.Purges.{since-is}

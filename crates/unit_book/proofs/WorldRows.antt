@@ -1,6 +1,5 @@
 -- Worked rows of worlds, by computation: one step after another, from an opening world to a finished one.
-use Rattle.std.proofs.Common.{◌≡◌, ◌≤◌, ◌<◌, ℕ, ◌+◌, ◌==◌, Bool, true, false, Option, Some, None, List, [], ◌∷◌, ◌++◌, length, replicate, refl, arith, if◌then◌else◌}
-use Rattle.std.specs.Prelude.{drop, slice_get}
+use Rattle.std.proofs.Common.{◌≡◌, ℕ, true, false, List, [], ◌∷◌, replicate, refl, arith}
 use Rattle.io_images.specs.declared.csw.Csw.{Csw}
 use Rattle.io_images.specs.declared.code.Code.{Code}
 use Rattle.io_images.specs.declared.code.Code.TheVariants.{Ended, Purged}
@@ -23,9 +22,9 @@ use Rattle.unit_book.specs.Dcbs.{extents_of, flag}
 use Rattle.unit_book.specs.Media.{attempts, stand, newest}
 use Rattle.unit_book.specs.Legal.{Legal, due}
 use Rattle.unit_book.specs.Posts.{posted, posted_value}
-use Rattle.unit_book.specs.Book.{Book, opening}
+use Rattle.unit_book.specs.Book.{opening}
 use Rattle.unit_book.specs.Answers.{MayFirst}
-use Rattle.unit_book.specs.World.{World, behind, without_first, Accepts, Step, Accept, Take, Start, Run, Interrupt, Deliver, Collect, Reaches, Stay, Go, IsOpening, IsFinished}
+use Rattle.unit_book.specs.World.{World, behind, without_first, Accepts, Accept, Take, Start, Run, Interrupt, Deliver, Collect, Reaches, Stay, Go, IsOpening, IsFinished}
 use Rattle.unit_book.specs.WorldLaws.{posts_of}
 
 -- a device of which every command ends normally, without data

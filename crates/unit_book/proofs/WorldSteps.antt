@@ -1,21 +1,19 @@
 -- What each step of a world keeps: what was sent arrived or is in flight, and what was posted is got, on its way back or out.
-use Rattle.std.proofs.Common.{◌≡◌, ◌≤◌, ◌<◌, ◌⊎◌, ℕ, zero, suc, ◌+◌, ◌==◌, Bool, true, false, Option, Some, None, List, [], ◌∷◌, ◌++◌, append_assoc, length, refl, sym, ap, ◌∙◌, arith, eqb, inl, inr, subst, if◌then◌else◌}
+use Rattle.std.proofs.Common.{◌≡◌, ◌⊎◌, ℕ, zero, suc, ◌+◌, ◌==◌, true, Some, List, [], ◌∷◌, ◌++◌, append_assoc, length, refl, sym, ap, ◌∙◌, arith, eqb, inl, inr, subst, if◌then◌else◌}
 use Rattle.std.proofs.lemmas.Bool.{cases_Bool, eqb-true, eq-eqb}
 use Rattle.std.proofs.lemmas.List.{append-nil}
 use Rattle.std.proofs.lemmas.List.Elements.{filter-append}
-use Rattle.std.proofs.lemmas.Option.{slice_get_within}
-use Rattle.std.specs.List.{filter}
 use Rattle.std.specs.Prelude.{slice_get, drop}
-use Rattle.circular_buffer.proofs.Places.{slice_get-append_left, slice_get-append_right, slice_get-last}
+use Rattle.circular_buffer.proofs.Places.{slice_get-append_right}
 use Rattle.device_port.specs.Meaning.{Meaning}
 use Rattle.request_piece.specs.PostedState.{PostedState}
 use Rattle.request_piece.specs.declared.piece.Name.{Name}
 use Rattle.request_piece.specs.declared.piece.Piece.{Piece}
 use Rattle.unit_book.specs.Trace.{arrivals, arrived_of}
-use Rattle.unit_book.specs.Legal.{Free, due, Legal, Settled}
+use Rattle.unit_book.specs.Legal.{Legal, Settled}
 use Rattle.unit_book.specs.Posts.{posted}
 use Rattle.unit_book.specs.Book.{Book}
-use Rattle.unit_book.specs.World.{World, requests_of, values_of, behind, without_first, InBook, Accepts, Takes, Delivers, Collects, Step, Accept, Take, Open, Start, Run, Interrupt, Purge, Close, Reset, Deliver, Collect, Reaches, Stay, Go, IsOpening}
+use Rattle.unit_book.specs.World.{World, requests_of, values_of, InBook, Accepts, Takes, Delivers, Collects, Step, Accept, Take, Open, Start, Run, Interrupt, Purge, Close, Reset, Deliver, Collect, Reaches, Stay, Go, IsOpening}
 use Rattle.unit_book.specs.Inside.{Each}
 use Rattle.unit_book.proofs.Facts.{Each-push}
 use Rattle.unit_book.proofs.WorldTraces.{opened-only}
@@ -77,7 +75,7 @@ module _ {D : Type 0} (meaning : Meaning D) where
         let test = λ (v : PostedState). v.name.task == task in
         let m = c.mounted in
         let p : values_of task (posted meaning new.book.mounted new.book.trace)
-            ≡ values_of task (posted meaning old.book.mounted old.book.trace) ++ values_of task c.values
+        ≡ values_of task (posted meaning old.book.mounted old.book.trace) ++ values_of task c.values
         = ap (λ d. values_of task (posted meaning d new.book.trace)) m ∙ ap (values_of task) c.posted_is
         ∙ filter-append test (posted meaning old.book.mounted old.book.trace) c.values in
         let o : values_of task new.book.out ≡ values_of task old.book.out ++ values_of task c.values

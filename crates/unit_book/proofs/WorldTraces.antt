@@ -1,5 +1,5 @@
 -- How the calls of a book lengthen its trace: it stays legal, nothing is due behind it, and its posts grow.
-use Rattle.std.proofs.Common.{◌≡◌, ℕ, ◌+◌, Bool, true, false, Option, Some, None, List, [], ◌∷◌, ◌++◌, append_assoc, refl, sym, ap, ◌∙◌, inl, inr, subst}
+use Rattle.std.proofs.Common.{◌≡◌, ℕ, ◌+◌, Bool, true, Option, Some, None, List, [], ◌∷◌, ◌++◌, append_assoc, refl, sym, ap, ◌∙◌, inl, inr, subst}
 use Rattle.std.proofs.lemmas.Bool.{cases_Bool}
 use Rattle.std.proofs.lemmas.List.{append-nil}
 use Rattle.std.specs.List.{list_all}
@@ -159,7 +159,7 @@ module _ {D : Type 0} (meaning : Meaning D) (mounted : D) where
       record {
         legal = (fits-free meaning mounted (Post n csw sense Purged) G g.settled (OfActive f), g.legal);
         settled = due-no_halt meaning mounted K (λ m e. refl)
-        ∙ ap doomed_first (doomed-purged meaning mounted n csw sense G ∙ ap (without n) (due-doomed meaning mounted G g.settled));
+            ∙ ap doomed_first (doomed-purged meaning mounted n csw sense G ∙ ap (without n) (due-doomed meaning mounted G g.settled));
         arrived = g.arrived;
         values = g.values ++ v ∷ [];
         posted_is = ap (λ x. x ++ v ∷ []) g.posted_is ∙ append_assoc (posted meaning mounted H) g.values (v ∷ []);

@@ -1,20 +1,19 @@
 -- The laws of worlds: in a finished one each request that was sent has one post.
-use Rattle.std.proofs.Common.{◌≡◌, ℕ, ◌+◌, ◌==◌, Bool, true, false, Option, Some, None, List, [], ◌∷◌, ◌++◌, length, refl, sym, ap, ◌∙◌, arith, inl, inr, subst, if◌then◌else◌}
+use Rattle.std.proofs.Common.{◌≡◌, ℕ, ◌+◌, ◌==◌, true, None, List, [], ◌∷◌, ◌++◌, refl, sym, ap, ◌∙◌, arith, inl, inr, subst}
 use Rattle.std.proofs.lemmas.Bool.{cases_Bool}
 use Rattle.std.proofs.lemmas.List.{append-nil}
-use Rattle.std.specs.List.{filter}
 use Rattle.device_port.specs.Meaning.{Meaning}
 use Rattle.request_piece.specs.declared.piece.Name.{Name}
 use Rattle.request_piece.specs.declared.piece.Piece.{Piece}
 use Rattle.unit_book.specs.declared.entry.Entry.{Entry}
 use Rattle.unit_book.specs.declared.entry.Entry.TheVariants.{Opened, Arrive, Start, Ran, Halted, Purge, Close, Reset, Post}
-use Rattle.unit_book.specs.Trace.{same, posts, arrivals, has_arrived, is_posted, waiting, active}
+use Rattle.unit_book.specs.Trace.{same, arrivals, has_arrived, is_posted, waiting, active}
 use Rattle.unit_book.specs.Legal.{Legal}
 use Rattle.unit_book.specs.Inside.{Each}
-use Rattle.unit_book.specs.Laws.{times, waits, is_active, is_one}
+use Rattle.unit_book.specs.Laws.{times}
 use Rattle.unit_book.specs.World.{World, IsOpening, IsFinished, Reaches, requests_of}
 use Rattle.unit_book.specs.WorldLaws.{posts_of, KeepsRequests, WorldLaws}
-use Rattle.unit_book.proofs.Lists.{same-true, no_both}
+use Rattle.unit_book.proofs.Lists.{no_both}
 use Rattle.unit_book.proofs.Facts.{Known, Each-filter, Each-weaker, facts}
 use Rattle.unit_book.proofs.TraceLaws.{not-of, posts-last}
 use Rattle.unit_book.proofs.NameLaws.{one-place, few-starts}
@@ -60,16 +59,16 @@ module _ {D : Type 0} (meaning : Meaning D) where
   finished-posts w k f task =
       subst (Each (λ r. posts_of r.name w.book.trace ≡ 1)) sent
       (Each-filter (λ r. posts_of r.name w.book.trace ≡ 1) (λ (r : Piece). r.name.task == task) (arrivals w.book.trace) all) where
-    sent : requests_of task (arrivals w.book.trace) ≡ w.sent task
-    sent =
-        sym (append-nil (requests_of task (arrivals w.book.trace)))
-        ∙ ap (λ x. requests_of task (arrivals w.book.trace) ++ requests_of task x) (sym f.flight) ∙ k.received task
+        sent : requests_of task (arrivals w.book.trace) ≡ w.sent task
+        sent =
+            sym (append-nil (requests_of task (arrivals w.book.trace)))
+            ∙ ap (λ x. requests_of task (arrivals w.book.trace) ++ requests_of task x) (sym f.flight) ∙ k.received task
 
-    all : Each (λ r. posts_of r.name w.book.trace ≡ 1) (arrivals w.book.trace)
-    all = Each-weaker (Known w.book.trace) (λ r. posts_of r.name w.book.trace ≡ 1)
-        (λ r h. posts-once w.book.mounted r.name w.book.trace k.legal
-        ∙ ap times (arrived-posted w.book.mounted r.name w.book.trace k.legal f.waiting f.active h.1))
-        (arrivals w.book.trace) (facts meaning w.book.mounted w.book.trace k.legal).6
+        all : Each (λ r. posts_of r.name w.book.trace ≡ 1) (arrivals w.book.trace)
+        all = Each-weaker (Known w.book.trace) (λ r. posts_of r.name w.book.trace ≡ 1)
+            (λ r h. posts-once w.book.mounted r.name w.book.trace k.legal
+            ∙ ap times (arrived-posted w.book.mounted r.name w.book.trace k.legal f.waiting f.active h.1))
+            (arrivals w.book.trace) (facts meaning w.book.mounted w.book.trace k.legal).6
 
   worlds-keep : (first last : World D) → IsOpening meaning first → Reaches meaning first last → KeepsRequests meaning last
   worlds-keep first last o r =
