@@ -33,7 +33,7 @@ module _ {X : Type 0} where
       let ih = length-filter_le p xs in
       elim (cases_Bool (p x)) [ inl e ↦ rw e (omega (arith, ih)) | inr e ↦ rw e (omega (arith, ih)) ]
 
-  filters-commute : (p q : X → Bool) (xs : List X) → filter p (filter q xs) ≡ filter q (filter p xs)
+  pub filters-commute : (p q : X → Bool) (xs : List X) → filter p (filter q xs) ≡ filter q (filter p xs)
   filters-commute p q xs =
       sym (filter-filter q p (λ x. q x && p x) (λ x. by_bools (q x) (p x)) xs) ∙ filter-filter p q (λ x. q x && p x) (λ x. refl) xs where
         by_bools : (a b : Bool) → (a && b) ≡ (b && a)

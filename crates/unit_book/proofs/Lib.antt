@@ -29,5 +29,6 @@ pub mod Awaiting
 pub mod WorldTraces
 pub mod WorldBooks
 pub mod WorldSteps
+pub mod WorldOrder
 pub mod Worlds
 mod WorldRows

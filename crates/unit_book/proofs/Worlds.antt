@@ -1,5 +1,5 @@
 -- The laws of worlds: in a finished one each request that was sent has one post.
-use Rattle.std.proofs.Common.{◌≡◌, ℕ, ◌+◌, ◌==◌, true, None, List, [], ◌∷◌, ◌++◌, refl, sym, ap, ◌∙◌, arith, inl, inr, subst}
+use Rattle.std.proofs.Common.{◌≡◌, ◌≤◌, ℕ, ◌+◌, ◌==◌, Bool, true, false, None, List, [], ◌∷◌, ◌++◌, refl, sym, ap, ◌∙◌, arith, inl, inr, subst}
 use Rattle.std.proofs.lemmas.Bool.{cases_Bool}
 use Rattle.std.proofs.lemmas.List.{append-nil}
 use Rattle.device_port.specs.Meaning.{Meaning}
@@ -20,6 +20,7 @@ use Rattle.unit_book.proofs.NameLaws.{one-place, few-starts}
 use Rattle.unit_book.proofs.OrderLaws.{starts-in-order}
 use Rattle.unit_book.proofs.DoomLaws.{no-doomed-starts}
 use Rattle.unit_book.proofs.WorldSteps.{Kept, steps-kept}
+use Rattle.unit_book.proofs.WorldOrder.{first-started}
 
 module _ {D : Type 0} (meaning : Meaning D) where
   module _ (mounted : D) where
@@ -80,8 +81,13 @@ module _ {D : Type 0} (meaning : Meaning D) where
         returned = k.returned;
         legal = k.legal;
         settled = k.settled;
+        first_started = first-started meaning last k;
+        posted_once = λ n. once (is_posted n last.book.trace) (posts-once last.book.mounted n last.book.trace k.legal);
         finished = finished-posts last k;
-      }
+      } where
+        once : {k : ℕ} (b : Bool) → k ≡ times b → k ≤ 1
+        once true e = omega (arith, e)
+        once false e = omega (arith, e)
 
   pub world-laws : WorldLaws meaning
   world-laws = record {

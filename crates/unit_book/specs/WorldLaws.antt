@@ -1,15 +1,15 @@
 -- LAWS OF WORLDS: what holds after every list of steps (profile).
-use Rattle.std.specs.Prelude.{◌≡◌, ℕ, ◌+◌, Some, List, ◌++◌, length, slice_get}
+use Rattle.std.specs.Prelude.{◌≡◌, ◌≤◌, ℕ, ◌+◌, ◌==◌, Some, List, ◌++◌, length, map, slice_get}
 use Rattle.std.specs.List.{filter}
 use Rattle.device_port.specs.Meaning.{Meaning}
 use Rattle.request_piece.specs.declared.piece.Name.{Name}
 use Rattle.request_piece.specs.declared.piece.Piece.{Piece}
 use Rattle.unit_book.specs.declared.entry.Entry.{Entry}
-use Rattle.unit_book.specs.Trace.{posts, arrivals}
+use Rattle.unit_book.specs.Trace.{posts, arrivals, has_started}
 use Rattle.unit_book.specs.Legal.{Legal, Settled}
 use Rattle.unit_book.specs.Posts.{posted}
 use Rattle.unit_book.specs.Inside.{Each}
-use Rattle.unit_book.specs.Laws.{PostsLast, OnePlace, StartsInOrder, NoDoomedStarts, FewStarts}
+use Rattle.unit_book.specs.Laws.{first_starts, PostsLast, OnePlace, StartsInOrder, NoDoomedStarts, FewStarts}
 use Rattle.unit_book.specs.World.{World, IsOpening, IsFinished, Reaches, requests_of, values_of}
 
 -- how many Posts of a name stand in the trace
@@ -30,6 +30,11 @@ module _ {D : Type 0} (meaning : Meaning D) where
     -- the trace is legal, and nothing is due
     pub legal : Legal meaning w.book.mounted w.book.trace
     pub settled : Settled meaning w.book.mounted w.book.trace
+    -- those of its requests that were started had their first Starts in the order of sending
+    pub first_started : (task : ℕ) →
+        filter (λ n. n.task == task) (first_starts w.book.trace) ≡ map (λ r. r.name) (filter (λ r. has_started r.name w.book.trace) (w.sent task))
+    -- each has one post at most
+    pub posted_once : (n : Name) → posts_of n w.book.trace ≤ 1
     -- in a finished world each request that was sent has one post
     pub finished : IsFinished w → (task : ℕ) → Each (λ r. posts_of r.name w.book.trace ≡ 1) (w.sent task)
 

@@ -1,4 +1,4 @@
-//! Laws of every legal trace, those with halts, purges and closed DCBs included.
+//! Laws of every legal trace, those with halts, purges and closed DCBs included, and of the world of a unit.
 
 ghost use Rattle.unit_book.specs.Laws.{FewStarts, NoDoomedStarts, OnePlace, PostsLast, StartsInOrder};
 ghost use Rattle.unit_book.specs.WorldLaws.{WorldLaws};
@@ -33,9 +33,10 @@ pub fn starts_are_few<D: Device>()
 {}
 
 /// After every list of steps of a unit's world, what arrived of a task and what is in flight of it is what the
-/// task sent, numbered in the order of sending; what was posted of it is what it has got, what is on the way
-/// back to it and what is out; the trace is legal and nothing is due. Once nothing is in flight, waits or is
-/// active, each request that was sent has exactly one post.
+/// task sent, numbered in the order of sending, and its first starts are in that order; what was posted of it is
+/// what it has got, what is on the way back to it and what is out. The trace is legal and nothing is due, so it
+/// has the laws above. Each request has one post at most, and exactly one once nothing is in flight, waits or is
+/// active.
 pub fn worlds_keep_requests<D: Device>()
     ensures { WorldLaws D.meaning }
 {}

@@ -1,0 +1,72 @@
+-- In a world the requests of a task are first started in the order of sending.
+use Rattle.std.proofs.Common.{◌≡◌, ◌≤◌, ℕ, zero, suc, ◌+◌, ◌==◌, Bool, true, false, Some, List, [], ◌∷◌, ◌++◌, length, map, refl, sym, ap, ◌∙◌, arith, inl, inr, subst}
+use Rattle.std.proofs.lemmas.Bool.{cases_Bool}
+use Rattle.std.proofs.lemmas.List.{append-nil}
+use Rattle.std.proofs.lemmas.List.Elements.{filter-append}
+use Rattle.std.specs.List.{filter}
+use Rattle.std.specs.Prelude.{slice_get}
+use Rattle.circular_buffer.proofs.Places.{slice_get-append_right}
+use Rattle.device_port.specs.Meaning.{Meaning}
+use Rattle.request_piece.specs.declared.piece.Name.{Name}
+use Rattle.request_piece.specs.declared.piece.Piece.{Piece}
+use Rattle.unit_book.specs.declared.entry.Entry.{Entry}
+use Rattle.unit_book.specs.Trace.{arrivals, arrived_of, has_arrived, has_started}
+use Rattle.unit_book.specs.Laws.{first_starts}
+use Rattle.unit_book.specs.World.{World, requests_of}
+use Rattle.unit_book.proofs.Facts.{Facts, facts, fresh-start}
+use Rattle.unit_book.proofs.Dooms.{filters-commute}
+use Rattle.unit_book.proofs.OrderLaws.{starts-in-order}
+use Rattle.unit_book.proofs.WorldSteps.{Kept}
+
+none-at : {X : Type 0} (p : X → Bool) (xs : List X) → ((at : ℕ) (x : X) → slice_get xs at ≡ Some x → p x ≡ false) → filter p xs ≡ []
+none-at p [] h = refl
+none-at p (x ∷ xs) h = let e = h 0 x refl in rw e (none-at p xs (λ at y k. h (suc at) y k))
+
+filter-map : (p : Name → Bool) (rs : List Piece) → filter p (map (λ r. r.name) rs) ≡ map (λ r. r.name) (filter (λ r. p r.name) rs)
+filter-map p [] = refl
+filter-map p (r ∷ rs) =
+    let ih = filter-map p rs in
+    elim (cases_Bool (p r.name)) [ inl e ↦ rw e (ap (λ x. r.name ∷ x) ih) | inr e ↦ rw e ih ]
+
+module _ {D : Type 0} (meaning : Meaning D) (w : World D) (k : Kept meaning w) where
+  abbrev H : List Entry
+  H = w.book.trace
+
+  known : Facts H
+  known = facts meaning w.book.mounted H k.legal
+
+  -- what is in flight was not started
+  flight-unstarted : (task : ℕ) → filter (λ r. has_started r.name H) (requests_of task w.flight) ≡ []
+  flight-unstarted task = none-at (λ r. has_started r.name H) F unstarted where
+    A : List Piece
+    A = requests_of task (arrivals H)
+
+    F : List Piece
+    F = requests_of task w.flight
+
+    unstarted : (at : ℕ) (r : Piece) → slice_get F at ≡ Some r → has_started r.name H ≡ false
+    unstarted at r h =
+        let p : slice_get (w.sent task) (length A + at) ≡ Some r
+        = ap (λ x. slice_get x (length A + at)) (sym (k.received task)) ∙ slice_get-append_right A F (length A + at) at refl ∙ h in
+        let n : r.name ≡ record { task = task; seq = length A + at + 1 } = k.numbered task (length A + at) r p in
+        elim (cases_Bool (has_arrived r.name H)) [
+          | inl a ↦
+              let few : length A + at + 1 ≤ arrived_of task H = subst (λ (x : Name). x.seq ≤ arrived_of x.task H) n (known.2 r.name a) in
+              absurd (omega (arith, few))
+          | inr a ↦ fresh-start meaning w.book.mounted r.name H known a
+        ]
+
+  started-sent : (task : ℕ) → filter (λ r. has_started r.name H) (requests_of task (arrivals H)) ≡ filter (λ r. has_started r.name H) (w.sent task)
+  started-sent task =
+      let A = requests_of task (arrivals H) in
+      let test = λ (r : Piece). has_started r.name H in
+      sym (append-nil (filter test A)) ∙ ap (λ x. filter test A ++ x) (sym (flight-unstarted task))
+      ∙ sym (filter-append test A (requests_of task w.flight)) ∙ ap (filter test) (k.received task)
+
+  pub first-started : (task : ℕ) →
+      filter (λ n. n.task == task) (first_starts H) ≡ map (λ r. r.name) (filter (λ r. has_started r.name H) (w.sent task))
+  first-started task =
+      let test = λ (r : Piece). has_started r.name H in
+      ap (filter (λ (n : Name). n.task == task)) (starts-in-order meaning w.book.mounted H k.legal)
+      ∙ filter-map (λ n. n.task == task) (filter test (arrivals H))
+      ∙ ap (map (λ (r : Piece). r.name)) (filters-commute (λ (r : Piece). r.name.task == task) test (arrivals H) ∙ started-sent task)
