@@ -12,11 +12,14 @@ use Rattle.subchannel.specs.Subchannel.{no_status}
 use Rattle.request_piece.specs.PostedState.{PostedState}
 use Rattle.request_piece.specs.declared.piece.Name.{Name}
 use Rattle.request_piece.specs.declared.piece.Piece.{Piece}
+use Rattle.request_piece.specs.declared.scope.Scope.TheVariants.{Dcb}
 use Rattle.unit_book.specs.declared.answer.Starting.TheVariants.{Started}
 use Rattle.unit_book.specs.declared.answer.Running.TheVariants.{Ran as RanSome}
 use Rattle.unit_book.specs.declared.answer.Interruption.TheVariants.{Ended as WasPosted}
+use Rattle.unit_book.specs.declared.answer.Purging.TheVariants.{Quiet}
+use Rattle.unit_book.specs.declared.entry.Mode.TheVariants.{Quiesce}
 use Rattle.unit_book.specs.declared.entry.Entry.{Entry}
-use Rattle.unit_book.specs.declared.entry.Entry.TheVariants.{Opened, Arrive, Start as StartOf, Ran, Post}
+use Rattle.unit_book.specs.declared.entry.Entry.TheVariants.{Opened, Arrive, Start as StartOf, Ran, Purge as PurgeOf, Post}
 use Rattle.unit_book.specs.Trace.{no_request, arrivals, waiting, started, active, request_of}
 use Rattle.unit_book.specs.Dcbs.{extents_of, flag}
 use Rattle.unit_book.specs.Media.{attempts, stand, newest}
@@ -24,7 +27,7 @@ use Rattle.unit_book.specs.Legal.{Legal, due}
 use Rattle.unit_book.specs.Posts.{posted, posted_value}
 use Rattle.unit_book.specs.Book.{opening}
 use Rattle.unit_book.specs.Answers.{MayFirst}
-use Rattle.unit_book.specs.World.{World, behind, without_first, Accepts, Accept, Take, Start, Run, Interrupt, Deliver, Collect, Reaches, Stay, Go, IsOpening, IsFinished}
+use Rattle.unit_book.specs.World.{World, behind, without_first, Accepts, Accept, Take, Start, Run, Interrupt, Purge, Deliver, Collect, Reaches, Stay, Go, IsOpening, IsFinished}
 use Rattle.unit_book.specs.WorldLaws.{posts_of}
 
 -- a device of which every command ends normally, without data
@@ -186,7 +189,23 @@ request_is_finished : IsFinished done × (posts_of (n 1) done.book.trace ≡ 1) 
 unfolding arrivals waiting started active
 request_is_finished = (record { flight = refl; waiting = refl; active = refl }, refl, refl)
 
--- 3. A task's second request is not accepted before its first, nor one for another unit, nor a second one where the intake is full
+-- 3. A PURGE OF ITS DCB posts a request that waits, which leaves the world finished though the value is still out
+abbrev swept : List Entry
+swept = Post (n 1) no_status 0 Purged ∷ PurgeOf (Dcb 1) Quiesce ∷ arrived
+
+abbrev swept_world : World (Unit {0})
+swept_world = taken swept (value no_status Purged ∷ []) ready
+
+purge_posts : Reaches quiet began swept_world × IsFinished swept_world × (posts_of (n 1) swept_world.book.trace ≡ 1)
+unfolding arrivals waiting started active request_of flag attempts stand posted posted_value due
+purge_posts =
+    let w1 : Reaches quiet began ready = Go Stay (Accept (r 1) (record { of_unit = refl; next = refl; room = omega arith; is = refl })) in
+    let w2 : Reaches quiet began (taken arrived [] ready)
+    = Go w1 (Take (record { request = r 1; first = refl; room = omega arith; arrives = refl; is = refl })) in
+    let w3 : Reaches quiet began swept_world = Go w2 (Purge (Dcb 1) Quiesce Quiet refl (record { purges = refl; answer_is = refl }) refl) in
+    (w3, record { flight = refl; waiting = refl; active = refl }, refl)
+
+-- 4. A task's second request is not accepted before its first, nor one for another unit, nor a second one where the intake is full
 none_out_of_turn : (w : World (Unit {0})) → Accepts (world []) (r 2) w → ⊥
 none_out_of_turn w s = omega (arith, s.next)
 
