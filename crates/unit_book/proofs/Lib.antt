@@ -26,3 +26,4 @@ pub mod Counting
 pub mod Controls
 pub mod Halts
 pub mod Awaiting
+pub mod Settling

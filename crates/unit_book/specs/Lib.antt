@@ -11,3 +11,4 @@ pub mod Answers
 pub mod Inside
 pub mod Laws
 pub mod Controls
+pub mod Settle
