@@ -1,5 +1,5 @@
--- What the entries of a trace add to the arrivals of a task: only an arrival adds one, and the calls of a book that
--- run programs add none.
+-- What the entries of a trace add to the arrivals of a task: only an arrival adds one, and the other calls of a
+-- book add none.
 use Rattle.std.proofs.Common.{◌≡◌, ◌≢◌, ◌<◌, ℕ, ◌+◌, ◌==◌, Bool, true, false, List, [], ◌∷◌, ◌++◌, length, length-append, replicate, slice_index, slice_set, get_or, set, refl, sym, ap, ◌∙◌, arith, if◌then◌else◌, inl, inr, add-zero}
 use Rattle.std.specs.List.{filter}
 use Rattle.std.proofs.lemmas.Bool.{cases_Bool}
@@ -8,7 +8,9 @@ use Rattle.std.proofs.lemmas.List.Elements.{filter-append}
 use Rattle.std.proofs.lemmas.List.{get_or-set_same, get_or-set_other, get_or-replicate}
 use Rattle.request_piece.specs.declared.piece.Piece.{Piece}
 use Rattle.unit_book.specs.declared.entry.Entry.{Entry}
-use Rattle.unit_book.specs.declared.entry.Entry.TheVariants.{Arrive, Start, Ran, Post, Opened}
+use Rattle.unit_book.specs.declared.entry.Entry.TheVariants.{Arrive, Start, Ran, Halted, Purge, Close, Reset, Post, Opened}
+use Rattle.unit_book.specs.declared.entry.Mode.{Mode}
+use Rattle.request_piece.specs.declared.scope.Scope.{Scope}
 use Rattle.io_images.specs.declared.code.Code.TheVariants.{ExtentViolated}
 use Rattle.io_images.specs.declared.extent.Extent.{Extent}
 use Rattle.device_port.specs.Meaning.{Meaning}
@@ -19,11 +21,15 @@ use Rattle.unit_book.specs.declared.answer.Running.{Running}
 use Rattle.unit_book.specs.declared.answer.Running.TheVariants.{Quiet as NothingRuns, Ran as RanSome}
 use Rattle.unit_book.specs.declared.answer.Interruption.{Interruption}
 use Rattle.unit_book.specs.declared.answer.Interruption.TheVariants.{Quiet as NothingPending, Again as TriedAgain, Ended as WasPosted}
-use Rattle.unit_book.specs.Answers.{OpensBook, StartsBook, RunsBook, InterruptsBook}
+use Rattle.unit_book.specs.declared.answer.Purging.{Purging}
+use Rattle.unit_book.specs.declared.answer.Closing.{Closing}
+use Rattle.unit_book.specs.Answers.{Adds, OpensBook, StartsBook, RunsBook, InterruptsBook}
+use Rattle.unit_book.specs.Controls.{halted_by, after_purge, covers_awaiting, PurgesBy, PurgesBook, ClosesBy, ClosesBook}
+use Rattle.unit_book.specs.Legal.{Due, ToHalt, ToPost, Free, due}
 use Rattle.unit_book.specs.Book.{Book}
 use Rattle.unit_book.specs.Trace.{arrivals, arrived_of}
 use Rattle.unit_book.specs.Dooms.{all_posted, after_dooms}
-use Rattle.unit_book.specs.Dcbs.{doomed}
+use Rattle.unit_book.specs.Dcbs.{doomed, is_open}
 
 -- posts add none
 arrivals-all_posted : (rs : List Piece) (H : List Entry) → arrivals (all_posted rs H) ≡ arrivals H
@@ -44,7 +50,7 @@ arrived_of-arrive b task r H e =
     let test = λ (p : Piece). p.name.task == task in
     ap length (filter-append test (arrivals H) (r ∷ [])) ∙ length-append (filter test (arrivals H)) (filter test (r ∷ [])) ∙ rw (one_more b task r e) refl
 
--- the calls of a book that run programs add no arrival
+-- the other calls of a book add no arrival
 module _ {D : Type 0} (meaning : Meaning D) where
   pub starts-keep : (old : Book D) (answer : Starting) (new : Book D) → StartsBook meaning old answer new → arrivals new.trace ≡ arrivals old.trace
   unfolding arrivals
@@ -67,3 +73,35 @@ module _ {D : Type 0} (meaning : Meaning D) where
   pub opens-keep : (old : Book D) (dcb : ℕ) (input : Bool) (extents : List Extent) (new : Book D) → OpensBook meaning old dcb input extents new → arrivals new.trace ≡ arrivals old.trace
   unfolding arrivals
   opens-keep old dcb input extents new h = ap (λ (b : Book D). arrivals b.trace) h.adds
+
+  arrivals-halted_by : (d : Due) (H : List Entry) → arrivals (halted_by d H) ≡ arrivals H
+  unfolding arrivals
+  arrivals-halted_by (ToHalt n) H = refl
+  arrivals-halted_by (ToPost n) H = refl
+  arrivals-halted_by Free H = refl
+
+  arrivals-after_purge : (mounted : D) (scope : Scope) (mode : Mode) (H : List Entry) → arrivals (after_purge meaning mounted scope mode H) ≡ arrivals H
+  unfolding arrivals
+  arrivals-after_purge mounted scope mode H =
+      let G = Purge scope mode ∷ H in
+      arrivals-after_dooms (halted_by (due meaning mounted G) G) ∙ arrivals-halted_by (due meaning mounted G) G
+
+  purges-keep-by : (awaiting : Bool) (old : Book D) (scope : Scope) (mode : Mode) (new : Book D) → PurgesBy meaning awaiting old scope mode new → arrivals new.trace ≡ arrivals old.trace
+  unfolding arrivals
+  purges-keep-by false old scope mode new h = ap (λ (b : Book D). arrivals b.trace) h ∙ arrivals-after_purge old.mounted scope mode old.trace
+  purges-keep-by true old scope mode new h = ap (λ (b : Book D). arrivals b.trace) h.posts ∙ arrivals-after_purge old.mounted scope mode old.trace
+
+  pub purges-keep : (old : Book D) (scope : Scope) (mode : Mode) (answer : Purging) (new : Book D) → PurgesBook meaning old scope mode answer new → arrivals new.trace ≡ arrivals old.trace
+  purges-keep old scope mode answer new h = purges-keep-by (covers_awaiting old scope mode) old scope mode new h.purges
+
+  closes-keep-by : (was_open : Bool) (old : Book D) (dcb : ℕ) (new : Book D) → ClosesBy meaning was_open old dcb new → arrivals new.trace ≡ arrivals old.trace
+  unfolding arrivals
+  closes-keep-by true old dcb new h = ap (λ (b : Book D). arrivals b.trace) h ∙ arrivals-after_dooms (Close dcb ∷ old.trace)
+  closes-keep-by false old dcb new h = ap (λ (b : Book D). arrivals b.trace) h
+
+  pub closes-keep : (old : Book D) (dcb : ℕ) (answer : Closing) (new : Book D) → ClosesBook meaning old dcb answer new → arrivals new.trace ≡ arrivals old.trace
+  closes-keep old dcb answer new h = closes-keep-by (is_open dcb old.trace) old dcb new h.closes
+
+  pub resets-keep : (old : Book D) (dcb : ℕ) (new : Book D) → Adds old (Reset dcb) new → arrivals new.trace ≡ arrivals old.trace
+  unfolding arrivals
+  resets-keep old dcb new h = ap (λ (b : Book D). arrivals b.trace) h

@@ -32,3 +32,4 @@ pub mod WorldSteps
 pub mod WorldOrder
 pub mod Worlds
 mod WorldRows
+pub mod Settling

@@ -50,7 +50,7 @@ module _ {D : Type 0} (meaning : Meaning D) (mounted : D) where
       ap (λ x. (stand meaning mounted x).device) w.2 ∙ there ∙ sym (ap (λ x. (newest meaning mounted x).device) w.2)
 
   -- j more commands
-  current-ran : (n : Name) (j : ℕ) (H : List Entry) → NewestIs n H → current meaning mounted (Ran n j ∷ H) ≡ after meaning j (current meaning mounted H)
+  pub current-ran : (n : Name) (j : ℕ) (H : List Entry) → NewestIs n H → current meaning mounted (Ran n j ∷ H) ≡ after meaning j (current meaning mounted H)
   unfolding attempts newest
   current-ran n j H w =
       let e = w.2 in

@@ -13,3 +13,4 @@ pub mod Laws
 pub mod Controls
 pub mod World
 pub mod WorldLaws
+pub mod Settle

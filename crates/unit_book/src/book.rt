@@ -2,6 +2,7 @@
 
 mod controls;
 mod readers;
+mod settle;
 
 ghost use Rattle.std.specs.Prelude.{◌≡◌, ◌≤◌, ◌<◌, ◌+◌, ◌∷◌, ◌++◌, [], IfOk, IfErr, OnOk, OnErr, IfSome, slice_get, drop};
 ghost use Rattle.unit_book.specs.Answers.{ArriveRefused, InterruptsBook, OpenRefused, OpensBook, Posts, RunsBook, StartsBook};

@@ -1,4 +1,4 @@
-use Rattle.std.proofs.Common.{◌∙◌, sym}
+use Rattle.std.proofs.Common.{sym}
 use Rattle.unit_book.proofs.book.UnitBook.arrive.Goals as goal
 
 pub refuse-requires-clause-refused : goal.refuse-requires-clause-refused

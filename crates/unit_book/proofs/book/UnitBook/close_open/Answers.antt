@@ -1,6 +1,5 @@
-use Rattle.std.proofs.Common.{◌∷◌, refl, ◌∙◌, ap}
+use Rattle.std.proofs.Common.{◌∷◌}
 use Rattle.unit_book.specs.declared.entry.Entry.TheVariants.{Close}
-use Rattle.unit_book.specs.Book.{Book}
 use Rattle.unit_book.proofs.Calls.{add-then-sweep, posted-close}
 use Rattle.unit_book.proofs.book.UnitBook.close_open.Goals as goal
 

@@ -1,4 +1,3 @@
-use Rattle.std.proofs.Common.{sym}
 use Rattle.unit_book.proofs.Calls.{open-settled}
 use Rattle.unit_book.proofs.book.UnitBook.open.Goals as goal
 

@@ -1,6 +1,6 @@
-use Rattle.std.proofs.Common.{◌≡◌, ◌∷◌, sym, subst, ◌∙◌}
+use Rattle.std.proofs.Common.{◌∷◌, sym, ◌∙◌}
 use Rattle.unit_book.specs.declared.entry.Entry.TheVariants.{Purge}
-use Rattle.unit_book.specs.Controls.{PurgesBy, after_halt}
+use Rattle.unit_book.specs.Controls.{after_halt}
 use Rattle.unit_book.proofs.Calls.{add-then-sweep, posted-halt}
 use Rattle.unit_book.proofs.book.UnitBook.purge_in_room.Goals as goal
 

@@ -1,4 +1,4 @@
-use Rattle.std.proofs.Common.{◌≡◌, ◌∷◌, reverse, refl, sym, ap, ◌∙◌}
+use Rattle.std.proofs.Common.{◌∷◌, reverse, refl}
 use Rattle.unit_book.specs.declared.entry.Entry.TheVariants.{Close}
 use Rattle.unit_book.proofs.Controls.{doomed-close, doomed-close_few}
 use Rattle.unit_book.proofs.Dooms.{due-doomed, due-no_halt}

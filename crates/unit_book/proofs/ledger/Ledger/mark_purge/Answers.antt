@@ -1,4 +1,4 @@
-use Rattle.std.proofs.Common.{◌≡◌, ◌∷◌, Some, None, Option, reverse, sym, subst, ◌∙◌}
+use Rattle.std.proofs.Common.{◌≡◌, Some, None, Option, reverse, sym, subst, ◌∙◌}
 use Rattle.unit_book.specs.declared.active.Active.{Active}
 use Rattle.unit_book.specs.Inside.{Ties, Rooms}
 use Rattle.unit_book.proofs.Controls.{ties-purge, ties-purge_none}

@@ -1,4 +1,4 @@
-use Rattle.std.proofs.Common.{[], None, reverse, arith, refl, ap}
+use Rattle.std.proofs.Common.{reverse, arith, refl, ap}
 use Rattle.unit_book.proofs.Opens.{ties-new}
 use Rattle.unit_book.proofs.ledger.Ledger.new.Goals as goal
 

@@ -1,4 +1,4 @@
-use Rattle.std.proofs.Common.{◌≡◌, Some, Option, true, reverse, refl, ap, ◌∙◌, subst}
+use Rattle.std.proofs.Common.{◌≡◌, Option, true, reverse, ap, ◌∙◌, subst}
 use Rattle.unit_book.specs.declared.active.Active.{Active}
 use Rattle.unit_book.specs.Inside.{Ties, again_of, again_by}
 use Rattle.unit_book.proofs.Restarts.{awaits-told}

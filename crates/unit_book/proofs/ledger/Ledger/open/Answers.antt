@@ -1,7 +1,5 @@
-use Rattle.std.proofs.Common.{◌≡◌, ◌+◌, ◌∷◌, [], List, false, reverse, length, length-append, arith, ap, sym, ◌∙◌}
+use Rattle.std.proofs.Common.{◌≡◌, ◌+◌, ◌∷◌, [], List, false, reverse, length, length-append, ap, ◌∙◌}
 use Rattle.unit_book.specs.declared.dcb.Dcb.{Dcb}
-use Rattle.unit_book.specs.declared.entry.Entry.{Entry}
-use Rattle.unit_book.specs.declared.entry.Entry.TheVariants.{Opened}
 use Rattle.unit_book.specs.Dcbs.{opened_count}
 use Rattle.unit_book.proofs.Opens.{ties-open}
 use Rattle.unit_book.proofs.ledger.Ledger.open.Goals as goal

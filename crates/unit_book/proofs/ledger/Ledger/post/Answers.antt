@@ -1,12 +1,8 @@
-use Rattle.std.proofs.Common.{◌≡◌, ◌∷◌, [], Some, Option, List, reverse, arith, refl, sym, ap, subst, ◌∙◌, length-append}
-use Rattle.io_images.specs.Codes.{is_error}
+use Rattle.std.proofs.Common.{◌≡◌, ◌∷◌, [], Some, Option, reverse, arith, refl, sym, subst, ◌∙◌, length-append}
 use Rattle.request_piece.specs.declared.piece.Name.{Name}
-use Rattle.request_piece.specs.declared.piece.Piece.{Piece}
 use Rattle.unit_book.specs.declared.active.Active.{Active}
-use Rattle.unit_book.specs.declared.entry.Entry.{Entry}
 use Rattle.unit_book.specs.Inside.{Ties, Rooms}
 use Rattle.unit_book.specs.Legal.{PostsActive}
-use Rattle.unit_book.specs.Picks.{DoomedBy}
 use Rattle.unit_book.proofs.ActivePosts.{ties-post, value-is, doom-is}
 use Rattle.unit_book.proofs.Dooms.{doomed-post, due-doomed}
 use Rattle.unit_book.proofs.ledger.Ledger.post.Goals as goal

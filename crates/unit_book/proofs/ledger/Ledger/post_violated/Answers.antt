@@ -1,16 +1,13 @@
-use Rattle.std.proofs.Common.{◌≡◌, ◌∷◌, [], Some, Option, List, length, reverse, arith, refl, sym, ap, subst, ◌∙◌, length-append}
+use Rattle.std.proofs.Common.{◌≡◌, ◌∷◌, [], Some, List, length, reverse, arith, refl, sym, ap, subst, ◌∙◌, length-append}
 use Rattle.std.specs.Prelude.{slice_get}
 use Rattle.io_images.specs.declared.code.Code.TheVariants.{ExtentViolated}
 use Rattle.subchannel.specs.Subchannel.{no_status}
 use Rattle.request_piece.specs.declared.piece.Name.{Name}
 use Rattle.request_piece.specs.declared.piece.Piece.{Piece}
 use Rattle.std.specs.Prelude.{option_map, box_value}
-use Rattle.unit_book.specs.declared.active.Active.{Active}
 use Rattle.unit_book.specs.declared.entry.Entry.TheVariants.{Post}
-use Rattle.unit_book.specs.Inside.{Rooms}
-use Rattle.unit_book.specs.Legal.{Fits, FailsCheck, PostsFirst, OfFirst}
+use Rattle.unit_book.specs.Legal.{FailsCheck, OfFirst}
 use Rattle.unit_book.specs.Picks.{doomed_by_post}
-use Rattle.unit_book.specs.Trace.{request_of}
 use Rattle.unit_book.proofs.Dooms.{doomed-post, due-doomed}
 use Rattle.unit_book.proofs.Facts.{facts, first-waits}
 use Rattle.unit_book.proofs.Same.{fits-free}

@@ -1,4 +1,4 @@
-use Rattle.std.proofs.Common.{◌≡◌, ◌∷◌, refl, sym, ap, ◌∙◌}
+use Rattle.std.proofs.Common.{◌∷◌, refl}
 use Rattle.unit_book.specs.declared.entry.Entry.TheVariants.{Purge, Halted}
 use Rattle.unit_book.proofs.Controls.{doomed-purge, doomed-purge_few, dooms-halted, doomed-halted_few}
 use Rattle.unit_book.proofs.Dooms.{due-doomed, due-no_halt}

@@ -1,15 +1,13 @@
-use Rattle.std.proofs.Common.{◌≡◌, ◌≤◌, ◌+◌, ◌++◌, [], ◌∷◌, List, Some, true, false, not, ◌&&◌, Option, length, length-append, append_assoc, map, reverse, arith, refl, sym, ap, ◌∙◌, subst}
+use Rattle.std.proofs.Common.{◌≡◌, ◌++◌, [], ◌∷◌, Some, Option, length, length-append, append_assoc, map, reverse, arith, refl, sym, ap, ◌∙◌, subst}
 use Rattle.io_images.specs.declared.code.Code.TheVariants.{Purged}
 use Rattle.std.specs.List.{filter}
 use Rattle.std.specs.Prelude.{is_some}
-use Rattle.circular_buffer.specs.Buffer.{Buffer}
 use Rattle.unit_queue.specs.Queue.{Queue, queue}
-use Rattle.request_piece.specs.PostedState.{PostedState}
 use Rattle.request_piece.specs.Places.{Placed}
 use Rattle.request_piece.specs.Scope.{covers}
 use Rattle.unit_book.specs.declared.active.Active.{Active}
 use Rattle.unit_book.specs.Controls.{active_of}
-use Rattle.unit_book.specs.Inside.{Ties, Rooms, again_of, kept_by}
+use Rattle.unit_book.specs.Inside.{Ties, Rooms, kept_by}
 use Rattle.unit_book.specs.Dooms.{purged}
 use Rattle.unit_book.specs.Legal.{PostsActive}
 use Rattle.unit_book.specs.Posts.{posted_value}

@@ -1,9 +1,4 @@
-use Rattle.std.proofs.Common.{◌≡◌, ◌∷◌, [], List, reverse, length-append, arith, refl, sym, ap, ◌∙◌, subst}
-use Rattle.request_piece.specs.declared.piece.Piece.{Piece}
-use Rattle.io_images.specs.declared.code.Code.TheVariants.{Purged}
-use Rattle.subchannel.specs.Subchannel.{no_status}
-use Rattle.unit_book.specs.declared.entry.Entry.{Entry}
-use Rattle.unit_book.specs.declared.entry.Entry.TheVariants.{Arrive, Post}
+use Rattle.std.proofs.Common.{◌∷◌, [], reverse, length-append, arith, refl}
 use Rattle.unit_book.specs.Dooms.{purged}
 use Rattle.unit_book.proofs.Same.{room-of}
 use Rattle.unit_book.proofs.Refusals.{ties-refused, after-refusal, since-refused, settled-refused}

@@ -1,4 +1,4 @@
-use Rattle.std.proofs.Common.{◌≡◌, ◌∷◌, reverse}
+use Rattle.std.proofs.Common.{reverse}
 use Rattle.unit_book.proofs.Controls.{settled-reset}
 use Rattle.unit_book.proofs.Halts.{ties-reset}
 use Rattle.unit_book.proofs.ledger.Ledger.reset.Goals as goal

@@ -1,8 +1,7 @@
-use Rattle.std.proofs.Common.{◌≡◌, ◌∷◌, [], Some, Option, List, length, true, reverse, arith, sym, ap, subst, ◌∙◌}
+use Rattle.std.proofs.Common.{◌≡◌, Some, Option, List, length, reverse, arith, sym, ap, subst, ◌∙◌}
 use Rattle.std.specs.Prelude.{slice_get}
 use Rattle.request_piece.specs.declared.piece.Name.{Name}
 use Rattle.request_piece.specs.declared.piece.Piece.{Piece}
-use Rattle.device_port.specs.Meaning.{fits}
 use Rattle.subchannel.specs.Subchannel.{started as ssch_started}
 use Rattle.std.specs.Prelude.{option_map, box_value}
 use Rattle.unit_book.specs.declared.active.Active.{Active}

@@ -1,6 +1,6 @@
-use Rattle.std.proofs.Common.{◌≡◌, ◌≤◌, ◌+◌, ◌++◌, [], ◌∷◌, List, true, false, not, Option, length, length-append, map, reverse, arith, refl, sym, ap, ◌∙◌, subst}
+use Rattle.std.proofs.Common.{◌≡◌, ◌++◌, [], List, Option, length, length-append, map, reverse, arith, refl, sym, ap, ◌∙◌, subst}
 use Rattle.std.proofs.lemmas.List.{append-nil}
-use Rattle.std.specs.List.{filter, list_all}
+use Rattle.std.specs.List.{filter}
 use Rattle.circular_buffer.specs.Buffer.{Buffer}
 use Rattle.unit_queue.specs.Queue.{Queue, queue}
 use Rattle.unit_queue.specs.Selection.{selects}

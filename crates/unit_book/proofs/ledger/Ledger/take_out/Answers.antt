@@ -1,4 +1,4 @@
-use Rattle.std.proofs.Common.{◌≡◌, arith, reverse}
+use Rattle.std.proofs.Common.{arith, reverse}
 use Rattle.unit_book.specs.Posts.{posted}
 use Rattle.unit_book.proofs.Outs.{given-some, ties-taken, length-rest}
 use Rattle.unit_book.proofs.ledger.Ledger.take_out.Goals as goal

@@ -1,4 +1,4 @@
-use Rattle.std.proofs.Common.{◌≡◌, ◌-◌, reverse, sym, ap, ◌∙◌, vec_len, vec_capacity}
+use Rattle.std.proofs.Common.{◌-◌, reverse, sym, ap, ◌∙◌, vec_len, vec_capacity}
 use Rattle.std.specs.Prelude.{option_map, box_value}
 use Rattle.unit_book.proofs.Posting.{posting-next}
 use Rattle.unit_book.proofs.ledger.posts.post_all.Goals as goal

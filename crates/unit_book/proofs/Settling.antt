@@ -1,0 +1,383 @@
+-- A list of starts, runs and interruptions: what it adds, and that an attempt of a request brings a book nearer to
+-- having nothing to do.
+use Rattle.std.proofs.Common.{◌≡◌, ◌≤◌, ◌<◌, ℕ, zero, suc, ◌+◌, ◌-◌, ◌*◌, Bool, true, false, not, ◌&&◌, ◌||◌, Option, Some, None, List, [], ◌∷◌, ◌++◌, append_assoc, length, refl, sym, ap, ◌∙◌, arith, inl, inr, subst, if◌then◌else◌}
+use Rattle.std.specs.Prelude.{slice_get, min, is_some, IsSome}
+use Rattle.std.specs.List.{filter, find, list_all}
+use Rattle.std.proofs.lemmas.Bool.{cases_Bool, and_parts}
+use Rattle.io_images.specs.declared.csw.Csw.{Csw}
+use Rattle.io_images.specs.declared.code.Code.{Code}
+use Rattle.io_images.specs.declared.code.Code.TheVariants.{ExtentViolated, Purged}
+use Rattle.device_port.specs.Meaning.{Meaning}
+use Rattle.ccw_programs.specs.Step.{Program, begun, after, step, length_of, is_running}
+use Rattle.ccw_programs.proofs.StepLaws.{step-ended, step-later, length-ends, length-few}
+use Rattle.subchannel.specs.Subchannel.{no_status}
+use Rattle.request_piece.specs.declared.piece.Name.{Name}
+use Rattle.request_piece.specs.declared.piece.Piece.{Piece}
+use Rattle.unit_book.specs.declared.answer.Starting.{Starting}
+use Rattle.unit_book.specs.declared.answer.Starting.TheVariants.{Busy, Idle, Started, Violated}
+use Rattle.unit_book.specs.declared.answer.Running.{Running as RunAnswer}
+use Rattle.unit_book.specs.declared.answer.Running.TheVariants.{Quiet as NothingRuns, Ran as RanSome}
+use Rattle.unit_book.specs.declared.answer.Interruption.{Interruption}
+use Rattle.unit_book.specs.declared.answer.Interruption.TheVariants.{Quiet as NothingPending, Again as TriedAgain, Ended as WasPosted}
+use Rattle.unit_book.specs.declared.entry.Entry.{Entry}
+use Rattle.unit_book.specs.declared.entry.Entry.TheVariants.{Start, Ran, Post}
+use Rattle.unit_book.specs.Trace.{same, arrivals, has_started, is_posted, waiting, started, active, starts_of, is_halted}
+use Rattle.ccw_programs.specs.Place.{Place}
+use Rattle.ccw_programs.specs.declared.context.State.{State}
+use Rattle.ccw_programs.specs.declared.context.State.TheVariants.{Running, Ended}
+use Rattle.unit_book.specs.Media.{Attempt, attempts, newest, beginning, stand, current, stage, stage_by, goes}
+use Rattle.unit_book.specs.Dcbs.{doomed}
+use Rattle.unit_book.specs.Dooms.{all_posted, after_dooms}
+use Rattle.unit_book.specs.Legal.{Legal, FailsCheck, StartsAgain, StartsFirst}
+use Rattle.unit_book.specs.Book.{Book, active_count, going, going_by, is_pending, pending_by}
+use Rattle.unit_book.specs.Answers.{StartsBook, RunsBook, RunsOn, InterruptsBook, MayStart, MayFirst, MayAgain}
+use Rattle.unit_book.specs.Settle.{AddsService, Attempts, IsIdle, Settles, Stays, Then, Steps, ByStart, ByRun, ByInterrupt, distance, is_service, starts_left, unposted}
+use Rattle.unit_book.proofs.Lists.{same-refl, no_both, all-append, all-filter, without}
+use Rattle.unit_book.proofs.Facts.{facts, NewestIs, active-is, active-start, active-post, waiting-start, waiting-post}
+use Rattle.unit_book.proofs.Dooms.{length-filter_le}
+use Rattle.unit_book.proofs.Restarts.{retry-few}
+use Rattle.unit_book.proofs.Runs.{current-ran}
+
+-- WHAT IS ADDED
+
+adds-none : (H : List Entry) → AddsService H H
+adds-none H = record { later = []; is = refl; only = refl }
+
+adds-more : (H G K : List Entry) → AddsService H G → AddsService G K → AddsService H K
+adds-more H G K a b = record {
+  later = b.later ++ a.later;
+  is = b.is ∙ ap (λ x. b.later ++ x) a.is ∙ sym (append_assoc b.later a.later H);
+  only = all-append is_service b.later a.later b.only a.only;
+}
+
+adds-one : (e : Entry) (H : List Entry) → is_service e ≡ true → AddsService H (e ∷ H)
+adds-one e H s = record { later = e ∷ []; is = refl; only = rw s refl }
+
+adds-posts : (rs : List Piece) (H : List Entry) → AddsService H (all_posted rs H)
+adds-posts [] H = adds-none H
+adds-posts (r ∷ rs) H =
+    let G = Post r.name no_status 0 Purged ∷ H in
+    adds-more H G (all_posted rs G) (adds-one (Post r.name no_status 0 Purged) H refl) (adds-posts rs G)
+
+adds-post : (n : Name) (csw : Csw) (sense : ℕ) (code : Code) (H : List Entry) → AddsService H (after_dooms (Post n csw sense code ∷ H))
+adds-post n csw sense code H =
+    let G = Post n csw sense code ∷ H in
+    adds-more H G (after_dooms G) (adds-one (Post n csw sense code) H refl) (adds-posts (doomed G) G)
+
+-- what a list of steps leaves as it was, and what it adds
+pub record IsServed {D : Type 0} (old new : Book D) : Type 0 where
+  pub adds : AddsService old.trace new.trace
+  pub mounted : new.mounted ≡ old.mounted
+  pub isc : new.isc ≡ old.isc
+  pub capacity : new.capacity ≡ old.capacity
+
+served-by : {D : Type 0} (old new : Book D) → (G : List Entry) → new.trace ≡ G → AddsService old.trace G → new.mounted ≡ old.mounted → new.isc ≡ old.isc → new.capacity ≡ old.capacity → IsServed old new
+served-by old new G e a m i c = record { adds = rw e a; mounted = m; isc = i; capacity = c }
+
+module _ {D : Type 0} (meaning : Meaning D) where
+  starts-served : (old new : Book D) (answer : Starting) → StartsBook meaning old answer new → IsServed old new
+  starts-served old new Busy h = let e = h.2 in rw e (served-by old old old.trace refl (adds-none old.trace) refl refl refl)
+  starts-served old new Idle h = let e = h.2 in rw e (served-by old old old.trace refl (adds-none old.trace) refl refl refl)
+  starts-served old new (Started n) h =
+      let e = h.1 in
+      served-by old new (Start n ∷ old.trace) (ap (λ (b : Book D). b.trace) e) (adds-one (Start n) old.trace refl) (ap (λ (b : Book D). b.mounted) e) (ap (λ (b : Book D). b.isc) e) (ap (λ (b : Book D). b.capacity) e)
+  starts-served old new (Violated n) h =
+      let e = h.1 in
+      served-by old new (after_dooms (Post n no_status 0 ExtentViolated ∷ old.trace)) (ap (λ (b : Book D). b.trace) e) (adds-post n no_status 0 ExtentViolated old.trace)
+      (ap (λ (b : Book D). b.mounted) e) (ap (λ (b : Book D). b.isc) e) (ap (λ (b : Book D). b.capacity) e)
+
+  runs-served : (old new : Book D) (max : ℕ) (answer : RunAnswer) → RunsBook meaning old max answer new → IsServed old new
+  runs-served old new max NothingRuns h = let e = h.1 in rw e (served-by old old old.trace refl (adds-none old.trace) refl refl refl)
+  runs-served old new max (RanSome commands pending) h =
+      let e = h.adds in
+      served-by old new (Ran h.name commands ∷ old.trace) (ap (λ (b : Book D). b.trace) e) (adds-one (Ran h.name commands) old.trace refl) (ap (λ (b : Book D). b.mounted) e) (ap (λ (b : Book D). b.isc) e)
+      (ap (λ (b : Book D). b.capacity) e)
+
+  interrupts-served : (old new : Book D) (answer : Interruption) → InterruptsBook meaning old answer new → IsServed old new
+  interrupts-served old new NothingPending h = let e = h.1 in rw e (served-by old old old.trace refl (adds-none old.trace) refl refl refl)
+  interrupts-served old new (TriedAgain n) h =
+      let e = h.2 in
+      served-by old new old.trace (ap (λ (b : Book D). b.trace) e) (adds-none old.trace) (ap (λ (b : Book D). b.mounted) e) (ap (λ (b : Book D). b.isc) e) (ap (λ (b : Book D). b.capacity) e)
+  interrupts-served old new (WasPosted n code) h =
+      let e = h.1.posts in
+      served-by old new (after_dooms (Post n h.1.csw h.1.sense code ∷ old.trace)) (ap (λ (b : Book D). b.trace) e) (adds-post n h.1.csw h.1.sense code old.trace)
+      (ap (λ (b : Book D). b.mounted) e) (ap (λ (b : Book D). b.isc) e) (ap (λ (b : Book D). b.capacity) e)
+
+  step-served : (old new : Book D) → Steps meaning old new → IsServed old new
+  step-served old new (ByStart answer h) = starts-served old new answer h
+  step-served old new (ByRun max answer some h) = runs-served old new max answer h
+  step-served old new (ByInterrupt answer h) = interrupts-served old new answer h
+
+  served-none : (b : Book D) → IsServed b b
+  served-none b = served-by b b b.trace refl (adds-none b.trace) refl refl refl
+
+  served-more : (old mid new : Book D) → IsServed old mid → IsServed mid new → IsServed old new
+  served-more old mid new a b = record {
+    adds = adds-more old.trace mid.trace new.trace a.adds b.adds;
+    mounted = b.mounted ∙ a.mounted;
+    isc = b.isc ∙ a.isc;
+    capacity = b.capacity ∙ a.capacity;
+  }
+
+  pub settles-served : {old new : Book D} → Settles meaning old new → IsServed old new
+  settles-served {old} Stays = served-none old
+  settles-served {old} {new} (Then {mid = m} s p) = served-more old m new (settles-served s) (step-served m new p)
+
+  -- a list of steps behind another
+  pub settles-more : {old mid new : Book D} → Settles meaning old mid → Settles meaning mid new → Settles meaning old new
+  settles-more a Stays = a
+  settles-more a (Then s p) = Then (settles-more a s) p
+
+-- TESTS ON LISTS
+
+module _ {X : Type 0} where
+  find-still_none : (p q : X → Bool) → ((x : X) → q x ≡ true → p x ≡ true) → (xs : List X) → find p xs ≡ None → find q xs ≡ None
+  find-still_none p q w [] h = refl
+  find-still_none p q w (x ∷ xs) h =
+      let ih : find p xs ≡ None → find q xs ≡ None = λ k. find-still_none p q w xs k in
+      elim (cases_Bool (p x)) [
+        | inl e ↦ absurd (clash (rw e at h))
+        | inr e ↦ let k = rw e at h in elim (cases_Bool (q x)) [ inl f ↦ no_both (p x) (w x f) e | inr f ↦ rw f (ih k) ]
+      ] where
+        clash : {y : X} → Some y ≡ None → ⊥
+        clash k = cc
+
+  first-passes : (p : X → Bool) (xs : List X) (x : X) → list_all p xs ≡ true → slice_get xs 0 ≡ Some x → p x ≡ true
+  first-passes p [] x h e = absurd cc
+  first-passes p (y ∷ ys) x h e = let i : y ≡ x = cc in rw (← i) (and_parts (p y) (list_all p ys) h).0
+
+first-fewer : (r : Piece) (rs : List Piece) → slice_get rs 0 ≡ Some r → length (without r.name rs) < length rs
+unfolding without
+first-fewer r [] e = absurd cc
+first-fewer r (q ∷ qs) e =
+    let i : q ≡ r = cc in
+    let s = same-refl r.name in
+    let few = length-filter_le (λ (p : Piece). not (same r.name p.name)) qs in
+    rw (i, s) (omega (arith, few))
+
+-- WHAT IS LEFT TO DO, entry by entry
+
+not-or_right : (a b : Bool) → not (a || b) ≡ true → b ≡ false
+not-or_right true b h = absurd cc
+not-or_right false true h = absurd cc
+not-or_right false false h = refl
+
+first-unposted : (r : Piece) (H : List Entry) → slice_get (waiting H) 0 ≡ Some r → is_posted r.name H ≡ false
+unfolding waiting
+first-unposted r H e =
+    let p = λ (q : Piece). not (has_started q.name H || is_posted q.name H) in
+    not-or_right (has_started r.name H) (is_posted r.name H) (first-passes p (waiting H) r (all-filter p (arrivals H)) e)
+
+still-none : (n : Name) (csw : Csw) (sense : ℕ) (code : Code) (H : List Entry) → active H ≡ None → active (Post n csw sense code ∷ H) ≡ None
+unfolding active started
+still-none n csw sense code H h =
+    find-still_none (λ k. not (is_posted k H)) (λ k. not (same n k || is_posted k H)) (λ k e. rw (not-or_right (same n k) (is_posted k H) e) refl) (started H) h
+
+posts-none : (rs : List Piece) (H : List Entry) → active H ≡ None → active (all_posted rs H) ≡ None
+posts-none [] H h = h
+posts-none (r ∷ rs) H h = posts-none rs (Post r.name no_status 0 Purged ∷ H) (still-none r.name no_status 0 Purged H h)
+
+module _ {D : Type 0} (meaning : Meaning D) (mounted : D) where
+  post-fewer : (n : Name) (csw : Csw) (sense : ℕ) (code : Code) (H : List Entry) → length (waiting (Post n csw sense code ∷ H)) ≤ length (waiting H)
+  unfolding without
+  post-fewer n csw sense code H = rw (waiting-post meaning mounted n csw sense code H) (length-filter_le (λ (r : Piece). not (same n r.name)) (waiting H))
+
+  start-fewer : (n : Name) (H : List Entry) → length (waiting (Start n ∷ H)) ≤ length (waiting H)
+  unfolding without
+  start-fewer n H = rw (waiting-start meaning mounted n H) (length-filter_le (λ (r : Piece). not (same n r.name)) (waiting H))
+
+  posts-fewer : (rs : List Piece) (H : List Entry) → length (waiting (all_posted rs H)) ≤ length (waiting H)
+  posts-fewer [] H = omega arith
+  posts-fewer (r ∷ rs) H =
+      let G = Post r.name no_status 0 Purged ∷ H in
+      let ih = posts-fewer rs G in
+      let one = post-fewer r.name no_status 0 Purged H in
+      omega (arith, ih, one)
+
+  -- a program that goes on has fetched 4,096 CCWs at most
+  fetched-few : (k : ℕ) (p : Program D) → p.place.fetched ≤ 4096 → is_running (after meaning k p).place.state ≡ true → (after meaning k p).place.fetched ≤ 4096
+  unfolding after
+  fetched-few zero p b h = b
+  fetched-few (suc k) p b h =
+      let q = after meaning k p in
+      let ih : is_running q.place.state ≡ true → q.place.fetched ≤ 4096 = λ r. fetched-few k p b r in
+      elim (cases_Bool (is_running q.place.state)) [
+        | inl r ↦ (step-later meaning q (ih r) r h).1
+        | inr r ↦ let e = step-ended meaning q r in no_both (is_running q.place.state) (rw e at h) r
+      ]
+
+  current-few : (H : List Entry) → is_running (current meaning mounted H).place.state ≡ true → (current meaning mounted H).place.fetched ≤ 4096
+  unfolding newest
+  current-few H h = by_attempts (attempts H) h where
+    by_attempts : (tries : List Attempt) → is_running (newest meaning mounted tries).place.state ≡ true → (newest meaning mounted tries).place.fetched ≤ 4096
+    by_attempts [] h = omega arith
+    by_attempts (a ∷ rest) h = fetched-few a.commands (beginning meaning mounted (stand meaning mounted rest) a) (omega arith) h
+
+  -- as many commands as a program is long end it
+  runs-out : (n : Name) (j : ℕ) (H : List Entry) → NewestIs n H → goes (stage meaning mounted n H) ≡ true → j ≡ min 4294967295 (length_of meaning (current meaning mounted H)) →
+      goes (stage meaning mounted n (Ran n j ∷ H)) ≡ false
+  runs-out n j H w h e =
+      let p = current meaning mounted H in
+      let few = length-few meaning 4097 p in
+      let k : j ≡ length_of meaning p = omega (arith, e, few) in
+      let r = stands-by (is_halted n H) p.place p.place.state h in
+      let ends = length-ends meaning p (current-few H r.1) in
+      let c = current-ran meaning mounted n j H w in
+      let x : is_running (current meaning mounted (Ran n j ∷ H)).place.state ≡ false = rw (c, k) ends in
+      over-by (is_halted n H) (current meaning mounted (Ran n j ∷ H)).place (current meaning mounted (Ran n j ∷ H)).place.state x where
+        stands-by : (b : Bool) (place : Place) (state : State) → goes (stage_by b place state) ≡ true → (b ≡ false) × (is_running state ≡ true)
+        stands-by true place state h = absurd cc
+        stands-by false place Running h = (refl, refl)
+        stands-by false place (Ended csw sense) h = absurd cc
+
+        over-by : (b : Bool) (place : Place) (state : State) → is_running state ≡ false → goes (stage_by b place state) ≡ false
+        over-by true place state h = refl
+        over-by false place Running h = absurd cc
+        over-by false place (Ended csw sense) h = refl
+
+-- AN ATTEMPT: a start, a run and an interruption
+
+-- after the start a request was posted, or one is on the channel
+data Begun {D : Type 0} (old mid : Book D) : Type 0 where
+  Posted : active mid.trace ≡ None → unposted mid.trace < unposted old.trace → Begun old mid
+  OnChannel : (n : Name) → active mid.trace ≡ Some n → mid.again ≡ false → unposted mid.trace ≤ unposted old.trace →
+      (starts_of n mid.trace ≤ 10 → 11 - starts_of n mid.trace < starts_left old.trace old.again (active old.trace)) → Begun old mid
+
+some-is : {o p : Name} → Some o ≡ Some p → o ≡ p
+some-is k = cc
+
+none-is : {o : Name} → None ≡ Some o → ⊥
+none-is k = cc
+
+module _ {D : Type 0} (meaning : Meaning D) where
+  still-busy : (old : Book D) (o : Option Name) → active old.trace ≡ o → is_some o ≡ true → old.again ≡ false → Begun old old
+  still-busy old None e h a = absurd cc
+  still-busy old (Some n) e h a = OnChannel n e a (omega arith) (λ few. rw (e, a) (omega arith))
+
+  first-begun : (old mid : Book D) (n : Name) → StartsFirst meaning old.mounted n old.trace → mid.trace ≡ Start n ∷ old.trace → mid.again ≡ false → Begun old mid
+  first-begun old mid n s e a =
+      let H = old.trace in
+      let none = s.none in
+      let unposted_first = subst (λ (x : Name). is_posted x H ≡ false) s.name (first-unposted s.request H s.first) in
+      let is = active-start meaning old.mounted n H unposted_first in
+      let fewer = subst (λ (x : Name). length (without x (waiting H)) < length (waiting H)) s.name (first-fewer s.request (waiting H) s.first) in
+      let left = ap length (waiting-start meaning old.mounted n H) in
+      let one = ap active_count is in
+      let zero_active = ap active_count none in
+      OnChannel n (rw e is) a (rw e (omega (arith, fewer, left, one, zero_active))) (λ few. rw none (omega arith))
+
+  again-begun : (old mid : Book D) (n : Name) → old.again ≡ true → StartsAgain meaning old.mounted n old.trace → mid.trace ≡ Start n ∷ old.trace → mid.again ≡ false → Begun old mid
+  again-begun old mid n o s e a =
+      let H = old.trace in
+      let act = s.active in
+      let is = active-start meaning old.mounted n H (active-is n H act).1 in
+      let fewer = start-fewer meaning old.mounted n H in
+      let one = ap active_count is in
+      let one_before = ap active_count act in
+      let same_name = same-refl n in
+      let more : starts_of n (Start n ∷ H) ≡ suc (starts_of n H) = rw same_name refl in
+      OnChannel n (rw e is) a (rw e (omega (arith, fewer, one, one_before)))
+      (rw (e, act, o) (λ few. omega (arith, few, more)))
+
+  violated-begun : (old mid : Book D) (n : Name) → FailsCheck meaning old.mounted n old.trace → mid.trace ≡ after_dooms (Post n no_status 0 ExtentViolated ∷ old.trace) → Begun old mid
+  violated-begun old mid n s e =
+      let H = old.trace in
+      let G = Post n no_status 0 ExtentViolated ∷ H in
+      let none = posts-none (doomed G) G (still-none n no_status 0 ExtentViolated H s.none) in
+      let fewer = subst (λ (x : Name). length (without x (waiting H)) < length (waiting H)) s.name (first-fewer s.request (waiting H) s.first) in
+      let left = ap length (waiting-post meaning old.mounted n no_status 0 ExtentViolated H) in
+      let more = posts-fewer meaning old.mounted (doomed G) G in
+      let zero_active = ap active_count none in
+      Posted (rw e none) (rw e (omega (arith, fewer, left, more, zero_active)))
+
+  begins : (old mid : Book D) (answer : Starting) → (answer ≡ Idle → ⊥) → StartsBook meaning old answer mid → Begun old mid
+  begins old mid Busy k h = let e = h.2 in rw e (still-busy old (active old.trace) refl h.0 h.1)
+  begins old mid Idle k h = absurd (k refl)
+  begins old mid (Started n) k h = by_start h.0 where
+    by_start : MayStart meaning old n → Begun old mid
+    by_start (MayFirst s) = first-begun old mid n s (ap (λ (b : Book D). b.trace) h.1) (ap (λ (b : Book D). b.again) h.1)
+    by_start (MayAgain o s) = again-begun old mid n o s (ap (λ (b : Book D). b.trace) h.1) (ap (λ (b : Book D). b.again) h.1)
+  begins old mid (Violated n) k h = violated-begun old mid n h.0 (ap (λ (b : Book D). b.trace) h.1)
+
+  -- after the run the status of the request is pending
+  record IsPending (n : Name) (mid ran : Book D) : Type 0 where
+    is : active ran.trace ≡ Some n
+    pending : is_pending meaning ran ≡ true
+    left : unposted ran.trace ≡ unposted mid.trace
+    starts : starts_of n ran.trace ≡ starts_of n mid.trace
+
+  pends : (n : Name) (mid ran : Book D) (answer : RunAnswer) → active mid.trace ≡ Some n → mid.again ≡ false → Legal meaning ran.mounted ran.trace → RunsBook meaning mid 4294967295 answer ran → IsPending n mid ran
+  unfolding Legal waiting arrivals active started
+  pends n mid ran NothingRuns a g l h =
+      let e = h.1 in
+      let quiet : goes (stage meaning mid.mounted n mid.trace) ≡ false = none-goes (goes (stage meaning mid.mounted n mid.trace)) (rw a at h.0) in
+      rw e (record { is = a; pending = rw (a, g, quiet) refl; left = refl; starts = refl }) where
+        none-goes : (b : Bool) → (if b then Some n else None) ≡ None → b ≡ false
+        none-goes true k = absurd cc
+        none-goes false k = refl
+  pends n mid ran (RanSome commands pending) a g l h =
+      let e = h.adds in
+      let t = some-goes (goes (stage meaning mid.mounted n mid.trace)) h.name (rw a at h.going) in
+      let now : ran.trace ≡ Ran n commands ∷ mid.trace = ap (λ (b : Book D). b.trace) e ∙ ap (λ x. Ran x commands ∷ mid.trace) t.1 in
+      let still : ran.mounted ≡ mid.mounted = ap (λ (b : Book D). b.mounted) e in
+      let same_again : ran.again ≡ mid.again = ap (λ (b : Book D). b.again) e in
+      let legal : Legal meaning mid.mounted (Ran n commands ∷ mid.trace) = rw (still, now) at l in
+      let w = (facts meaning mid.mounted mid.trace legal.1).4 n a in
+      let out = runs-out meaning mid.mounted n commands mid.trace w t.0 h.count in
+      record { is = rw now a; pending = rw (now, still, same_again, a, g, out) refl; left = rw now refl; starts = rw now refl } where
+        some-goes : (b : Bool) (m : Name) → (if b then Some n else None) ≡ Some m → (b ≡ true) × (m ≡ n)
+        some-goes true m k = (refl, sym (some-is k))
+        some-goes false m k = absurd (none-is k)
+
+  run-none : (mid ran : Book D) (answer : RunAnswer) → active mid.trace ≡ None → RunsBook meaning mid 4294967295 answer ran → ran ≡ mid
+  run-none mid ran NothingRuns a h = h.1
+  run-none mid ran (RanSome commands pending) a h = absurd (none-is (rw a at h.going))
+
+  interrupt-none : (ran new : Book D) (answer : Interruption) → active ran.trace ≡ None → InterruptsBook meaning ran answer new → new ≡ ran
+  interrupt-none ran new NothingPending a h = h.1
+  interrupt-none ran new (TriedAgain n) a h = absurd (clash (rw a at h.0)) where
+    clash : false ≡ true → ⊥
+    clash k = cc
+  interrupt-none ran new (WasPosted n code) a h = absurd (clash (rw a at h.0)) where
+    clash : false ≡ true → ⊥
+    clash k = cc
+
+  -- after the interruption the request was posted, or awaits its restart
+  ends : (n : Name) (ran new : Book D) (answer : Interruption) (left : ℕ) → active ran.trace ≡ Some n → is_pending meaning ran ≡ true → Legal meaning ran.mounted ran.trace →
+      (starts_of n ran.trace ≤ 10 → 11 - starts_of n ran.trace < left) → InterruptsBook meaning ran answer new → distance new < 13 * unposted ran.trace + left
+  ends n ran new NothingPending left a p l few h = no_both (is_pending meaning ran) p h.0
+  ends n ran new (TriedAgain m) left a p l few h =
+      let e = h.2 in
+      let s = h.1 in
+      let i : m ≡ n = some-is (sym s.active ∙ a) in
+      let ten = subst (λ x. starts_of x ran.trace ≤ 10) i (retry-few (meaning.kind ran.mounted) s.csw s.sense (starts_of m ran.trace) s.retry) in
+      let less = few ten in
+      rw (e, a) (omega (arith, less))
+  ends n ran new (WasPosted m code) left a p l few h =
+      let H = ran.trace in
+      let x = h.1 in
+      let G = Post m x.csw x.sense code ∷ H in
+      let e : new.trace ≡ after_dooms G = ap (λ (b : Book D). b.trace) x.posts in
+      let none = posts-none (doomed G) G (active-post meaning ran.mounted m x.csw x.sense code H (facts meaning ran.mounted H l) x.fits.active) in
+      let first = post-fewer meaning ran.mounted m x.csw x.sense code H in
+      let more = posts-fewer meaning ran.mounted (doomed G) G in
+      let one = ap active_count a in
+      let zero_active = ap active_count none in
+      let twelve : starts_left (after_dooms G) new.again (active (after_dooms G)) ≡ 12 = rw none refl in
+      rw e (omega (arith, first, more, one, zero_active, twelve))
+
+  -- AN ATTEMPT BRINGS A BOOK NEARER
+  pub nearer : (old mid ran new : Book D) (starting : Starting) (running : RunAnswer) (ending : Interruption) → (starting ≡ Idle → ⊥) → StartsBook meaning old starting mid → RunsBook meaning mid 4294967295 running ran →
+      Legal meaning ran.mounted ran.trace → InterruptsBook meaning ran ending new → distance new < distance old
+  nearer old mid ran new starting running ending k s r l i = by_begun (begins old mid starting k s) where
+    by_begun : Begun old mid → distance new < distance old
+    by_begun (Posted none fewer) =
+        let e = run-none mid ran running none r in
+        let f = interrupt-none ran new ending (rw e none) i ∙ e in
+        let twelve : starts_left mid.trace mid.again (active mid.trace) ≡ 12 = rw none refl in
+        rw f (omega (arith, fewer, twelve))
+    by_begun (OnChannel n is a left few) =
+        let p = pends n mid ran running is a l r in
+        let s = p.starts in
+        let d = ends n ran new ending (starts_left old.trace old.again (active old.trace)) p.is p.pending l (rw s few) i in
+        omega (arith, d, p.left, left)

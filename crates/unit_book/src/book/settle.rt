@@ -1,0 +1,42 @@
+//! Settling a book.
+
+ghost use Rattle.std.specs.Prelude.{◌≡◌, [], IfOk, OnOk};
+ghost use Rattle.unit_book.specs.Settle.{AddsService, Attempts, Settles};
+ghost use Rattle.unit_book.specs.Trace.{active, waiting};
+
+use crate::answer::Starting;
+use crate::book::UnitBook;
+use device_port::Device;
+use std::alloc::AllocError;
+
+impl<D: Device> UnitBook<D> {
+    /// Starts, runs and interrupts until nothing waits and nothing is active. Where there is no memory the
+    /// steps that were made so far stand.
+    pub fn settle(&mut self) -> Result<(), AllocError>
+        ensures steps { Settles D.meaning self.old self.new }
+        ensures adds { AddsService self.old.trace self.new.trace }
+        ensures mounted { self.new.mounted ≡ self.old.mounted }
+        ensures isc { self.new.isc ≡ self.old.isc }
+        ensures capacity { self.new.capacity ≡ self.old.capacity }
+        ensures waiting { OnOk result (waiting self.new.trace ≡ []) }
+        ensures active { OnOk result (active self.new.trace ≡ None) }
+    {
+        while self.attempt()? {}
+        Ok(())
+    }
+
+    /// One more attempt of the active request, or of the one that waits first, to the end of its program. Answers
+    /// whether there was one.
+    fn attempt(&mut self) -> Result<bool, AllocError>
+        ensures steps { Settles D.meaning self.old self.new }
+        ensures ok { IfOk result (λ more. Attempts self.old more self.new) }
+    {
+        if matches!(self.start()?, Starting::Idle) {
+            return Ok(false);
+        }
+        self.run(u32::MAX)?;
+        self.holds();
+        self.interrupt()?;
+        Ok(true)
+    }
+}
