@@ -26,6 +26,7 @@ use Rattle.unit_book.specs.declared.answer.Closing.{Closing}
 use Rattle.unit_book.specs.Answers.{Adds, OpensBook, StartsBook, RunsBook, InterruptsBook}
 use Rattle.unit_book.specs.Controls.{halted_by, after_purge, covers_awaiting, PurgesBy, PurgesBook, ClosesBy, ClosesBook}
 use Rattle.unit_book.specs.Legal.{Due, ToHalt, ToPost, Free, due}
+use Rattle.unit_book.specs.Settle.{Steps, ByStart, ByRun, ByInterrupt, Settles, Stays, Then}
 use Rattle.unit_book.specs.Book.{Book}
 use Rattle.unit_book.specs.Trace.{arrivals, arrived_of}
 use Rattle.unit_book.specs.Dooms.{all_posted, after_dooms}
@@ -105,3 +106,12 @@ module _ {D : Type 0} (meaning : Meaning D) where
   pub resets-keep : (old : Book D) (dcb : ℕ) (new : Book D) → Adds old (Reset dcb) new → arrivals new.trace ≡ arrivals old.trace
   unfolding arrivals
   resets-keep old dcb new h = ap (λ (b : Book D). arrivals b.trace) h
+
+  step-keeps : (old new : Book D) → Steps meaning old new → arrivals new.trace ≡ arrivals old.trace
+  step-keeps old new (ByStart answer h) = starts-keep old answer new h
+  step-keeps old new (ByRun max answer some h) = runs-keep old max answer new h
+  step-keeps old new (ByInterrupt answer h) = interrupts-keep old answer new h
+
+  pub settles-keep : (old new : Book D) → Settles meaning old new → arrivals new.trace ≡ arrivals old.trace
+  settles-keep old _ Stays = refl
+  settles-keep old new (Then {mid} before step) = step-keeps mid new step ∙ settles-keep old mid before
