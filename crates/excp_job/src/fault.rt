@@ -3,6 +3,7 @@
 use std::alloc::{AllocError, AllocFailed};
 use std::fmt;
 use thiserror::Error;
+use unit_book::DcbError;
 
 /// The name of a fault of a script's line.
 #[derive(Clone, Copy, PartialEq, Eq, Debug)]
@@ -73,6 +74,15 @@ impl From<AllocError> for LineFault {
 impl<T: Drop> From<AllocFailed<T>> for LineFault {
     fn from(_error: AllocFailed<T>) -> Self {
         LineFault::NoMemory
+    }
+}
+
+impl From<DcbError> for LineFault {
+    fn from(error: DcbError) -> Self {
+        match error {
+            DcbError::NoSuchDcb => LineFault::Named(FaultName::Name),
+            DcbError::NoMemory => LineFault::NoMemory,
+        }
     }
 }
 

@@ -6,7 +6,7 @@ ghost use Rattle.std.specs.Prelude.{◌≡◌, ◌≤◌, IfOk};
 use crate::fault::{Fault, FaultName, LineFault};
 use crate::output::{self, Show};
 use crate::reading::read_script;
-use crate::script::{Action, Excp, Script, UnitSetup};
+use crate::script::{Action, Command, Excp, Script, UnitSetup};
 use crate::station::Station;
 use ckd_disk::Disk;
 use device_port::MountError;
@@ -14,7 +14,7 @@ use io_area::Area;
 use request_piece::{Name, Posted, Request, RequestError};
 use std::alloc::Global;
 use std::io::{Read, Write};
-use unit_book::OpenError;
+use unit_book::{DcbError, Mode, OpenError};
 
 /// Reads a script and writes what its requests were posted with, or tells why not. The numbers of channel workers and
 /// handlers have no effect while a script is run without threads.
@@ -95,7 +95,7 @@ fn try_requests(alloc: Global, script: &Script) -> Result<(), Fault> {
     for command in &script.commands {
         if let Action::Excp(excp) = command.action {
             let name = Name {
-                task: excp.task,
+                task: command.task,
                 seq: 1,
             };
             if let Err(fault) = request_of(alloc, script, excp, name) {
@@ -106,7 +106,7 @@ fn try_requests(alloc: Global, script: &Script) -> Result<(), Fault> {
     Ok(())
 }
 
-/// The request of an EXCP: an unrelated one, whose shown bytes lie in its area.
+/// The request of an EXCP, whose shown bytes lie in its area.
 fn request_of(alloc: Global, script: &Script, excp: Excp, name: Name) -> Result<Request, LineFault>
     ensures { IfOk result (λ request. request.name ≡ name) }
 {
@@ -114,12 +114,12 @@ fn request_of(alloc: Global, script: &Script, excp: Excp, name: Name) -> Result<
         return Err(LineFault::Named(FaultName::Name));
     };
     let area = area.copy()?;
-    let request = match Request::new(alloc, name, excp.unit, excp.dcb, excp.iob, area) {
+    let request = match Request::new(alloc, name, excp.dcb.unit, excp.dcb.number, excp.iob, area) {
         Ok(request) => request,
         Err((RequestError::NoMemory, _)) => return Err(LineFault::NoMemory),
         Err(_) => return Err(LineFault::Named(FaultName::Request)),
     };
-    if request.is_related() || !shows(request.area(), excp) {
+    if !shows(request.area(), excp) {
         return Err(LineFault::Named(FaultName::Request));
     }
     Ok(request)
@@ -134,27 +134,64 @@ impl Run {
     /// Does the commands in the order of their lines, and then what is left.
     fn commands(&mut self, alloc: Global, script: &Script) -> Result<(), Fault> {
         for command in &script.commands {
-            match command.action {
-                Action::Excp(excp) => {
-                    if let Err(fault) = self.issue(alloc, script, excp) {
-                        return Err(fault.at(command.line));
-                    }
-                }
-                Action::Wait => self.settle()?,
+            if let Err(fault) = self.command(alloc, script, *command) {
+                return Err(fault.at(command.line));
             }
         }
-        self.settle()
+        self.settle().map_err(|fault| fault.at(0))
+    }
+
+    /// Does one command.
+    fn command(
+        &mut self,
+        alloc: Global,
+        script: &Script,
+        command: Command,
+    ) -> Result<(), LineFault> {
+        match command.action {
+            Action::Excp(excp) => self.issue(alloc, script, command.task, excp),
+            Action::Purge(dcb, mode) => {
+                self.station(dcb.unit)?.purge(dcb.number, mode)?;
+                Ok(())
+            }
+            Action::PurgeTask(task, mode) => self.purge_task(task, mode),
+            Action::Close(dcb) => {
+                self.station(dcb.unit)?.close(dcb.number)?;
+                Ok(())
+            }
+            Action::Reset(dcb) => match self.station(dcb.unit)?.reset(dcb.number) {
+                // a DCB that is not open is passed over
+                Ok(()) | Err(DcbError::NoSuchDcb) => Ok(()),
+                Err(DcbError::NoMemory) => Err(LineFault::NoMemory),
+            },
+            Action::Wait => self.settle(),
+        }
+    }
+
+    /// The unit with this number.
+    fn station(&mut self, unit: u16) -> Result<&mut Station, LineFault> {
+        match self.stations.get_mut(usize::from(unit)) {
+            Some(station) => Ok(station),
+            None => Err(LineFault::Named(FaultName::Name)),
+        }
     }
 
     /// A task issues a request.
-    fn issue(&mut self, alloc: Global, script: &Script, excp: Excp) -> Result<(), LineFault> {
-        let Some(station) = self.stations.get_mut(usize::from(excp.unit)) else {
+    fn issue(
+        &mut self,
+        alloc: Global,
+        script: &Script,
+        task: u16,
+        excp: Excp,
+    ) -> Result<(), LineFault> {
+        let unit = excp.dcb.unit;
+        let Some(station) = self.stations.get_mut(usize::from(unit)) else {
             return Err(LineFault::Named(FaultName::Name));
         };
-        let name = station.next_name(excp.task)?;
+        let name = station.next_name(task)?;
         let request = request_of(alloc, script, excp, name)?;
         self.shows.push(Show {
-            unit: excp.unit,
+            unit,
             name,
             at: excp.show,
             len: excp.len as usize,
@@ -162,10 +199,18 @@ impl Run {
         station.issue(request)
     }
 
-    /// Drives each unit until it is idle, and takes out what was posted.
-    fn settle(&mut self) -> Result<(), Fault> {
+    /// Purges the requests of a task on every unit, in order.
+    fn purge_task(&mut self, task: u16, mode: Mode) -> Result<(), LineFault> {
         for station in &mut self.stations {
-            station.drive()?;
+            station.purge_task(task, mode)?;
+        }
+        Ok(())
+    }
+
+    /// Settles each unit, and takes out what was posted.
+    fn settle(&mut self) -> Result<(), LineFault> {
+        for station in &mut self.stations {
+            station.settle()?;
             for _ in 0..station.posted() {
                 if let Some(posted) = station.take_out() {
                     self.posts.push(posted)?;

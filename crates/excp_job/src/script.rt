@@ -9,6 +9,7 @@ use device_port::Fault as DeviceFault;
 use io_area::Area;
 use io_images::Extent;
 use std::alloc::Global;
+use unit_book::Mode;
 
 /// A unit that a script declares: its line, interruption subclass, geometry, records and faults.
 #[derive(Drop)]
@@ -31,12 +32,17 @@ pub struct Opening {
     pub extents: Vec<Extent>,
 }
 
+/// A DCB of a unit, by the numbers of both.
+#[derive(Clone, Copy, Debug)]
+pub struct DcbName {
+    pub unit: u16,
+    pub number: u16,
+}
+
 /// An EXCP on a copy of an area, and the bytes of the posted area that are shown.
 #[derive(Clone, Copy, Debug)]
 pub struct Excp {
-    pub task: u16,
-    pub unit: u16,
-    pub dcb: u16,
+    pub dcb: DcbName,
     pub iob: u32,
     pub area: usize,
     pub show: u32,
@@ -47,13 +53,23 @@ pub struct Excp {
 #[derive(Clone, Copy, Debug)]
 pub enum Action {
     Excp(Excp),
+    /// Purges the requests of a DCB.
+    Purge(DcbName, Mode),
+    /// Purges the requests of a task, on all units.
+    PurgeTask(u16, Mode),
+    /// Closes a DCB.
+    Close(DcbName),
+    /// Clears the error flag of a DCB.
+    Reset(DcbName),
+    /// Goes on when all requests of the task were posted.
     Wait,
 }
 
-/// A command and its line.
+/// A command, its line, and the task that gives it.
 #[derive(Clone, Copy, Debug)]
 pub struct Command {
     pub line: usize,
+    pub task: u16,
     pub action: Action,
 }
 
@@ -92,6 +108,14 @@ impl Script {
             return Err(LineFault::Named(FaultName::Order).at(0));
         }
         Ok(script)
+    }
+
+    /// Whether the script opens this DCB.
+    pub fn has_dcb(&self, dcb: DcbName) -> bool {
+        match self.units.get(usize::from(dcb.unit)) {
+            Some(setup) => u64::from(dcb.number) <= setup.dcbs,
+            None => false,
+        }
     }
 
     /// How many requests the script issues.

@@ -8,12 +8,9 @@ use crate::fault::{Fault, FaultName, LineFault};
 use ckd_disk::Disk;
 use io_images::Extent;
 use request_piece::{Name, Posted, Request};
-use std::alloc::Global;
+use std::alloc::{AllocError, Global};
 use std::marker::Model;
-use unit_book::{Interruption, OpenError, Running, Starting, UnitBook};
-
-/// The most commands of one burst: a program has no more.
-const WHOLE_PROGRAM: u32 = 4097;
+use unit_book::{Closing, DcbError, Mode, OpenError, Purging, UnitBook};
 
 /// The book of a unit, and the number of the last request of each task.
 #[derive(Drop)]
@@ -80,9 +77,29 @@ impl Station {
         }
     }
 
+    /// Purges the requests of a DCB.
+    pub fn purge(&mut self, dcb: u16, mode: Mode) -> Result<Purging, DcbError> {
+        purge(&mut self.book, dcb, mode)
+    }
+
+    /// Purges the requests of a task.
+    pub fn purge_task(&mut self, task: u16, mode: Mode) -> Result<Purging, AllocError> {
+        purge_task(&mut self.book, task, mode)
+    }
+
+    /// Closes a DCB.
+    pub fn close(&mut self, dcb: u16) -> Result<Closing, DcbError> {
+        close(&mut self.book, dcb)
+    }
+
+    /// Clears the error flag of an open DCB.
+    pub fn reset(&mut self, dcb: u16) -> Result<(), DcbError> {
+        reset(&mut self.book, dcb)
+    }
+
     /// Starts, runs and interrupts until nothing waits or is active.
-    pub fn drive(&mut self) -> Result<(), Fault> {
-        drive(&mut self.book)
+    pub fn settle(&mut self) -> Result<(), AllocError> {
+        settle(&mut self.book)
     }
 
     /// How many requests were posted and not taken out.
@@ -103,6 +120,8 @@ fn none_issued() -> [u32; 64]
     [0; 64]
 }
 
+// The calls of a book other than an arrival add none.
+
 fn open(book: &mut UnitBook<Disk>, input: bool, extents: &[Extent]) -> Result<u16, OpenError>
     ensures { arrivals book.new.trace ≡ arrivals book.old.trace }
 {
@@ -112,55 +131,46 @@ fn open(book: &mut UnitBook<Disk>, input: bool, extents: &[Extent]) -> Result<u1
     }
 }
 
-fn drive(book: &mut UnitBook<Disk>) -> Result<(), Fault>
+fn purge(book: &mut UnitBook<Disk>, dcb: u16, mode: Mode) -> Result<Purging, DcbError>
     ensures { arrivals book.new.trace ≡ arrivals book.old.trace }
 {
-    for _ in 0..u64::MAX {
-        if cycle(book)? {
-            return Ok(());
-        }
-    }
-    Ok(())
-}
-
-/// Starts, runs and interrupts once, and tells whether the unit was idle.
-fn cycle(book: &mut UnitBook<Disk>) -> Result<bool, Fault>
-    ensures { arrivals book.new.trace ≡ arrivals book.old.trace }
-{
-    let idle = matches!(start(book)?, Starting::Idle);
-    if !idle {
-        run(book, WHOLE_PROGRAM)?;
-        interrupt(book)?;
-    }
-    Ok(idle)
-}
-
-fn start(book: &mut UnitBook<Disk>) -> Result<Starting, Fault>
-    ensures { arrivals book.new.trace ≡ arrivals book.old.trace }
-{
-    match book.start() {
+    match book.purge(dcb, mode) {
         Ok(answer) => Ok(answer),
-        Err(_) => Err(Fault::NoMemory),
+        Err(error) => Err(error),
     }
 }
 
-fn run(book: &mut UnitBook<Disk>, max: u32) -> Result<Running, Fault>
-    requires { 1 ≤ max }
+fn purge_task(book: &mut UnitBook<Disk>, task: u16, mode: Mode) -> Result<Purging, AllocError>
     ensures { arrivals book.new.trace ≡ arrivals book.old.trace }
 {
-    match book.run(max) {
+    match book.purge_task(task, mode) {
         Ok(answer) => Ok(answer),
-        Err(_) => Err(Fault::NoMemory),
+        Err(error) => Err(error),
     }
 }
 
-fn interrupt(book: &mut UnitBook<Disk>) -> Result<Interruption, Fault>
+fn close(book: &mut UnitBook<Disk>, dcb: u16) -> Result<Closing, DcbError>
     ensures { arrivals book.new.trace ≡ arrivals book.old.trace }
 {
-    match book.interrupt() {
+    match book.close(dcb) {
         Ok(answer) => Ok(answer),
-        Err(_) => Err(Fault::NoMemory),
+        Err(error) => Err(error),
     }
+}
+
+fn reset(book: &mut UnitBook<Disk>, dcb: u16) -> Result<(), DcbError>
+    ensures { arrivals book.new.trace ≡ arrivals book.old.trace }
+{
+    match book.reset(dcb) {
+        Ok(()) => Ok(()),
+        Err(error) => Err(error),
+    }
+}
+
+fn settle(book: &mut UnitBook<Disk>) -> Result<(), AllocError>
+    ensures { arrivals book.new.trace ≡ arrivals book.old.trace }
+{
+    book.settle()
 }
 
 #[cfg(test)]

@@ -1,6 +1,7 @@
-//! Calls of a book over a disk: programs resumed a command at a time, and values taken out and put back.
+//! Calls of a book over a disk: programs resumed a command at a time, purges, closes and resets.
 
-ghost use Rattle.std.specs.Prelude.{◌≤◌};
+ghost use Rattle.std.specs.Prelude.{◌≡◌, ◌≤◌};
+ghost use Rattle.unit_book.specs.Trace.{arrivals};
 
 use super::*;
 use ckd_disk::{Geometry, InitialRecord};
@@ -9,6 +10,10 @@ use io_area::Area;
 use io_images::{Code, SubStatus, UnitStatus};
 use std::process::Abort;
 use std::test::Fail;
+use unit_book::{Interruption, Running, Starting};
+
+mod controls;
+mod programs;
 
 /// An unrelated IOB, its ECB, and search, transfer back and read data, from X'1000' on.
 const IMAGE: [u8; 104] = [
@@ -18,24 +23,58 @@ const IMAGE: [u8; 104] = [
     0, 0, 0, 1, 0, 0, 0, 0, 0, 0, 0, 0, 0, 0, 0, 0, 0, 0, 0, 0, 0, 0, 0,
 ];
 
+/// The most commands of a program.
+const WHOLE_PROGRAM: u32 = 4097;
+
+fn start(book: &mut UnitBook<Disk>) -> Result<Starting, AllocError>
+    ensures { arrivals book.new.trace ≡ arrivals book.old.trace }
+{
+    match book.start() {
+        Ok(answer) => Ok(answer),
+        Err(error) => Err(error),
+    }
+}
+
+fn run(book: &mut UnitBook<Disk>, max: u32) -> Result<Running, AllocError>
+    requires { 1 ≤ max }
+    ensures { arrivals book.new.trace ≡ arrivals book.old.trace }
+{
+    match book.run(max) {
+        Ok(answer) => Ok(answer),
+        Err(error) => Err(error),
+    }
+}
+
+fn interrupt(book: &mut UnitBook<Disk>) -> Result<Interruption, AllocError>
+    ensures { arrivals book.new.trace ≡ arrivals book.old.trace }
+{
+    match book.interrupt() {
+        Ok(answer) => Ok(answer),
+        Err(error) => Err(error),
+    }
+}
+
 impl Station {
-    fn start(&mut self) -> Result<Starting, Fault> {
+    fn start(&mut self) -> Result<Starting, AllocError> {
         start(&mut self.book)
     }
 
-    fn run(&mut self, max: u32) -> Result<Running, Fault>
+    fn run(&mut self, max: u32) -> Result<Running, AllocError>
         requires { 1 ≤ max }
     {
         run(&mut self.book, max)
     }
 
-    fn interrupt(&mut self) -> Result<Interruption, Fault> {
+    fn interrupt(&mut self) -> Result<Interruption, AllocError> {
         interrupt(&mut self.book)
     }
 }
 
-/// A station for one request at a time, whose DCB 1 is open on the one track of the disk, with these faults.
-fn station(alloc: Global, faults: &[DeviceFault]) -> Result<Station, Fault> {
+/// A station for so many requests, whose DCBs 1 and 2 are open on the one track of the disk, with these faults.
+fn station(alloc: Global, capacity: usize, faults: &[DeviceFault]) -> Result<Station, AllocError>
+    requires some { 1 ≤ capacity }
+    requires few { capacity ≤ 65536 }
+{
     let geometry = Geometry {
         cylinders: 1,
         heads: 1,
@@ -51,99 +90,82 @@ fn station(alloc: Global, faults: &[DeviceFault]) -> Result<Station, Fault> {
         content,
     }];
     let Ok(disk) = Disk::mount(alloc, geometry, &records, faults) else {
-        return Err(Fault::NoMemory);
+        return Err(AllocError);
     };
-    let mut station = Station::new(alloc, disk, 0, 1)?;
+    let Ok(mut station) = Station::new(alloc, disk, 0, capacity) else {
+        return Err(AllocError);
+    };
     let extent = Extent::read(&[0x18, 0, 0, 0, 0, 0, 0, 0, 0, 0, 0, 0, 0, 0, 0, 1]);
-    match station.open(false, &[extent]) {
-        Ok(_) => Ok(station),
-        Err(_) => Err(Fault::NoMemory),
+    for _ in 0..2 {
+        if station.open(false, &[extent]).is_err() {
+            return Err(AllocError);
+        }
     }
+    Ok(station)
 }
 
-/// The next request of task 0 arrives, if the book takes it.
-fn issue(alloc: Global, station: &mut Station) -> Result<(), LineFault> {
-    let name = station.next_name(0)?;
-    let Ok(area) = Area::new(alloc, 0x1000, &IMAGE) else {
+/// The next request of a task for a DCB arrives, if the book takes it; it is unrelated.
+fn issue(alloc: Global, station: &mut Station, task: u16, dcb: u8) -> Result<Name, LineFault> {
+    let name = station.next_name(task)?;
+    let mut image = IMAGE;
+    image[23] = dcb;
+    let Ok(area) = Area::new(alloc, 0x1000, &image) else {
         return Err(LineFault::NoMemory);
     };
-    match Request::new(alloc, name, 0, 1, 0x1000, area) {
-        Ok(request) => station.issue(request),
-        Err(_) => Err(LineFault::NoMemory),
+    match Request::new(alloc, name, 0, u16::from(dcb), 0x1000, area) {
+        Ok(request) => station.issue(request)?,
+        Err(_) => return Err(LineFault::NoMemory),
     }
+    Ok(name)
 }
 
-/// The name of the first request of task 0.
-fn first() -> Name {
-    Name { task: 0, seq: 1 }
+/// The name of a request of task 0.
+fn name(seq: u32) -> Name {
+    Name { task: 0, seq }
 }
 
-#[test]
-fn a_command_at_a_time(rt: HostRuntime) -> Result<(), Fail> {
-    let Ok(mut station) = station(rt.alloc(), &[]) else {
-        return Err(Fail::from(std::alloc::AllocError));
-    };
-    assert!(rt; issue(rt.alloc(), &mut station).is_ok());
-    assert!(rt;
-        issue(rt.alloc(), &mut station).is_err(),
-        "the book is full"
-    );
-    assert_eq!(rt; station.start(), Ok(Starting::Started(first())));
-    assert_eq!(rt; station.start(), Ok(Starting::Busy));
-    for pending in [false, false, true] {
-        assert_eq!(rt; station.interrupt(), Ok(Interruption::Quiet));
-        assert_eq!(rt;
-            station.run(1),
-            Ok(Running::Ran {
-                commands: 1,
-                pending
-            })
-        );
-    }
-    assert_eq!(rt; station.run(1), Ok(Running::Quiet));
-    assert_eq!(rt;
-        station.interrupt(),
-        Ok(Interruption::Ended(first(), Code::Ended))
-    );
-    assert_eq!(rt; station.start(), Ok(Starting::Idle));
-    assert_eq!(rt; station.posted(), 1);
-    Ok(())
-}
-
-#[test]
-fn a_retry_is_a_start(rt: HostRuntime) -> Result<(), Fail> {
-    let fault = DeviceFault {
+/// An equipment check of the first command, which is tried again.
+fn first_fails() -> DeviceFault {
+    DeviceFault {
         ordinal: 1,
         unit: UnitStatus::new(0x0E),
         sub: SubStatus::new(0),
         sense: 0x1000,
-    };
-    let Ok(mut station) = station(rt.alloc(), &[fault]) else {
-        return Err(Fail::from(std::alloc::AllocError));
-    };
-    assert!(rt; issue(rt.alloc(), &mut station).is_ok());
-    assert_eq!(rt; station.start(), Ok(Starting::Started(first())));
-    assert_eq!(rt;
-        station.run(1),
-        Ok(Running::Ran {
-            commands: 1,
-            pending: true
-        })
-    );
-    assert_eq!(rt; station.interrupt(), Ok(Interruption::Again(first())));
-    assert_eq!(rt; station.interrupt(), Ok(Interruption::Quiet));
-    assert_eq!(rt; station.run(1), Ok(Running::Quiet));
-    assert_eq!(rt; station.start(), Ok(Starting::Started(first())));
-    assert_eq!(rt;
-        station.run(9),
-        Ok(Running::Ran {
-            commands: 3,
-            pending: true
-        })
-    );
-    assert_eq!(rt;
-        station.interrupt(),
-        Ok(Interruption::Ended(first(), Code::Ended))
-    );
-    Ok(())
+    }
 }
+
+/// Asserts that a program does so many commands more and is then pending.
+fn expect_end<R: Abort>(rt: &R, station: &mut Station, commands: u32) {
+    let ran = Running::Ran {
+        commands,
+        pending: true,
+    };
+    assert_eq!(rt; station.run(WHOLE_PROGRAM), Ok(ran));
+}
+
+/// Asserts that the next posted value has this name, code, CSW and sense.
+fn expect_post<R: Abort>(
+    rt: &R,
+    station: &mut Station,
+    name: Name,
+    code: Code,
+    status: (u32, u8, u16, u16),
+) {
+    let Some(posted) = station.take_out() else {
+        assert!(rt; false, "no posted value");
+        return;
+    };
+    let (address, unit, residual, sense) = status;
+    let csw = posted.csw();
+    assert_eq!(rt; posted.name(), name);
+    assert_eq!(rt; posted.code(), code);
+    assert_eq!(rt; csw.address.get(), address);
+    assert_eq!(rt; csw.unit.bits(), unit);
+    assert_eq!(rt; csw.sub.bits(), 0);
+    assert_eq!(rt; csw.residual, residual);
+    assert_eq!(rt; posted.sense(), sense);
+}
+
+/// What a read of the record is posted with, and what is posted without a Start.
+const READ: (u32, u8, u16, u16) = (0x1048, 0x0C, 0, 0);
+const NOT_STARTED: (u32, u8, u16, u16) = (0, 0, 0, 0);

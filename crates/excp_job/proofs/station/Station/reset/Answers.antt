@@ -1,0 +1,5 @@
+use Rattle.excp_job.proofs.Counting.{counts-same}
+use Rattle.excp_job.proofs.station.Station.reset.Goals as goal
+
+pub invariant_of-self : goal.invariant_of-self
+invariant_of-self c = counts-same c.self.inside.issued c.self.inside.book.trace c.reset.new.book.trace c.reset.ensures c.self.invariant
