@@ -6,7 +6,8 @@ use Rattle.line_printer.specs.declared.command.Command.{Command}
 use Rattle.line_printer.specs.declared.command.Command.TheVariants.{NoOperation, Sense, Print, Move}
 use Rattle.line_printer.specs.declared.paper.Motion.TheVariants as motion
 
--- the command with a code; a code that is not listed is rejected
+-- the command with a code: 01, 09, 11, 19 and 89 print a line and then move the paper, 0B, 13, 1B and 8B move it
+-- at once; a code that is not listed is rejected
 abbrev pub command_of : ℕ → Option Command
 command_of code =
     if code == 0x01 then Some (Print motion.Suppress)

@@ -35,6 +35,10 @@ is_past printer at = nat_lt printer.pages at.page
 abbrev pub columns_of : List ℕ → List ℕ
 columns_of given = take 132 given
 
+-- the printer with one line more, and its paper at another position
+abbrev pub with_line : PrinterState → List ℕ → Position → PrinterState
+with_line printer bytes to = record printer { printed = printer.printed ++ record { at = printer.at; bytes = bytes } ∷ []; at = to }
+
 -- PRINT a line where the paper stands, then move the paper: 01 by no line, 09 by one, 11 by two, 19 by three, 89 to
 -- channel 1. Without room for the line, or behind the last page, the operator has to put paper in
 abbrev pub print : PrinterState → Motion → List ℕ → Outcome PrinterState
@@ -42,7 +46,7 @@ print printer motion given =
     let to = moved motion printer.at in
     let bytes = columns_of given in
     if is_full printer || is_past printer to then checked printer 0x4000
-    else unchanged (record printer { printed = printer.printed ++ record { at = printer.at; bytes = bytes } ∷ []; at = to }) (normal_end (length bytes))
+    else unchanged (with_line printer bytes to) (normal_end (length bytes))
 
 -- MOVE the paper at once: 0B by one line, 13 by two, 1B by three, 8B to channel 1
 abbrev pub move : PrinterState → Motion → Outcome PrinterState

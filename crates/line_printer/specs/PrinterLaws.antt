@@ -22,7 +22,8 @@ command_gives p (Some Sense) given = refl
 command_gives p (Some (Print motion)) given = tt
 command_gives p (Some (Move motion)) given = either_wants (is_past p (moved motion p.at)) _ _ refl refl
 
-gives_by : (fault : Option Fault) (p : PrinterState) (code : ℕ) (given : List ℕ) → GivesWhatItWants (flow_of (command_of code)) (act_by fault p code given)
+gives_by : (fault : Option Fault) (p : PrinterState) (code : ℕ) (given : List ℕ)
+    → GivesWhatItWants (flow_of (command_of code)) (act_by fault p code given)
 gives_by None p code given = command_gives p (command_of code) given
 gives_by (Some fault) p code given = gives_nothing (flow_of (command_of code)) (act_by (Some fault) p code given) refl refl
 

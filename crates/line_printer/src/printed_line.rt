@@ -29,7 +29,7 @@ impl Model for PrintedLine {
 
 impl PrintedLine {
     /// A line of the first bytes that a program gives, as many as there are columns.
-    pub fn new(position: Position, given: &Given<'_>) -> Self
+    pub(crate) fn new(position: Position, given: &Given<'_>) -> Self
         ensures { result ≡ record { at = position; bytes = columns_of given.now } }
     {
         let len = given.len().min(COLUMNS);
@@ -43,7 +43,7 @@ impl PrintedLine {
     }
 
     /// The same line.
-    pub fn copy(&self) -> Self
+    pub(crate) fn copy(&self) -> Self
         ensures { result ≡ self.now }
     {
         PrintedLine {

@@ -1,4 +1,4 @@
-ghost use Rattle.std.specs.Prelude.{◌≡◌, ◌≤◌, ◌+◌, ℕ, length, IfOk, [], true};
+ghost use Rattle.std.specs.Prelude.{◌≡◌};
 ghost use Rattle.line_printer.specs.Mount.{is_paper};
 ghost use Rattle.line_printer.specs.Printer.{printer};
 ghost use Rattle.line_printer.specs.PrinterLaws.{printer_lawful};

@@ -66,7 +66,8 @@ command_gives t (Some Read) given = read_gives t (ahead t)
 command_gives t (Some ReadBackward) given = read_backward_gives t (behind t)
 command_gives t (Some Write) given = tt
 
-gives_by : (fault : Option Fault) (t : TapeState) (code : ℕ) (given : List ℕ) → GivesWhatItWants (flow_of (command_of code)) (act_by fault t code given)
+gives_by : (fault : Option Fault) (t : TapeState) (code : ℕ) (given : List ℕ)
+    → GivesWhatItWants (flow_of (command_of code)) (act_by fault t code given)
 gives_by None t code given = command_gives t (command_of code) given
 gives_by (Some fault) t code given = gives_nothing (flow_of (command_of code)) (act_by (Some fault) t code given) refl refl
 

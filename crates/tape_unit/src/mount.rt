@@ -1,12 +1,12 @@
 //! What is checked and made when a tape is mounted.
 
-ghost use Rattle.std.specs.Prelude.{◌≡◌, ◌+◌, ◌≤◌, ◌<◌, ◌^◌, IfOk, true, nat_le, length};
+ghost use Rattle.std.specs.Prelude.{◌≡◌, IfOk, true, nat_le};
 ghost use Rattle.std.specs.List.{list_all};
 ghost use Rattle.tape_unit.specs.Item.{content_of};
 ghost use Rattle.tape_unit.specs.Reel.{bytes_of};
 ghost use Rattle.tape_unit.specs.Mount.{is_size, initial, is_initial, opening_items};
 
-use crate::reel::Reel;
+use crate::reel::{LENGTH_WORD, Reel};
 use std::alloc::{AllocError, Global};
 
 /// An item that a tape has when it is mounted (profile).
@@ -62,7 +62,7 @@ pub fn fit(items: &[InitialItem], bytes: u64) -> bool
 {
     let mut total = 0;
     for item in items {
-        total += 4 + item.content().len() as u64;
+        total += LENGTH_WORD as u64 + item.content().len() as u64;
         if total > bytes {
             return false;
         }

@@ -1,6 +1,6 @@
 //! The medium of a tape.
 
-ghost use Rattle.std.specs.Prelude.{◌≡◌, ℕ, ◌+◌, ◌-◌, ◌<◌, ◌≤◌, [], ◌∷◌, ◌++◌, IfOk, IfSome, true, length, take, drop, reverse};
+ghost use Rattle.std.specs.Prelude.{◌≡◌, ◌+◌, ◌<◌, ◌≤◌, [], IfOk, IfSome, true, length, take, drop, reverse};
 ghost use Rattle.std.specs.List.{position};
 ghost use Rattle.byteorder.specs.Endian.{big_bytes};
 ghost use Rattle.device_port.specs.Moves.{written};
@@ -16,7 +16,7 @@ use std::alloc::{AllocError, Global};
 use std::marker::Model;
 
 /// The bytes of a length word, which is also the least that an item takes.
-const LENGTH_WORD: usize = 4;
+pub const LENGTH_WORD: usize = 4;
 
 /// A reel as one buffer of its size: its items packed in order, each behind a length word, a rest that means
 /// nothing, and an index of where the items begin.

@@ -1,6 +1,6 @@
 //! A reader of the items on a tape.
 
-ghost use Rattle.std.specs.Prelude.{◌≡◌, ◌≤◌, MatchOption, length};
+ghost use Rattle.std.specs.Prelude.{◌≡◌, MatchOption};
 ghost use Rattle.std.specs.Iterator.{YieldsFirst, item_count};
 ghost use Rattle.tape_unit.specs.Item.{tape_mark, block, item_with, is_mark, content_of};
 
@@ -23,7 +23,7 @@ impl<'a> Model for Stored<'a> {
 
 impl<'a> Stored<'a> {
     /// The item that has this data: none is a tape mark's.
-    pub fn new(content: &'a [u8]) -> Self
+    pub(crate) fn new(content: &'a [u8]) -> Self
         ensures { result ≡ item_with content.now }
     {
         Stored { content }
@@ -75,7 +75,7 @@ impl<'a> Model for Items<'a> {
 
 impl<'a> Items<'a> {
     /// All items of a reel.
-    pub fn new(reel: &'a Reel) -> Self
+    pub(crate) fn new(reel: &'a Reel) -> Self
         ensures { result ≡ reel.now.items }
     {
         Items { reel, place: 0 }

@@ -1,4 +1,4 @@
-ghost use Rattle.std.specs.Prelude.{◌≡◌, ◌≤◌, ◌+◌, ℕ, length, IfOk, [], true};
+ghost use Rattle.std.specs.Prelude.{◌≡◌, ◌≤◌, length};
 ghost use Rattle.tape_unit.specs.Item.{content_of};
 ghost use Rattle.tape_unit.specs.Tape.{tape, read_ended, spaced_ended};
 ghost use Rattle.tape_unit.specs.TapeLaws.{tape_lawful};
@@ -40,9 +40,8 @@ impl Model for Tape {
 }
 
 impl Tape {
-    ghost use Rattle.std.specs.Prelude.{◌≡◌, ◌≤◌, [], length};
+    ghost use Rattle.std.specs.Prelude.{◌≡◌, ◌≤◌, length};
     ghost use Rattle.device_port.specs.Moves.{AllLie, stored, stored_back};
-    ghost use Rattle.device_port.specs.declared.kind.Flow.TheVariants as flow;
     ghost use Rattle.io_area.specs.Storage.{SamePlace};
     ghost use Rattle.tape_unit.specs.Tape.{control_on, read, read_backward, forward_space_block, backspace_block, forward_space_file, backspace_file, rewind, write, write_tape_mark};
     ghost use Rattle.tape_unit.specs.Mount.{Mounts};
