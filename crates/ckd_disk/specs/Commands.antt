@@ -2,7 +2,7 @@
 use Rattle.std.specs.Prelude.{ℕ, ◌+◌, ◌/◌, List, [], ◌∷◌, ◌++◌, Bool, Option, Some, None, nat_lt, ◌==◌, ◌||◌, ◌&&◌, min, if◌then◌else◌, length, take, nat_eq}
 use Rattle.std.specs.List.{starts_with}
 use Rattle.device_port.specs.declared.answer.Acted.{Acted}
-use Rattle.device_port.specs.Answers.{normal_end, status_modifier, unit_check, unit_exception}
+use Rattle.device_port.specs.Answers.{normal_end, status_modifier, unit_check, unit_exception, no_operation_ended, sense_bytes, sense_ended}
 use Rattle.ckd_disk.specs.declared.access.Access.{Access}
 use Rattle.ckd_disk.specs.Record.{Record, count_area, packed, size_at, record_written}
 use Rattle.ckd_disk.specs.Track.{TrackState, record_of, bytes_before, with_content, with_key_and_content, with_record_behind}
@@ -42,11 +42,11 @@ refused sense track access = record { acted = unit_check sense; access = left ac
 
 -- 03 NO-OPERATION
 abbrev pub no_operation : AccessState → Answer
-no_operation access = record { acted = normal_end 0; access = left access access.orientation unarmed; bytes = [] }
+no_operation access = record { acted = no_operation_ended; access = left access access.orientation unarmed; bytes = [] }
 
--- 04 SENSE: two bytes of zeros, since the sense comes with the status
+-- 04 SENSE
 abbrev pub sense : AccessState → Answer
-sense access = record { acted = normal_end 2; access = left access access.orientation unarmed; bytes = 0 ∷ 0 ∷ [] }
+sense access = record { acted = sense_ended; access = left access access.orientation unarmed; bytes = sense_bytes }
 
 -- 1F SET FILE MASK: rejected, since the system has set the mask
 abbrev pub set_file_mask : AccessState → Answer

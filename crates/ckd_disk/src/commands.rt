@@ -31,5 +31,5 @@ pub fn no_operation(access: &mut Access) -> Acted
 {
     let orientation = access.orientation;
     access.leave(orientation, Armed::No);
-    Acted::normal_end(0)
+    Acted::no_operation()
 }

@@ -6,7 +6,6 @@
 #![tactic(auto)]
 
 mod access;
-mod bytes;
 mod command;
 mod commands;
 mod disk;

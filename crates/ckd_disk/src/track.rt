@@ -9,8 +9,7 @@ ghost use Rattle.device_port.specs.Packed.{Begins};
 ghost use Rattle.ckd_disk.specs.Record.{Fits, record_with, ckd, count_area, packed, size_of, record_at, size_at, IsRecord, record_written};
 ghost use Rattle.ckd_disk.specs.Track.{record_of, bytes_of, bytes_before, IsSpot, with_content, with_key_and_content, with_record_behind, with_last};
 
-use crate::bytes::fill_at;
-use device_port::Given;
+use device_port::{Given, fill_at};
 pub use records::{Records, Stored};
 pub use spot::Spot;
 use std::alloc::{AllocError, Global};

@@ -1,5 +1,5 @@
 -- How commands end (Principles of Operation, chapter 16, "Unit status"; the rules on `want` are the profile's).
-use Rattle.std.specs.Prelude.{ℕ}
+use Rattle.std.specs.Prelude.{ℕ, List, [], ◌∷◌, length}
 use Rattle.device_port.specs.declared.answer.Acted.{Acted}
 
 -- a command that ended with this unit status and sense, and no subchannel status
@@ -21,3 +21,20 @@ unit_check sense = ended 0x0E sense 0
 -- unit exception
 abbrev pub unit_exception : ℕ → Acted
 unit_exception want = ended 0x0D 0 want
+
+-- ---- the commands that every device has (profile)
+
+-- 03 NO-OPERATION
+abbrev pub no_operation_ended : Acted
+no_operation_ended = normal_end 0
+
+-- 04 SENSE: two bytes of zeros, since the sense comes with the status
+abbrev pub sense_bytes : List ℕ
+sense_bytes = 0 ∷ 0 ∷ []
+
+abbrev pub sense_ended : Acted
+sense_ended = normal_end (length sense_bytes)
+
+-- COMMAND REJECT: a code that is not listed for a device, or a command that it does not take where it stands
+abbrev pub rejected : Acted
+rejected = unit_check 0x8000

@@ -1,4 +1,5 @@
 pub mod Answers
+pub mod Common
 pub mod Faults
 pub mod Meaning
 pub mod MeaningLaws

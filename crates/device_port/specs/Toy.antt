@@ -5,8 +5,9 @@ use Rattle.device_port.specs.declared.kind.Kind.TheVariants.{Disk, Tape, Printer
 use Rattle.device_port.specs.declared.kind.Flow.{Flow}
 use Rattle.device_port.specs.declared.kind.Flow.TheVariants.{None as NoFlow, Out, Input, Back}
 use Rattle.device_port.specs.declared.faults.Fault.{Fault}
-use Rattle.device_port.specs.Answers.{normal_end, unit_check}
-use Rattle.device_port.specs.Faults.{Ordinals, fault_met, counted, failed}
+use Rattle.device_port.specs.Answers.{normal_end}
+use Rattle.device_port.specs.Common.{no_operation, unlisted, faulted}
+use Rattle.device_port.specs.Faults.{Ordinals, fault_met, counted}
 use Rattle.device_port.specs.Meaning.{Meaning, Outcome}
 use Rattle.device_port.specs.Moves.{padded}
 
@@ -25,12 +26,12 @@ toy_command d command given =
     if command == 1 then record { acted = normal_end 4; device = record { kind = d.kind; block = padded 4 given; ordinals = d.ordinals }; bytes = [] }
     else (if command == 2 then record { acted = normal_end (length d.block); device = d; bytes = d.block }
     else (if command == 12 then record { acted = normal_end (length d.block); device = d; bytes = reverse d.block }
-    else (if command == 3 then record { acted = normal_end 0; device = d; bytes = [] }
-    else record { acted = unit_check 0x8000; device = d; bytes = [] })))
+    else (if command == 3 then no_operation d
+    else unlisted d)))
 
 -- a command meets its fault, or else acts
 abbrev pub toy_act_by : Option Fault → ToyBlock → ℕ → List ℕ → Outcome ToyBlock
-toy_act_by (Some fault) d command given = record { acted = failed fault; device = d; bytes = [] }
+toy_act_by (Some fault) d command given = faulted d fault
 toy_act_by None d command given = toy_command d command given
 
 abbrev pub toy_act : ToyBlock → ℕ → List ℕ → Outcome ToyBlock

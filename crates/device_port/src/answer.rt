@@ -15,6 +15,9 @@ pub const NO_RECORD_FOUND: u16 = 0x0008;
 /// Sense byte 1 of a disk: the file mask does not allow the seek.
 pub const FILE_PROTECTED: u16 = 0x0004;
 
+/// The bytes that SENSE gives on every device: zeros, since the sense comes with the status.
+pub const SENSE_BYTES: [u8; 2] = [0, 0];
+
 /// What a device answers to a command: unit status and subchannel status, two sense bytes, and the number
 /// of bytes that it wants to move.
 #[derive(Clone, Copy, PartialEq, Eq, Debug)]
@@ -26,7 +29,7 @@ pub struct Acted {
 }
 
 impl Acted {
-    ghost use Rattle.device_port.specs.Answers.{normal_end, status_modifier, unit_check, unit_exception, ended};
+    ghost use Rattle.device_port.specs.Answers.{normal_end, status_modifier, unit_check, unit_exception, ended, no_operation_ended, sense_ended, rejected};
 
     fn ended(unit: u8, sense: u16, want: u32) -> Self
         ensures { result ≡ ended unit sense want }
@@ -65,5 +68,26 @@ impl Acted {
         ensures { result ≡ unit_exception want }
     {
         Self::ended(0x0D, 0, want)
+    }
+
+    /// The end of NO-OPERATION, on every device.
+    pub fn no_operation() -> Self
+        ensures { result ≡ no_operation_ended }
+    {
+        Self::normal_end(0)
+    }
+
+    /// The end of SENSE, on every device: two bytes are wanted.
+    pub fn sense() -> Self
+        ensures { result ≡ sense_ended }
+    {
+        Self::normal_end(SENSE_BYTES.len() as u32)
+    }
+
+    /// The end of a command that a device does not have, or does not take where it stands.
+    pub fn rejected() -> Self
+        ensures { result ≡ rejected }
+    {
+        Self::unit_check(COMMAND_REJECT)
     }
 }

@@ -7,18 +7,20 @@ mod chain;
 mod device;
 mod faults;
 mod given;
+mod image;
 mod kind;
 mod moves;
 pub mod toy;
 
 pub use answer::{
     Acted, COMMAND_REJECT, EQUIPMENT_CHECK, FILE_PROTECTED, INTERVENTION_REQUIRED,
-    INVALID_TRACK_FORMAT, NO_RECORD_FOUND,
+    INVALID_TRACK_FORMAT, NO_RECORD_FOUND, SENSE_BYTES,
 };
 pub use chain::{Chain, MOST_SEGMENTS, Segment};
 pub use device::{Device, MountError};
 pub use faults::{Fault, FaultScript, is_script};
 pub use given::Given;
+pub use image::{fill_at, put_at};
 pub use kind::{Flow, Kind};
 
 #[cfg(test)]

@@ -5,6 +5,7 @@ ghost use Rattle.io_area.specs.Storage.{SamePlace, lies_in, bytes_at};
 ghost use Rattle.device_port.specs.Moves.{AllLie, gathered, padded, stored, stored_back, with_bytes_down, written};
 
 use crate::chain::Segment;
+use crate::image::put_at;
 use crate::kind::Flow;
 use io_area::Area;
 
@@ -80,11 +81,4 @@ fn gather_part(area: &Area, segment: &Segment, into: &mut [u8], at: usize) -> us
         put_at(into, at, bytes);
     }
     at + n
-}
-
-fn put_at(image: &mut [u8], at: usize, bytes: &[u8])
-    requires { at + length bytes.now ≤ length image.old }
-    ensures { image.new ≡ written image.old at bytes.now }
-{
-    image[at..at + bytes.len()].copy_from_slice(bytes);
 }

@@ -6,7 +6,7 @@ ghost use Rattle.device_port.specs.Moves.{AllLie, gathered, padded};
 ghost use Rattle.device_port.specs.Toy.{toy};
 ghost use Rattle.device_port.specs.ToyLaws.{toy_lawful};
 
-use crate::answer::{Acted, COMMAND_REJECT};
+use crate::answer::Acted;
 use crate::chain::Chain;
 use crate::device::Device;
 use crate::faults::{Fault, FaultScript};
@@ -115,8 +115,8 @@ impl Device for ToyBlock {
                 chain.store_back(area, &self.block);
                 Acted::normal_end(4)
             }
-            0x03 => Acted::normal_end(0),
-            _ => Acted::unit_check(COMMAND_REJECT),
+            0x03 => Acted::no_operation(),
+            _ => Acted::rejected(),
         }
     }
 

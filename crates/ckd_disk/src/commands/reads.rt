@@ -9,7 +9,7 @@ use super::check;
 use crate::access::{Access, Armed, Orientation};
 use crate::track::{Spot, Track};
 use crate::walk::{content_record, key_record, next_record};
-use device_port::{Acted, NO_RECORD_FOUND};
+use device_port::{Acted, NO_RECORD_FOUND, SENSE_BYTES};
 
 /// What a read answers, and the bytes that it gives.
 #[derive(Drop)]
@@ -26,8 +26,8 @@ pub fn sense(access: &mut Access) -> Answer<'static>
     let orientation = access.orientation;
     access.leave(orientation, Armed::No);
     Answer {
-        acted: Acted::normal_end(2),
-        bytes: &[0, 0],
+        acted: Acted::sense(),
+        bytes: &SENSE_BYTES,
     }
 }
 

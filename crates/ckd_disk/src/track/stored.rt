@@ -4,8 +4,7 @@ ghost use Rattle.std.specs.Prelude.{◌≡◌, ℕ, ◌+◌, ◌*◌, ◌^◌, �
 ghost use Rattle.device_port.specs.Moves.{written};
 ghost use Rattle.ckd_disk.specs.Record.{record_with, packed, size_of, key_len, content_len, size_at, record_at, IsRecord};
 
-use crate::bytes::put_at;
-use device_port::Given;
+use device_port::{Given, put_at};
 
 /// The bytes of a count area.
 pub const COUNT_AREA: usize = 8;

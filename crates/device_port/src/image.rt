@@ -1,9 +1,9 @@
-//! Plain work on slices.
+//! Writes into the image of a medium.
 
 ghost use Rattle.std.specs.Prelude.{◌≡◌, ◌+◌, ℕ, ◌≤◌, ◌<◌, length, slice_index};
 ghost use Rattle.device_port.specs.Moves.{padded, written};
 
-use device_port::Given;
+use crate::given::Given;
 
 /// Writes bytes into an image from `at` on.
 pub fn put_at(image: &mut [u8], at: usize, bytes: &[u8])

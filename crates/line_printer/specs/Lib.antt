@@ -1,0 +1,5 @@
+pub mod Paper
+pub mod Command
+pub mod Printer
+pub mod PrinterLaws
+pub mod Mount

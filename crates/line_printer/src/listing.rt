@@ -1,0 +1,71 @@
+ghost use Rattle.std.specs.Prelude.{◌≡◌, ◌<◌, ◌++◌, ◌∷◌, [], IfOk, length, nat_le};
+
+use crate::printed_line::PrintedLine;
+use std::alloc::{AllocError, Global};
+use std::marker::Model;
+
+/// The printed lines, with room for a number of them.
+#[derive(Drop)]
+pub struct Listing {
+    lines: Vec<PrintedLine>,
+    room: usize,
+}
+
+impl Model for Listing {
+    ghost use Rattle.std.specs.Prelude.{◌≤◌, vec_capacity};
+    ghost use Rattle.line_printer.specs.Paper.{Listing as Lines};
+
+    ghost Value = { Lines };
+
+    ghost view = { λ l. record { room = l.room; lines = l.lines.items } };
+
+    ghost invariant = { λ l. l.room ≤ vec_capacity l.lines };
+}
+
+impl Listing {
+    /// No line, with room for so many.
+    pub fn new(alloc: Global, room: usize) -> Result<Self, AllocError>
+        ensures { IfOk result (λ l. l ≡ record { room = room; lines = [] }) }
+    {
+        Ok(Listing {
+            lines: Vec::with_capacity(alloc, room)?,
+            room,
+        })
+    }
+
+    /// The same lines, with the same room.
+    pub fn copy(&self) -> Result<Self, AllocError>
+        ensures { IfOk result (λ l. l ≡ self.now) }
+    {
+        let mut lines = Vec::with_capacity(*self.lines.allocator(), self.room)?;
+        for line in &self.lines {
+            lines.push(line.copy())?;
+        }
+        Ok(Listing {
+            lines,
+            room: self.room,
+        })
+    }
+
+    /// Whether there is no room for a line more.
+    pub fn is_full(&self) -> bool
+        ensures { result ≡ nat_le self.now.room (length self.now.lines) }
+    {
+        self.room <= self.lines.len()
+    }
+
+    /// Adds a line behind the others.
+    pub fn push(&mut self, line: PrintedLine)
+        requires { length self.old.lines < self.old.room }
+        ensures { self.new ≡ record { room = self.old.room; lines = self.old.lines ++ line ∷ [] } }
+    {
+        let _ = self.lines.push(line);
+    }
+
+    /// The lines, the oldest first.
+    pub fn lines(&self) -> &[PrintedLine]
+        ensures { result.now ≡ self.now.lines }
+    {
+        &self.lines
+    }
+}

@@ -1,0 +1,183 @@
+ghost use Rattle.std.specs.Prelude.{◌≡◌};
+ghost use Rattle.line_printer.specs.Mount.{is_paper};
+ghost use Rattle.line_printer.specs.Printer.{printer};
+ghost use Rattle.line_printer.specs.PrinterLaws.{printer_lawful};
+
+use crate::command::Command;
+use crate::listing::Listing;
+use crate::paper::{Motion, Position};
+use crate::printed_line::PrintedLine;
+use device_port::{
+    Acted, Chain, Device, Fault, FaultScript, Flow, Given, INTERVENTION_REQUIRED, Kind, MountError,
+    SENSE_BYTES, is_script,
+};
+use io_area::Area;
+use io_images::Seek;
+use std::alloc::{AllocError, Global};
+use std::marker::Model;
+use std::slice::Iter;
+
+/// A line printer (profile), as contracts see it: the lines that it has printed, where the next one goes, how
+/// many lines and pages it prints at most, and the fault script.
+#[derive(Drop)]
+pub struct Printer {
+    listing: Listing,
+    pages: u16,
+    position: Position,
+    faults: FaultScript,
+}
+
+impl Model for Printer {
+    ghost use Rattle.std.specs.Prelude.{◌≤◌};
+    ghost use Rattle.line_printer.specs.Paper.{IsOnPage};
+    ghost use Rattle.line_printer.specs.Printer.{PrinterState};
+
+    ghost Value = { PrinterState };
+
+    ghost view = { λ p. record { most = p.listing.room; pages = p.pages; printed = p.listing.lines; at = p.position; ordinals = p.faults } };
+
+    ghost invariant = { λ p. IsOnPage p.position × (p.position.page ≤ p.pages) × (p.pages ≤ 10_000) };
+}
+
+impl Printer {
+    ghost use Rattle.std.specs.Prelude.{◌≡◌};
+    ghost use Rattle.std.specs.Slice.Iter.{iter_rest};
+    ghost use Rattle.line_printer.specs.Printer.{print, move};
+    ghost use Rattle.line_printer.specs.Mount.{Mounts};
+
+    /// A printer that has room for so many lines and paper of so many pages, at line 1 of page 1, that meets these
+    /// faults (profile).
+    ///
+    /// Refused in this order: `BadGeometry` where `lines` is not 1 to 100,000 or `pages` not 1 to 10,000;
+    /// `BadMedium` where the faults are no fault script; `NoMemory`.
+    pub fn mount(
+        alloc: Global,
+        lines: u64,
+        pages: u64,
+        faults: &[Fault],
+    ) -> Result<Self, MountError>
+        ensures { Mounts lines pages faults.now result }
+    {
+        if !is_paper(lines, pages) {
+            return Err(MountError::BadGeometry);
+        }
+        if !is_script(faults) {
+            return Err(MountError::BadMedium);
+        }
+        let Ok(listing) = Listing::new(alloc, lines as usize) else {
+            return Err(MountError::NoMemory);
+        };
+        let Ok(faults) = FaultScript::new(alloc, faults) else {
+            return Err(MountError::NoMemory);
+        };
+        Ok(Printer {
+            listing,
+            pages: pages as u16,
+            position: Position { page: 1, line: 1 },
+            faults,
+        })
+    }
+
+    /// The printed lines, the oldest first.
+    pub fn printed(&self) -> Iter<'_, PrintedLine>
+        ensures { iter_rest result ≡ self.now.printed }
+    {
+        self.listing.lines().iter()
+    }
+
+    /// Where the next line goes.
+    pub fn position(&self) -> Position
+        ensures { result ≡ self.now.at }
+    {
+        self.position
+    }
+
+    /// Prints a line and moves the paper.
+    fn print(&mut self, motion: Motion, given: &Given<'_>) -> Acted
+        ensures acted { result ≡ (print self.old motion given.now).acted }
+        ensures device { self.new ≡ (print self.old motion given.now).device }
+    {
+        let next = self.position.moved(motion);
+        if self.listing.is_full() || next.page > self.pages {
+            return Acted::unit_check(INTERVENTION_REQUIRED);
+        }
+        let line = PrintedLine::new(self.position, given);
+        let want = line.bytes().len() as u32;
+        self.listing.push(line);
+        self.position = next;
+        Acted::normal_end(want)
+    }
+
+    /// Moves the paper at once.
+    fn move_paper(&mut self, motion: Motion) -> Acted
+        ensures acted { result ≡ (move self.old motion).acted }
+        ensures device { self.new ≡ (move self.old motion).device }
+    {
+        let next = self.position.moved(motion);
+        if next.page > self.pages {
+            return Acted::unit_check(INTERVENTION_REQUIRED);
+        }
+        self.position = next;
+        Acted::normal_end(0)
+    }
+}
+
+/// Whether a printer may have so many lines and pages.
+fn is_paper(lines: u64, pages: u64) -> bool
+    ensures { result ≡ is_paper lines pages }
+{
+    lines >= 1 && lines <= 100_000 && pages >= 1 && pages <= 10_000
+}
+
+impl Device for Printer {
+    ghost meaning = { printer };
+
+    fn kind(&self) -> Kind {
+        Kind::Printer
+    }
+
+    fn cylinders(&self) -> u16 {
+        0
+    }
+
+    fn heads(&self) -> u16 {
+        0
+    }
+
+    fn fits(&self, _seek: &Seek) -> bool {
+        true
+    }
+
+    fn flow(&self, command: u8) -> Flow {
+        Command::flow(Command::decode(command))
+    }
+
+    fn prefix(&mut self, _seek: &Seek, _mask: u8) {}
+
+    fn act(&mut self, command: u8, chain: &Chain, area: &mut Area) -> Acted {
+        if let Some(fault) = self.faults.count() {
+            return fault.acted();
+        }
+        match Command::decode(command) {
+            None => Acted::rejected(),
+            Some(Command::NoOperation) => Acted::no_operation(),
+            Some(Command::Sense) => {
+                chain.store(area, &SENSE_BYTES);
+                Acted::sense()
+            }
+            Some(Command::Print(motion)) => self.print(motion, &Given::new(chain, area)),
+            Some(Command::Move(motion)) => self.move_paper(motion),
+        }
+    }
+
+    fn copy(&self) -> Result<Self, AllocError> {
+        Ok(Printer {
+            listing: self.listing.copy()?,
+            pages: self.pages,
+            position: self.position,
+            faults: self.faults.copy()?,
+        })
+    }
+
+    ghost lawful = { printer_lawful };
+}

@@ -1,0 +1,81 @@
+-- Blocks and tape marks that were written are read back.
+use Rattle.std.proofs.Common.{◌≡◌, ℕ, ◌+◌, ◌*◌, ◌-◌, ◌≤◌, true, List, [], ◌∷◌, ◌++◌, length, take, drop, replicate, refl, ap, ◌∙◌, append_assoc, arith}
+use Rattle.std.proofs.lemmas.Bool.Decides.{nat_tests}
+use Rattle.std.proofs.lemmas.List.{take_at, drop_at, length-append, append-nil}
+use Rattle.std.proofs.lemmas.List.Concat.{flat_map-cons}
+use Rattle.byteorder.specs.Endian.{big_bytes}
+use Rattle.byteorder.specs.Numbers.{big_number-reads_back, length-bytes_high_first}
+use Rattle.device_port.specs.Moves.{padded, written}
+use Rattle.device_port.specs.Packed.{Reads, image_of}
+use Rattle.device_port.proofs.Items.{written-written}
+use Rattle.tape_unit.specs.Item.{Item, tape_mark, block, content_of, item_with, is_item, size_of, packed, length_at, item_at, on_tape}
+use Rattle.tape_unit.specs.Reel.{bytes_of}
+
+pub short : (x : Item) → is_item x ≡ true → length (content_of x) ≤ 65_535
+short tape_mark fits = omega arith
+short (block bytes) fits = grind (arith, nat_tests, fits)
+
+pub some : (bytes : List ℕ) → is_item (block bytes) ≡ true → 1 ≤ length bytes
+some bytes fits = grind (arith, nat_tests, fits)
+
+pub block_fits : (bytes : List ℕ) → 1 ≤ length bytes → length bytes ≤ 65_535 → is_item (block bytes) ≡ true
+block_fits bytes some short = grind (arith, nat_tests)
+
+pub length-packed : (x : Item) → length (packed x) ≡ size_of x
+length-packed x = length-append (big_bytes 4 (length (content_of x))) (content_of x) ∙ omega (arith, length-bytes_high_first 4 (length (content_of x)))
+
+-- an item is what its data says
+pub item_with-content : (x : Item) → is_item x ≡ true → item_with (content_of x) ≡ x
+item_with-content tape_mark fits = refl
+item_with-content (block []) fits = absurd (omega (arith, some [] fits))
+item_with-content (block (byte ∷ bytes)) fits = refl
+
+pub content_of-item_with : (bytes : List ℕ) → content_of (item_with bytes) ≡ bytes
+content_of-item_with [] = refl
+content_of-item_with (byte ∷ bytes) = refl
+
+pub length_at-packed : (x : Item) (rest : List ℕ) → is_item x ≡ true → length_at (packed x ++ rest) ≡ length (content_of x)
+length_at-packed x rest fits =
+    let n = length (content_of x) in
+    let small = short x fits in
+    ap length_at (append_assoc (big_bytes 4 n) (content_of x) rest) ∙ big_number-reads_back 4 n (content_of x ++ rest) (omega arith)
+
+pub drop-length_word : (x : Item) (rest : List ℕ) → drop 4 (packed x ++ rest) ≡ content_of x ++ rest
+drop-length_word x rest =
+    let n = length (content_of x) in
+    ap (drop 4) (append_assoc (big_bytes 4 n) (content_of x) rest) ∙ drop_at (big_bytes 4 n) (content_of x ++ rest) 4 (length-bytes_high_first 4 n)
+
+item_at-packed : (x : Item) (rest : List ℕ) → is_item x ≡ true → item_at (packed x ++ rest) ≡ x
+unfolding item_at
+item_at-packed x rest fits =
+    ap (λ (n : ℕ). item_with (take n (drop 4 (packed x ++ rest)))) (length_at-packed x rest fits)
+    ∙ ap (λ (l : List ℕ). item_with (take (length (content_of x)) l)) (drop-length_word x rest)
+    ∙ ap item_with (take_at (content_of x) rest (length (content_of x)) refl)
+    ∙ item_with-content x fits
+
+-- THE LAWS OF THE SPELLING
+pub reads : Reads on_tape
+reads = record { item = item_at-packed; size = λ x rest fits. omega (arith, length_at-packed x rest fits, length-packed x) }
+
+-- an item takes four bytes at least
+pub wide : (items : List Item) → 4 * length items ≤ bytes_of items
+wide [] = omega arith
+wide (x ∷ items) = omega (arith, ap length (flat_map-cons packed x items), length-append (packed x) (image_of on_tape items), length-packed x, wide items)
+
+-- ---- an item written behind its length word
+
+pub item_written : (image first second : List ℕ) (at : ℕ) (bytes : List ℕ) → at + (4 + length bytes) ≤ length image → first ≡ written image at (big_bytes 4 (length bytes)) → second ≡ written first (at + 4) bytes
+    → second ≡ written image at (big_bytes 4 (length bytes) ++ bytes)
+item_written image first second at bytes room e1 e2 =
+    let word = big_bytes 4 (length bytes) in
+    let len = length-bytes_high_first 4 (length bytes) in
+    e2 ∙ ap (λ (l : List ℕ). written l (at + 4) bytes) e1 ∙ written-written image at (at + 4) word bytes (omega (arith, len)) (omega (arith, len))
+
+pub packed-item_with : (bytes : List ℕ) → packed (item_with bytes) ≡ big_bytes 4 (length bytes) ++ bytes
+packed-item_with bytes = ap (λ (l : List ℕ). big_bytes 4 (length l) ++ l) (content_of-item_with bytes)
+
+-- the first bytes that are given, where there are as many
+pub padded-take : (n : ℕ) (given : List ℕ) → n ≤ length given → padded n given ≡ take n given
+padded-take n given le =
+    let none : n - length given ≡ 0 = omega arith in
+    ap (λ (k : ℕ). take n given ++ replicate k 0) none ∙ append-nil (take n given)
