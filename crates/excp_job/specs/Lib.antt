@@ -1,2 +1,3 @@
 pub mod Counts
+pub mod Devices
 pub mod Reading

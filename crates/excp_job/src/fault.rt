@@ -16,6 +16,8 @@ pub enum FaultName {
     Order,
     /// A task, unit, area or DCB is not declared.
     Name,
+    /// A record for a unit that is no disk, or a block or a mark for one that is no tape.
+    Kind,
     /// An area is misaligned, too long or past the top of storage.
     Area,
     /// A unit's geometry, medium or fault script is none that can be mounted.
@@ -33,6 +35,7 @@ impl fmt::Display for FaultName {
             FaultName::Number => "Number",
             FaultName::Order => "Order",
             FaultName::Name => "Name",
+            FaultName::Kind => "Kind",
             FaultName::Area => "Area",
             FaultName::Medium => "Medium",
             FaultName::Extent => "Extent",

@@ -1,5 +1,5 @@
 //! What each kind of line adds to a script, and the faults of a line: of its words, of their forms, of the
-//! order of lines, of names and of areas, in this order.
+//! order of lines, of names, of kinds and of areas, in this order.
 
 mod commands;
 mod setup;
@@ -11,7 +11,7 @@ use crate::words::Words;
 use commands::{add_close, add_excp, add_purge, add_purge_task, add_reset, add_wait};
 use setup::{add_area, add_opening, add_tasks};
 use std::alloc::Global;
-use units::{add_disk, add_fault, add_record};
+use units::{add_block, add_disk, add_fault, add_mark, add_printer, add_record, add_tape};
 
 /// Adds what a line says. Empty lines and lines whose first word begins with `#` say nothing.
 pub fn add_line(
@@ -34,7 +34,11 @@ pub fn add_line(
     match (kind, count) {
         (b"tasks", 2) => add_tasks(script, &mut words),
         (b"disk", 6) => add_disk(alloc, script, line, &mut words),
+        (b"tape", 4) => add_tape(alloc, script, line, &mut words),
+        (b"printer", 5) => add_printer(alloc, script, line, &mut words),
         (b"rec", 7) => add_record(alloc, script, &mut words),
+        (b"block", 3) => add_block(alloc, script, &mut words),
+        (b"mark", 2) => add_mark(script, &mut words),
         (b"fault", 6) => add_fault(script, &mut words),
         (b"open", 3..) => add_opening(alloc, script, line, &mut words, count - 3),
         (b"area", 3..) => add_area(alloc, script, &mut words, count - 3),

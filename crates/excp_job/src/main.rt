@@ -3,6 +3,7 @@
 #![tactic(auto)]
 
 mod arguments;
+mod device;
 mod fault;
 mod lines;
 mod output;

@@ -3,12 +3,12 @@
 
 ghost use Rattle.std.specs.Prelude.{◌≡◌, ◌≤◌, IfOk};
 
+use crate::device::UnitDevice;
 use crate::fault::{Fault, FaultName, LineFault};
 use crate::output::{self, Show};
 use crate::reading::read_script;
 use crate::script::{Action, Command, Excp, Script, UnitSetup};
 use crate::station::Station;
-use ckd_disk::Disk;
 use device_port::MountError;
 use io_area::Area;
 use request_piece::{Name, Posted, Request, RequestError};
@@ -65,8 +65,8 @@ fn mounted_unit(alloc: Global, unit: &UnitSetup, capacity: usize) -> Result<Stat
     requires some { 1 ≤ capacity }
     requires few { capacity ≤ 65536 }
 {
-    match Disk::mount(alloc, unit.geometry, &unit.records, &unit.faults) {
-        Ok(disk) => Station::new(alloc, disk, unit.isc, capacity),
+    match UnitDevice::mount(alloc, &unit.medium, &unit.faults) {
+        Ok(device) => Station::new(alloc, device, unit.isc, capacity),
         Err(MountError::NoMemory) => Err(Fault::NoMemory),
         Err(_) => Err(Fault::Line {
             line: unit.line,

@@ -9,15 +9,24 @@ use device_port::Fault as DeviceFault;
 use io_area::Area;
 use io_images::Extent;
 use std::alloc::Global;
+use tape_unit::InitialItem;
 use unit_book::Mode;
 
-/// A unit that a script declares: its line, interruption subclass, geometry, records and faults.
+/// The medium of a unit, and what lies on it.
+#[derive(Drop)]
+pub enum Medium {
+    Disk(Geometry, Vec<InitialRecord>),
+    /// The bytes of a tape, and its items.
+    Tape(u64, Vec<InitialItem>),
+    Printer { lines: u64, pages: u64 },
+}
+
+/// A unit that a script declares: its line, interruption subclass, medium and faults, and how many DCBs it opens.
 #[derive(Drop)]
 pub struct UnitSetup {
     pub line: usize,
     pub isc: u8,
-    pub geometry: Geometry,
-    pub records: Vec<InitialRecord>,
+    pub medium: Medium,
     pub faults: Vec<DeviceFault>,
     pub dcbs: u64,
     ghost subclass: { isc ≤ 7 },

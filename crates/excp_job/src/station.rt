@@ -4,8 +4,8 @@ ghost use Rattle.std.specs.Prelude.{◌≡◌, ◌≤◌, IfOk, replicate};
 ghost use Rattle.excp_job.specs.Counts.{IsNext};
 ghost use Rattle.unit_book.specs.Trace.{arrivals};
 
+use crate::device::UnitDevice;
 use crate::fault::{Fault, FaultName, LineFault};
-use ckd_disk::Disk;
 use io_images::Extent;
 use request_piece::{Name, Posted, Request};
 use std::alloc::{AllocError, Global};
@@ -15,16 +15,16 @@ use unit_book::{Closing, DcbError, Mode, OpenError, Purging, UnitBook};
 /// The book of a unit, and the number of the last request of each task.
 #[derive(Drop)]
 pub struct Station {
-    book: UnitBook<Disk>,
+    book: UnitBook<UnitDevice>,
     issued: [u32; 64],
 }
 
 impl Model for Station {
     ghost use Rattle.unit_book.specs.Book.{Book};
-    ghost use Rattle.ckd_disk.specs.Disk.{DiskState};
+    ghost use Rattle.excp_job.specs.declared.device.UnitDevice.{UnitDevice as DeviceState};
     ghost use Rattle.excp_job.specs.Counts.{Counts};
 
-    ghost Value = { Book DiskState };
+    ghost Value = { Book DeviceState };
 
     ghost view = { λ s. s.book };
 
@@ -33,12 +33,12 @@ impl Model for Station {
 
 impl Station {
     /// A unit whose book holds up to `capacity` requests.
-    pub fn new(alloc: Global, disk: Disk, isc: u8, capacity: usize) -> Result<Self, Fault>
+    pub fn new(alloc: Global, device: UnitDevice, isc: u8, capacity: usize) -> Result<Self, Fault>
         requires isc { isc ≤ 7 }
         requires some { 1 ≤ capacity }
         requires few { capacity ≤ 65536 }
     {
-        let book = UnitBook::new(alloc, disk, isc, capacity)?;
+        let book = UnitBook::new(alloc, device, isc, capacity)?;
         let issued = none_issued();
         Ok(Station { book, issued })
     }
@@ -122,7 +122,7 @@ fn none_issued() -> [u32; 64]
 
 // The calls of a book other than an arrival add none.
 
-fn open(book: &mut UnitBook<Disk>, input: bool, extents: &[Extent]) -> Result<u16, OpenError>
+fn open(book: &mut UnitBook<UnitDevice>, input: bool, extents: &[Extent]) -> Result<u16, OpenError>
     ensures { arrivals book.new.trace ≡ arrivals book.old.trace }
 {
     match book.open(input, extents) {
@@ -131,7 +131,7 @@ fn open(book: &mut UnitBook<Disk>, input: bool, extents: &[Extent]) -> Result<u1
     }
 }
 
-fn purge(book: &mut UnitBook<Disk>, dcb: u16, mode: Mode) -> Result<Purging, DcbError>
+fn purge(book: &mut UnitBook<UnitDevice>, dcb: u16, mode: Mode) -> Result<Purging, DcbError>
     ensures { arrivals book.new.trace ≡ arrivals book.old.trace }
 {
     match book.purge(dcb, mode) {
@@ -140,7 +140,7 @@ fn purge(book: &mut UnitBook<Disk>, dcb: u16, mode: Mode) -> Result<Purging, Dcb
     }
 }
 
-fn purge_task(book: &mut UnitBook<Disk>, task: u16, mode: Mode) -> Result<Purging, AllocError>
+fn purge_task(book: &mut UnitBook<UnitDevice>, task: u16, mode: Mode) -> Result<Purging, AllocError>
     ensures { arrivals book.new.trace ≡ arrivals book.old.trace }
 {
     match book.purge_task(task, mode) {
@@ -149,7 +149,7 @@ fn purge_task(book: &mut UnitBook<Disk>, task: u16, mode: Mode) -> Result<Purgin
     }
 }
 
-fn close(book: &mut UnitBook<Disk>, dcb: u16) -> Result<Closing, DcbError>
+fn close(book: &mut UnitBook<UnitDevice>, dcb: u16) -> Result<Closing, DcbError>
     ensures { arrivals book.new.trace ≡ arrivals book.old.trace }
 {
     match book.close(dcb) {
@@ -158,7 +158,7 @@ fn close(book: &mut UnitBook<Disk>, dcb: u16) -> Result<Closing, DcbError>
     }
 }
 
-fn reset(book: &mut UnitBook<Disk>, dcb: u16) -> Result<(), DcbError>
+fn reset(book: &mut UnitBook<UnitDevice>, dcb: u16) -> Result<(), DcbError>
     ensures { arrivals book.new.trace ≡ arrivals book.old.trace }
 {
     match book.reset(dcb) {
@@ -167,7 +167,7 @@ fn reset(book: &mut UnitBook<Disk>, dcb: u16) -> Result<(), DcbError>
     }
 }
 
-fn settle(book: &mut UnitBook<Disk>) -> Result<(), AllocError>
+fn settle(book: &mut UnitBook<UnitDevice>) -> Result<(), AllocError>
     ensures { arrivals book.new.trace ≡ arrivals book.old.trace }
 {
     book.settle()

@@ -11,6 +11,7 @@ mod controls;
 mod disks;
 mod programs;
 mod scripts;
+mod tapes_and_printers;
 
 /// One task, and a disk of one track with R1, whose data are C1C2C3C4.
 const DISK: &str = "tasks 1\ndisk 0 0 1 1 40\nrec 0 0 0 1 - C1C2C3C4\n";

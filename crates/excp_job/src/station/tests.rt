@@ -4,7 +4,7 @@ ghost use Rattle.std.specs.Prelude.{◌≡◌, ◌≤◌};
 ghost use Rattle.unit_book.specs.Trace.{arrivals};
 
 use super::*;
-use ckd_disk::{Geometry, InitialRecord};
+use ckd_disk::{Disk, Geometry, InitialRecord};
 use device_port::Fault as DeviceFault;
 use io_area::Area;
 use io_images::{Code, SubStatus, UnitStatus};
@@ -26,7 +26,7 @@ const IMAGE: [u8; 104] = [
 /// The most commands of a program.
 const WHOLE_PROGRAM: u32 = 4097;
 
-fn start(book: &mut UnitBook<Disk>) -> Result<Starting, AllocError>
+fn start(book: &mut UnitBook<UnitDevice>) -> Result<Starting, AllocError>
     ensures { arrivals book.new.trace ≡ arrivals book.old.trace }
 {
     match book.start() {
@@ -35,7 +35,7 @@ fn start(book: &mut UnitBook<Disk>) -> Result<Starting, AllocError>
     }
 }
 
-fn run(book: &mut UnitBook<Disk>, max: u32) -> Result<Running, AllocError>
+fn run(book: &mut UnitBook<UnitDevice>, max: u32) -> Result<Running, AllocError>
     requires { 1 ≤ max }
     ensures { arrivals book.new.trace ≡ arrivals book.old.trace }
 {
@@ -45,7 +45,7 @@ fn run(book: &mut UnitBook<Disk>, max: u32) -> Result<Running, AllocError>
     }
 }
 
-fn interrupt(book: &mut UnitBook<Disk>) -> Result<Interruption, AllocError>
+fn interrupt(book: &mut UnitBook<UnitDevice>) -> Result<Interruption, AllocError>
     ensures { arrivals book.new.trace ≡ arrivals book.old.trace }
 {
     match book.interrupt() {
@@ -92,12 +92,13 @@ fn station(alloc: Global, capacity: usize, faults: &[DeviceFault]) -> Result<Sta
     let Ok(disk) = Disk::mount(alloc, geometry, &records, faults) else {
         return Err(AllocError);
     };
-    let Ok(mut station) = Station::new(alloc, disk, 0, capacity) else {
+    let Ok(mut station) = Station::new(alloc, UnitDevice::Disk(disk), 0, capacity) else {
         return Err(AllocError);
     };
-    let extent = Extent::read(&[0x18, 0, 0, 0, 0, 0, 0, 0, 0, 0, 0, 0, 0, 0, 0, 1]);
+    let image = [0x18, 0, 0, 0, 0, 0, 0, 0, 0, 0, 0, 0, 0, 0, 0, 1];
+    let extents = [Extent::read(&image)];
     for _ in 0..2 {
-        if station.open(false, &[extent]).is_err() {
+        if station.open(false, &extents).is_err() {
             return Err(AllocError);
         }
     }
@@ -168,4 +169,5 @@ fn expect_post<R: Abort>(
 
 /// What a read of the record is posted with, and what is posted without a Start.
 const READ: (u32, u8, u16, u16) = (0x1048, 0x0C, 0, 0);
+
 const NOT_STARTED: (u32, u8, u16, u16) = (0, 0, 0, 0);

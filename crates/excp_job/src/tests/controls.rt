@@ -17,7 +17,17 @@ fn extent_violation_dooms_related(rt: HostRuntime) -> Result<(), Fail> {
     expect_lines(
         &rt,
         &[
-            DISK, OUTPUT, violated, SEARCH, READ, BEHIND, RELATED, SEARCH, READ, BEHIND, EXCP,
+            DISK,
+            OUTPUT,
+            violated,
+            SEARCH,
+            READ,
+            BEHIND,
+            RELATED,
+            SEARCH,
+            READ,
+            BEHIND,
+            EXCP,
             EXCP_RELATED,
         ],
         &[
@@ -79,14 +89,18 @@ fn related_error_flags_dcb_until_reset(rt: HostRuntime) -> Result<(), Fail> {
 /// Two tasks, and two DCBs of one unit; area 1 names DCB 2.
 const TWO: &str =
     "tasks 2\ndisk 0 0 1 1 40\nrec 0 0 0 1 - C1C2C3C4\nopen 0 out 18000000000000000000000000000001\nopen 0 out 18000000000000000000000000000001\n";
+
 const DCB_TWO: &str =
     "\narea 1 001000 4200000000001028 0000000000000000 0000103000000002 0000000000000000 0000000000000001 0000000000000000 ";
 /// Task 0 on DCB 1, task 1 on DCB 2.
 const BOTH: &str = "\nexcp 0 0 1 001000 0 001060 4\nexcp 1 0 2 001000 1 001060 4\n";
 
 const FIRST_READ: &str = "post 0 0 1 7F 001048 0C00 0000 0000 C1C2C3C4\n";
+
 const FIRST_PURGED: &str = "post 0 0 1 48 000000 0000 0000 0000 00000000\n";
+
 const SECOND_READ: &str = "post 1 0 1 7F 001048 0C00 0000 0000 C1C2C3C4\n";
+
 const SECOND_PURGED: &str = "post 1 0 1 48 000000 0000 0000 0000 00000000\n";
 
 /// A command between two requests and their start, and their posts.
@@ -150,7 +164,7 @@ const BROKEN: [(&str, FaultName); 16] = [
     ("close 0 1 1", FaultName::Name),
     ("reset 64 0 1", FaultName::Number),
     ("reset 0 0 2", FaultName::Name),
-    ("tape 0 0 12 5 4", FaultName::Words),
+    ("tapes 0 0 12", FaultName::Words),
 ];
 
 #[test]

@@ -1,6 +1,6 @@
 //! Keys, counts, writes and extents of a disk, by whole scripts.
 
-use super::{BEHIND, EXCP, DISK, IOB, OUTPUT, READ, SEARCH, expect_lines};
+use super::{BEHIND, DISK, EXCP, IOB, OUTPUT, READ, SEARCH, expect_lines};
 use std::test::Fail;
 
 /// A disk of one track with R1, whose key is D1D2 and whose data are C1C2C3C4.
@@ -57,6 +57,7 @@ fn keys_and_counts(rt: HostRuntime) -> Result<(), Fail> {
 /// The same area as area 1, and a read of the record after the first request.
 const AFTERWARDS: &str =
     "\narea 1 001000 4200000000001028 0000000000000000 0000103000000001 0000000000000000 0000000000000001 0000000000000000 ";
+
 const BOTH: &str = "\nexcp 0 0 1 001000 0 001060 4\nexcp 0 0 1 001000 1 001060 4\n";
 /// From X'1048': nothing, the ID of R2, and a buffer of zeros.
 const BEHIND_R2: &str = "0000000000000000 0000000002000000 0000000000000000 0000000000000000";
@@ -130,8 +131,7 @@ const SEEKS: [(&str, &str); 4] = [
 #[test]
 fn two_extents(rt: HostRuntime) -> Result<(), Fail> {
     let disk = "tasks 1\ndisk 0 0 2 2 40\nrec 0 1 0 1 - C1C2C3C4\n";
-    let extents =
-        "open 0 out 18000000000000000000000000000001 18000000000000000001000100000002\n";
+    let extents = "open 0 out 18000000000000000000000000000001 18000000000000000001000100000002\n";
     let iob = "area 0 001000 4200000000001028 0000000000000000 0000103000000001 0000000000000000 ";
     let behind =
         " 0000000000000000 3100105040000005 0800103000000000 0600106000000004 0000000000000000 0001000001000000 0000000000000000 0000000000000000";

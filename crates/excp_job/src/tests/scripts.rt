@@ -85,10 +85,7 @@ fn broken_scripts(rt: HostRuntime) -> Result<(), Fail> {
 /// The stored script cut after each byte, and with each byte replaced, prints posts or ends with a named fault.
 #[test]
 fn cut_and_replaced(rt: HostRuntime) -> Result<(), Fail> {
-    let mut text = joined(
-        &rt,
-        &[DISK, OUTPUT, IOB, SEARCH, READ, BEHIND, EXCP],
-    )?;
+    let mut text = joined(&rt, &[DISK, OUTPUT, IOB, SEARCH, READ, BEHIND, EXCP])?;
     for cut in 0..text.len() {
         if let Err(fault) = printed(&rt, &text[..cut]) {
             assert_eq!(rt; fault.status(), 1);

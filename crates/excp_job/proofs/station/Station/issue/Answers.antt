@@ -1,5 +1,5 @@
 use Rattle.std.proofs.Common.{◌≡◌, ◌∷◌, ◌∙◌, ap, slice_set}
-use Rattle.ckd_disk.specs.Disk.{DiskState}
+use Rattle.excp_job.specs.declared.device.UnitDevice.{UnitDevice}
 use Rattle.unit_book.specs.declared.entry.Entry.TheVariants.{Arrive}
 use Rattle.unit_book.specs.Book.{Book}
 use Rattle.unit_book.specs.Trace.{arrivals}
@@ -13,7 +13,7 @@ invariant_of-self c =
     let old = c.self.inside.book in
     let next = rw (← c.self.view_is) at c.requires in
     let same : arrivals c.arrive.new.self.trace ≡ arrivals (Arrive r ∷ old.trace) =
-    ap (λ (b : Book DiskState). arrivals b.trace) c.in-Ok.ensures.ok ∙ arrivals-after_dooms (Arrive r ∷ old.trace) in
+    ap (λ (b : Book UnitDevice). arrivals b.trace) c.in-Ok.ensures.ok ∙ arrivals-after_dooms (Arrive r ∷ old.trace) in
     rw (c.from.ensures, c.name-name.ensures)
     (counts-same (slice_set c.self.inside.issued r.name.task r.name.seq) (Arrive r ∷ old.trace) c.arrive.new.self.trace same
     (counts-arrive c.self.inside.issued r old.trace c.self.told c.self.invariant next))
