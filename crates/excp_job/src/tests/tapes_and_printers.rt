@@ -93,8 +93,8 @@ const DIGITS: [&str; 4] = ["0", "1", "2", "3"];
 /// A script that does these programs one after another, each in an area of its own.
 fn script<R: AllocGlobal>(
     rt: &R,
-    set_up: &str,
-    programs: &[(&str, &str)],
+    set_up: &'static str,
+    programs: &[(&'static str, &'static str)],
 ) -> Result<Vec<u8>, AllocError> {
     let mut text = Vec::new(rt.alloc());
     text.extend_from_slice(set_up.as_bytes())?;
@@ -113,7 +113,10 @@ fn script<R: AllocGlobal>(
 }
 
 /// The lines that it prints.
-fn lines<R: AllocGlobal>(rt: &R, programs: &[(&str, &str)]) -> Result<Vec<u8>, AllocError> {
+fn lines<R: AllocGlobal>(
+    rt: &R,
+    programs: &[(&'static str, &'static str)],
+) -> Result<Vec<u8>, AllocError> {
     let mut text = Vec::new(rt.alloc());
     for (number, (_, post)) in DIGITS[1..].iter().zip(programs) {
         for part in ["post 0 0 ", *number, " ", *post, "\n"] {
