@@ -1,7 +1,6 @@
 -- A request arrives: the fields stay those of the trace.
 use Rattle.std.proofs.Common.{◌≡◌, true, false, Option, List, [], ◌∷◌, ◌++◌, refl, ap, ◌∙◌, sym, inl, inr, subst}
 use Rattle.std.proofs.lemmas.Bool.{cases_Bool}
-use Rattle.std.specs.List.{list_all}
 use Rattle.device_port.specs.Meaning.{Meaning}
 use Rattle.subchannel.specs.Subchannel.{Channel}
 use Rattle.request_piece.specs.PostedState.{PostedState}

@@ -1,6 +1,5 @@
 -- A purge with Halt that covers the active request, which awaits its restart: what waits is posted first, then it.
-use Rattle.std.proofs.Common.{◌≡◌, ℕ, Bool, true, false, not, ◌&&◌, ◌||◌, Option, Some, None, List, [], ◌∷◌, ◌++◌, append_assoc, map, refl, sym, ap, ◌∙◌, eqb, inl, inr, subst, if◌then◌else◌}
-use Rattle.std.proofs.lemmas.Bool.{cases_Bool, and_parts}
+use Rattle.std.proofs.Common.{◌≡◌, ℕ, Bool, true, false, not, ◌&&◌, Option, Some, None, List, [], ◌∷◌, ◌++◌, append_assoc, map, refl, sym, ap, ◌∙◌, subst, if◌then◌else◌}
 use Rattle.std.specs.List.{filter}
 use Rattle.std.specs.Prelude.{is_some}
 use Rattle.io_images.specs.declared.csw.Csw.{Csw}
@@ -17,7 +16,6 @@ use Rattle.request_piece.specs.declared.piece.Name.{Name}
 use Rattle.request_piece.specs.declared.piece.Piece.{Piece}
 use Rattle.request_piece.specs.Scope.{covers}
 use Rattle.request_piece.specs.declared.scope.Scope.{Scope}
-use Rattle.unit_queue.specs.declared.selection.Selection.TheVariants as selection
 use Rattle.unit_book.specs.declared.active.Active.{Active}
 use Rattle.unit_book.specs.declared.active.Doing.{Doing}
 use Rattle.unit_book.specs.declared.active.Doing.TheVariants.{OnChannel, Again}
@@ -27,15 +25,14 @@ use Rattle.unit_book.specs.declared.entry.Entry.{Entry}
 use Rattle.unit_book.specs.declared.entry.Entry.TheVariants.{Purge, Post}
 use Rattle.unit_book.specs.Trace.{waiting, active, request_of, is_halt, is_halted}
 use Rattle.unit_book.specs.Dcbs.{doomed}
-use Rattle.unit_book.specs.Media.{attempts, area, current, stage, stage_by, goes, Over}
-use Rattle.unit_book.specs.Legal.{due, Due, Free, doomed_first, CanPurge, PostsActive, verdict_of}
+use Rattle.unit_book.specs.Media.{area, current, stage, stage_by, Over}
+use Rattle.unit_book.specs.Legal.{due, Free, doomed_first, CanPurge, PostsActive, verdict_of}
 use Rattle.unit_book.specs.Dooms.{all_posted, after_dooms, purged}
 use Rattle.unit_book.specs.Posts.{posted, posted_since, posted_value}
 use Rattle.unit_book.specs.Book.{going_by}
-use Rattle.unit_book.specs.Controls.{active_of, covered_by, after_purge, halted_by}
-use Rattle.unit_book.specs.Inside.{again_by, kept_by, dcb_at, ActivityTies, DoingTies, Ties, after_cover, noted, pending_stage, pending_code}
+use Rattle.unit_book.specs.Controls.{active_of, after_purge, halted_by}
+use Rattle.unit_book.specs.Inside.{again_by, kept_by, dcb_at, DoingTies, Ties, after_cover, noted, pending_stage, pending_code}
 use Rattle.unit_book.proofs.Lists.{without}
-use Rattle.unit_book.proofs.Facts.{facts}
 use Rattle.unit_book.proofs.Dooms.{due-doomed, due-no_halt, doomed-purged}
 use Rattle.unit_book.proofs.Purges.{Swept, without_all, ties-dooms, since-is}
 use Rattle.unit_book.proofs.Controls.{covers-same, doomed-purge, ties-purge}

@@ -1,14 +1,9 @@
 -- A purge, a halt, a close and a reset: what they doom, and that the fields stay those of the trace.
-use Rattle.std.proofs.Common.{◌≡◌, ℕ, ◌≤◌, ◌+◌, Bool, true, false, not, ◌&&◌, ◌||◌, Option, Some, None, List, [], ◌∷◌, length, refl, sym, ap, ◌∙◌, arith, eqb, inl, inr, subst, if◌then◌else◌}
-use Rattle.std.proofs.lemmas.Bool.{cases_Bool, and_parts}
-use Rattle.std.specs.List.{filter}
+use Rattle.std.proofs.Common.{◌≡◌, ℕ, ◌≤◌, Bool, true, false, not, ◌&&◌, ◌||◌, Option, Some, None, List, [], ◌∷◌, length, refl, sym, ap, ◌∙◌, eqb, if◌then◌else◌}
 use Rattle.std.specs.Prelude.{is_some}
 use Rattle.io_area.specs.Storage.{Storage}
 use Rattle.device_port.specs.Meaning.{Meaning}
-use Rattle.ccw_programs.specs.Place.{Place}
-use Rattle.ccw_programs.specs.declared.context.State.{State}
-use Rattle.ccw_programs.specs.declared.context.State.TheVariants.{Running as Runs, Ended}
-use Rattle.subchannel.specs.Subchannel.{Channel, Phase, Absent, Idle, Running, Pending, halted, halted_phase}
+use Rattle.subchannel.specs.Subchannel.{Channel, Phase, Absent, Idle, Running, Pending}
 use Rattle.request_piece.specs.PostedState.{PostedState}
 use Rattle.request_piece.specs.declared.piece.Name.{Name}
 use Rattle.request_piece.specs.declared.piece.Piece.{Piece}
@@ -21,21 +16,18 @@ use Rattle.unit_book.specs.declared.active.Doing.{Doing}
 use Rattle.unit_book.specs.declared.active.Doing.TheVariants.{OnChannel, Again}
 use Rattle.unit_book.specs.declared.dcb.Dcb.{Dcb as Row}
 use Rattle.unit_book.specs.declared.entry.Mode.{Mode}
-use Rattle.unit_book.specs.declared.entry.Mode.TheVariants.{Quiesce, Halt}
 use Rattle.unit_book.specs.declared.entry.Entry.{Entry}
 use Rattle.unit_book.specs.declared.entry.Entry.TheVariants.{Halted, Purge, Close, Reset}
-use Rattle.unit_book.specs.Trace.{same, waiting, arrivals, active, started, request_of, is_halt, is_halted, is_covered, is_purged}
+use Rattle.unit_book.specs.Trace.{waiting, arrivals, active, started, request_of, is_halt, is_covered, is_purged}
 use Rattle.unit_book.specs.Dcbs.{doomed, is_doomed, is_open, is_opened, is_closed, flag, extents_of}
-use Rattle.unit_book.specs.Media.{attempts, current, stage, stage_by, goes, Goes}
-use Rattle.unit_book.specs.Legal.{Fits, FitsBy, Legal, Due, ToHalt, ToPost, Free, due, due_by, doomed_first, is_to_halt, CanPurge}
+use Rattle.unit_book.specs.Media.{attempts, current}
+use Rattle.unit_book.specs.Legal.{Fits, Legal, Free, due, doomed_first, CanPurge}
 use Rattle.unit_book.specs.Posts.{posted}
 use Rattle.unit_book.specs.Picks.{picks, DoomedBy}
-use Rattle.unit_book.specs.Book.{Book, going, going_by}
-use Rattle.unit_book.specs.Controls.{active_of, covered_by, covers_awaiting, due_after, halted_by, after_halt}
-use Rattle.unit_book.specs.Inside.{again_by, again_of, ActiveTies, ActivityTies, DoingTies, Ties, dcb_at, dcb_of, shut, unflagged, after_cover, pending_stage}
-use Rattle.unit_book.proofs.Lists.{same-refl}
+use Rattle.unit_book.specs.Controls.{active_of, covered_by}
+use Rattle.unit_book.specs.Inside.{again_by, ActiveTies, ActivityTies, DoingTies, Ties, after_cover}
 use Rattle.unit_book.proofs.Dooms.{none-pass, filter-agree, filter-never, due-doomed, due-no_halt, length-filter_le}
-use Rattle.unit_book.proofs.Same.{activity-same, fits-free}
+use Rattle.unit_book.proofs.Same.{fits-free}
 
 module _ {D : Type 0} (meaning : Meaning D) (mounted : D) where
   -- WHAT A PURGE DOOMS: what it covers of that which waits

@@ -1,23 +1,21 @@
 -- Nothing doomed is started.
-use Rattle.std.proofs.Common.{◌≡◌, ℕ, ◌⊎◌, Bool, true, false, not, ◌&&◌, ◌||◌, Option, Some, None, List, [], ◌∷◌, ◌++◌, refl, sym, ap, ◌∙◌, eqb, inl, inr, subst, if◌then◌else◌}
-use Rattle.std.proofs.lemmas.Bool.{cases_Bool, and_parts, or_parts, or_left, or_right, or_from, eq-eqb}
-use Rattle.std.specs.List.{filter, list_any, list_all}
+use Rattle.std.proofs.Common.{◌≡◌, ℕ, ◌⊎◌, Bool, true, false, not, ◌&&◌, ◌||◌, Some, List, [], ◌∷◌, ◌++◌, refl, sym, ap, ◌∙◌, eqb, inl, inr, subst}
+use Rattle.std.proofs.lemmas.Bool.{cases_Bool, or_left, or_right, or_from, eq-eqb}
+use Rattle.std.specs.List.{list_any}
 use Rattle.std.specs.Prelude.{slice_get}
-use Rattle.io_images.specs.declared.csw.Csw.{Csw}
-use Rattle.io_images.specs.declared.code.Code.{Code}
 use Rattle.device_port.specs.Meaning.{Meaning}
 use Rattle.request_piece.specs.declared.piece.Name.{Name}
 use Rattle.request_piece.specs.declared.piece.Piece.{Piece}
 use Rattle.unit_book.specs.declared.entry.Entry.{Entry}
 use Rattle.unit_book.specs.declared.entry.Entry.TheVariants.{Opened, Arrive, Start, Ran, Halted, Purge, Close, Reset, Post}
-use Rattle.unit_book.specs.Trace.{same, starts, arrivals, waiting, active, started, has_arrived, has_started, is_posted, is_covered, request_of}
+use Rattle.unit_book.specs.Trace.{same, starts, arrivals, waiting, active, has_arrived, has_started, is_posted, is_covered, request_of}
 use Rattle.unit_book.specs.Dcbs.{doomed, is_doomed, is_open, is_opened, is_closed, flag}
 use Rattle.unit_book.specs.Legal.{Due, ToHalt, ToPost, Free, due, Fits, FitsBy, Legal, StartFits, First, Again}
 use Rattle.unit_book.specs.Laws.{NoDoomedStarts, is_of_name}
-use Rattle.unit_book.proofs.Lists.{same-true, same-refl, no_both, without}
+use Rattle.unit_book.proofs.Lists.{same-true, no_both, without}
 use Rattle.unit_book.proofs.Facts.{Facts, facts, active-is, fits-arrive, fits-start, first-waits, fresh}
 use Rattle.unit_book.proofs.Dooms.{doomed-purged, due-doomed, none-pass}
-use Rattle.unit_book.proofs.Seeks.{free-start, waits-open, all-at}
+use Rattle.unit_book.proofs.Seeks.{free-start, all-at}
 use Rattle.unit_book.proofs.TraceLaws.{not-of, start-unposted}
 
 -- one of the name is doomed

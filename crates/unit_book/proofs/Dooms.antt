@@ -15,10 +15,10 @@ use Rattle.unit_book.specs.declared.entry.Entry.{Entry}
 use Rattle.unit_book.specs.declared.entry.Entry.TheVariants.{Opened, Start, Ran, Post}
 use Rattle.unit_book.specs.Trace.{same, waiting, arrivals, active, started, request_of, is_purged}
 use Rattle.unit_book.specs.Dcbs.{doomed, is_doomed, is_open, is_opened, is_closed, flag}
-use Rattle.unit_book.specs.Legal.{ToPost, Free, due, due_by, doomed_first, is_to_halt, Fits, FitsBy, Legal}
+use Rattle.unit_book.specs.Legal.{Free, due, due_by, doomed_first, is_to_halt, Fits, FitsBy, Legal}
 use Rattle.unit_book.specs.Dooms.{all_posted, after_dooms}
 use Rattle.unit_book.specs.Picks.{picks, doomed_by_post, DoomedBy}
-use Rattle.unit_book.proofs.Lists.{filter-filter, all-kept, no_both, without, without-first, Apart, Apart-filter}
+use Rattle.unit_book.proofs.Lists.{filter-filter, all-kept, without, without-first, Apart, Apart-filter}
 use Rattle.unit_book.proofs.Facts.{facts, waiting-start, waiting-post, waiting-apart}
 
 module _ {X : Type 0} where

@@ -1,13 +1,11 @@
 -- A halt, a close and a reset: the fields stay those of the trace.
-use Rattle.std.proofs.Common.{◌≡◌, ℕ, Bool, true, false, not, ◌&&◌, ◌||◌, Option, Some, None, List, [], ◌∷◌, length, refl, sym, ap, ◌∙◌, eqb, inl, inr, subst, if◌then◌else◌}
+use Rattle.std.proofs.Common.{◌≡◌, ℕ, Bool, true, false, ◌&&◌, Option, Some, None, List, [], ◌∷◌, length, refl, sym, ap, ◌∙◌, eqb, inl, inr, subst, if◌then◌else◌}
 use Rattle.std.proofs.lemmas.Bool.{cases_Bool, and_parts}
 use Rattle.std.specs.Prelude.{is_some}
 use Rattle.io_images.specs.declared.csw.Csw.{Csw}
 use Rattle.device_port.specs.Meaning.{Meaning}
 use Rattle.ccw_programs.specs.Place.{Place}
-use Rattle.ccw_programs.specs.declared.context.State.{State}
-use Rattle.ccw_programs.specs.declared.context.State.TheVariants.{Running as Runs, Ended}
-use Rattle.subchannel.specs.Subchannel.{Channel, Phase, Absent, Idle, Running, Pending, halted, halted_phase}
+use Rattle.subchannel.specs.Subchannel.{Channel, Phase, Absent, Idle, Running, Pending, halted_phase}
 use Rattle.request_piece.specs.PostedState.{PostedState}
 use Rattle.request_piece.specs.declared.piece.Name.{Name}
 use Rattle.request_piece.specs.declared.piece.Piece.{Piece}
@@ -21,19 +19,17 @@ use Rattle.unit_book.specs.declared.entry.Mode.{Mode}
 use Rattle.unit_book.specs.declared.entry.Mode.TheVariants.{Quiesce, Halt}
 use Rattle.unit_book.specs.declared.entry.Entry.{Entry}
 use Rattle.unit_book.specs.declared.entry.Entry.TheVariants.{Opened, Arrive, Start, Ran, Halted, Purge, Close, Reset, Post}
-use Rattle.unit_book.specs.Trace.{same, waiting, arrivals, active, started, request_of, is_halt, is_halted}
+use Rattle.unit_book.specs.Trace.{waiting, arrivals, active, started, request_of}
 use Rattle.unit_book.specs.Dcbs.{doomed, is_open, is_opened, flag, extents_of}
-use Rattle.unit_book.specs.Media.{attempts, current, stage, stage_by, goes, Goes, Stopped, Over, Stage}
-use Rattle.unit_book.specs.Legal.{Fits, FitsBy, Legal, Due, ToHalt, ToPost, Free, due, due_by, doomed_first, is_to_halt}
+use Rattle.unit_book.specs.Media.{attempts, current, stage, goes, Stage}
+use Rattle.unit_book.specs.Legal.{Fits, FitsBy, Legal, ToHalt, Free, due, due_by, doomed_first, is_to_halt}
 use Rattle.unit_book.specs.Posts.{posted}
-use Rattle.unit_book.specs.Book.{Book, going, going_by}
-use Rattle.unit_book.specs.Controls.{active_of, covered_by, due_after, halted_by, after_halt}
-use Rattle.unit_book.specs.Inside.{ActiveTies, ActivityTies, DoingTies, Ties, dcb_at, dcb_of, shut, unflagged, pending_stage}
+use Rattle.unit_book.specs.Book.{going_by}
+use Rattle.unit_book.specs.Controls.{active_of, covered_by, due_after}
+use Rattle.unit_book.specs.Inside.{DoingTies, Ties, dcb_at, dcb_of, shut, unflagged, pending_stage}
 use Rattle.unit_book.proofs.Lists.{same-refl, no_both}
 use Rattle.unit_book.proofs.Dooms.{due-no_halt}
-use Rattle.unit_book.proofs.Controls.{doomed-halted}
 use Rattle.unit_book.proofs.Same.{activity-same, fits-free}
-use Rattle.unit_book.proofs.TraceLaws.{halt-active}
 
 module _ {D : Type 0} (meaning : Meaning D) (mounted : D) where
   -- WHOM A PURGE HALTS

@@ -1,6 +1,6 @@
 -- A name that arrived has one place; at most one request is active.
-use Rattle.std.proofs.Common.{◌≡◌, ◌≤◌, ℕ, ◌+◌, Bool, true, false, not, ◌&&◌, ◌||◌, Option, Some, None, List, [], ◌∷◌, ◌++◌, length, refl, sym, ap, ◌∙◌, arith, inl, inr, subst, if◌then◌else◌}
-use Rattle.std.proofs.lemmas.Bool.{cases_Bool, and_parts, or_parts, or_left, or_right}
+use Rattle.std.proofs.Common.{◌≡◌, ◌≤◌, ◌+◌, Bool, true, false, not, ◌&&◌, ◌||◌, Option, Some, None, List, [], ◌∷◌, ◌++◌, length, refl, sym, ap, ◌∙◌, arith, inl, inr, subst}
+use Rattle.std.proofs.lemmas.Bool.{cases_Bool}
 use Rattle.std.specs.List.{filter, list_any}
 use Rattle.device_port.specs.Meaning.{Meaning}
 use Rattle.request_piece.specs.declared.piece.Name.{Name}
@@ -8,7 +8,7 @@ use Rattle.request_piece.specs.declared.piece.Piece.{Piece}
 use Rattle.unit_book.specs.declared.entry.Entry.{Entry}
 use Rattle.unit_book.specs.declared.entry.Entry.TheVariants.{Opened, Arrive, Start, Ran, Halted, Purge, Close, Reset, Post}
 use Rattle.unit_book.specs.Trace.{same, starts, arrivals, has_arrived, has_started, is_posted, waiting, active, starts_of}
-use Rattle.unit_book.specs.Legal.{Due, ToHalt, ToPost, Free, due, FitsBy, FitsFree, Legal, StartFits, First, Again}
+use Rattle.unit_book.specs.Legal.{due, Legal, StartFits, First, Again}
 use Rattle.unit_book.specs.Laws.{OnePlace, FewStarts, waits, is_one, is_active, times}
 use Rattle.unit_book.proofs.Lists.{same-true, same-refl, no_both}
 use Rattle.unit_book.proofs.Facts.{Facts, facts, active-is, fits-start, first-waits}

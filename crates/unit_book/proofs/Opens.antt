@@ -1,6 +1,6 @@
 -- A DCB is opened: the fields stay those of the trace.
-use Rattle.std.proofs.Common.{◌≡◌, ℕ, zero, suc, ◌+◌, ◌-◌, ◌<◌, ◌≤◌, ◌⊎◌, Bool, true, false, not, ◌&&◌, ◌||◌, Option, Some, None, List, [], ◌∷◌, ◌++◌, length, length-append, refl, sym, ap, ◌∙◌, arith, eqb, inl, inr, subst, if◌then◌else◌}
-use Rattle.std.proofs.lemmas.Bool.{cases_Bool, and_parts, or_parts, or_left, or_right, eqb-true, eq-eqb}
+use Rattle.std.proofs.Common.{◌≡◌, ℕ, zero, suc, ◌+◌, ◌-◌, ◌≤◌, ◌⊎◌, Bool, true, false, not, ◌&&◌, ◌||◌, Option, Some, None, List, [], ◌∷◌, ◌++◌, length, length-append, refl, sym, ap, ◌∙◌, arith, eqb, inl, inr, subst, if◌then◌else◌}
+use Rattle.std.proofs.lemmas.Bool.{cases_Bool, and_parts, or_right, eqb-true, eq-eqb}
 use Rattle.circular_buffer.proofs.Places.{slice_get-append_right}
 use Rattle.std.specs.Prelude.{slice_get}
 use Rattle.io_images.specs.Codes.{is_error}
@@ -17,10 +17,10 @@ use Rattle.unit_book.specs.declared.active.Active.{Active}
 use Rattle.unit_book.specs.declared.dcb.Dcb.{Dcb}
 use Rattle.unit_book.specs.declared.entry.Entry.{Entry}
 use Rattle.unit_book.specs.declared.entry.Entry.TheVariants.{Opened, Arrive, Start, Ran, Halted, Purge, Close, Reset, Post}
-use Rattle.unit_book.specs.Trace.{same, opens, opens_for_input, has_arrived, has_started, waiting, arrivals, active, started, request_of}
-use Rattle.unit_book.specs.Dcbs.{is_opened, is_closed, is_open, opened_count, extents_of, flag, doomed}
+use Rattle.unit_book.specs.Trace.{same, opens, has_arrived, has_started, waiting, arrivals, active, started, request_of}
+use Rattle.unit_book.specs.Dcbs.{is_opened, is_closed, opened_count, extents_of, flag}
 use Rattle.unit_book.specs.Media.{attempts, stand}
-use Rattle.unit_book.specs.Legal.{Due, ToHalt, ToPost, Free, due, Fits, FitsBy, FitsFree, Legal, StartFits, First, Again, PostFits, OfActive, OfFirst, OpenFits}
+use Rattle.unit_book.specs.Legal.{Due, ToHalt, ToPost, Free, due, Fits, FitsBy, Legal, StartFits, First, Again, PostFits, OfActive, OfFirst, OpenFits}
 use Rattle.unit_book.specs.Posts.{posted}
 use Rattle.unit_book.specs.Inside.{Ties, dcb_at, dcb_of}
 use Rattle.unit_book.proofs.Lists.{same-true, no_both}
@@ -28,7 +28,7 @@ use Rattle.unit_book.proofs.Facts.{facts, fits-arrive, fits-start, fresh, active
 use Rattle.unit_book.proofs.Dooms.{due-doomed}
 use Rattle.unit_book.proofs.Same.{activity-same, fits-free}
 use Rattle.unit_book.proofs.Seeks.{free-start, waits-open}
-use Rattle.unit_book.proofs.Starts.{no-input, no-extents}
+use Rattle.unit_book.proofs.Starts.{no-input}
 
 more : (d : ℕ) (H : List Entry) (e : Entry) → is_opened d H ≡ true → is_opened d (e ∷ H) ≡ true
 more d H e h = or_right (opens d e) (is_opened d H) h

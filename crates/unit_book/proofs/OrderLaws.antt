@@ -1,6 +1,6 @@
 -- The first Starts are a subsequence of the arrivals.
-use Rattle.std.proofs.Common.{◌≡◌, ℕ, ◌⊎◌, Bool, true, false, not, ◌&&◌, ◌||◌, Option, Some, None, List, [], ◌∷◌, ◌++◌, append_assoc, map, refl, sym, ap, ◌∙◌, inl, inr, subst, if◌then◌else◌}
-use Rattle.std.proofs.lemmas.Bool.{cases_Bool, and_parts, or_parts, or_right}
+use Rattle.std.proofs.Common.{◌≡◌, ℕ, ◌⊎◌, Bool, true, false, not, ◌&&◌, ◌||◌, Some, List, [], ◌∷◌, ◌++◌, append_assoc, map, refl, sym, ap, ◌∙◌, inl, inr, subst}
+use Rattle.std.proofs.lemmas.Bool.{cases_Bool, and_parts, or_right}
 use Rattle.std.proofs.lemmas.List.{append-nil}
 use Rattle.std.proofs.lemmas.List.Elements.{filter-append}
 use Rattle.std.specs.List.{filter, list_all}
@@ -16,9 +16,8 @@ use Rattle.unit_book.specs.Trace.{same, arrivals, has_arrived, has_started, is_p
 use Rattle.unit_book.specs.Legal.{due, Fits, Legal, StartFits, First, Again}
 use Rattle.unit_book.specs.Laws.{first_starts, StartsInOrder}
 use Rattle.unit_book.specs.Inside.{Each}
-use Rattle.unit_book.proofs.Lists.{same-true, same-refl, no_both, filter-filter, filter-all, all-filter, without, none_named, Apart, without-first}
-use Rattle.unit_book.proofs.Facts.{Facts, facts, Known, active-is, fits-arrive, fits-start, fresh, fresh-start, fresh-post, first-waits, none-named, post-whom, waiting-arrive, waiting-start, waiting-post, waiting-apart, waits, WaitsAmong}
-use Rattle.unit_book.proofs.Dooms.{filter-agree}
+use Rattle.unit_book.proofs.Lists.{same-true, same-refl, no_both, filter-filter, filter-all, without, none_named, Apart, without-first}
+use Rattle.unit_book.proofs.Facts.{Facts, facts, active-is, fits-arrive, fits-start, fresh, fresh-start, fresh-post, first-waits, post-whom, waiting-arrive, waiting-start, waiting-post, waiting-apart, waits, WaitsAmong}
 use Rattle.unit_book.proofs.Starts.{first-rest}
 
 -- the arrivals that were started, and those that were started or are not posted

@@ -1,9 +1,9 @@
 -- The posts of the doomed requests: the fields stay those of the trace.
-use Rattle.std.proofs.Common.{◌≡◌, ℕ, ◌+◌, Bool, true, false, not, ◌||◌, Option, Some, None, List, [], ◌∷◌, ◌++◌, append_assoc, length, map, refl, sym, ap, ◌∙◌, arith, inl, inr, subst}
+use Rattle.std.proofs.Common.{◌≡◌, ℕ, ◌+◌, Bool, true, not, Option, List, [], ◌∷◌, ◌++◌, append_assoc, length, map, refl, sym, ap, ◌∙◌, arith, inl, inr, subst}
 use Rattle.std.proofs.lemmas.Bool.{cases_Bool, and_parts}
 use Rattle.std.proofs.lemmas.List.{append-nil}
 use Rattle.std.proofs.Math.Seq.{drop-append_seam, drop-length}
-use Rattle.std.specs.List.{filter, list_all}
+use Rattle.std.specs.List.{filter}
 use Rattle.std.specs.Prelude.{drop}
 use Rattle.io_images.specs.declared.csw.Csw.{Csw}
 use Rattle.io_images.specs.declared.code.Code.{Code}
@@ -18,16 +18,16 @@ use Rattle.unit_book.specs.declared.active.Active.{Active}
 use Rattle.unit_book.specs.declared.dcb.Dcb.{Dcb}
 use Rattle.unit_book.specs.declared.entry.Entry.{Entry}
 use Rattle.unit_book.specs.declared.entry.Entry.TheVariants.{Arrive, Post}
-use Rattle.unit_book.specs.Trace.{same, waiting, active, request_of}
+use Rattle.unit_book.specs.Trace.{same, waiting, request_of}
 use Rattle.unit_book.specs.Dcbs.{doomed, is_doomed, extents_of, flag}
 use Rattle.unit_book.specs.Media.{attempts, area}
-use Rattle.unit_book.specs.Legal.{Fits, FitsBy, Legal, due, doomed_first, ToPost}
+use Rattle.unit_book.specs.Legal.{Fits, FitsBy, Legal, due, doomed_first}
 use Rattle.unit_book.specs.Dooms.{all_posted, after_dooms, purged}
 use Rattle.unit_book.specs.Posts.{posted, posted_since, posted_value}
 use Rattle.unit_book.specs.Inside.{Ties}
-use Rattle.unit_book.proofs.Lists.{same-true, same-refl, same-not-sym, no_both, without, none_named, Apart, Apart-filter, all-kept, without-first}
+use Rattle.unit_book.proofs.Lists.{same-not-sym, no_both, without, none_named, Apart, Apart-filter, all-kept, without-first}
 use Rattle.unit_book.specs.Inside.{Each}
-use Rattle.unit_book.proofs.Facts.{Each-filter, Facts, facts, waits, WaitsAmong, waiting-post, waiting-apart, active-post_waiting}
+use Rattle.unit_book.proofs.Facts.{Each-filter, facts, waits, WaitsAmong, waiting-post, waiting-apart, active-post_waiting}
 use Rattle.unit_book.proofs.Dooms.{doomed-purged, due-no_halt}
 use Rattle.unit_book.proofs.Same.{activity-same}
 use Rattle.unit_book.proofs.Starts.{as-issued}

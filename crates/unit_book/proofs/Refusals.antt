@@ -1,8 +1,8 @@
 -- A request that is doomed where it arrives.
-use Rattle.std.proofs.Common.{◌≡◌, Bool, true, false, not, ◌&&◌, ◌||◌, Option, Some, None, List, [], ◌∷◌, ◌++◌, refl, sym, ap, ◌∙◌, subst, if◌then◌else◌}
+use Rattle.std.proofs.Common.{◌≡◌, Bool, true, false, not, ◌&&◌, ◌||◌, Option, List, [], ◌∷◌, ◌++◌, refl, sym, ap, ◌∙◌, subst, if◌then◌else◌}
 use Rattle.std.proofs.lemmas.List.{append-nil}
 use Rattle.std.proofs.lemmas.List.Elements.{filter-append}
-use Rattle.std.specs.List.{filter, list_all}
+use Rattle.std.specs.List.{filter}
 use Rattle.io_images.specs.declared.code.Code.TheVariants.{Purged}
 use Rattle.device_port.specs.Meaning.{Meaning}
 use Rattle.subchannel.specs.Subchannel.{Channel, no_status}
@@ -19,7 +19,7 @@ use Rattle.unit_book.specs.Legal.{Free, due, doomed_first, Fits}
 use Rattle.unit_book.specs.Dooms.{after_dooms, purged}
 use Rattle.unit_book.specs.Posts.{posted, posted_since}
 use Rattle.unit_book.specs.Inside.{Ties}
-use Rattle.unit_book.proofs.Lists.{same-refl, without, none_named, filter-all, all-append}
+use Rattle.unit_book.proofs.Lists.{same-refl, without, none_named, filter-all}
 use Rattle.unit_book.specs.Inside.{Each}
 use Rattle.unit_book.proofs.Facts.{Facts, facts, fresh, fits-arrive, none-named, waits, WaitsAmong, Known, waiting-arrive}
 use Rattle.unit_book.proofs.Dooms.{filter-agree, due-no_halt, due-doomed}

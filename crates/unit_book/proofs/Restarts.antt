@@ -1,15 +1,14 @@
 -- A further start of the active request: the fields stay those of the trace.
-use Rattle.std.proofs.Common.{◌≡◌, ℕ, ◌+◌, ◌<◌, ◌≤◌, Bool, true, false, not, ◌&&◌, ◌||◌, eqb, Option, Some, None, List, [], ◌∷◌, length, refl, sym, ap, ◌∙◌, arith, inl, inr, subst, if◌then◌else◌}
-use Rattle.std.proofs.lemmas.Bool.{cases_Bool, and_parts, leb-true}
+use Rattle.std.proofs.Common.{◌≡◌, ℕ, ◌+◌, ◌≤◌, Bool, true, false, not, ◌&&◌, ◌||◌, Some, List, ◌∷◌, refl, sym, ap, ◌∙◌, arith, subst, if◌then◌else◌}
+use Rattle.std.proofs.lemmas.Bool.{and_parts, leb-true}
 use Rattle.std.specs.Prelude.{nat_le}
 use Rattle.io_images.specs.declared.csw.Csw.{Csw}
 use Rattle.io_images.specs.declared.code.Code.TheVariants.{Ended, PermanentError}
 use Rattle.device_port.specs.Meaning.{Meaning, Lawful}
 use Rattle.device_port.specs.declared.kind.Kind.{Kind}
 use Rattle.ccw_programs.specs.Place.{start_place}
-use Rattle.ccw_programs.specs.Step.{Program, begun}
+use Rattle.ccw_programs.specs.Step.{Program}
 use Rattle.subchannel.specs.Subchannel.{Channel, Phase, Absent, Idle, Running, Pending, Fits, prefixed, started as ssch_started}
-use Rattle.recovery.specs.declared.answer.Verdict.{Verdict}
 use Rattle.recovery.specs.declared.answer.Verdict.TheVariants.{Retry, Final}
 use Rattle.recovery.specs.Verdict.{verdict, is_disk, is_success, is_passing_error, is_channel_error}
 use Rattle.request_piece.specs.PostedState.{PostedState}
@@ -23,7 +22,7 @@ use Rattle.unit_book.specs.declared.entry.Entry.{Entry}
 use Rattle.unit_book.specs.declared.entry.Entry.TheVariants.{Start}
 use Rattle.unit_book.specs.Trace.{same, starts_of, waiting, active, request_of}
 use Rattle.unit_book.specs.Dcbs.{extents_of, flag, mask_of}
-use Rattle.unit_book.specs.Media.{attempts, current, device, area}
+use Rattle.unit_book.specs.Media.{current, device}
 use Rattle.unit_book.specs.Legal.{Legal, due, Free, StartsAgain}
 use Rattle.unit_book.specs.Legal.{Again as Restart}
 use Rattle.unit_book.specs.Posts.{posted}

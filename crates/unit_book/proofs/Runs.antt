@@ -1,5 +1,5 @@
 -- The program of the active request runs: the fields stay those of the trace.
-use Rattle.std.proofs.Common.{◌≡◌, ℕ, ◌≤◌, Bool, true, false, not, Option, Some, None, List, ◌∷◌, refl, sym, ap, ◌∙◌, arith, subst}
+use Rattle.std.proofs.Common.{◌≡◌, ℕ, ◌≤◌, Bool, true, false, Option, Some, None, List, ◌∷◌, refl, sym, ap, ◌∙◌, arith, subst}
 use Rattle.std.specs.Prelude.{min}
 use Rattle.io_area.specs.Storage.{Storage, SamePlace}
 use Rattle.device_port.specs.Meaning.{Meaning}
@@ -11,7 +11,6 @@ use Rattle.ccw_programs.specs.Step.{Program, program, after, length_of, is_runni
 use Rattle.ccw_programs.proofs.StepLaws.{after-add, steps_within-running}
 use Rattle.subchannel.specs.Subchannel.{Channel, Phase, Absent, Idle, Running, Pending, phase_of, going, RunsAs, RunsFrom}
 use Rattle.request_piece.specs.PostedState.{PostedState}
-use Rattle.request_piece.specs.Places.{Placed}
 use Rattle.request_piece.specs.declared.piece.Piece.{Piece}
 use Rattle.request_piece.specs.declared.piece.Name.{Name}
 use Rattle.unit_book.specs.declared.active.Active.{Active}

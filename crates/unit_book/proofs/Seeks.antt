@@ -1,28 +1,26 @@
 -- The seek of a request that was started is one of the device.
-use Rattle.std.proofs.Common.{◌≡◌, ℕ, zero, suc, ◌+◌, ◌*◌, ◌<◌, ◌≤◌, Bool, true, false, not, ◌&&◌, ◌||◌, Option, Some, None, List, [], ◌∷◌, length, refl, sym, ap, ◌∙◌, arith, eqb, inl, inr, subst}
+use Rattle.std.proofs.Common.{◌≡◌, ℕ, zero, suc, ◌+◌, ◌*◌, ◌<◌, ◌≤◌, Bool, true, false, not, ◌&&◌, Option, Some, None, List, [], ◌∷◌, length, refl, ◌∙◌, arith, eqb, inl, inr, subst}
 use Rattle.std.proofs.lemmas.Bool.{cases_Bool, cases_lt, and_parts, and_from, or_parts, ltb-true, lt-ltb, leb-true}
 use Rattle.std.proofs.Math.Nat.{mul-le-mul_right, suc-mul}
-use Rattle.std.specs.List.{filter, list_all}
+use Rattle.std.specs.List.{list_all}
 use Rattle.std.specs.Prelude.{slice_get, nat_lt, nat_le}
-use Rattle.io_area.specs.Storage.{Storage}
 use Rattle.io_images.specs.declared.extent.Extent.{Extent}
 use Rattle.io_images.specs.declared.seek.Seek.{Seek}
 use Rattle.device_port.specs.Meaning.{Meaning, Lawful, fits, fits_seek}
 use Rattle.device_port.specs.declared.kind.Kind.{Kind}
 use Rattle.device_port.specs.declared.kind.Kind.TheVariants.{Disk, Tape, Printer}
-use Rattle.ccw_programs.specs.Step.{Program, after}
 use Rattle.ccw_programs.proofs.StepLaws.{device-stays}
 use Rattle.request_piece.specs.declared.piece.Name.{Name}
 use Rattle.request_piece.specs.declared.piece.Piece.{Piece}
 use Rattle.unit_book.specs.declared.entry.Entry.{Entry}
 use Rattle.unit_book.specs.declared.entry.Entry.TheVariants.{Opened, Arrive, Start, Ran, Halted, Purge, Close, Reset, Post}
 use Rattle.unit_book.specs.Extents.{track, last_track, is_extent, is_inside, counts_tracks, takes_extents, lies_within, passes_check}
-use Rattle.unit_book.specs.Trace.{same, has_arrived, has_started, waiting, active, request_of}
+use Rattle.unit_book.specs.Trace.{same, has_arrived, has_started, waiting, request_of}
 use Rattle.unit_book.specs.Dcbs.{is_opened, is_closed, is_open, extents_of, doomed, is_doomed}
 use Rattle.unit_book.specs.Media.{Attempt, attempts, stand, device, beginning}
-use Rattle.unit_book.specs.Legal.{Due, ToHalt, ToPost, Free, due, Fits, FitsBy, FitsFree, Legal, StartFits, First, Again, StartsFirst, passes}
+use Rattle.unit_book.specs.Legal.{Due, ToHalt, ToPost, Free, due, FitsBy, Legal, StartFits, First, Again, passes}
 use Rattle.unit_book.proofs.Lists.{same-true, no_both}
-use Rattle.unit_book.proofs.Facts.{Facts, facts, fits-arrive, fits-start, fresh, active-is, first-waits}
+use Rattle.unit_book.proofs.Facts.{facts, fits-arrive, fits-start, fresh, active-is, first-waits}
 use Rattle.unit_book.proofs.Dooms.{none-pass, due-doomed}
 
 -- a track not after the end of an extent is on a cylinder of the disk

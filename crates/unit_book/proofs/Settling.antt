@@ -1,14 +1,14 @@
 -- A list of starts, runs and interruptions: what it adds, and that an attempt of a request brings a book nearer to
 -- having nothing to do.
-use Rattle.std.proofs.Common.{◌≡◌, ◌≤◌, ◌<◌, ℕ, zero, suc, ◌+◌, ◌-◌, ◌*◌, Bool, true, false, not, ◌&&◌, ◌||◌, Option, Some, None, List, [], ◌∷◌, ◌++◌, append_assoc, length, refl, sym, ap, ◌∙◌, arith, inl, inr, subst, if◌then◌else◌}
-use Rattle.std.specs.Prelude.{slice_get, min, is_some, IsSome}
-use Rattle.std.specs.List.{filter, find, list_all}
+use Rattle.std.proofs.Common.{◌≡◌, ◌≤◌, ◌<◌, ℕ, zero, suc, ◌+◌, ◌-◌, ◌*◌, Bool, true, false, not, ◌||◌, Option, Some, None, List, [], ◌∷◌, ◌++◌, append_assoc, length, refl, sym, ap, ◌∙◌, arith, inl, inr, subst, if◌then◌else◌}
+use Rattle.std.specs.Prelude.{slice_get, min, is_some}
+use Rattle.std.specs.List.{find, list_all}
 use Rattle.std.proofs.lemmas.Bool.{cases_Bool, and_parts}
 use Rattle.io_images.specs.declared.csw.Csw.{Csw}
 use Rattle.io_images.specs.declared.code.Code.{Code}
 use Rattle.io_images.specs.declared.code.Code.TheVariants.{ExtentViolated, Purged}
 use Rattle.device_port.specs.Meaning.{Meaning}
-use Rattle.ccw_programs.specs.Step.{Program, begun, after, step, length_of, is_running}
+use Rattle.ccw_programs.specs.Step.{Program, after, length_of, is_running}
 use Rattle.ccw_programs.proofs.StepLaws.{step-ended, step-later, length-ends, length-few}
 use Rattle.subchannel.specs.Subchannel.{no_status}
 use Rattle.request_piece.specs.declared.piece.Name.{Name}
@@ -29,9 +29,9 @@ use Rattle.unit_book.specs.Media.{Attempt, attempts, newest, beginning, stand, c
 use Rattle.unit_book.specs.Dcbs.{doomed}
 use Rattle.unit_book.specs.Dooms.{all_posted, after_dooms}
 use Rattle.unit_book.specs.Legal.{Legal, FailsCheck, StartsAgain, StartsFirst}
-use Rattle.unit_book.specs.Book.{Book, active_count, going, going_by, is_pending, pending_by}
-use Rattle.unit_book.specs.Answers.{StartsBook, RunsBook, RunsOn, InterruptsBook, MayStart, MayFirst, MayAgain}
-use Rattle.unit_book.specs.Settle.{AddsService, Attempts, IsIdle, Settles, Stays, Then, Steps, ByStart, ByRun, ByInterrupt, distance, is_service, starts_left, unposted}
+use Rattle.unit_book.specs.Book.{Book, active_count, is_pending}
+use Rattle.unit_book.specs.Answers.{StartsBook, RunsBook, InterruptsBook, MayStart, MayFirst, MayAgain}
+use Rattle.unit_book.specs.Settle.{AddsService, Settles, Stays, Then, Steps, ByStart, ByRun, ByInterrupt, distance, is_service, starts_left, unposted}
 use Rattle.unit_book.proofs.Lists.{same-refl, no_both, all-append, all-filter, without}
 use Rattle.unit_book.proofs.Facts.{facts, NewestIs, active-is, active-start, active-post, waiting-start, waiting-post}
 use Rattle.unit_book.proofs.Dooms.{length-filter_le}

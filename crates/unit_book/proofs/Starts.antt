@@ -1,5 +1,5 @@
 -- A first start: the fields stay those of the trace.
-use Rattle.std.proofs.Common.{◌≡◌, ℕ, Bool, true, false, ◌&&◌, ◌||◌, Option, Some, None, List, [], ◌∷◌, length, refl, sym, ap, ◌∙◌, eqb, inl, inr, subst}
+use Rattle.std.proofs.Common.{◌≡◌, ℕ, Bool, true, false, ◌||◌, Option, Some, None, List, [], ◌∷◌, length, refl, sym, ap, ◌∙◌, eqb, inl, inr, subst}
 use Rattle.std.proofs.lemmas.Bool.{cases_Bool, and_parts, and_from, or_parts, or_left, or_right}
 use Rattle.std.specs.List.{filter, list_any, list_all}
 use Rattle.std.specs.Prelude.{slice_get, drop}
@@ -24,7 +24,7 @@ use Rattle.unit_book.specs.Media.{Attempt, attempts, lengthened, stand, newest, 
 use Rattle.unit_book.specs.Legal.{Legal, due, Free, First, StartsFirst, passes}
 use Rattle.unit_book.specs.Posts.{posted}
 use Rattle.unit_book.specs.Inside.{Each, ActivityTies, Ties, dcb_at, dcb_of, mask_at, extents_at}
-use Rattle.unit_book.proofs.Lists.{same-true, same-refl, same-is, no_both, without, without-first, Apart, all-kept}
+use Rattle.unit_book.proofs.Lists.{same-true, same-refl, same-is, no_both, without, without-first, Apart}
 use Rattle.unit_book.proofs.Facts.{facts, active-start, waiting-start, waiting-apart, first-waits, fits-start}
 use Rattle.unit_book.proofs.Same.{fits-free}
 use Rattle.unit_book.proofs.TraceLaws.{start-unposted}

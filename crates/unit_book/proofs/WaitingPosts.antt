@@ -1,6 +1,5 @@
 -- The post of a request that waits first: the fields stay those of the trace.
-use Rattle.std.proofs.Common.{◌≡◌, ℕ, Bool, true, ◌&&◌, Option, Some, None, List, [], ◌∷◌, ◌++◌, append_assoc, length, refl, sym, ap, ◌∙◌, eqb, subst}
-use Rattle.std.specs.List.{list_all}
+use Rattle.std.proofs.Common.{◌≡◌, ℕ, ◌&&◌, Option, Some, List, [], ◌∷◌, ◌++◌, append_assoc, length, refl, sym, ap, ◌∙◌, eqb, subst}
 use Rattle.std.specs.Prelude.{slice_get, drop}
 use Rattle.io_area.specs.Storage.{Storage}
 use Rattle.io_images.specs.Codes.{is_error}
@@ -9,13 +8,12 @@ use Rattle.io_images.specs.declared.code.Code.{Code}
 use Rattle.device_port.specs.Meaning.{Meaning}
 use Rattle.subchannel.specs.Subchannel.{Channel}
 use Rattle.request_piece.specs.PostedState.{PostedState}
-use Rattle.request_piece.specs.declared.piece.Name.{Name}
 use Rattle.request_piece.specs.declared.piece.Piece.{Piece}
 use Rattle.unit_book.specs.declared.active.Active.{Active}
 use Rattle.unit_book.specs.declared.dcb.Dcb.{Dcb}
 use Rattle.unit_book.specs.declared.entry.Entry.{Entry}
 use Rattle.unit_book.specs.declared.entry.Entry.TheVariants.{Post}
-use Rattle.unit_book.specs.Trace.{waiting, active, request_of}
+use Rattle.unit_book.specs.Trace.{waiting, request_of}
 use Rattle.unit_book.specs.Media.{attempts, area}
 use Rattle.unit_book.specs.Legal.{Fits, Legal}
 use Rattle.unit_book.specs.Posts.{posted, posted_value}

@@ -1,6 +1,5 @@
 -- Worked rows, by computation: the words on concrete traces, newest entry first.
-use Rattle.std.proofs.Common.{◌≡◌, ℕ, Bool, true, false, Option, Some, None, List, [], ◌∷◌, refl}
-use Rattle.io_images.specs.declared.code.Code.{Code}
+use Rattle.std.proofs.Common.{◌≡◌, ℕ, Bool, true, false, Some, None, List, [], ◌∷◌, refl}
 use Rattle.io_images.specs.declared.code.Code.TheVariants.{Ended, PermanentError, ExtentViolated, Purged}
 use Rattle.io_images.specs.declared.extent.Extent.{Extent}
 use Rattle.io_images.specs.declared.seek.Seek.{Seek}

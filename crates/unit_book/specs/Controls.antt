@@ -16,7 +16,6 @@ use Rattle.unit_book.specs.declared.answer.DcbError.TheVariants.{NoSuchDcb, NoMe
 use Rattle.unit_book.specs.declared.answer.Purging.{Purging}
 use Rattle.unit_book.specs.declared.answer.Purging.TheVariants.{Quiet, Active}
 use Rattle.unit_book.specs.declared.entry.Mode.{Mode}
-use Rattle.unit_book.specs.declared.entry.Mode.TheVariants.{Halt}
 use Rattle.unit_book.specs.declared.entry.Entry.{Entry}
 use Rattle.unit_book.specs.declared.entry.Entry.TheVariants.{Halted, Purge, Close, Post}
 use Rattle.unit_book.specs.Trace.{is_halt, active, request_of}

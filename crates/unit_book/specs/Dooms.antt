@@ -1,5 +1,5 @@
 -- THE DOOMS: the posts of what is doomed, in order, as purged, with CSW and sense of zeros (profile).
-use Rattle.std.specs.Prelude.{ℕ, List, [], ◌∷◌}
+use Rattle.std.specs.Prelude.{List, [], ◌∷◌}
 use Rattle.io_images.specs.declared.code.Code.TheVariants.{Purged}
 use Rattle.subchannel.specs.Subchannel.{no_status}
 use Rattle.request_piece.specs.PostedState.{PostedState}

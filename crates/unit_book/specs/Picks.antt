@@ -1,5 +1,5 @@
 -- Which of the waiting requests a call leaves to be purged.
-use Rattle.std.specs.Prelude.{◌≡◌, Bool, true, false, ◌&&◌, if◌then◌else◌, Option, Some, None, List}
+use Rattle.std.specs.Prelude.{◌≡◌, Bool, false, ◌&&◌, if◌then◌else◌, Option, Some, None, List}
 use Rattle.std.specs.List.{filter}
 use Rattle.io_images.specs.Codes.{is_error}
 use Rattle.io_images.specs.declared.code.Code.{Code}
