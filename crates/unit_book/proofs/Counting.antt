@@ -1,14 +1,11 @@
 -- What the entries of a trace add to the arrivals of a task: only an arrival adds one, and the other calls of a
 -- book add none.
-use Rattle.std.proofs.Common.{◌≡◌, ◌≢◌, ◌<◌, ℕ, ◌+◌, ◌==◌, Bool, true, false, List, [], ◌∷◌, ◌++◌, length, length-append, replicate, slice_index, slice_set, get_or, set, refl, sym, ap, ◌∙◌, arith, if◌then◌else◌, inl, inr, add-zero}
+use Rattle.std.proofs.Common.{◌≡◌, ℕ, ◌+◌, ◌==◌, Bool, true, false, List, [], ◌∷◌, length, length-append, refl, ap, ◌∙◌, if◌then◌else◌}
 use Rattle.std.specs.List.{filter}
-use Rattle.std.proofs.lemmas.Bool.{cases_Bool}
-use Rattle.std.proofs.lemmas.Bool.Decides.{nat_tests}
 use Rattle.std.proofs.lemmas.List.Elements.{filter-append}
-use Rattle.std.proofs.lemmas.List.{get_or-set_same, get_or-set_other, get_or-replicate}
 use Rattle.request_piece.specs.declared.piece.Piece.{Piece}
 use Rattle.unit_book.specs.declared.entry.Entry.{Entry}
-use Rattle.unit_book.specs.declared.entry.Entry.TheVariants.{Arrive, Start, Ran, Halted, Purge, Close, Reset, Post, Opened}
+use Rattle.unit_book.specs.declared.entry.Entry.TheVariants.{Arrive, Purge, Close, Reset, Post}
 use Rattle.unit_book.specs.declared.entry.Mode.{Mode}
 use Rattle.request_piece.specs.declared.scope.Scope.{Scope}
 use Rattle.io_images.specs.declared.code.Code.TheVariants.{ExtentViolated}
