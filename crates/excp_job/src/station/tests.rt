@@ -13,6 +13,7 @@ use std::test::Fail;
 use unit_book::{Interruption, Running, Starting};
 
 mod controls;
+mod interleavings;
 mod programs;
 
 /// An unrelated IOB, its ECB, and search, transfer back and read data, from X'1000' on.
