@@ -196,7 +196,11 @@ impl Run {
             at: excp.show,
             len: excp.len as usize,
         })?;
-        station.issue(request)
+        match station.issue(request) {
+            Ok(()) => Ok(()),
+            // the book has room for every request of the script
+            Err(_) => Err(LineFault::NoMemory),
+        }
     }
 
     /// Purges the requests of a task on every unit, in order.

@@ -1,16 +1,21 @@
 //! A unit of a run: its book, beside how many requests of each task arrived in it.
 
-ghost use Rattle.std.specs.Prelude.{◌≡◌, ◌≤◌, IfOk, replicate};
+ghost use Rattle.std.specs.Prelude.{◌≡◌, ◌≤◌, ◌∷◌, [], IfErr, IfOk, OnErr, OnOk, drop, length, replicate, slice_get};
 ghost use Rattle.excp_job.specs.Counts.{IsNext};
-ghost use Rattle.unit_book.specs.Trace.{arrivals};
+ghost use Rattle.excp_job.specs.Devices.{unit_device};
+ghost use Rattle.unit_book.specs.Answers.{Adds, ArriveRefused, OpensBook, Posts};
+ghost use Rattle.unit_book.specs.Controls.{ClosesBook, PurgesBook};
+ghost use Rattle.unit_book.specs.Dooms.{after_dooms};
+ghost use Rattle.unit_book.specs.Settle.{Settles};
+ghost use Rattle.unit_book.specs.Trace.{active, waiting};
 
 use crate::device::UnitDevice;
-use crate::fault::{Fault, FaultName, LineFault};
+use crate::fault::{Fault, FaultName};
 use io_images::Extent;
-use request_piece::{Name, Posted, Request};
+use request_piece::{Name, Posted, Request, Scope};
 use std::alloc::{AllocError, Global};
 use std::marker::Model;
-use unit_book::{Closing, DcbError, Mode, OpenError, Purging, UnitBook};
+use unit_book::{ArriveError, Closing, DcbError, Entry, Mode, OpenError, Purging, UnitBook};
 
 /// The book of a unit, and the number of the last request of each task.
 #[derive(Drop)]
@@ -44,8 +49,10 @@ impl Station {
     }
 
     /// Opens a DCB.
-    pub fn open(&mut self, input: bool, extents: &[Extent]) -> Result<u16, OpenError> {
-        open(&mut self.book, input, extents)
+    pub fn open(&mut self, input: bool, extents: &[Extent]) -> Result<u16, OpenError>
+        ensures { IfOk result (λ dcb. OpensBook unit_device self.old dcb input extents.now self.new) }
+    {
+        self.book.open(input, extents)
     }
 
     /// The name of the next request of a task.
@@ -62,53 +69,70 @@ impl Station {
         })
     }
 
-    /// A request arrives, which has the next name of its task.
-    pub fn issue(&mut self, request: Request) -> Result<(), LineFault>
+    /// A request arrives, which has the next name of its task. It is handed back where the book is full, and where
+    /// there is no memory.
+    pub fn issue(&mut self, request: Request) -> Result<(), (ArriveError, Request)>
         requires { IsNext request.name self.old.trace }
+        ensures ok { OnOk result (Posts unit_device self.old (after_dooms (Entry.Arrive request ∷ self.old.trace)) self.old.again self.new) }
+        ensures refused { IfErr result (λ e. ArriveRefused self.old e.0) }
+        ensures given_back { IfErr result (λ e. e.1 ≡ request) }
     {
         let name = request.name();
-        // the book has room for every request of the script, so what is refused is refused for want of memory
-        match self.book.arrive(request) {
-            Ok(()) => {
-                self.issued[usize::from(name.task)] = name.seq;
-                Ok(())
-            }
-            Err(_) => Err(LineFault::NoMemory),
-        }
+        self.book.arrive(request)?;
+        self.issued[usize::from(name.task)] = name.seq;
+        Ok(())
     }
 
     /// Purges the requests of a DCB.
-    pub fn purge(&mut self, dcb: u16, mode: Mode) -> Result<Purging, DcbError> {
-        purge(&mut self.book, dcb, mode)
+    pub fn purge(&mut self, dcb: u16, mode: Mode) -> Result<Purging, DcbError>
+        ensures { IfOk result (λ answer. PurgesBook unit_device self.old (Scope.Dcb dcb) mode answer self.new) }
+    {
+        self.book.purge(dcb, mode)
     }
 
     /// Purges the requests of a task.
-    pub fn purge_task(&mut self, task: u16, mode: Mode) -> Result<Purging, AllocError> {
-        purge_task(&mut self.book, task, mode)
+    pub fn purge_task(&mut self, task: u16, mode: Mode) -> Result<Purging, AllocError>
+        ensures { IfOk result (λ answer. PurgesBook unit_device self.old (Scope.Task task) mode answer self.new) }
+    {
+        self.book.purge_task(task, mode)
     }
 
     /// Closes a DCB.
-    pub fn close(&mut self, dcb: u16) -> Result<Closing, DcbError> {
-        close(&mut self.book, dcb)
+    pub fn close(&mut self, dcb: u16) -> Result<Closing, DcbError>
+        ensures { IfOk result (λ answer. ClosesBook unit_device self.old dcb answer self.new) }
+    {
+        self.book.close(dcb)
     }
 
     /// Clears the error flag of an open DCB.
-    pub fn reset(&mut self, dcb: u16) -> Result<(), DcbError> {
-        reset(&mut self.book, dcb)
+    pub fn reset(&mut self, dcb: u16) -> Result<(), DcbError>
+        ensures ok { OnOk result (Adds self.old (Entry.Reset dcb) self.new) }
+        ensures err { OnErr result (self.new ≡ self.old) }
+    {
+        self.book.reset(dcb)
     }
 
     /// Starts, runs and interrupts until nothing waits or is active.
-    pub fn settle(&mut self) -> Result<(), AllocError> {
-        settle(&mut self.book)
+    pub fn settle(&mut self) -> Result<(), AllocError>
+        ensures steps { Settles unit_device self.old self.new }
+        ensures waiting { OnOk result (waiting self.new.trace ≡ []) }
+        ensures active { OnOk result (active self.new.trace ≡ None) }
+    {
+        self.book.settle()
     }
 
     /// How many requests were posted and not taken out.
-    pub fn posted(&self) -> usize {
+    pub fn posted(&self) -> usize
+        ensures { result ≡ length self.now.out }
+    {
         self.book.out_len()
     }
 
     /// The next request that was posted.
-    pub fn take_out(&mut self) -> Option<Posted> {
+    pub fn take_out(&mut self) -> Option<Posted>
+        ensures first { result ≡ slice_get self.old.out 0 }
+        ensures book { self.new ≡ record self.old { out = drop 1 self.old.out } }
+    {
         self.book.take_out()
     }
 }
@@ -118,59 +142,6 @@ fn none_issued() -> [u32; 64]
     ensures { result ≡ replicate 64 0 }
 {
     [0; 64]
-}
-
-// The calls of a book other than an arrival add none.
-
-fn open(book: &mut UnitBook<UnitDevice>, input: bool, extents: &[Extent]) -> Result<u16, OpenError>
-    ensures { arrivals book.new.trace ≡ arrivals book.old.trace }
-{
-    match book.open(input, extents) {
-        Ok(dcb) => Ok(dcb),
-        Err(error) => Err(error),
-    }
-}
-
-fn purge(book: &mut UnitBook<UnitDevice>, dcb: u16, mode: Mode) -> Result<Purging, DcbError>
-    ensures { arrivals book.new.trace ≡ arrivals book.old.trace }
-{
-    match book.purge(dcb, mode) {
-        Ok(answer) => Ok(answer),
-        Err(error) => Err(error),
-    }
-}
-
-fn purge_task(book: &mut UnitBook<UnitDevice>, task: u16, mode: Mode) -> Result<Purging, AllocError>
-    ensures { arrivals book.new.trace ≡ arrivals book.old.trace }
-{
-    match book.purge_task(task, mode) {
-        Ok(answer) => Ok(answer),
-        Err(error) => Err(error),
-    }
-}
-
-fn close(book: &mut UnitBook<UnitDevice>, dcb: u16) -> Result<Closing, DcbError>
-    ensures { arrivals book.new.trace ≡ arrivals book.old.trace }
-{
-    match book.close(dcb) {
-        Ok(answer) => Ok(answer),
-        Err(error) => Err(error),
-    }
-}
-
-fn reset(book: &mut UnitBook<UnitDevice>, dcb: u16) -> Result<(), DcbError>
-    ensures { arrivals book.new.trace ≡ arrivals book.old.trace }
-{
-    match book.reset(dcb) {
-        Ok(()) => Ok(()),
-        Err(error) => Err(error),
-    }
-}
-
-fn settle(book: &mut UnitBook<UnitDevice>) -> Result<(), AllocError>
-    ensures { arrivals book.new.trace ≡ arrivals book.old.trace }
-{
-    book.settle()
 }
 
 #[cfg(test)]

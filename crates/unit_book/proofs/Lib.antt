@@ -33,3 +33,4 @@ pub mod WorldOrder
 pub mod Worlds
 mod WorldRows
 pub mod Settling
+pub mod Kept

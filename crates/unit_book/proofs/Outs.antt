@@ -40,7 +40,7 @@ taken-more given left v rest e =
     let s : given ++ left ≡ (given ++ v ∷ []) ++ rest = ap (λ x. given ++ x) e ∙ sym (append_assoc given (v ∷ []) rest) in
     ap (λ k. take k (given ++ left)) n ∙ ap (take (length (given ++ v ∷ []))) s ∙ take-append_seam (given ++ v ∷ []) rest
 
-taken-all : {X : Type 0} (given left : List X) → take (length (given ++ left) - length left) (given ++ left) ≡ given
+pub taken-all : {X : Type 0} (given left : List X) → take (length (given ++ left) - length left) (given ++ left) ≡ given
 taken-all given left =
     let n : length (given ++ left) - length left ≡ length given = omega (arith, length-append given left) in
     ap (λ k. take k (given ++ left)) n ∙ take-append_seam given left

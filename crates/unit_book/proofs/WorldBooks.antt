@@ -49,6 +49,7 @@ module _ {D : Type 0} (meaning : Meaning D) where
   -- A CALL KEEPS A BOOK: the trace stays legal and nothing is due; these requests arrived; what was posted is out
   pub record Keeps (old : Book D) (more : List Piece) (new : Book D) : Type 0 where
     pub mounted : new.mounted ≡ old.mounted
+    pub isc : new.isc ≡ old.isc
     pub legal : Legal meaning old.mounted new.trace
     pub settled : due meaning old.mounted new.trace ≡ Free
     pub arrived : arrivals new.trace ≡ arrivals old.trace ++ more
@@ -67,6 +68,7 @@ module _ {D : Type 0} (meaning : Meaning D) where
       let s = since-is meaning old.mounted old.trace H g.values g.posted_is in
       record {
         mounted = ap (λ (b : Book D). b.mounted) p;
+        isc = ap (λ (b : Book D). b.isc) p;
         legal = subst (Legal meaning old.mounted) (sym t) g.legal;
         settled = ap (due meaning old.mounted) t ∙ g.settled;
         arrived = ap arrivals t ∙ g.arrived;
@@ -83,6 +85,7 @@ module _ {D : Type 0} (meaning : Meaning D) where
       let t : new.trace ≡ H = ap (λ (b : Book D). b.trace) p in
       record {
         mounted = ap (λ (b : Book D). b.mounted) p;
+        isc = ap (λ (b : Book D). b.isc) p;
         legal = subst (Legal meaning old.mounted) (sym t) g.legal;
         settled = ap (due meaning old.mounted) t ∙ g.settled;
         arrived = ap arrivals t ∙ g.arrived;
@@ -91,11 +94,11 @@ module _ {D : Type 0} (meaning : Meaning D) where
         out = ap (λ (b : Book D). b.out) p ∙ sym (append-nil old.out);
       }
 
-  keeps-again : (old new : Book D) (again : Bool) → Sound old → new ≡ record old { again = again; spare = new.spare } → Keeps old [] new
+  pub keeps-again : (old new : Book D) (again : Bool) → Sound old → new ≡ record old { again = again; spare = new.spare } → Keeps old [] new
   keeps-again old new again s p = keeps-adds old new old.trace again p (grows-not meaning old.mounted old.trace s.0 s.1) refl
 
   -- nothing changes
-  keeps-same : (old new : Book D) → Sound old → new ≡ old → Keeps old [] new
+  pub keeps-same : (old new : Book D) → Sound old → new ≡ old → Keeps old [] new
   keeps-same old new s p = keeps-again old new old.again s (p ∙ ap (λ n. record old { spare = n }) (sym (ap (λ (b : Book D). b.spare) p)))
 
   pub keeps-arrive : (old new : Book D) (r : Piece) → Sound old → r.name.seq ≡ arrived_of r.name.task old.trace + 1 →

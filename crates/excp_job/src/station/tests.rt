@@ -1,7 +1,7 @@
 //! Calls of a book over a disk: programs resumed a command at a time, purges, closes and resets.
 
-ghost use Rattle.std.specs.Prelude.{◌≡◌, ◌≤◌};
-ghost use Rattle.unit_book.specs.Trace.{arrivals};
+ghost use Rattle.std.specs.Prelude.{◌≤◌, IfSome};
+ghost use Rattle.excp_job.specs.Counts.{IsNext};
 
 use super::*;
 use ckd_disk::{Disk, Geometry, InitialRecord};
@@ -27,55 +27,22 @@ const IMAGE: [u8; 104] = [
 /// The most commands of a program.
 const WHOLE_PROGRAM: u32 = 4097;
 
-fn start(book: &mut UnitBook<UnitDevice>) -> Result<Starting, AllocError>
-    ensures { arrivals book.new.trace ≡ arrivals book.old.trace }
-{
-    match book.start() {
-        Ok(answer) => Ok(answer),
-        Err(error) => Err(error),
-    }
+fn start(station: &mut Station) -> Result<Starting, AllocError> {
+    station.book.start()
 }
 
-fn run(book: &mut UnitBook<UnitDevice>, max: u32) -> Result<Running, AllocError>
+fn run(station: &mut Station, max: u32) -> Result<Running, AllocError>
     requires { 1 ≤ max }
-    ensures { arrivals book.new.trace ≡ arrivals book.old.trace }
 {
-    match book.run(max) {
-        Ok(answer) => Ok(answer),
-        Err(error) => Err(error),
-    }
+    station.book.run(max)
 }
 
-fn interrupt(book: &mut UnitBook<UnitDevice>) -> Result<Interruption, AllocError>
-    ensures { arrivals book.new.trace ≡ arrivals book.old.trace }
-{
-    match book.interrupt() {
-        Ok(answer) => Ok(answer),
-        Err(error) => Err(error),
-    }
+fn interrupt(station: &mut Station) -> Result<Interruption, AllocError> {
+    station.book.interrupt()
 }
 
-impl Station {
-    fn start(&mut self) -> Result<Starting, AllocError> {
-        start(&mut self.book)
-    }
-
-    fn run(&mut self, max: u32) -> Result<Running, AllocError>
-        requires { 1 ≤ max }
-    {
-        run(&mut self.book, max)
-    }
-
-    fn interrupt(&mut self) -> Result<Interruption, AllocError> {
-        interrupt(&mut self.book)
-    }
-}
-
-/// A station for so many requests, whose DCBs 1 and 2 are open on the one track of the disk, with these faults.
-fn station(alloc: Global, capacity: usize, faults: &[DeviceFault]) -> Result<Station, AllocError>
-    requires some { 1 ≤ capacity }
-    requires few { capacity ≤ 65536 }
-{
+/// A disk of one track with one record, with these faults.
+fn disk(alloc: Global, faults: &[DeviceFault]) -> Result<Disk, AllocError> {
     let geometry = Geometry {
         cylinders: 1,
         heads: 1,
@@ -90,9 +57,15 @@ fn station(alloc: Global, capacity: usize, faults: &[DeviceFault]) -> Result<Sta
         key: Vec::new(alloc),
         content,
     }];
-    let Ok(disk) = Disk::mount(alloc, geometry, &records, faults) else {
-        return Err(AllocError);
-    };
+    Disk::mount(alloc, geometry, &records, faults).map_err(|_| AllocError)
+}
+
+/// A station for so many requests, whose DCBs 1 and 2 are open on the one track of the disk, with these faults.
+fn station(alloc: Global, capacity: usize, faults: &[DeviceFault]) -> Result<Station, AllocError>
+    requires some { 1 ≤ capacity }
+    requires few { capacity ≤ 65536 }
+{
+    let disk = disk(alloc, faults)?;
     let Ok(mut station) = Station::new(alloc, UnitDevice::Disk(disk), 0, capacity) else {
         return Err(AllocError);
     };
@@ -106,19 +79,23 @@ fn station(alloc: Global, capacity: usize, faults: &[DeviceFault]) -> Result<Sta
     Ok(station)
 }
 
-/// The next request of a task for a DCB arrives, if the book takes it; it is unrelated.
-fn issue(alloc: Global, station: &mut Station, task: u16, dcb: u8) -> Result<Name, LineFault> {
-    let name = station.next_name(task)?;
+/// The next request of a task for a DCB, unrelated.
+fn request(alloc: Global, station: &Station, task: u16, dcb: u8) -> Option<Request>
+    ensures { IfSome result (λ request. IsNext request.name station.now.trace) }
+{
+    let name = station.next_name(task).ok()?;
     let mut image = IMAGE;
     image[23] = dcb;
-    let Ok(area) = Area::new(alloc, 0x1000, &image) else {
-        return Err(LineFault::NoMemory);
-    };
-    match Request::new(alloc, name, 0, u16::from(dcb), 0x1000, area) {
-        Ok(request) => station.issue(request)?,
-        Err(_) => return Err(LineFault::NoMemory),
-    }
-    Ok(name)
+    let area = Area::new(alloc, 0x1000, &image).ok()?;
+    Request::new(alloc, name, 0, u16::from(dcb), 0x1000, area).ok()
+}
+
+/// It arrives, if the book takes it.
+fn issue(alloc: Global, station: &mut Station, task: u16, dcb: u8) -> Option<Name> {
+    let request = request(alloc, station, task, dcb)?;
+    let name = request.name();
+    station.issue(request).ok()?;
+    Some(name)
 }
 
 /// The name of a request of task 0.
@@ -142,7 +119,7 @@ fn expect_end<R: Abort>(rt: &R, station: &mut Station, commands: u32) {
         commands,
         pending: true,
     };
-    assert_eq!(rt; station.run(WHOLE_PROGRAM), Ok(ran));
+    assert_eq!(rt; run(station, WHOLE_PROGRAM), Ok(ran));
 }
 
 /// Asserts that the next posted value has this name, code, CSW and sense.

@@ -2,43 +2,53 @@
 
 use super::{BEHIND, DISK, EXCP, IOB, OUTPUT, READ, SEARCH, expect_lines, joined, printed};
 use crate::fault::Fault;
+use std::process::Abort;
 use std::test::Fail;
 
-/// Channel programs behind the search, as far as the buffer, and how the post of each begins and what it shows.
-const PROGRAMS: [(&str, &str); 14] = [
-    // reads one record
-    (
-        "0600106000000004 0000000000000000 0000000001000000 0000000000000000 0000000000000000",
-        "7F 001048 0C00 0000 0000 C1C2C3C4",
-    ),
-    // incorrect length, and its suppression
-    (
-        "0600106000000008 0000000000000000 0000000001000000 0000000000000000 0000000000000000",
-        "41 001048 0C40 0004 0000 C1C2C3C4",
-    ),
-    (
-        "0600106020000008 0000000000000000 0000000001000000 0000000000000000 0000000000000000",
-        "7F 001048 0C00 0004 0000 C1C2C3C4",
-    ),
-    // no record found
-    (
-        "0600106000000004 0000000000000000 0000000009000000 0000000000000000 0000000000000000",
-        "41 001038 0E00 0005 0008 00000000",
-    ),
-    // a data chain ends where its bytes are used up
-    (
-        "0600106080000002 0000106200000002 0000000001000000 0000000000000000 0000000000000000",
-        "7F 001050 0C00 0000 0000 C1C2C3C4",
-    ),
-    (
-        "06001060A0000002 0000106200000006 0000000001000000 0000000000000000 0000000000000000",
-        "41 001050 0C40 0004 0000 C1C2C3C4",
-    ),
-    // chain data shows length, whatever SLI says
-    (
-        "06001060A0000008 0000106000000001 0000000001000000 0000000000000000 0000000000000000",
-        "41 001048 0C40 0004 0000 C1C2C3C4",
-    ),
+mod rows;
+
+/// Asserts how a program behind the search, as far as the buffer, is posted and what it shows.
+fn expect_behind_a_search<R: Abort + AllocGlobal>(
+    rt: &R,
+    program: &'static str,
+    post: &'static str,
+) -> Result<(), Fail> {
+    expect_lines(
+        rt,
+        &[DISK, OUTPUT, IOB, SEARCH, program, EXCP],
+        &["post 0 0 1 ", post, "\nend 1\n"],
+    )
+}
+
+/// Asserts how a whole program from X'1030', 56 bytes, is posted and what it shows.
+fn expect_whole<R: Abort + AllocGlobal>(
+    rt: &R,
+    program: &'static str,
+    post: &'static str,
+) -> Result<(), Fail> {
+    expect_lines(
+        rt,
+        &[DISK, OUTPUT, IOB, program, EXCP],
+        &["post 0 0 1 ", post, "\nend 1\n"],
+    )
+}
+
+/// Asserts how the read of the record is posted and what it shows, with these set-up lines for the disk and the DCB.
+fn expect_read<R: Abort + AllocGlobal>(
+    rt: &R,
+    disk: &'static str,
+    rest: &'static str,
+    post: &'static str,
+) -> Result<(), Fail> {
+    expect_lines(
+        rt,
+        &[disk, rest, IOB, SEARCH, READ, BEHIND, EXCP],
+        &["post 0 0 1 ", post, "\nend 1\n"],
+    )
+}
+
+/// Further programs behind the search, and how the post of each begins and what it shows.
+const PROGRAMS: [(&str, &str); 7] = [
     // SKIP leaves storage
     (
         "0600106090000002 0000106200000002 0000000001000000 0000000000000000 0000000000000000",
@@ -77,41 +87,17 @@ const PROGRAMS: [(&str, &str); 14] = [
 #[test]
 fn programs_behind_a_search(rt: HostRuntime) -> Result<(), Fail> {
     for (program, post) in PROGRAMS {
-        expect_lines(
-            &rt,
-            &[DISK, OUTPUT, IOB, SEARCH, program, EXCP],
-            &["post 0 0 1 ", post, "\nend 1\n"],
-        )?;
+        expect_behind_a_search(&rt, program, post)?;
     }
     Ok(())
 }
 
-/// Whole channel programs from X'1030', 56 bytes.
-const WHOLE: [(&str, &str); 9] = [
-    // a transfer first
-    (
-        "0800103800000000 0000000000000000 0000000000000000 0000000000000000 0000000000000000 0000000000000000 0000000000000000",
-        "41 001038 0020 0000 0000 00000000",
-    ),
-    // the fetch limit ends a loop
-    (
-        "0300000060000001 0800103000000000 0000000000000000 0000000000000000 0000000000000000 0000000000000000 0000000000000000",
-        "41 001038 0020 0000 0000 00000000",
-    ),
+/// Further whole programs.
+const WHOLE: [(&str, &str); 5] = [
     // the seventeenth CCW of a data chain
     (
         "0300000080000001 0800103000000000 0000000000000000 0000000000000000 0000000000000000 0000000000000000 0000000000000000",
         "41 001038 0020 0000 0000 00000000",
-    ),
-    // a search argument of zeros finds R0
-    (
-        "3100105000000005 0000000000000000 0000000000000000 0000000000000000 0000000000000000 0000000000000000 0000000000000000",
-        "7F 001038 4C00 0000 0000 00000000",
-    ),
-    // a seek under the file mask
-    (
-        "0700105000000006 0000000000000000 0000000000000000 0000000000000000 0000000000000000 0000000000000000 0000000000000000",
-        "41 001038 0E00 0006 0004 00000000",
     ),
     // no-operation, with and without the flag for indirect addressing
     (
@@ -137,11 +123,7 @@ const WHOLE: [(&str, &str); 9] = [
 #[test]
 fn whole_programs(rt: HostRuntime) -> Result<(), Fail> {
     for (program, post) in WHOLE {
-        expect_lines(
-            &rt,
-            &[DISK, OUTPUT, IOB, program, EXCP],
-            &["post 0 0 1 ", post, "\nend 1\n"],
-        )?;
+        expect_whole(&rt, program, post)?;
     }
     Ok(())
 }
@@ -165,45 +147,6 @@ fn a_program_at_the_top(rt: HostRuntime) -> Result<(), Fail> {
         ],
         &["post 0 0 1 41 000008 0020 0000 0000 0300000060000001\nend 1\n"],
     )
-}
-
-/// Set-up lines in place of the disk or the DCB, and how the post of the read begins and what it shows.
-const SETUPS: [(&str, &str, &str); 4] = [
-    // an empty data area
-    (
-        "tasks 1\ndisk 0 0 1 1 40\nrec 0 0 0 1 - -\n",
-        OUTPUT,
-        "41 001048 0D00 0004 0000 00000000",
-    ),
-    // a channel-data check is tried again, a channel-control check is not
-    (
-        DISK,
-        "fault 0 1 00 08 0000\nopen 0 out 18000000000000000000000000000001\n",
-        "7F 001048 0C00 0000 0000 C1C2C3C4",
-    ),
-    (
-        DISK,
-        "fault 0 1 00 04 0000\nopen 0 out 18000000000000000000000000000001\n",
-        "41 001038 0004 0005 0000 00000000",
-    ),
-    // command reject is not tried again
-    (
-        DISK,
-        "fault 0 1 0E 00 8000\nopen 0 out 18000000000000000000000000000001\n",
-        "41 001038 0E00 0005 8000 00000000",
-    ),
-];
-
-#[test]
-fn set_ups(rt: HostRuntime) -> Result<(), Fail> {
-    for (disk, rest, post) in SETUPS {
-        expect_lines(
-            &rt,
-            &[disk, rest, IOB, SEARCH, READ, BEHIND, EXCP],
-            &["post 0 0 1 ", post, "\nend 1\n"],
-        )?;
-    }
-    Ok(())
 }
 
 #[test]

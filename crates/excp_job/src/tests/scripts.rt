@@ -8,7 +8,7 @@ use std::io::{Read, Write};
 use std::test::Fail;
 
 /// Broken scripts, each with the line of its fault.
-const BROKEN: [(&str, usize, FaultName); 17] = [
+const BROKEN: [(&str, usize, FaultName); 14] = [
     ("", 0, FaultName::Order),
     ("tasks 1\n", 0, FaultName::Order),
     ("tasks\n", 1, FaultName::Words),
@@ -35,26 +35,28 @@ const BROKEN: [(&str, usize, FaultName); 17] = [
         FaultName::Medium,
     ),
     (
-        "tasks 1\ndisk 0 0 1 1 40\nopen 0 out 18000000000000000000000000000002\n",
-        3,
-        FaultName::Extent,
-    ),
-    (
-        "tasks 1\ndisk 0 0 1 1 40\nopen 0 out 18000000000000000000000100000001\n",
-        3,
-        FaultName::Extent,
-    ),
-    (
-        "tasks 1\ndisk 0 0 1 1 40\nopen 0 in\n",
-        3,
-        FaultName::Extent,
-    ),
-    (
         "tasks 1\ndisk 0 0 1 1 40\narea 0 001004 00\n",
         3,
         FaultName::Area,
     ),
 ];
+
+/// Scripts whose third line opens a DCB with extents that are not the device's: two tracks for one, a cylinder that
+/// is not there, none, and one on a tape.
+const EXTENTS: [&str; 4] = [
+    "tasks 1\ndisk 0 0 1 1 40\nopen 0 out 18000000000000000000000000000002\n",
+    "tasks 1\ndisk 0 0 1 1 40\nopen 0 out 18000000000000000000000100000001\n",
+    "tasks 1\ndisk 0 0 1 1 40\nopen 0 in\n",
+    "tasks 1\ntape 0 0 12\nopen 0 in 18000000000000000000000000000001\n",
+];
+
+#[test]
+fn extent_faults(rt: HostRuntime) -> Result<(), Fail> {
+    for text in EXTENTS {
+        expect_fault(&rt, &[text], 3, FaultName::Extent)?;
+    }
+    Ok(())
+}
 
 /// The stored script with another last line.
 const BROKEN_EXCP: [(&str, FaultName); 6] = [

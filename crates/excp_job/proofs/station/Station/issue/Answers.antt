@@ -7,13 +7,13 @@ use Rattle.unit_book.proofs.Counting.{arrivals-after_dooms}
 use Rattle.excp_job.proofs.Counting.{counts-same, counts-arrive}
 use Rattle.excp_job.proofs.station.Station.issue.Goals as goal
 
-pub invariant_of-self : goal.invariant_of-self
-invariant_of-self c =
+pub invariant_of-self-2 : goal.invariant_of-self-2
+invariant_of-self-2 c =
     let r = c.args.request in
     let old = c.self.inside.book in
     let next = rw (← c.self.view_is) at c.requires in
     let same : arrivals c.arrive.new.self.trace ≡ arrivals (Arrive r ∷ old.trace) =
-    ap (λ (b : Book UnitDevice). arrivals b.trace) c.in-Ok.ensures.ok ∙ arrivals-after_dooms (Arrive r ∷ old.trace) in
+    ap (λ (b : Book UnitDevice). arrivals b.trace) c.in_ok-arrive.ensures.ok ∙ arrivals-after_dooms (Arrive r ∷ old.trace) in
     rw (c.from.ensures, c.name-name.ensures)
     (counts-same (slice_set c.self.inside.issued r.name.task r.name.seq) (Arrive r ∷ old.trace) c.arrive.new.self.trace same
     (counts-arrive c.self.inside.issued r old.trace c.self.told c.self.invariant next))

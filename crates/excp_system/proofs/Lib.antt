@@ -1,0 +1,6 @@
+pub mod Places
+pub mod Fans
+pub mod Deals
+pub mod Makes
+pub mod Balances
+pub mod Units

@@ -1,0 +1,14 @@
+use Rattle.unit_book.proofs.Kept.{either_way}
+use Rattle.unit_book.proofs.WorldBooks.{Sound, keeps-open, keeps-again}
+use Rattle.excp_system.proofs.Units.{unit-keeps}
+use Rattle.excp_system.proofs.unit.UnitState.open.Goals as goal
+
+pub invariant_of-self : goal.invariant_of-self
+invariant_of-self g c =
+    let meaning = g.D.Device.meaning in
+    let old = c.self.inside.book in
+    let new = c.open.new.self in
+    let sound : Sound meaning old = (c.holds.ensures.legal, c.holds.ensures.settled) in
+    unit-keeps g.D.Device.meaning g.S.Site.rows c.self.inside.unit old c.self.inside.intake c.self.inside.back c.self.inside.notice c.self.invariant c.holds.ensures.given new
+    (either_way c.open.result c.open.ensures.ok c.open.ensures.err (λ dcb h. keeps-open meaning old new dcb c.args.input c.args.extents.now sound h)
+    (λ same. keeps-again meaning old new old.again sound same))

@@ -1,0 +1,35 @@
+use Rattle.std.proofs.Common.{◌≡◌, ◌<◌, ◌++◌, ◌+◌, [], ◌∷◌, length, sym, ap, ◌∙◌, subst, arith}
+use Rattle.request_piece.specs.declared.piece.Piece.{Piece}
+use Rattle.unit_book.specs.Book.{Book}
+use Rattle.unit_book.specs.Trace.{arrived_of}
+use Rattle.unit_book.proofs.Kept.{keeps-then, sound-kept}
+use Rattle.unit_book.proofs.WorldBooks.{Keeps, Sound, keeps-arrive, keeps-again}
+use Rattle.fifo_row.specs.Ends.{IsNext, Taking}
+use Rattle.fifo_row.specs.Lists.{of}
+use Rattle.excp_system.specs.Sites.{RequestFact, task_of}
+use Rattle.excp_system.proofs.Units.{unit-takes}
+use Rattle.excp_system.proofs.unit.UnitState.take.Goals as goal
+
+pub invariant_of-self-in-Some : goal.invariant_of-self-in-Some
+invariant_of-self-in-Some g c =
+    let meaning = g.D.Device.meaning in
+    let s = g.S.Site.rows in
+    let old = c.self.inside.book in
+    let mid = c.reserve.new.self in
+    let new = c.arrive.new.self in
+    let taker = c.self.inside.intake in
+    let is = c.self.invariant.intake_is in
+    let r = c.into_request-request.result in
+    let same : r ≡ c.in-Some.sent = c.into_request-request.ensures in
+    let next : IsNext task_of RequestFact taker r = subst (IsNext task_of RequestFact taker) (sym same) c.in-Some.ensures.next in
+    let sound : Sound meaning old = (c.holds.ensures.legal, c.holds.ensures.settled) in
+    let reserved : Keeps meaning old [] mid = keeps-again meaning old mid old.again sound c.in_ok-reserve.ensures.book in
+    let counted : length (of task_of r.name.task taker.taken) ≡ arrived_of r.name.task mid.trace =
+    ap (λ (t : Taking Piece). length (of task_of r.name.task t.taken)) is
+    ∙ ap (λ (b : Book _). arrived_of r.name.task b.trace) (sym c.in_ok-reserve.ensures.book) in
+    let number : r.name.seq ≡ arrived_of r.name.task mid.trace + 1 = omega (arith, next.lawful.0, counted) in
+    let kept = keeps-then meaning old mid new [] (r ∷ []) reserved (keeps-arrive meaning mid new r (sound-kept meaning old mid [] reserved) number c.in-Ok.ensures.ok) in
+    unit-takes meaning s c.self.inside.unit old taker c.self.inside.back c.self.inside.notice c.self.invariant c.holds.ensures.given new r c.take.new.self kept
+    (subst (λ n. r.name.task < n) (ap (λ (t : Taking Piece). t.senders) is) next.of_row)
+    (next.lawful.1 ∙ ap (λ (t : Taking Piece). t.tag) is)
+    (c.in-Some.ensures.taken ∙ ap (λ (x : Piece). record taker { taken = taker.taken ++ x ∷ [] }) (sym same))

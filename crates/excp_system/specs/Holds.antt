@@ -1,0 +1,51 @@
+-- WHAT A HOLD OF A UNIT'S LOCK that uses a row does, and answers (profile). The other holds are the calls of its book.
+use Rattle.std.specs.Prelude.{◌≡◌, ◌<◌, ◌≤◌, ◌+◌, [], ◌∷◌, ◌++◌, Some, slice_get, drop}
+use Rattle.device_port.specs.Meaning.{Meaning}
+use Rattle.request_piece.specs.PostedState.{PostedState}
+use Rattle.request_piece.specs.declared.piece.Name.{Name}
+use Rattle.request_piece.specs.declared.piece.Piece.{Piece}
+use Rattle.unit_book.specs.declared.entry.Entry.TheVariants.{Arrive}
+use Rattle.unit_book.specs.Answers.{Posts}
+use Rattle.unit_book.specs.Book.{Book, given, held}
+use Rattle.unit_book.specs.Dooms.{after_dooms}
+use Rattle.unit_book.specs.Trace.{arrived_of}
+use Rattle.fifo_row.specs.Lists.{of}
+use Rattle.fifo_row.specs.Steps.{WasFull}
+use Rattle.excp_system.specs.declared.answer.Intake.{Intake}
+use Rattle.excp_system.specs.declared.answer.Intake.TheVariants as intake
+use Rattle.excp_system.specs.declared.answer.Delivery.{Delivery}
+use Rattle.excp_system.specs.declared.answer.Delivery.TheVariants as delivery
+use Rattle.excp_system.specs.Sites.{SiteRows, NoFact, posts, unit_of, for_task, end_of}
+use Rattle.excp_system.specs.States.{Locked}
+
+module _ {D : Type 0} (meaning : Meaning D) (s : SiteRows) where
+  -- the first request of the intake row arrives at the book: it is the next of its task, and for this unit
+  pub record Takes (old : Locked D) (name : Name) (new : Locked D) : Type 0 where
+    pub request : Piece
+    pub named : request.name ≡ name
+    pub of_task : request.name.task < s.tasks
+    pub of_unit : request.unit ≡ old.unit
+    pub next : request.name.seq ≡ arrived_of request.name.task old.book.trace + 1
+    pub arrives : Posts meaning old.book (after_dooms (Arrive request ∷ old.book.trace)) old.book.again new.book
+
+  -- what `take` answers: held where the book has no room, quiet where the row was empty
+  abbrev pub TakesIn : Locked D → Intake → Locked D → Type 0
+  TakesIn old intake.Held new = (old.book.capacity ≤ held old.book) × (new ≡ old)
+  TakesIn old intake.Quiet new = (held old.book < old.book.capacity) × (new ≡ record old { book = record old.book { spare = new.book.spare } })
+  TakesIn old (intake.Took name) new = (held old.book < old.book.capacity) × Takes old name new × (new.unit ≡ old.unit)
+
+  -- the first posted value that is out
+  pub record IsFirst (b : Book D) (name : Name) (value : PostedState) : Type 0 where
+    pub first : slice_get b.out 0 ≡ Some value
+    pub named : value.name ≡ name
+    pub of_task : value.name.task < s.tasks
+
+  -- what `deliver` answers: quiet where nothing is out, full where the post row of the task was
+  abbrev pub Delivers : Locked D → Delivery → Locked D → Type 0
+  Delivers old delivery.Quiet new = (old.book.out ≡ []) × (new ≡ old)
+  Delivers old (delivery.Delivered name) new =
+      (value : PostedState) × IsFirst old.book name value × (new ≡ record old { book = record old.book { out = drop 1 old.book.out } })
+      × (given meaning new.book ≡ given meaning old.book ++ value ∷ [])
+  Delivers old (delivery.Full name) new =
+      (value : PostedState) × IsFirst old.book name value × (new ≡ old)
+      × WasFull unit_of NoFact (end_of (posts s) old.unit value.name.task (of for_task value.name.task (given meaning old.book)))

@@ -1,0 +1,79 @@
+-- ROWS THAT NOBODY USES YET, and what is made of them (profile).
+use Rattle.std.specs.Prelude.{◌≡◌, ◌≤◌, ℕ, List, [], length, Some, true, slice_get, slice_index_or, replicate}
+use Rattle.std.specs.List.{list_all}
+use Rattle.unit_book.specs.Book.{Book}
+use Rattle.unit_book.specs.Trace.{is_opening}
+use Rattle.fifo_row.specs.Ends.{Fresh, Taking, no_name, unseated}
+use Rattle.excp_system.specs.Sites.{SiteRows, Reached, taker_of}
+use Rattle.excp_system.specs.Fans.{FanState}
+use Rattle.excp_system.specs.States.{TaskState, HandlerState}
+
+-- the rows of a system: how many tasks and units there are, and its rows, each at the place of its tag
+pub record RowsState : Type 0 where
+  pub tasks : ℕ
+  pub units : ℕ
+  pub intake_capacity : ℕ
+  pub post_capacity : ℕ
+  pub intake : List Fresh
+  pub post : List Fresh
+  pub notice : List Fresh
+
+abbrev pub no_row : Fresh
+no_row = unseated no_name 0 0 0
+
+-- the row at a place
+abbrev pub row_at : List Fresh → ℕ → Fresh
+row_at rows k = slice_index_or rows k no_row
+
+-- the site that these rows make
+abbrev pub site_of : RowsState → SiteRows
+site_of v = record {
+  tasks = v.tasks;
+  units = v.units;
+  intake_capacity = v.intake_capacity;
+  post_capacity = v.post_capacity;
+  intake = λ unit. (row_at v.intake unit).row;
+  post = λ task. (row_at v.post task).row;
+  notice = λ isc. (row_at v.notice isc).row;
+}
+
+-- so many rows that gave no seats yet, each with its place for its tag
+pub record ArePlain (capacity count senders : ℕ) (rows : List Fresh) : Type 0 where
+  pub count_is : length rows ≡ count
+  pub each : (k : ℕ) (f : Fresh) → slice_get rows k ≡ Some f → f ≡ unseated f.row capacity k senders
+
+-- rows that were just made
+pub record AreFresh (v : RowsState) : Type 0 where
+  pub intakes : ArePlain v.intake_capacity v.units v.tasks v.intake
+  pub posts : ArePlain v.post_capacity v.tasks v.units v.post
+  pub notices : ArePlain v.units 8 v.units v.notice
+
+-- each row is the one that is reached at its place, and gave no seats yet
+abbrev pub AreRows : Reached → ℕ → List Fresh → Type 0
+AreRows r senders rows = (k : ℕ) (f : Fresh) → slice_get rows k ≡ Some f → f ≡ unseated (r.row k) r.capacity k senders
+
+-- so many senders' ends of the first `rows` rows, into which nothing was sent
+pub record AreFans {I : Type 0} (count rows : ℕ) (fans : List (FanState I)) : Type 0 where
+  pub count_is : length fans ≡ count
+  pub each : (t : ℕ) (f : FanState I) → slice_get fans t ≡ Some f → f ≡ record { number = t; sent = replicate rows [] }
+
+-- the takers of so many rows, which have taken nothing
+pub record AreTakers {I : Type 0} (r : Reached) (senders count : ℕ) (takers : List (Taking I)) : Type 0 where
+  pub count_is : length takers ≡ count
+  pub each : (k : ℕ) (w : Taking I) → slice_get takers k ≡ Some w → w ≡ taker_of r senders k []
+
+-- a book for each unit, in which nothing happened but openings of DCBs, on one of the eight subclasses
+pub record AreBooks {D : Type 0} (units : ℕ) (books : List (Book D)) : Type 0 where
+  pub count_is : length books ≡ units
+  pub opened : (unit : ℕ) (b : Book D) → slice_get books unit ≡ Some b → list_all is_opening b.trace ≡ true
+  pub isc : (unit : ℕ) (b : Book D) → slice_get books unit ≡ Some b → b.isc ≤ 7
+
+-- tasks that have sent and collected nothing, each at the place of its number
+pub record AreTasks (count units : ℕ) (tasks : List TaskState) : Type 0 where
+  pub count_is : length tasks ≡ count
+  pub each : (t : ℕ) (w : TaskState) → slice_get tasks t ≡ Some w → w ≡ record { number = t; sent = replicate units []; got = [] }
+
+-- the handlers of the eight subclasses, each at the place of its subclass, which took nothing
+pub record AreHandlers (handlers : List HandlerState) : Type 0 where
+  pub count_is : length handlers ≡ 8
+  pub each : (isc : ℕ) (h : HandlerState) → slice_get handlers isc ≡ Some h → h ≡ record { isc = isc; taken = [] }

@@ -1,0 +1,56 @@
+//! What workers pass before each call, and how they are stopped.
+
+use std::sync::atomic::{AtomicBool, Ordering};
+
+/// The call that a worker is about to make.
+#[derive(Clone, Copy, PartialEq, Eq, Debug)]
+pub enum Point {
+    Take,
+    Start,
+    Run,
+    Interrupt,
+    Deliver,
+}
+
+/// What a worker passes, under the unit's lock, before each call: a gate may watch it, or hold it up.
+pub trait Gate {
+    fn pass(&self, unit: u16, point: Point);
+}
+
+/// A gate that holds nobody up.
+pub struct OpenGate;
+
+impl Gate for OpenGate {
+    fn pass(&self, _unit: u16, _point: Point) {}
+}
+
+/// Tells workers to stop.
+#[derive(Drop)]
+pub struct Stop {
+    raised: AtomicBool,
+}
+
+impl Stop {
+    /// Workers go on.
+    pub fn new() -> Stop {
+        Stop {
+            raised: AtomicBool::new(false),
+        }
+    }
+
+    /// Workers end at their next turn.
+    pub fn raise(&self) {
+        self.raised.store(true, Ordering::SeqCst);
+    }
+
+    /// Whether workers are to end.
+    pub fn raised(&self) -> bool {
+        self.raised.load(Ordering::SeqCst)
+    }
+}
+
+impl Default for Stop {
+    fn default() -> Stop {
+        Stop::new()
+    }
+}

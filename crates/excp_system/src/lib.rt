@@ -1,0 +1,34 @@
+//! Units under locks, the rows between them and the tasks, and the workers that serve them.
+//!
+//! A request goes from its task's end of the unit's intake row into the unit's book, and what it was posted with goes
+//! from the book through the task's post row back. What lies under a unit's lock keeps that the book's arrivals are
+//! what was taken from the intake row, and that each task was sent what the book gave of its posted values.
+#![tactic(auto)]
+
+mod answer;
+mod balance;
+mod fan;
+mod gate;
+mod isc;
+mod item;
+pub mod laws;
+mod opening;
+mod rows;
+mod site;
+mod system;
+mod task;
+mod unit;
+mod workers;
+
+pub use answer::{Delivery, Intake, UnitPurging};
+pub use balance::drained;
+pub use fan::Fan;
+pub use gate::{Gate, OpenGate, Point, Stop};
+pub use isc::IscTaker;
+pub use item::{Notice, Returned, Sent};
+pub use rows::Rows;
+pub use site::{Intakes, Posts, Reach, Site};
+pub use system::System;
+pub use task::Task;
+pub use unit::UnitState;
+pub use workers::{serve_channel, serve_isc};

@@ -1,0 +1,136 @@
+//! The rows of a system.
+
+ghost use Rattle.std.specs.Prelude.{◌≡◌, ◌<◌, ◌≤◌, IfOk};
+ghost use Rattle.excp_system.specs.Opening.{AreFans, AreFresh, ArePlain, AreTakers, site_of};
+ghost use Rattle.excp_system.specs.Sites.{intakes, notices, posts};
+
+use crate::fan::Fan;
+use crate::item::{Notice, Returned, Sent};
+use crate::opening::{new_fans, seat_rows};
+use crate::site::{Intakes, Notices, Posts, Site};
+use fifo_row::{Item, Row, Taker};
+use std::alloc::{AllocError, Global};
+use std::marker::Model;
+
+/// How many interruption subclasses there are (SA22-7832, "Interruption Subclass").
+pub(crate) const SUBCLASSES: u16 = 8;
+
+/// The rows of a system: an intake row for each unit, a post row for each task, and a notice row for each interruption
+/// subclass. A row's tag is the number of that unit, task or subclass.
+#[derive(Drop)]
+pub struct Rows {
+    tasks: u16,
+    units: u16,
+    intake_capacity: usize,
+    post_capacity: usize,
+    intake: Vec<Row<Sent>>,
+    post: Vec<Row<Returned>>,
+    notice: Vec<Row<Notice>>,
+}
+
+impl Model for Rows {
+    ghost use Rattle.excp_system.specs.Opening.{RowsState};
+
+    ghost Value = { RowsState };
+
+    ghost view = { λ r. record {
+      tasks = r.tasks;
+      units = r.units;
+      intake_capacity = r.intake_capacity;
+      post_capacity = r.post_capacity;
+      intake = r.intake.items;
+      post = r.post.items;
+      notice = r.notice.items;
+    } };
+}
+
+impl Rows {
+    /// The rows for so many tasks and units (1 to 64 each), with room for so many requests in each intake row and so
+    /// many posted values in each post row (1 to 65,536 each). A notice row has room for a notice of each unit.
+    pub fn new(
+        alloc: Global,
+        tasks: u16,
+        units: u16,
+        intake: usize,
+        post: usize,
+    ) -> Result<Rows, AllocError>
+        requires tasks { (1 ≤ tasks) × (tasks ≤ 64) }
+        requires units { (1 ≤ units) × (units ≤ 64) }
+        requires intake { (1 ≤ intake) × (intake ≤ 65536) }
+        requires post { (1 ≤ post) × (post ≤ 65536) }
+        ensures tasks { IfOk result (λ rows. rows.tasks ≡ tasks) }
+        ensures units { IfOk result (λ rows. rows.units ≡ units) }
+        ensures intake { IfOk result (λ rows. rows.intake_capacity ≡ intake) }
+        ensures post { IfOk result (λ rows. rows.post_capacity ≡ post) }
+        ensures fresh { IfOk result AreFresh }
+    {
+        Ok(Rows {
+            tasks,
+            units,
+            intake_capacity: intake,
+            post_capacity: post,
+            intake: new_rows(alloc, units, tasks, intake)?,
+            post: new_rows(alloc, tasks, units, post)?,
+            notice: new_rows(alloc, SUBCLASSES, units, usize::from(units))?,
+        })
+    }
+
+    /// The ends of these rows, which are those of the site.
+    pub(crate) fn seats<S: Site>(&mut self, alloc: Global) -> Result<Ends<'_, S>, AllocError>
+        requires site { S.rows ≡ site_of self.old }
+        requires fresh { AreFresh self.old }
+    {
+        let tasks = self.tasks;
+        let units = self.units;
+        let mut out = new_fans::<Sent, Intakes<S>>(alloc, tasks)?;
+        let intake = seat_rows(alloc, &mut self.intake, tasks, &mut out)?;
+        let mut back = new_fans::<Returned, Posts<S>>(alloc, units)?;
+        let collected = seat_rows(alloc, &mut self.post, units, &mut back)?;
+        let mut notice = new_fans::<Notice, Notices<S>>(alloc, units)?;
+        let handled = seat_rows(alloc, &mut self.notice, units, &mut notice)?;
+        Ok(Ends {
+            out,
+            collected,
+            intake,
+            back,
+            notice,
+            handled,
+        })
+    }
+}
+
+/// The ends of all rows of a site, which were not used yet: the tasks' of the intake rows and of their post rows; the
+/// units' of their intake rows, of the post rows and of the notice rows; and the handlers' of the notice rows.
+#[derive(Drop)]
+pub(crate) struct Ends<'r, S: Site> {
+    pub(crate) out: Vec<Fan<'r, Sent, Intakes<S>>>,
+    pub(crate) collected: Vec<Taker<'r, Returned>>,
+    pub(crate) intake: Vec<Taker<'r, Sent>>,
+    pub(crate) back: Vec<Fan<'r, Returned, Posts<S>>>,
+    pub(crate) notice: Vec<Fan<'r, Notice, Notices<S>>>,
+    pub(crate) handled: Vec<Taker<'r, Notice>>,
+    ghost out_are: { AreFans S.rows.tasks S.rows.units out.items },
+    ghost collected_are: { AreTakers (posts S.rows) S.rows.units S.rows.tasks collected.items },
+    ghost intake_are: { AreTakers (intakes S.rows) S.rows.tasks S.rows.units intake.items },
+    ghost back_are: { AreFans S.rows.units S.rows.tasks back.items },
+    ghost notice_are: { AreFans S.rows.units 8 notice.items },
+    ghost handled_are: { AreTakers (notices S.rows) S.rows.units 8 handled.items },
+}
+
+/// So many rows, each with its place for its tag.
+fn new_rows<I: Item + Drop>(
+    alloc: Global,
+    count: u16,
+    senders: u16,
+    capacity: usize,
+) -> Result<Vec<Row<I>>, AllocError>
+    requires senders { 0 < senders }
+    requires capacity { 0 < capacity }
+    ensures { IfOk result (λ rows. ArePlain capacity count senders rows.items) }
+{
+    let mut rows = Vec::with_capacity(alloc, usize::from(count))?;
+    for tag in 0..count {
+        rows.push_reserved(Row::new(alloc, senders, capacity, tag)?);
+    }
+    Ok(rows)
+}

@@ -1,0 +1,216 @@
+//! Units under locks.
+
+#[cfg(test)]
+mod tests;
+
+ghost use Rattle.std.specs.Prelude.{◌≡◌, ◌<◌, ◌≤◌, IfErr, IfOk, vec_capacity, vec_len};
+ghost use Rattle.excp_system.specs.Opening.{AreBooks, AreFans, AreFresh, AreHandlers, AreTakers, AreTasks, site_of};
+ghost use Rattle.excp_system.specs.Sites.{intakes, notices, posts};
+
+use crate::answer::UnitPurging;
+use crate::fan::Fan;
+use crate::isc::IscTaker;
+use crate::item::{Notice, Returned, Sent};
+use crate::rows::{Ends, Rows};
+use crate::site::{Intakes, Notices, Posts, Site};
+use crate::task::Task;
+use crate::unit::UnitState;
+use device_port::Device;
+use fifo_row::Taker;
+use std::alloc::{AllocError, AllocFailed, Global};
+use std::sync::{Mutex, Wait};
+use unit_book::{Mode, Purging, UnitBook};
+
+/// The units of a site, each under its lock.
+#[derive(Drop)]
+pub struct System<'r, S: Site, D: Device> {
+    locks: Vec<Mutex<UnitState<'r, S, D>>>,
+    ghost sized: { vec_len locks ≡ S.rows.units },
+}
+
+impl<'r, S: Site, D: Device> System<'r, S, D> {
+    /// A system over the rows of its site, which gave no ends yet, with a book for each unit, in which nothing happened
+    /// but openings of DCBs; its tasks, in order of number; and the takers of its notices, in order of subclass. Where
+    /// there is no memory the books are handed back, and the rows are only dropped.
+    pub fn new(
+        alloc: Global,
+        rows: &'r mut Rows,
+        books: Vec<UnitBook<D>>,
+    ) -> Result<
+        (System<'r, S, D>, Vec<Task<'r, S>>, Vec<IscTaker<'r, S>>),
+        AllocFailed<Vec<UnitBook<D>>>,
+    >
+        requires site { S.rows ≡ site_of rows.old }
+        requires fresh { AreFresh rows.old }
+        requires books { AreBooks S.rows.units books.items }
+        ensures tasks { IfOk result (λ made. AreTasks S.rows.tasks S.rows.units made.1.items) }
+        ensures handlers { IfOk result (λ made. AreHandlers made.2.items) }
+        ensures handed_back { IfErr result (λ failed. failed.value.items ≡ books.items) }
+    {
+        let Ok((ends, tasks, handlers)) = make_ends(alloc, rows) else {
+            return Err(AllocFailed { value: books });
+        };
+        let Ok(locks) = Vec::with_capacity(alloc, books.len()) else {
+            return Err(AllocFailed { value: books });
+        };
+        let locks = lock_units(books, ends, locks);
+        Ok((System { locks }, tasks, handlers))
+    }
+
+    /// The lock of a unit. It takes no memory, and waits for nobody.
+    pub fn lock_of(&self, unit: u16) -> &Mutex<UnitState<'r, S, D>>
+        requires { unit < S.rows.units }
+    {
+        &self.locks[usize::from(unit)]
+    }
+
+    /// Purges the requests of a task on each unit, in order of number, each under its lock: there is no one moment for
+    /// all units. Answers for each unit what was left, or that there was no memory for it. Where there is none for the
+    /// list, no unit was touched.
+    pub fn purge_task<R: Wait>(
+        &self,
+        rt: &R,
+        alloc: Global,
+        task: u16,
+        mode: Mode,
+    ) -> Result<Vec<UnitPurging>, AllocError>
+        ensures { IfOk result (λ answers. vec_len answers ≡ S.rows.units) }
+    {
+        let count = self.locks.len();
+        let mut answers = Vec::with_capacity(alloc, count)?;
+        for place in 0..count {
+            let answer = match self.locks[place].lock(rt).purge_task(rt, task, mode) {
+                Ok(Purging::Quiet) => UnitPurging::Quiet,
+                Ok(Purging::Active(name)) => UnitPurging::Active(name),
+                Err(AllocError) => UnitPurging::Refused,
+            };
+            answers.push_reserved(answer);
+        }
+        Ok(answers)
+    }
+
+    /// The states of the units, in order of the locks. Where there is no memory the system is handed back.
+    pub fn into_units(
+        self,
+        alloc: Global,
+    ) -> Result<Vec<UnitState<'r, S, D>>, AllocFailed<System<'r, S, D>>>
+        ensures units { IfOk result (λ units. vec_len units ≡ S.rows.units) }
+        ensures handed_back { IfErr result (λ failed. failed.value ≡ self.entry) }
+    {
+        let Ok(mut units) = Vec::with_capacity(alloc, self.locks.len()) else {
+            return Err(AllocFailed { value: self });
+        };
+        for lock in self.locks {
+            units.push_reserved(lock.into_inner());
+        }
+        Ok(units)
+    }
+}
+
+/// The ends of all units of a site, which were not used yet.
+#[derive(Drop)]
+struct UnitEnds<'r, S: Site> {
+    intake: Vec<Taker<'r, Sent>>,
+    back: Vec<Fan<'r, Returned, Posts<S>>>,
+    notice: Vec<Fan<'r, Notice, Notices<S>>>,
+    ghost intake_are: { AreTakers (intakes S.rows) S.rows.tasks S.rows.units intake.items },
+    ghost back_are: { AreFans S.rows.units S.rows.tasks back.items },
+    ghost notice_are: { AreFans S.rows.units 8 notice.items },
+}
+
+/// The ends of the units of these rows, which are those of the site, with its tasks and the takers of its notices.
+fn make_ends<'r, S: Site>(
+    alloc: Global,
+    rows: &'r mut Rows,
+) -> Result<(UnitEnds<'r, S>, Vec<Task<'r, S>>, Vec<IscTaker<'r, S>>), AllocError>
+    requires site { S.rows ≡ site_of rows.old }
+    requires fresh { AreFresh rows.old }
+    ensures tasks { IfOk result (λ made. AreTasks S.rows.tasks S.rows.units made.1.items) }
+    ensures handlers { IfOk result (λ made. AreHandlers made.2.items) }
+{
+    let Ends {
+        out,
+        collected,
+        intake,
+        back,
+        notice,
+        handled,
+    } = rows.seats::<S>(alloc)?;
+    let tasks = make_tasks(alloc, out, collected)?;
+    let handlers = make_handlers(alloc, handled)?;
+    let ends = UnitEnds {
+        intake,
+        back,
+        notice,
+    };
+    Ok((ends, tasks, handlers))
+}
+
+/// The tasks that these ends are of.
+fn make_tasks<'r, S: Site>(
+    alloc: Global,
+    out: Vec<Fan<'r, Sent, Intakes<S>>>,
+    collected: Vec<Taker<'r, Returned>>,
+) -> Result<Vec<Task<'r, S>>, AllocError>
+    requires out { AreFans S.rows.tasks S.rows.units out.items }
+    requires collected { AreTakers (posts S.rows) S.rows.units S.rows.tasks collected.items }
+    ensures { IfOk result (λ tasks. AreTasks S.rows.tasks S.rows.units tasks.items) }
+{
+    let mut tasks = Vec::new(alloc);
+    let mut rest = collected.into_iter();
+    for fan in out {
+        let Some(taker) = rest.next() else {
+            unreachable!()
+        };
+        tasks.push(Task::new(fan.number(), fan, taker))?;
+    }
+    Ok(tasks)
+}
+
+/// The takers of notices that these ends are of.
+fn make_handlers<'r, S: Site>(
+    alloc: Global,
+    handled: Vec<Taker<'r, Notice>>,
+) -> Result<Vec<IscTaker<'r, S>>, AllocError>
+    requires { AreTakers (notices S.rows) S.rows.units 8 handled.items }
+    ensures { IfOk result (λ handlers. AreHandlers handlers.items) }
+{
+    let mut handlers = Vec::new(alloc);
+    let mut isc = 0;
+    for taker in handled {
+        handlers.push(IscTaker::new(isc, taker))?;
+        isc += 1;
+    }
+    Ok(handlers)
+}
+
+/// Puts each book with its unit's ends under a lock. There is room for all locks.
+fn lock_units<'r, S: Site, D: Device>(
+    books: Vec<UnitBook<D>>,
+    ends: UnitEnds<'r, S>,
+    mut locks: Vec<Mutex<UnitState<'r, S, D>>>,
+) -> Vec<Mutex<UnitState<'r, S, D>>>
+    requires books { AreBooks S.rows.units books.items }
+    requires none { vec_len locks ≡ 0 }
+    requires room { S.rows.units ≤ vec_capacity locks }
+    ensures { vec_len result ≡ S.rows.units }
+{
+    let mut intakes = ends.intake.into_iter();
+    let mut backs = ends.back.into_iter();
+    let mut notices = ends.notice.into_iter();
+    for book in books {
+        let Some(intake) = intakes.next() else {
+            unreachable!()
+        };
+        let Some(back) = backs.next() else {
+            unreachable!()
+        };
+        let Some(notice) = notices.next() else {
+            unreachable!()
+        };
+        let notice = notice.into_end(u16::from(book.isc()));
+        let unit = UnitState::new(back.number(), book, intake, back, notice);
+        locks.push_reserved(Mutex::new(unit));
+    }
+    locks
+}

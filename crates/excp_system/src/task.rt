@@ -1,0 +1,135 @@
+//! A task's ends of the rows.
+
+ghost use Rattle.std.specs.Prelude.{◌≡◌, ◌<◌, ◌≤◌, ◌-◌, ◌+◌, ◌^◌, ◌++◌, ◌∷◌, [], length, IfErr, IfNone, IfSome, OnErr, OnOk, slice_set};
+ghost use Rattle.fifo_row.specs.Lists.{of};
+ghost use Rattle.fifo_row.specs.Steps.{WasEmpty, WasFull};
+ghost use Rattle.excp_system.specs.Sites.{NoFact, RequestFact, end_of, intakes, posts, task_of, taker_of, unit_of};
+ghost use Rattle.excp_system.specs.States.{IsTask, sent_by};
+
+use crate::fan::Fan;
+use crate::item::{Returned, Sent};
+use crate::site::{Intakes, Site};
+use fifo_row::{Full, Taker};
+use request_piece::{Name, Posted, Request};
+use std::marker::Model;
+use std::sync::Wait;
+
+/// A task. Contracts see its number, what it sent to each unit, and what it collected.
+#[derive(Drop)]
+pub struct Task<'r, S: Site> {
+    number: u16,
+    out: Fan<'r, Sent, Intakes<S>>,
+    collected: Taker<'r, Returned>,
+}
+
+impl<'r, S: Site> Model for Task<'r, S> {
+    ghost use Rattle.excp_system.specs.States.{TaskState, IsTask};
+
+    ghost Value = { TaskState };
+
+    ghost view = { λ t. record { number = t.number; sent = t.out.sent; got = t.collected.taken } };
+
+    ghost invariant = { λ t. IsTask S.rows (record { number = t.number; sent = t.out.sent; got = t.collected.taken }) t.out t.collected };
+}
+
+impl<'r, S: Site> Task<'r, S> {
+    /// The task with this number and these ends.
+    pub(crate) fn new(
+        number: u16,
+        out: Fan<'r, Sent, Intakes<S>>,
+        collected: Taker<'r, Returned>,
+    ) -> Task<'r, S>
+        requires { IsTask S.rows (record { number = number; sent = out.sent; got = collected.taken }) out collected }
+        ensures { result ≡ record { number = number; sent = out.entry.sent; got = collected.entry.taken } }
+    {
+        Task {
+            number,
+            out,
+            collected,
+        }
+    }
+
+    /// The number of the task. It takes no memory.
+    pub fn number(&self) -> u16
+        ensures { result ≡ self.now.number }
+    {
+        self.number
+    }
+
+    /// How many requests it sent to a unit.
+    pub(crate) fn issued(&self, unit: u16) -> u64
+        requires { unit < S.rows.units }
+        ensures { result ≡ length (sent_by self.now unit) }
+    {
+        self.out.sent_len(unit)
+    }
+
+    /// How many posted values of a unit it collected.
+    pub(crate) fn collected(&self, unit: u16) -> u64
+        requires { unit < S.rows.units }
+        ensures { result ≡ length (of unit_of unit self.now.got) }
+    {
+        self.collected.taken_len(unit)
+    }
+
+    /// The name of the next request to a unit, and none after the last number, 4,294,967,295 (profile). It takes no
+    /// memory.
+    pub fn name(&self, unit: u16) -> Option<Name>
+        requires { unit < S.rows.units }
+        ensures name { IfSome result (λ n. n ≡ record { task = self.now.number; seq = length (sent_by self.now unit) + 1 }) }
+        ensures last { IfNone result (2 ^ 32 - 1 ≤ length (sent_by self.now unit)) }
+    {
+        let count = self.out.sent_len(unit);
+        if count >= u64::from(u32::MAX) {
+            return None;
+        }
+        Some(Name {
+            task: self.number,
+            seq: count as u32 + 1,
+        })
+    }
+
+    /// Issues a request, whose name is the next to its unit (DFSMSdfp Advanced Services, EXCP). It comes back only
+    /// where the unit's row was full at one moment of the call, and then uses no number. It takes no memory and no
+    /// unit's lock.
+    pub fn excp<R: Wait>(&mut self, rt: &R, request: Request) -> Result<(), Full<Request>>
+        requires unit { request.unit < S.rows.units }
+        requires name { request.name ≡ record { task = self.old.number; seq = length (sent_by self.old request.unit) + 1 } }
+        ensures accepted { OnOk result (self.new ≡ record self.old { sent = slice_set self.old.sent request.unit (sent_by self.old request.unit ++ request ∷ []) }) }
+        ensures handed_back { IfErr result (λ full. full.0 ≡ request) }
+        ensures unchanged { OnErr result (self.new ≡ self.old) }
+        ensures was_full { OnErr result (WasFull task_of RequestFact (end_of (intakes S.rows) self.old.number request.unit (sent_by self.old request.unit))) }
+    {
+        let unit = request.unit();
+        match self.out.send(rt, unit, Sent::new(request)) {
+            Ok(()) => Ok(()),
+            Err(Full(sent)) => Err(Full(sent.into_request())),
+        }
+    }
+
+    /// Collects the next posted value, and none only where the row was empty at one moment of the call. It takes no
+    /// memory and no unit's lock.
+    pub fn take_post<R: Wait>(&mut self, rt: &R) -> Option<Posted>
+        ensures collected { IfSome result (λ value. self.new ≡ record self.old { got = self.old.got ++ value ∷ [] }) }
+        ensures of_unit { IfSome result (λ value. value.unit < S.rows.units) }
+        ensures unchanged { IfNone result (self.new ≡ self.old) }
+        ensures was_empty { IfNone result (WasEmpty unit_of NoFact (taker_of (posts S.rows) S.rows.units self.old.number self.old.got)) }
+    {
+        match self.collected.take(rt) {
+            Some(returned) => Some(returned.into_posted()),
+            None => None,
+        }
+    }
+
+    /// Its ends of the intake rows, and its end of its post row.
+    pub fn into_parts(self) -> (Fan<'r, Sent, Intakes<S>>, Taker<'r, Returned>)
+        ensures { IsTask S.rows self.entry result.0 result.1 }
+    {
+        let Task {
+            number: _,
+            out,
+            collected,
+        } = self;
+        (out, collected)
+    }
+}

@@ -1,0 +1,121 @@
+//! Channel workers and interruption handlers.
+
+ghost use Rattle.std.specs.Prelude.{◌<◌};
+ghost use Rattle.std.specs.List.{All};
+
+use crate::answer::{Delivery, Intake};
+use crate::gate::{Gate, Point, Stop};
+use crate::isc::IscTaker;
+use crate::site::Site;
+use crate::system::System;
+use crate::unit::UnitState;
+use crossbeam_utils::Backoff;
+use device_port::Device;
+use std::sync::Wait;
+use unit_book::{Interruption, Running, Starting};
+
+/// How many commands a channel worker runs in one turn.
+const TURN: u32 = 16;
+
+/// Serves units in turn until it is stopped: lets a request arrive, starts what comes next, runs it for some commands,
+/// and sends a posted value back. Before each call it passes the gate, under the unit's lock. Want of memory is an
+/// idle turn.
+pub fn serve_channel<S: Site, D: Device, G: Gate, R: Wait>(
+    rt: &R,
+    system: &System<'_, S, D>,
+    units: &[u16],
+    gate: &G,
+    stop: &Stop,
+)
+    requires { All (λ unit. unit < S.rows.units) units.now }
+{
+    let idle = Backoff::new();
+    for _ in rt.forever() {
+        if stop.raised() {
+            return;
+        }
+        let mut served = false;
+        for unit in units {
+            let mut state = system.lock_of(*unit).lock(rt);
+            if serve_unit(rt, &mut state, *unit, gate) {
+                served = true;
+            }
+        }
+        if served {
+            idle.reset();
+        } else {
+            idle.snooze();
+        }
+    }
+    unreachable!()
+}
+
+/// One turn on a unit. Answers whether anything was done.
+fn serve_unit<S: Site, D: Device, G: Gate, R: Wait>(
+    rt: &R,
+    state: &mut UnitState<'_, S, D>,
+    unit: u16,
+    gate: &G,
+) -> bool {
+    gate.pass(unit, Point::Take);
+    let took = matches!(state.take(rt), Ok(Intake::Took(_)));
+    gate.pass(unit, Point::Start);
+    let started = matches!(
+        state.start(),
+        Ok(Starting::Started(_) | Starting::Violated(_))
+    );
+    gate.pass(unit, Point::Run);
+    let ran = matches!(state.run(rt, TURN), Ok(Running::Ran { .. }));
+    gate.pass(unit, Point::Deliver);
+    let delivered = matches!(state.deliver(rt), Delivery::Delivered(_));
+    took || started || ran || delivered
+}
+
+/// Serves interruption subclasses until it is stopped: for each notice of a pending status takes the status and sends a
+/// posted value back. Before each call it passes the gate, under the unit's lock. Want of memory is an idle turn.
+pub fn serve_isc<'r, S: Site, D: Device, G: Gate, R: Wait>(
+    rt: &R,
+    system: &System<'r, S, D>,
+    takers: &mut [IscTaker<'r, S>],
+    gate: &G,
+    stop: &Stop,
+) {
+    let idle = Backoff::new();
+    for _ in rt.forever() {
+        if stop.raised() {
+            return;
+        }
+        let mut served = false;
+        for taker in takers.iter_mut() {
+            if let Some(unit) = taker.next(rt) {
+                let mut state = system.lock_of(unit).lock(rt);
+                if handle(rt, &mut state, unit, gate) {
+                    served = true;
+                }
+            }
+        }
+        if served {
+            idle.reset();
+        } else {
+            idle.snooze();
+        }
+    }
+    unreachable!()
+}
+
+/// Takes the pending status of a unit. Answers whether anything was done.
+fn handle<S: Site, D: Device, G: Gate, R: Wait>(
+    rt: &R,
+    state: &mut UnitState<'_, S, D>,
+    unit: u16,
+    gate: &G,
+) -> bool {
+    gate.pass(unit, Point::Interrupt);
+    let answered = matches!(
+        state.interrupt(),
+        Ok(Interruption::Again(_) | Interruption::Ended(_, _))
+    );
+    gate.pass(unit, Point::Deliver);
+    let delivered = matches!(state.deliver(rt), Delivery::Delivered(_));
+    answered || delivered
+}

@@ -1,0 +1,137 @@
+-- What the calls of a book keep, one after another: nothing that was given is taken back, and what is posted is of
+-- what arrived.
+use Rattle.std.proofs.Common.{◌≡◌, ℕ, true, List, [], ◌∷◌, ◌++◌, append_assoc, length, take, ◌-◌, refl, sym, ap, ◌∙◌, inl, inr, subst}
+use Rattle.std.specs.Prelude.{Ok, Err, IfOk, OnOk, OnErr}
+use Rattle.std.specs.declared.result.Result.{Result}
+use Rattle.std.proofs.lemmas.Bool.{cases_Bool}
+use Rattle.io_images.specs.declared.csw.Csw.{Csw}
+use Rattle.io_images.specs.declared.code.Code.{Code}
+use Rattle.device_port.specs.Meaning.{Meaning}
+use Rattle.io_area.specs.Storage.{Storage}
+use Rattle.request_piece.specs.PostedState.{PostedState}
+use Rattle.request_piece.specs.declared.piece.Name.{Name}
+use Rattle.request_piece.specs.declared.piece.Piece.{Piece}
+use Rattle.unit_book.specs.declared.entry.Entry.{Entry}
+use Rattle.unit_book.specs.declared.entry.Entry.TheVariants.{Opened, Arrive, Start, Ran, Halted, Purge, Close, Reset, Post}
+use Rattle.unit_book.specs.Trace.{same, arrivals, has_arrived, request_of}
+use Rattle.unit_book.specs.Media.{area}
+use Rattle.unit_book.specs.Legal.{Legal, due}
+use Rattle.unit_book.specs.Posts.{posted, posted_value}
+use Rattle.unit_book.specs.Book.{Book, given}
+use Rattle.unit_book.specs.Settle.{Steps, ByStart, ByRun, ByInterrupt, Settles, Stays, Then}
+use Rattle.unit_book.specs.Inside.{Each}
+use Rattle.unit_book.proofs.Facts.{facts}
+use Rattle.unit_book.proofs.Lists.{same-refl}
+use Rattle.unit_book.proofs.Outs.{taken-all}
+use Rattle.unit_book.proofs.WorldBooks.{Keeps, Sound, keeps-same, keeps-start, keeps-run, keeps-interrupt}
+
+-- what follows where a call was done and where it was refused follows of it
+pub either_way : {A E : Type 0} {Refused Then : Type 0} (r : Result A E) {Done : A → Type 0} → IfOk r Done → OnErr r Refused → ((a : A) → Done a → Then) → (Refused → Then) → Then
+either_way (Ok a) done refused f g = f a done
+either_way (Err e) done refused f g = g refused
+
+-- two facts of a call that was done
+pub done_and : {A E : Type 0} (Done : A → Type 0) (Also : Type 0) (r : Result A E) → IfOk r Done → OnOk r Also → IfOk r (λ a. Done a × Also)
+done_and Done Also (Ok a) done also = (done, also)
+done_and Done Also (Err e) done also = tt
+
+module _ {D : Type 0} (meaning : Meaning D) where
+  -- what was given stays given
+  pub given-keeps : (old new : Book D) (more : List Piece) → given meaning old ++ old.out ≡ posted meaning old.mounted old.trace →
+      Keeps meaning old more new → given meaning new ≡ given meaning old
+  given-keeps old new more all k =
+      let left = old.out ++ k.values in
+      let whole : posted meaning new.mounted new.trace ≡ given meaning old ++ left =
+      ap (λ m. posted meaning m new.trace) k.mounted ∙ k.posted_is ∙ ap (λ x. x ++ k.values) (sym all) ∙ append_assoc (given meaning old) old.out k.values in
+      ap (λ w. take (length w - length new.out) w) whole
+      ∙ ap (λ o. take (length (given meaning old ++ left) - length o) (given meaning old ++ left)) k.out
+      ∙ taken-all (given meaning old) left
+
+  pub sound-kept : (old new : Book D) (more : List Piece) → Keeps meaning old more new → Sound meaning new
+  sound-kept old new more k = (
+    subst (λ m. Legal meaning m new.trace) (sym k.mounted) k.legal,
+    ap (λ m. due meaning m new.trace) k.mounted ∙ k.settled,
+  )
+
+  -- two calls
+  pub keeps-then : (old mid new : Book D) (first more : List Piece) → Keeps meaning old first mid → Keeps meaning mid more new → Keeps meaning old (first ++ more) new
+  keeps-then old mid new first more a b =
+      let at = λ (H : List Entry). ap (λ m. posted meaning m H) a.mounted in
+      record {
+        mounted = b.mounted ∙ a.mounted;
+        isc = b.isc ∙ a.isc;
+        legal = subst (λ m. Legal meaning m new.trace) a.mounted b.legal;
+        settled = sym (ap (λ m. due meaning m new.trace) a.mounted) ∙ b.settled;
+        arrived = b.arrived ∙ ap (λ x. x ++ more) a.arrived ∙ append_assoc (arrivals old.trace) first more;
+        values = a.values ++ b.values;
+        posted_is = sym (at new.trace) ∙ b.posted_is ∙ ap (λ x. x ++ b.values) (at mid.trace ∙ a.posted_is)
+            ∙ append_assoc (posted meaning old.mounted old.trace) a.values b.values;
+        out = b.out ∙ ap (λ x. x ++ b.values) a.out ∙ append_assoc old.out a.values b.values;
+      }
+
+  keeps-step : (old new : Book D) → Sound meaning old → Steps meaning old new → Keeps meaning old [] new
+  keeps-step old new s (ByStart answer h) = keeps-start meaning old new answer s h
+  keeps-step old new s (ByRun max answer some h) = keeps-run meaning old new max answer s some h
+  keeps-step old new s (ByInterrupt answer h) = keeps-interrupt meaning old new answer s h
+
+  -- a list of starts, runs and interruptions
+  pub keeps-settles : (old new : Book D) → Sound meaning old → Settles meaning old new → Keeps meaning old [] new
+  keeps-settles old _ s Stays = keeps-same meaning old old s refl
+  keeps-settles old new s (Then {mid} before step) =
+      let a = keeps-settles old mid s before in
+      keeps-then old mid new [] [] a (keeps-step mid new (sound-kept old mid [] a) step)
+
+-- WHAT IS POSTED IS OF WHAT ARRIVED
+
+Each-front : {X : Type 0} (P : X → Type 0) (xs ys : List X) → Each P (xs ++ ys) → Each P xs
+Each-front P [] ys h = tt
+Each-front P (x ∷ xs) ys h = (h.0, Each-front P xs ys h.1)
+
+Each-back : {X : Type 0} (P : X → Type 0) (xs ys : List X) → Each P (xs ++ ys) → Each P ys
+Each-back P [] ys h = h
+Each-back P (x ∷ xs) ys h = Each-back P xs ys h.1
+
+pub Each-behind : {X : Type 0} (P : X → Type 0) (xs : List X) (x : X) → Each P xs → P x → Each P (xs ++ x ∷ [])
+Each-behind P [] x h k = (k, tt)
+Each-behind P (y ∷ xs) x h k = (h.0, Each-behind P xs x h.1 k)
+
+-- the request of a name that arrived is one of the arrivals
+request-among : (P : Piece → Type 0) (n : Name) (H : List Entry) → has_arrived n H ≡ true → Each P (arrivals H) → P (request_of n H)
+unfolding arrivals request_of
+request-among P n [] a h = absurd cc
+request-among P n (Arrive r ∷ H) a h =
+    elim (cases_Bool (same r.name n)) [
+      | inl s ↦ rw s (Each-back P (arrivals H) (r ∷ []) h).0
+      | inr s ↦ let a' : has_arrived n H ≡ true = rw s at a in rw s (request-among P n H a' (Each-front P (arrivals H) (r ∷ []) h))
+    ]
+request-among P n (Opened d i x ∷ H) a h = request-among P n H a h
+request-among P n (Start m ∷ H) a h = request-among P n H a h
+request-among P n (Ran m j ∷ H) a h = request-among P n H a h
+request-among P n (Halted m ∷ H) a h = request-among P n H a h
+request-among P n (Purge s m ∷ H) a h = request-among P n H a h
+request-among P n (Close d ∷ H) a h = request-among P n H a h
+request-among P n (Reset d ∷ H) a h = request-among P n H a h
+request-among P n (Post m csw sense code ∷ H) a h = request-among P n H a h
+
+module _ {D : Type 0} (meaning : Meaning D) (mounted : D) (P : Piece → Type 0) (Q : PostedState → Type 0)
+    (link : (r : Piece) (csw : Csw) (sense : ℕ) (code : Code) (m : Storage) → P r → Q (posted_value r csw sense code m)) where
+  pub posted-of : (H : List Entry) → Legal meaning mounted H → Each P (arrivals H) → Each Q (posted meaning mounted H)
+  unfolding Legal arrivals posted
+  posted-of [] l h = tt
+  posted-of (Arrive r ∷ H) l h = posted-of H l.1 (Each-front P (arrivals H) (r ∷ []) h)
+  posted-of (Opened d i x ∷ H) l h = posted-of H l.1 h
+  posted-of (Start n ∷ H) l h = posted-of H l.1 h
+  posted-of (Ran n j ∷ H) l h = posted-of H l.1 h
+  posted-of (Halted n ∷ H) l h = posted-of H l.1 h
+  posted-of (Purge s m ∷ H) l h = posted-of H l.1 h
+  posted-of (Close d ∷ H) l h = posted-of H l.1 h
+  posted-of (Reset d ∷ H) l h = posted-of H l.1 h
+  posted-of (Post n csw sense code ∷ H) l h =
+      let v = posted_value (request_of n H) csw sense code (area meaning mounted (request_of n H) H) in
+      let arrived : has_arrived n H ≡ true = (facts meaning mounted (Post n csw sense code ∷ H) l).1 n (rw (same-refl n) refl) in
+      Each-behind Q (posted meaning mounted H) v (posted-of H l.1 h) (link _ csw sense code _ (request-among P n H arrived h))
+
+  -- what is out is of what arrived
+  pub out-of : (b : Book D) → Legal meaning mounted b.trace → given meaning b ++ b.out ≡ posted meaning mounted b.trace →
+      Each P (arrivals b.trace) → Each Q b.out
+  out-of b l all h = Each-back Q (given meaning b) b.out (subst (Each Q) (sym all) (posted-of b.trace l h))
