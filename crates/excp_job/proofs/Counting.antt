@@ -1,5 +1,5 @@
 -- The numbers of the last requests of all tasks, as requests arrive.
-use Rattle.std.proofs.Common.{◌≡◌, ◌≢◌, ◌<◌, ℕ, ◌==◌, true, false, List, [], ◌∷◌, length, replicate, slice_index, slice_set, sym, ap, ◌∙◌, arith, inl, inr, add-zero}
+use Rattle.std.proofs.Common.{◌≡◌, ◌≢◌, ℕ, ◌==◌, true, false, List, [], ◌∷◌, length, replicate, slice_set, sym, ap, ◌∙◌, arith, inl, inr, add-zero}
 use Rattle.std.specs.List.{filter}
 use Rattle.std.proofs.lemmas.Bool.{cases_Bool}
 use Rattle.std.proofs.lemmas.Bool.Decides.{nat_tests}

@@ -2,8 +2,6 @@
 -- of the record's ID, a transfer back to it, and a command, from X'1030'; the search argument stands at X'1050' and the
 -- buffer at X'1060'.
 use Rattle.std.proofs.Common.{◌≡◌, ℕ, ◌/◌, ◌%◌, List, [], ◌∷◌, ◌++◌, replicate, refl}
-use Rattle.io_images.specs.declared.csw.Csw.{Csw}
-use Rattle.io_images.specs.declared.seek.Seek.{Seek}
 use Rattle.io_area.specs.Storage.{Storage, bytes_at}
 use Rattle.device_port.specs.declared.faults.Fault.{Fault}
 use Rattle.ccw_programs.specs.declared.context.State.{State}
@@ -11,7 +9,6 @@ use Rattle.ccw_programs.specs.declared.context.State.TheVariants.{Ended}
 use Rattle.ccw_programs.specs.Areas.{parts_from}
 use Rattle.ccw_programs.specs.Links.{chain_within}
 use Rattle.ccw_programs.specs.Step.{Program, begun, step, after, steps_within, length_of}
-use Rattle.ckd_disk.specs.Record.{Record}
 use Rattle.ckd_disk.specs.Disk.{DiskState, disk, prefix, at_start}
 
 -- a disk of one track of 40 bytes with R0 and one record, and a fault script

@@ -1,6 +1,5 @@
 -- THE DEVICE OF A UNIT is a disk, a tape or a printer, and means what that one means.
 use Rattle.std.specs.Prelude.{◌≡◌, ℕ, List}
-use Rattle.std.proofs.Common.{refl}
 use Rattle.io_images.specs.declared.seek.Seek.{Seek}
 use Rattle.device_port.specs.declared.kind.Flow.{Flow}
 use Rattle.device_port.specs.declared.kind.Flow.TheVariants.{None as NoFlow, Out, Input, Back}

@@ -1,5 +1,5 @@
 -- How far a reader is read.
-use Rattle.std.specs.Prelude.{ℕ, ◌≤◌, ◌+◌, List, Option, length}
+use Rattle.std.specs.Prelude.{ℕ, ◌≤◌, List, Option, length}
 use Rattle.std.specs.Io.KnownBytes.{Consumes, IsAtEnd}
 
 -- at most n bytes were read
