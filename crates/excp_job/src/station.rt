@@ -1,13 +1,13 @@
 //! A unit of a run: its book, beside how many requests of each task arrived in it.
 
-ghost use Rattle.std.specs.Prelude.{◌≡◌, ◌≤◌, ◌∷◌, [], IfErr, IfOk, OnErr, OnOk, drop, length, replicate, slice_get};
+ghost use Rattle.std.specs.Prelude.{◌≡◌, ◌≤◌, ◌<◌, ◌∷◌, [], IfErr, IfOk, OnErr, OnOk, drop, length, replicate, slice_get};
 ghost use Rattle.excp_job.specs.Counts.{IsNext};
 ghost use Rattle.excp_job.specs.Devices.{unit_device};
-ghost use Rattle.unit_book.specs.Answers.{Adds, ArriveRefused, OpensBook, Posts};
-ghost use Rattle.unit_book.specs.Controls.{ClosesBook, PurgesBook};
+ghost use Rattle.unit_book.specs.Answers.{Adds, ArriveRefused, OpenRefused, OpensBook, Posts};
+ghost use Rattle.unit_book.specs.Controls.{ClosesBook, DcbRefused, PurgesBook, ResetRefused};
 ghost use Rattle.unit_book.specs.Dooms.{after_dooms};
 ghost use Rattle.unit_book.specs.Settle.{Settles};
-ghost use Rattle.unit_book.specs.Trace.{active, waiting};
+ghost use Rattle.unit_book.specs.Trace.{active, arrived_of, waiting};
 
 use crate::device::UnitDevice;
 use crate::fault::{Fault, FaultName};
@@ -50,14 +50,17 @@ impl Station {
 
     /// Opens a DCB.
     pub fn open(&mut self, input: bool, extents: &[Extent]) -> Result<u16, OpenError>
-        ensures { IfOk result (λ dcb. OpensBook unit_device self.old dcb input extents.now self.new) }
+        ensures ok { IfOk result (λ dcb. OpensBook unit_device self.old dcb input extents.now self.new) }
+        ensures refused { IfErr result (OpenRefused unit_device self.old extents.now) }
     {
         self.book.open(input, extents)
     }
 
-    /// The name of the next request of a task.
+    /// The name of the next request of a task, and none after the last number.
     pub fn next_name(&self, task: u16) -> Result<Name, FaultName>
-        ensures { IfOk result (λ name. IsNext name self.now.trace) }
+        ensures next { IfOk result (λ name. IsNext name self.now.trace) }
+        ensures task { IfOk result (λ name. name.task ≡ task) }
+        ensures last { OnErr result (task < 64 → arrived_of task self.now.trace ≡ 4294967295) }
     {
         let at = usize::from(task);
         if at >= 64 || self.issued[at] == u32::MAX {
@@ -85,7 +88,8 @@ impl Station {
 
     /// Purges the requests of a DCB.
     pub fn purge(&mut self, dcb: u16, mode: Mode) -> Result<Purging, DcbError>
-        ensures { IfOk result (λ answer. PurgesBook unit_device self.old (Scope.Dcb dcb) mode answer self.new) }
+        ensures ok { IfOk result (λ answer. PurgesBook unit_device self.old (Scope.Dcb dcb) mode answer self.new) }
+        ensures refused { IfErr result (DcbRefused self.old dcb) }
     {
         self.book.purge(dcb, mode)
     }
@@ -99,7 +103,8 @@ impl Station {
 
     /// Closes a DCB.
     pub fn close(&mut self, dcb: u16) -> Result<Closing, DcbError>
-        ensures { IfOk result (λ answer. ClosesBook unit_device self.old dcb answer self.new) }
+        ensures ok { IfOk result (λ answer. ClosesBook unit_device self.old dcb answer self.new) }
+        ensures refused { IfErr result (DcbRefused self.old dcb) }
     {
         self.book.close(dcb)
     }
@@ -107,6 +112,7 @@ impl Station {
     /// Clears the error flag of an open DCB.
     pub fn reset(&mut self, dcb: u16) -> Result<(), DcbError>
         ensures ok { OnOk result (Adds self.old (Entry.Reset dcb) self.new) }
+        ensures refused { IfErr result (ResetRefused self.old dcb) }
         ensures err { OnErr result (self.new ≡ self.old) }
     {
         self.book.reset(dcb)
