@@ -8,14 +8,14 @@ use Rattle.unit_book.specs.declared.entry.Entry.TheVariants.{Arrive}
 use Rattle.unit_book.specs.Answers.{Posts}
 use Rattle.unit_book.specs.Book.{Book, given, held}
 use Rattle.unit_book.specs.Dooms.{after_dooms}
-use Rattle.unit_book.specs.Trace.{arrived_of}
+use Rattle.unit_book.specs.Trace.{arrivals, arrived_of}
 use Rattle.fifo_row.specs.Lists.{of}
-use Rattle.fifo_row.specs.Steps.{WasFull}
+use Rattle.fifo_row.specs.Steps.{WasEmpty, WasFull}
 use Rattle.excp_system.specs.declared.answer.Intake.{Intake}
 use Rattle.excp_system.specs.declared.answer.Intake.TheVariants as intake
 use Rattle.excp_system.specs.declared.answer.Delivery.{Delivery}
 use Rattle.excp_system.specs.declared.answer.Delivery.TheVariants as delivery
-use Rattle.excp_system.specs.Sites.{SiteRows, NoFact, posts, unit_of, for_task, end_of}
+use Rattle.excp_system.specs.Sites.{SiteRows, NoFact, RequestFact, intakes, posts, task_of, unit_of, for_task, end_of, taker_of}
 use Rattle.excp_system.specs.States.{Locked}
 
 module _ {D : Type 0} (meaning : Meaning D) (s : SiteRows) where
@@ -31,7 +31,9 @@ module _ {D : Type 0} (meaning : Meaning D) (s : SiteRows) where
   -- what `take` answers: held where the book has no room, quiet where the row was empty
   abbrev pub TakesIn : Locked D → Intake → Locked D → Type 0
   TakesIn old intake.Held new = (old.book.capacity ≤ held old.book) × (new ≡ old)
-  TakesIn old intake.Quiet new = (held old.book < old.book.capacity) × (new ≡ record old { book = record old.book { spare = new.book.spare } })
+  TakesIn old intake.Quiet new =
+      (held old.book < old.book.capacity) × (new ≡ record old { book = record old.book { spare = new.book.spare } })
+      × WasEmpty task_of RequestFact (taker_of (intakes s) s.tasks old.unit (arrivals old.book.trace))
   TakesIn old (intake.Took name) new = (held old.book < old.book.capacity) × Takes old name new × (new.unit ≡ old.unit)
 
   -- the first posted value that is out

@@ -4,7 +4,7 @@ mod holds;
 
 ghost use Rattle.std.specs.Prelude.{◌≡◌, ◌<◌, ◌≤◌, length, IfOk, OnErr};
 ghost use Rattle.fifo_row.specs.Lists.{of};
-ghost use Rattle.unit_book.specs.Book.{given};
+ghost use Rattle.unit_book.specs.Book.{given, held};
 ghost use Rattle.unit_book.specs.Trace.{arrived_of};
 ghost use Rattle.excp_system.specs.Holds.{Delivers, TakesIn};
 ghost use Rattle.excp_system.specs.Sites.{for_task};
@@ -102,6 +102,7 @@ impl<'r, S: Site, D: Device> UnitState<'r, S, D> {
     pub fn take<R: Wait>(&mut self, rt: &R) -> Result<Intake, AllocError>
         ensures answer { IfOk result (λ answer. TakesIn D.meaning S.rows self.old answer self.new) }
         ensures err { OnErr result (self.new ≡ self.old) }
+        ensures refused { OnErr result ((held self.old.book < self.old.book.capacity) × (self.old.book.spare < 2)) }
     {
         if !self.book.has_room() {
             return Ok(Intake::Held);
