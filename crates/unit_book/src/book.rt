@@ -4,13 +4,13 @@ mod controls;
 mod readers;
 mod settle;
 
-ghost use Rattle.std.specs.Prelude.{◌≡◌, ◌≤◌, ◌<◌, ◌+◌, ◌∷◌, ◌++◌, [], IfOk, IfErr, OnOk, OnErr, IfSome, slice_get, drop};
+ghost use Rattle.std.specs.Prelude.{◌≡◌, ◌≢◌, ◌≤◌, ◌<◌, ◌+◌, ◌∷◌, ◌++◌, [], IfOk, IfErr, OnOk, OnErr, IfSome, IsSome, length, slice_get, drop, true};
 ghost use Rattle.unit_book.specs.Answers.{ArriveRefused, InterruptsBook, OpenRefused, OpensBook, Posts, RunsBook, StartsBook};
-ghost use Rattle.unit_book.specs.Book.{IsLastGiven, given, held, opening};
+ghost use Rattle.unit_book.specs.Book.{IsLastGiven, given, going, held, is_pending, opening};
 ghost use Rattle.unit_book.specs.Dooms.{after_dooms};
 ghost use Rattle.unit_book.specs.Legal.{Legal, Settled};
 ghost use Rattle.unit_book.specs.Posts.{posted};
-ghost use Rattle.unit_book.specs.Trace.{arrived_of};
+ghost use Rattle.unit_book.specs.Trace.{active, arrived_of, waiting};
 
 use crate::answer::{ArriveError, Interruption, OpenError, Running, Starting};
 use crate::decision::Next;
@@ -116,6 +116,7 @@ impl<D: Device> UnitBook<D> {
         ensures ok { IfOk result (λ dcb. OpensBook D.meaning self.old dcb input extents.now self.new) }
         ensures refused { IfErr result (OpenRefused D.meaning self.old extents.now) }
         ensures err { OnErr result (self.new ≡ record self.old { spare = self.new.spare }) }
+        ensures kept { OnErr result (self.old.spare ≤ self.new.spare) }
     {
         if self.ledger.dcb_count() >= MOST_DCBS {
             return Err(OpenError::TooManyDcbs);
@@ -137,6 +138,9 @@ impl<D: Device> UnitBook<D> {
     pub fn start(&mut self) -> Result<Starting, AllocError>
         ensures ok { IfOk result (λ answer. StartsBook D.meaning self.old answer self.new) }
         ensures err { OnErr result (self.new ≡ self.old) }
+        ensures busy { OnErr result (IsSome (active self.old.trace) → self.old.again ≡ true) }
+        ensures idle { OnErr result (active self.old.trace ≡ None → waiting self.old.trace ≢ []) }
+        ensures full { OnErr result (self.old.spare < length (waiting self.old.trace) + 1) }
     {
         match self.ledger.next_start() {
             Next::Busy => Ok(Starting::Busy),
@@ -165,6 +169,8 @@ impl<D: Device> UnitBook<D> {
         requires { 1 ≤ max }
         ensures ok { IfOk result (λ answer. RunsBook D.meaning self.old max answer self.new) }
         ensures err { OnErr result (self.new ≡ self.old) }
+        ensures runs { OnErr result (IsSome (going D.meaning self.old)) }
+        ensures full { OnErr result (self.old.spare < 1) }
     {
         if !self.ledger.goes() {
             return Ok(Running::Quiet);
@@ -178,6 +184,8 @@ impl<D: Device> UnitBook<D> {
     pub fn interrupt(&mut self) -> Result<Interruption, AllocError>
         ensures ok { IfOk result (λ answer. InterruptsBook D.meaning self.old answer self.new) }
         ensures err { OnErr result (self.new ≡ self.old) }
+        ensures pending { OnErr result (is_pending D.meaning self.old ≡ true) }
+        ensures full { OnErr result (self.old.spare < length (waiting self.old.trace) + 1) }
     {
         let Some(decision) = self.ledger.decide() else {
             return Ok(Interruption::Quiet);
@@ -203,7 +211,9 @@ impl<D: Device> UnitBook<D> {
         ensures first { result ≡ slice_get self.old.out 0 }
         ensures book { self.new ≡ record self.old { out = drop 1 self.old.out } }
         ensures given { IfSome result (λ value. given D.meaning self.new ≡ given D.meaning self.old ++ value ∷ []) }
+        ensures room { IfSome result (λ value. held self.new < self.new.capacity) }
     {
+        self.ledger.holds();
         self.ledger.take_out()
     }
 

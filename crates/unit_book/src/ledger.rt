@@ -123,6 +123,7 @@ impl<D: Device> Ledger<D> {
         ensures room { OnOk result (length (waiting self.old.trace) + entries ≤ self.new.spare) }
         ensures book { self.new ≡ record self.old { spare = self.new.spare } }
         ensures err { OnErr result (self.new ≡ self.old) }
+        ensures full { OnErr result (self.old.spare < length (waiting self.old.trace) + entries) }
     {
         let _capacity = self.out.capacity();
         let entries = self.waiting.len() + entries;

@@ -1,6 +1,6 @@
 //! Purges, closes and resets.
 
-ghost use Rattle.std.specs.Prelude.{◌≡◌, ◌≤◌, ◌+◌, true, length, IfOk, IfErr, OnOk, OnErr};
+ghost use Rattle.std.specs.Prelude.{◌≡◌, ◌≤◌, ◌<◌, ◌+◌, true, length, IfOk, IfErr, OnOk, OnErr};
 ghost use Rattle.unit_book.specs.Answers.{Adds};
 ghost use Rattle.unit_book.specs.Controls.{ClosesBook, ClosesBy, DcbRefused, PurgesBook, PurgesBy, ResetRefused, closing, covers_awaiting, purging};
 ghost use Rattle.unit_book.specs.Dcbs.{is_opened, is_open};
@@ -46,6 +46,7 @@ impl<D: Device> UnitBook<D> {
         ensures ok { IfOk result (λ answer. PurgesBook D.meaning self.old (Scope.Dcb dcb) mode answer self.new) }
         ensures refused { IfErr result (DcbRefused self.old dcb) }
         ensures err { OnErr result (self.new ≡ self.old) }
+        ensures full { IfErr result (λ e. e ≡ DcbError.NoMemory → self.old.spare < length (waiting self.old.trace) + 2) }
     {
         if self.ledger.dcb_state(dcb) == DcbState::Unknown {
             return Err(DcbError::NoSuchDcb);
@@ -58,6 +59,7 @@ impl<D: Device> UnitBook<D> {
     pub fn purge_task(&mut self, task: u16, mode: Mode) -> Result<Purging, AllocError>
         ensures ok { IfOk result (λ answer. PurgesBook D.meaning self.old (Scope.Task task) mode answer self.new) }
         ensures err { OnErr result (self.new ≡ self.old) }
+        ensures full { OnErr result (self.old.spare < length (waiting self.old.trace) + 2) }
     {
         self.purge_scope(Scope::Task(task), mode)
     }
@@ -67,6 +69,7 @@ impl<D: Device> UnitBook<D> {
         requires { CanPurge D.meaning self.old.mounted scope self.old.trace }
         ensures ok { IfOk result (λ answer. PurgesBook D.meaning self.old scope mode answer self.new) }
         ensures err { OnErr result (self.new ≡ self.old) }
+        ensures full { OnErr result (self.old.spare < length (waiting self.old.trace) + 2) }
     {
         self.ledger.reserve_posts(2)?;
         self.purge_in_room(scope, mode);
@@ -92,6 +95,8 @@ impl<D: Device> UnitBook<D> {
     pub fn close(&mut self, dcb: u16) -> Result<Closing, DcbError>
         ensures ok { IfOk result (λ answer. ClosesBook D.meaning self.old dcb answer self.new) }
         ensures refused { IfErr result (DcbRefused self.old dcb) }
+        ensures full { IfErr result (λ e. e ≡ DcbError.NoMemory → self.old.spare < length (waiting self.old.trace) + 1) }
+        ensures still_open { IfErr result (λ e. e ≡ DcbError.NoMemory → is_open dcb self.old.trace ≡ true) }
         ensures err { OnErr result (self.new ≡ self.old) }
     {
         let state = self.ledger.dcb_state(dcb);
@@ -109,6 +114,7 @@ impl<D: Device> UnitBook<D> {
         requires { is_open dcb self.old.trace ≡ true }
         ensures ok { OnOk result (ClosesBy D.meaning true self.old dcb self.new) }
         ensures err { OnErr result (self.new ≡ self.old) }
+        ensures full { OnErr result (self.old.spare < length (waiting self.old.trace) + 1) }
     {
         self.ledger.reserve_posts(1)?;
         self.ledger.close(dcb);
@@ -122,6 +128,7 @@ impl<D: Device> UnitBook<D> {
         ensures ok { OnOk result (Adds self.old (Entry.Reset dcb) self.new) }
         ensures opened { OnOk result (is_open dcb self.old.trace ≡ true) }
         ensures refused { IfErr result (ResetRefused self.old dcb) }
+        ensures full { IfErr result (λ e. e ≡ DcbError.NoMemory → self.old.spare < 1) }
         ensures err { OnErr result (self.new ≡ self.old) }
     {
         if self.ledger.dcb_state(dcb) != DcbState::Open {
