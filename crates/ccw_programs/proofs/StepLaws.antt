@@ -2,7 +2,6 @@
 use Rattle.std.proofs.Common.{◌≡◌, ℕ, zero, suc, ◌+◌, ◌-◌, ◌<◌, ◌≤◌, List, ◌∷◌, refl, ap, arith, ◌∙◌, sym, Bool, true, false, add-zero, add-suc, add-one}
 use Rattle.io_area.specs.Storage.{Storage}
 use Rattle.device_port.specs.Moves.{offered}
-use Rattle.device_port.specs.declared.chain.Segment.{Segment}
 use Rattle.device_port.specs.Meaning.{Meaning, effect}
 use Rattle.device_port.specs.declared.answer.Acted.{Acted}
 use Rattle.ccw_programs.specs.declared.fetch.Link.{Link}

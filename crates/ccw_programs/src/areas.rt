@@ -1,11 +1,12 @@
-ghost use Rattle.std.specs.Prelude.{◌≡◌, ◌≤◌, ◌<◌, ◌+◌, ◌*◌, ◌^◌, ◌-◌, min, List, length, [], MatchResult, MatchOption, OnOk, IfSome, IsSome, All, Some, None, true, false, if◌then◌else◌};
+ghost use Rattle.std.specs.Prelude.{◌≡◌, ◌≤◌, ◌<◌, ◌+◌, ◌*◌, ◌^◌, ◌-◌, min, List, length, [], ◌∷◌, MatchResult, MatchOption, OnOk, IfSome, IsSome, All, Some, None, true, false, if◌then◌else◌};
 ghost use Rattle.io_area.specs.Storage.{lies_in};
 ghost use Rattle.device_port.specs.Moves.{CanAct, segment_lies};
-ghost use Rattle.ccw_programs.specs.Links.{Sound, skips};
-ghost use Rattle.ccw_programs.specs.Areas.{areas, parts_of, parts_from, is_usable, room_after, indirect_parts, direct_parts, prefixed, word_at, Parts, Bad};
+ghost use Rattle.ccw_programs.specs.Links.{Sound, is_indirect, skips};
+ghost use Rattle.ccw_programs.specs.Areas.{areas, parts_of, parts_from, part_of, is_usable, room_after, indirect_parts, direct_parts, prefixed, word_at, Parts, Bad};
 
 use crate::fetch::Link;
-use device_port::{Chain, Flow, Segment};
+use crate::part_list::PartList;
+use device_port::{Flow, Segment};
 use io_area::Area;
 use io_images::{AddressWord, Ccw};
 
@@ -38,16 +39,12 @@ fn segment_lies(flow: Flow, area: &Area, segment: &Segment) -> bool
     }
 }
 
-fn push_direct(chain: &mut Chain, flow: Flow, area: &Area, ccw: &Ccw) -> bool
+fn push_direct(chain: &mut PartList, flow: Flow, area: &Area, ccw: &Ccw) -> bool
     requires { length chain.old ≤ 495 }
     ensures room { length chain.new ≤ length chain.old + 33 }
     ensures parts { prefixed chain.old (direct_parts flow area.now ccw.now) ≡ (if result then Some chain.new else None) }
 {
-    let segment = Segment {
-        address: ccw.address.get(),
-        count: ccw.count,
-        skip: ccw.flags.skips(),
-    };
+    let segment = part_of(ccw);
     let lies = segment_lies(flow, area, &segment);
     if lies {
         chain.push(segment);
@@ -55,7 +52,7 @@ fn push_direct(chain: &mut Chain, flow: Flow, area: &Area, ccw: &Ccw) -> bool
     lies
 }
 
-fn push_indirect(chain: &mut Chain, area: &Area, ccw: &Ccw) -> bool
+fn push_indirect(chain: &mut PartList, area: &Area, ccw: &Ccw) -> bool
     requires { length chain.old ≤ 495 }
     ensures room { length chain.new ≤ length chain.old + 33 }
     ensures parts { prefixed chain.old (indirect_parts area.now ccw.now) ≡ (if result then Some chain.new else None) }
@@ -72,7 +69,14 @@ fn push_indirect(chain: &mut Chain, area: &Area, ccw: &Ccw) -> bool
     push_words(chain, area, list, words, count, ccw.flags.skips())
 }
 
-fn push_words(chain: &mut Chain, area: &Area, list: u32, words: u32, bytes: u16, skip: bool) -> bool
+fn push_words(
+    chain: &mut PartList,
+    area: &Area,
+    list: u32,
+    words: u32,
+    bytes: u16,
+    skip: bool,
+) -> bool
     requires { length chain.old + words ≤ 528 }
     ensures room { length chain.new ≤ length chain.old + words }
     ensures parts { prefixed chain.old (parts_from area.now skip true list words bytes) ≡ (if result then Some chain.new else None) }
@@ -107,7 +111,7 @@ fn usable_part(area: &Area, is_first: bool, at: u32, count: u16, skip: bool) -> 
     })
 }
 
-fn push_parts(chain: &mut Chain, flow: Flow, area: &Area, ccw: &Ccw) -> bool
+fn push_parts(chain: &mut PartList, flow: Flow, area: &Area, ccw: &Ccw) -> bool
     requires { length chain.old ≤ 495 }
     ensures room { length chain.new ≤ length chain.old + 33 }
     ensures parts { prefixed chain.old (parts_of flow area.now ccw.now) ≡ (if result then Some chain.new else None) }
@@ -120,12 +124,49 @@ fn push_parts(chain: &mut Chain, flow: Flow, area: &Area, ccw: &Ccw) -> bool
     }
 }
 
+/// The part of a CCW whose address is not that of a list of words.
+#[inline(always)]
+pub(crate) fn part_of(ccw: &Ccw) -> Segment
+    ensures { result ≡ part_of ccw.now }
+{
+    Segment {
+        address: ccw.address.get(),
+        count: ccw.count,
+        skip: ccw.flags.skips(),
+    }
+}
+
+/// The parts of a chain of this one CCW, whose part is given; None where it fails.
+#[inline(always)]
+pub(crate) fn data_area<'a>(
+    flow: Flow,
+    area: &Area,
+    link: &Link,
+    part: &'a [Segment; 1],
+) -> Option<&'a [Segment]>
+    requires direct { is_indirect link.now.ccw ≡ false }
+    requires part { part.now ≡ part_of link.now.ccw ∷ [] }
+    ensures value { MatchOption result (areas flow area.now (link.now ∷ []) ≡ Bad link.now.at) (λ parts. areas flow area.now (link.now ∷ []) ≡ Parts parts.now) }
+    ensures few { IfSome result (λ parts. length parts.now ≤ 1) }
+{
+    match flow {
+        Flow::None => Some(&[]),
+        Flow::Out | Flow::Input | Flow::Back => {
+            if segment_lies(flow, area, &part[0]) {
+                Some(part)
+            } else {
+                None
+            }
+        }
+    }
+}
+
 /// Puts the parts of a whole chain together, or tells the address of the first CCW that failed.
 pub(crate) fn data_areas(
     flow: Flow,
     area: &Area,
     links: &[Link],
-    chain: &mut Chain,
+    chain: &mut PartList,
 ) -> Result<(), u32>
     requires few { length links.now ≤ 16 }
     requires some { 1 ≤ length links.now }

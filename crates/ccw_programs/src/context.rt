@@ -1,11 +1,13 @@
-ghost use Rattle.std.specs.Prelude.{◌≡◌, ◌≤◌, ◌<◌, ◌^◌, ◌+◌, length, All};
+ghost use Rattle.std.specs.Prelude.{◌≡◌, ◌≤◌, ◌<◌, ◌^◌, ◌+◌, [], ◌∷◌, length, All};
 ghost use Rattle.ccw_programs.specs.Links.{Sound};
 ghost use Rattle.ccw_programs.specs.Place.{Place, start_place, ended_place, checked_place};
 ghost use Rattle.ccw_programs.specs.Step.{acted_place};
 
-use crate::ending::ending_of;
+use crate::ending::{ending_of, rest_of};
 use crate::fetch::Link;
-use crate::length::{goes_on, moved, next_address, sub_status};
+use crate::length::{
+    address_behind, goes_on, goes_on_behind, moved, next_address, sub_status, sub_status_one,
+};
 use device_port::{Acted, Flow};
 use io_images::{Address, Csw, SubStatus, UnitStatus};
 use std::marker::Model;
@@ -136,6 +138,35 @@ impl Context {
                     unit: acted.unit,
                     sub,
                     residual: end.residual,
+                },
+                acted.sense,
+            );
+        }
+    }
+
+    /// After a command of one CCW that the device did.
+    #[inline(always)]
+    pub(crate) fn advance_one(&mut self, flow: Flow, link: &Link, fetches: u16, acted: Acted)
+        requires sound { Sound link.now }
+        requires fetches { fetches ≤ 4096 }
+        ensures { self.new ≡ acted_place self.old flow (link.now ∷ []) fetches acted }
+    {
+        let residual = rest_of(link, acted.want);
+        let sub = sub_status_one(flow, link, acted);
+        let address = Address::stored(link.at);
+        if goes_on_behind(link, acted.unit, sub) {
+            self.next = address_behind(link, acted.unit);
+            self.fetched = fetches;
+            self.address = address;
+            self.residual = residual;
+            self.state = State::Running;
+        } else {
+            self.end(
+                Csw {
+                    address,
+                    unit: acted.unit,
+                    sub,
+                    residual,
                 },
                 acted.sense,
             );

@@ -35,8 +35,16 @@ fn ended_in(link: Link, n: u32) -> Ending
 {
     Ending {
         link,
-        residual: u32::from(link.ccw.count).saturating_sub(n) as u16,
+        residual: rest_of(&link, n),
     }
+}
+
+/// What is left of the count of a CCW that has used up `n` bytes.
+#[inline(always)]
+pub(crate) fn rest_of(link: &Link, n: u32) -> u16
+    ensures { result ≡ link.now.ccw.count - n }
+{
+    u32::from(link.ccw.count).saturating_sub(n) as u16
 }
 
 /// The bytes that a chain counts.

@@ -1,6 +1,6 @@
-ghost use Rattle.std.specs.Prelude.{◌≡◌, ◌<◌, ◌≤◌, ◌+◌, ◌==◌, ◌%◌, not, length, [], MatchResult, IfOk, OnOk, All};
+ghost use Rattle.std.specs.Prelude.{◌≡◌, ◌<◌, ◌≤◌, ◌+◌, ◌-◌, ◌==◌, ◌%◌, not, length, [], ◌∷◌, false, MatchResult, IfOk, IfSome, OnOk, All};
 ghost use Rattle.arrayvec.specs.ArrayVec.{array_vec_len};
-ghost use Rattle.ccw_programs.specs.Links.{Tells, TellsKind, fetch_at, kind_of_fetch, is_transfer, is_allowed, chain, Whole, Broken, Sound};
+ghost use Rattle.ccw_programs.specs.Links.{Tells, TellsKind, fetch_at, kind_of_fetch, is_transfer, is_allowed, chain, chain_within, Whole, Broken, Sound};
 ghost use Rattle.io_images.specs.Images.{ccw_of};
 
 use arrayvec::ArrayVec;
@@ -79,6 +79,52 @@ fn read_ccw(image: &[u8]) -> Ccw
     Ccw::read(&[
         image[0], image[1], image[2], image[3], image[4], image[5], image[6], image[7],
     ])
+}
+
+/// The only CCW of a command, and the number of fetches after it.
+#[derive(Clone, Copy, PartialEq, Eq, Debug)]
+pub struct Single {
+    pub link: Link,
+    pub fetches: u16,
+}
+
+/// Fetches the CCW of a command that has only one, behind one transfer at most. None says nothing.
+#[inline(always)]
+pub(crate) fn fetch_single(area: &Area, start: u32, fetches: u16) -> Option<Single>
+    ensures chain { IfSome result (λ s. chain area.now start fetches ≡ Whole (s.link ∷ []) s.fetches) }
+    ensures sound { IfSome result (λ s. Sound s.link) }
+    ensures fetches { IfSome result (λ s. s.fetches ≤ 4096) }
+{
+    if fetches >= FETCH_LIMIT {
+        return None;
+    }
+    match fetch_at(area, fetches != 0, 0, start) {
+        Fetch::Last(ccw) => Some(Single {
+            link: Link { at: start, ccw },
+            fetches: fetches + 1,
+        }),
+        Fetch::Transfer(to) => fetch_behind(area, to, fetches + 1),
+        Fetch::Refused | Fetch::More(_) => None,
+    }
+}
+
+/// The same behind a transfer.
+#[inline(always)]
+fn fetch_behind(area: &Area, at: u32, fetches: u16) -> Option<Single>
+    ensures chain { IfSome result (λ s. chain_within area.now (4096 - fetches) false 0 at ≡ Whole (s.link ∷ []) s.fetches) }
+    ensures sound { IfSome result (λ s. Sound s.link) }
+    ensures fetches { IfSome result (λ s. s.fetches ≤ 4096) }
+{
+    if fetches >= FETCH_LIMIT {
+        return None;
+    }
+    match fetch_at(area, false, 0, at) {
+        Fetch::Last(ccw) => Some(Single {
+            link: Link { at, ccw },
+            fetches: fetches + 1,
+        }),
+        Fetch::Refused | Fetch::Transfer(_) | Fetch::More(_) => None,
+    }
 }
 
 /// CCWs that one attempt may fetch.

@@ -13,6 +13,7 @@ mod ending;
 mod fetch;
 pub mod laws;
 mod length;
+mod part_list;
 mod run;
 
 pub use context::{Burst, Context, State};

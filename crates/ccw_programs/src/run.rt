@@ -1,51 +1,79 @@
-ghost use Rattle.std.specs.Prelude.{◌≡◌, ◌≤◌, ◌<◌, [], length, min, sum, All};
+ghost use Rattle.std.specs.Prelude.{◌≡◌, ◌≤◌, ◌<◌, [], ◌∷◌, length, min, sum, All, false};
 ghost use Rattle.io_area.specs.Storage.{SamePlace};
-ghost use Rattle.ccw_programs.specs.Links.{chain, Whole, Sound};
+ghost use Rattle.ccw_programs.specs.Links.{chain, Whole, Sound, is_indirect};
 ghost use Rattle.ccw_programs.specs.Step.{Program, program, step, after, length_of};
 
-use crate::areas::data_areas;
+use crate::areas::{data_area, data_areas, part_of};
 use crate::context::{Burst, Context, State};
 use crate::ending::command_code;
-use crate::fetch::{Link, Links, fetch_chain};
+use crate::fetch::{Link, Links, fetch_chain, fetch_single};
+use crate::part_list::PartList;
 use device_port::{Chain, Device};
 use io_area::Area;
 
-/// What a command step works on, made once for a burst: the CCWs of the command and the parts of its data.
-#[derive(Drop)]
-struct Workspace {
-    links: Links,
-    parts: Chain,
-}
-
-impl Workspace {
-    fn new() -> Self
-        ensures links { result.links.items ≡ [] }
-        ensures parts { result.parts ≡ [] }
-    {
-        Workspace {
-            links: Links::new(),
-            parts: Chain::new(),
-        }
-    }
-}
-
 /// One command step.
-fn command<D: Device>(context: &mut Context, device: &mut D, area: &mut Area, space: &mut Workspace)
+#[inline(always)]
+fn command<D: Device>(context: &mut Context, device: &mut D, area: &mut Area)
     requires { context.old.state ≡ State.Running }
     ensures bound { context.old.fetched ≤ 4096 }
     ensures place { SamePlace area.old area.new }
     ensures step { program context.new device.new area.new ≡ step D.meaning (program context.old device.old area.old) }
 {
-    space.links.clear();
-    match fetch_chain(area, context.next(), context.fetched(), &mut space.links) {
+    match fetch_single(area, context.next(), context.fetched()) {
+        Some(single) if !single.link.ccw.flags.is_indirect() => {
+            command_on_one(context, device, area, &single.link, single.fetches);
+        }
+        _ => command_of_chain(context, device, area),
+    }
+}
+
+/// One command step, whose only CCW was fetched.
+#[inline(always)]
+fn command_on_one<D: Device>(
+    context: &mut Context,
+    device: &mut D,
+    area: &mut Area,
+    link: &Link,
+    fetches: u16,
+)
+    requires running { context.old.state ≡ State.Running }
+    requires fetched { chain area.old context.old.next context.old.fetched ≡ Whole (link.now ∷ []) fetches }
+    requires sound { Sound link.now }
+    requires direct { is_indirect link.now.ccw ≡ false }
+    requires fetches { fetches ≤ 4096 }
+    ensures place { SamePlace area.old area.new }
+    ensures step { program context.new device.new area.new ≡ step D.meaning (program context.old device.old area.old) }
+{
+    let code = link.ccw.command;
+    let flow = device.flow(code);
+    let part = [part_of(&link.ccw)];
+    match data_area(flow, area, link, &part) {
+        None => context.check(link.at),
+        Some(parts) => {
+            let acted = device.act(code, &Chain::of(parts), area);
+            context.advance_one(flow, link, fetches, acted);
+        }
+    }
+}
+
+/// One command step, of any chain.
+#[inline(never)]
+fn command_of_chain<D: Device>(context: &mut Context, device: &mut D, area: &mut Area)
+    requires { context.old.state ≡ State.Running }
+    ensures bound { context.old.fetched ≤ 4096 }
+    ensures place { SamePlace area.old area.new }
+    ensures step { program context.new device.new area.new ≡ step D.meaning (program context.old device.old area.old) }
+{
+    let mut links = Links::new();
+    match fetch_chain(area, context.next(), context.fetched(), &mut links) {
         Err(at) => context.check(at),
         Ok(fetches) => command_on(
             context,
             device,
             area,
-            space.links.as_slice(),
+            links.as_slice(),
             fetches,
-            &mut space.parts,
+            &mut PartList::new(),
         ),
     }
 }
@@ -57,7 +85,7 @@ fn command_on<D: Device>(
     area: &mut Area,
     links: &[Link],
     fetches: u16,
-    parts: &mut Chain,
+    parts: &mut PartList,
 )
     requires running { context.old.state ≡ State.Running }
     requires fetched { chain area.old context.old.next context.old.fetched ≡ Whole links.now fetches }
@@ -65,16 +93,16 @@ fn command_on<D: Device>(
     requires few { length links.now ≤ 16 }
     requires sound { All Sound links.now }
     requires fetches { fetches ≤ 4096 }
+    requires empty { parts.old ≡ [] }
     ensures place { SamePlace area.old area.new }
     ensures step { program context.new device.new area.new ≡ step D.meaning (program context.old device.old area.old) }
 {
     let code = command_code(links);
     let flow = device.flow(code);
-    parts.clear();
     match data_areas(flow, area, links, parts) {
         Err(at) => context.check(at),
         Ok(()) => {
-            let acted = device.act(code, parts, area);
+            let acted = device.act(code, &Chain::of(parts.as_slice()), area);
             context.advance(flow, links, fetches, acted);
         }
     }
@@ -90,9 +118,8 @@ pub fn burst<D: Device>(context: &mut Context, device: &mut D, area: &mut Area, 
     ensures place { SamePlace area.old area.new }
     ensures full { result.state ≡ State.Running → result.commands ≡ max }
 {
-    let mut space = Workspace::new();
     for done in 0..max {
-        command(context, device, area, &mut space);
+        command(context, device, area);
         let state = context.state();
         match state {
             State::Running => {}

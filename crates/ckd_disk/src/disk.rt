@@ -115,7 +115,7 @@ impl Disk {
     }
 
     /// A command that gives data to the program.
-    fn read(&mut self, command: Read, chain: &Chain, area: &mut Area) -> Acted
+    fn read(&mut self, command: Read, chain: &Chain<'_>, area: &mut Area) -> Acted
         requires { AllLie Flow.Input area.old chain.now }
         ensures acted { result ≡ (read_on self.old command).acted }
         ensures device { self.new ≡ (read_on self.old command).device }
@@ -136,7 +136,7 @@ impl Disk {
     }
 
     /// A command that takes data from the program.
-    fn write(&mut self, command: Write, chain: &Chain, area: &Area) -> Acted
+    fn write(&mut self, command: Write, chain: &Chain<'_>, area: &Area) -> Acted
         requires { AllLie Flow.Out area.now chain.now }
         ensures acted { result ≡ (write_on self.old command (gathered area.now chain.now)).acted }
         ensures device { self.new ≡ (write_on self.old command (gathered area.now chain.now)).device }
@@ -217,7 +217,7 @@ impl Device for Disk {
         self.move_to(seek, mask);
     }
 
-    fn act(&mut self, command: u8, chain: &Chain, area: &mut Area) -> Acted {
+    fn act(&mut self, command: u8, chain: &Chain<'_>, area: &mut Area) -> Acted {
         if let Some(fault) = self.faults.count() {
             let orientation = self.access.orientation;
             self.access.leave(orientation, Armed::No);

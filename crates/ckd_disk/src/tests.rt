@@ -66,12 +66,12 @@ fn act(
 ) -> Acted {
     assert!(rt; count >= 1);
     assert!(rt; area.get(address, usize::from(count)).is_some());
-    let mut chain = Chain::new();
-    chain.push(Segment {
+    let parts = [Segment {
         address,
         count,
         skip: false,
-    });
+    }];
+    let chain = Chain::of(&parts);
     disk.act(command, &chain, area)
 }
 

@@ -3,7 +3,7 @@ use Rattle.std.proofs.Common.{◌≡◌, ℕ, zero, suc, ◌+◌, ◌-◌, ◌<�
 use Rattle.std.proofs.Math.Seq.{drop-cons}
 use Rattle.std.proofs.lemmas.Bool.{cases_lt}
 use Rattle.std.proofs.lemmas.Bool.Decides.{nat_tests}
-use Rattle.std.proofs.lemmas.List.{take_at, take_all, take-append-le, length-append, length-take, length-drop, append-nil}
+use Rattle.std.proofs.lemmas.List.{take_at, take_all, take-take, take-append-le, length-append, length-take, length-drop, append-nil}
 use Rattle.std.proofs.lemmas.List.Elements.{All-head, All-tail}
 use Rattle.std.proofs.lemmas.List.Sums.{sum_by-cons}
 use Rattle.io_area.specs.Storage.{Storage, lies_in, bytes_at}
@@ -90,3 +90,18 @@ gathers-on m segments i d image after whole at n h within lies is wrote told =
     let len = length-bytes_at m (get_or segments i d).address (get_or segments i d).count lies in
     gather_more image after at n (take n xs) xs (gathered m (drop (i + 1) segments)) within (rw len is) refl wrote
     ∙ ap (λ (l : List ℕ). take at image ++ padded (length image - at) l) (sym (gathered-next m segments i d h)) ∙ told
+
+take-less : (most count n : ℕ) (bytes : List ℕ) → n ≡ min count most → take most (take count bytes) ≡ take n bytes
+take-less most count n bytes is =
+    elim (cases_lt most count) [
+      | inl less ↦ let e : n ≡ most = omega arith in take-take most count bytes (omega arith) ∙ ap (λ (k : ℕ). take k bytes) (sym e)
+      | inr more ↦ let e : n ≡ count = omega arith in take_all most (take count bytes) (omega (arith, length-take count bytes)) ∙ ap (λ (k : ℕ). take k bytes) (sym e)
+    ]
+
+-- the first bytes that a chain of one part gives
+pub take-gathered : (m : Storage) (segments : List Segment) (d : Segment) (most n : ℕ) → 1 ≤ length segments → length segments < 2 →
+    n ≡ min (get_or segments 0 d).count most → take most (gathered m segments) ≡ bytes_at m (get_or segments 0 d).address n
+take-gathered m [] d most n some few is = absurd (omega arith)
+take-gathered m (s ∷ []) d most n some few is =
+    ap (take most) (append-nil (bytes_at m s.address s.count)) ∙ take-less most s.count n (drop (s.address - m.base) m.bytes) is
+take-gathered m (s ∷ k ∷ ss) d most n some few is = absurd (omega arith)

@@ -1,10 +1,9 @@
-ghost use Rattle.std.specs.Prelude.{◌≡◌, ◌<◌, ◌≤◌, ◌++◌, ◌∷◌, [], length, reverse};
+ghost use Rattle.std.specs.Prelude.{◌≡◌, ◌≤◌, length, reverse};
 ghost use Rattle.io_area.specs.Storage.{SamePlace};
 ghost use Rattle.device_port.specs.Moves.{AllLie, total, stored, stored_back};
 
 use crate::kind::Flow;
 use crate::moves::{store, store_back};
-use arrayvec::ArrayVec;
 use io_area::Area;
 use std::marker::Model;
 
@@ -21,36 +20,30 @@ pub struct Segment {
     pub skip: bool,
 }
 
-/// The parts of the data of a command, in order: at most 528. It is made once and cleared for each command.
+/// The parts of the data of a command, in order: at most 528.
 #[derive(Drop)]
-pub struct Chain {
-    segments: ArrayVec<Segment, 528>,
+pub struct Chain<'a> {
+    segments: &'a [Segment],
 }
 
-impl Model for Chain {
-    ghost use Rattle.std.specs.Prelude.{List};
+impl<'a> Model for Chain<'a> {
+    ghost use Rattle.std.specs.Prelude.{List, ◌≤◌, length};
     ghost use Rattle.device_port.specs.declared.chain.Segment.{Segment};
 
     ghost Value = { List Segment };
 
-    ghost view = { λ c. c.segments.items };
+    ghost view = { λ c. c.segments.now };
+
+    ghost invariant = { λ c. length c.segments.now ≤ 528 };
 }
 
-impl Chain {
-    /// A chain without parts.
-    pub fn new() -> Self
-        ensures { result ≡ [] }
+impl<'a> Chain<'a> {
+    /// The chain of these parts.
+    pub fn of(segments: &'a [Segment]) -> Self
+        requires { length segments.now ≤ MOST_SEGMENTS }
+        ensures { result ≡ segments.now }
     {
-        Chain {
-            segments: ArrayVec::new(),
-        }
-    }
-
-    /// Takes all parts away.
-    pub fn clear(&mut self)
-        ensures { self.new ≡ [] }
-    {
-        self.segments.clear();
+        Chain { segments }
     }
 
     /// The number of parts.
@@ -60,20 +53,12 @@ impl Chain {
         self.segments.len()
     }
 
-    /// Adds a part behind the others.
-    pub fn push(&mut self, segment: Segment)
-        requires { length self.old < MOST_SEGMENTS }
-        ensures { self.new ≡ self.old ++ segment ∷ [] }
-    {
-        self.segments.push(segment);
-    }
-
     /// The parts.
-    pub fn segments(&self) -> &[Segment]
+    pub fn segments(&self) -> &'a [Segment]
         ensures value { result.now ≡ self.now }
         ensures few { length result.now ≤ MOST_SEGMENTS }
     {
-        self.segments.as_slice()
+        self.segments
     }
 
     /// The number of bytes that the parts have room for.
@@ -81,7 +66,6 @@ impl Chain {
         ensures { result ≡ total self.now }
     {
         self.segments
-            .as_slice()
             .iter()
             .map(|s| u32::from(s.count))
             .sum()
@@ -94,7 +78,7 @@ impl Chain {
         ensures place { SamePlace area.old area.new }
         ensures stored { area.new ≡ stored self.now bytes.now area.old }
     {
-        store(self.segments.as_slice(), area, bytes);
+        store(self.segments, area, bytes);
     }
 
     /// Moves a block into storage backward, its last byte first, at falling addresses.
@@ -103,6 +87,6 @@ impl Chain {
         ensures place { SamePlace area.old area.new }
         ensures stored { area.new ≡ stored_back self.now (reverse block.now) area.old }
     {
-        store_back(self.segments.as_slice(), area, block);
+        store_back(self.segments, area, block);
     }
 }

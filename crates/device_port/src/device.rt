@@ -42,7 +42,7 @@ pub trait Device: Drop {
         ensures { self.new ≡ meaning.prefix self.old seek.now mask };
 
     /// Does a command on the parts of its data chain. Takes no memory.
-    fn act(&mut self, command: u8, chain: &Chain, area: &mut Area) -> Acted
+    fn act(&mut self, command: u8, chain: &Chain<'_>, area: &mut Area) -> Acted
         requires { CanAct (meaning.flow self.old command) area.old chain.now }
         ensures acted { result ≡ (effect meaning self.old command chain.now area.old).acted }
         ensures device { self.new ≡ (effect meaning self.old command chain.now area.old).device }

@@ -1,7 +1,7 @@
-ghost use Rattle.std.specs.Prelude.{◌≡◌, ◌<◌, ℕ, length, slice_index};
+ghost use Rattle.std.specs.Prelude.{◌≡◌, ◌<◌, ℕ, length, slice_index, take, IfSome};
 ghost use Rattle.device_port.specs.Moves.{AllLie, gathered, padded};
 
-use crate::chain::Chain;
+use crate::chain::{Chain, Segment};
 use crate::kind::Flow;
 use crate::moves::gather;
 use io_area::Area;
@@ -10,36 +10,39 @@ use std::marker::Model;
 /// The bytes that a chain gives to a command, part after part.
 #[derive(Drop)]
 pub struct Given<'a> {
-    chain: &'a Chain,
+    segments: &'a [Segment],
     area: &'a Area,
 }
 
 impl<'a> Model for Given<'a> {
-    ghost use Rattle.std.specs.Prelude.{List, ℕ};
+    ghost use Rattle.std.specs.Prelude.{List, ℕ, ◌≤◌, length};
     ghost use Rattle.device_port.specs.Moves.{AllLie, gathered};
     ghost use Rattle.device_port.specs.declared.kind.Flow.TheVariants.{Out};
 
     ghost Value = { List ℕ };
 
-    ghost view = { λ g. gathered g.area.now g.chain.now };
+    ghost view = { λ g. gathered g.area.now g.segments.now };
 
-    ghost invariant = { λ g. AllLie Out g.area.now g.chain.now };
+    ghost invariant = { (λ g. AllLie Out g.area.now g.segments.now × (length g.segments.now ≤ 528)) };
 }
 
 impl<'a> Given<'a> {
     /// The bytes of a chain that lies in the area.
-    pub fn new(chain: &'a Chain, area: &'a Area) -> Self
+    pub fn new(chain: &Chain<'a>, area: &'a Area) -> Self
         requires { AllLie Flow.Out area.now chain.now }
         ensures { result ≡ gathered area.now chain.now }
     {
-        Given { chain, area }
+        Given {
+            segments: chain.segments(),
+            area,
+        }
     }
 
     /// How many bytes the chain gives.
     pub fn len(&self) -> usize
         ensures { result ≡ length self.now }
     {
-        self.chain.total() as usize
+        Chain::of(self.segments).total() as usize
     }
 
     /// Fills `into` with the first bytes, and with zeros what they leave.
@@ -47,6 +50,20 @@ impl<'a> Given<'a> {
         ensures filled { into.new ≡ padded (length into.old) self.now }
         ensures bytes { (i : ℕ) → slice_index into.new i < 256 }
     {
-        gather(self.chain.segments(), self.area, into)
+        gather(self.segments, self.area, into)
+    }
+
+    /// The first bytes, so many at most, where they lie in one part. None says nothing.
+    #[inline(always)]
+    pub fn first(&self, most: usize) -> Option<&'a [u8]>
+        ensures { IfSome result (λ bytes. bytes.now ≡ take most self.now) }
+    {
+        match self.segments {
+            [only] => match self.area.get(only.address, usize::from(only.count).min(most)) {
+                Some(bytes) => Some(bytes),
+                None => None,
+            },
+            _ => None,
+        }
     }
 }

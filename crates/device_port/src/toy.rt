@@ -54,7 +54,7 @@ impl ToyBlock {
     }
 
     /// Takes a new block from storage.
-    fn write(&mut self, chain: &Chain, area: &Area)
+    fn write(&mut self, chain: &Chain<'_>, area: &Area)
         requires { AllLie Flow.Out area.now chain.now }
         ensures { self.new ≡ record self.old { block = padded 4 (gathered area.now chain.now) } }
     {
@@ -98,7 +98,7 @@ impl Device for ToyBlock {
 
     fn prefix(&mut self, _seek: &Seek, _mask: u8) {}
 
-    fn act(&mut self, command: u8, chain: &Chain, area: &mut Area) -> Acted {
+    fn act(&mut self, command: u8, chain: &Chain<'_>, area: &mut Area) -> Acted {
         if let Some(fault) = self.faults.count() {
             return fault.acted();
         }

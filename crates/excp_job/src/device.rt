@@ -88,7 +88,7 @@ impl Device for UnitDevice {
         }
     }
 
-    fn act(&mut self, command: u8, chain: &Chain, area: &mut Area) -> Acted {
+    fn act(&mut self, command: u8, chain: &Chain<'_>, area: &mut Area) -> Acted {
         match self {
             UnitDevice::Disk(disk) => disk.act(command, chain, area),
             UnitDevice::Tape(tape) => tape.act(command, chain, area),

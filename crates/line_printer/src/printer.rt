@@ -42,6 +42,7 @@ impl Model for Printer {
 impl Printer {
     ghost use Rattle.std.specs.Prelude.{◌≡◌};
     ghost use Rattle.std.specs.Slice.Iter.{iter_rest};
+    ghost use Rattle.device_port.specs.Moves.{AllLie, gathered};
     ghost use Rattle.line_printer.specs.Printer.{print, move};
     ghost use Rattle.line_printer.specs.Mount.{Mounts};
 
@@ -90,6 +91,15 @@ impl Printer {
         ensures { result ≡ self.now.at }
     {
         self.position
+    }
+
+    /// Prints what a chain gives and moves the paper.
+    fn print_from(&mut self, motion: Motion, chain: &Chain<'_>, area: &Area) -> Acted
+        requires { AllLie Flow.Out area.now chain.now }
+        ensures acted { result ≡ (print self.old motion (gathered area.now chain.now)).acted }
+        ensures device { self.new ≡ (print self.old motion (gathered area.now chain.now)).device }
+    {
+        self.print(motion, &Given::new(chain, area))
     }
 
     /// Prints a line and moves the paper.
@@ -154,7 +164,7 @@ impl Device for Printer {
 
     fn prefix(&mut self, _seek: &Seek, _mask: u8) {}
 
-    fn act(&mut self, command: u8, chain: &Chain, area: &mut Area) -> Acted {
+    fn act(&mut self, command: u8, chain: &Chain<'_>, area: &mut Area) -> Acted {
         if let Some(fault) = self.faults.count() {
             return fault.acted();
         }
@@ -165,7 +175,7 @@ impl Device for Printer {
                 chain.store(area, &SENSE_BYTES);
                 Acted::sense()
             }
-            Some(Command::Print(motion)) => self.print(motion, &Given::new(chain, area)),
+            Some(Command::Print(motion)) => self.print_from(motion, chain, area),
             Some(Command::Move(motion)) => self.move_paper(motion),
         }
     }

@@ -26,12 +26,12 @@ fn storage(alloc: Global, bytes: &[u8]) -> Result<Area, Fail> {
 fn act(rt: &impl Abort, printer: &mut Printer, area: &mut Area, command: u8, count: u16) -> Acted {
     assert!(rt; count >= 1);
     assert!(rt; area.get(0x1060, usize::from(count)).is_some());
-    let mut chain = Chain::new();
-    chain.push(Segment {
+    let parts = [Segment {
         address: 0x1060,
         count,
         skip: false,
-    });
+    }];
+    let chain = Chain::of(&parts);
     printer.act(command, &chain, area)
 }
 

@@ -41,7 +41,7 @@ impl Model for Tape {
 
 impl Tape {
     ghost use Rattle.std.specs.Prelude.{◌≡◌, ◌≤◌, length};
-    ghost use Rattle.device_port.specs.Moves.{AllLie, stored, stored_back};
+    ghost use Rattle.device_port.specs.Moves.{AllLie, gathered, stored, stored_back};
     ghost use Rattle.io_area.specs.Storage.{SamePlace};
     ghost use Rattle.tape_unit.specs.Tape.{control_on, read, read_backward, forward_space_block, backspace_block, forward_space_file, backspace_file, rewind, write, write_tape_mark};
     ghost use Rattle.tape_unit.specs.Mount.{Mounts};
@@ -102,7 +102,7 @@ impl Tape {
     }
 
     /// READ.
-    fn read(&mut self, chain: &Chain, area: &mut Area) -> Acted
+    fn read(&mut self, chain: &Chain<'_>, area: &mut Area) -> Acted
         requires { AllLie Flow.Input area.old chain.now }
         ensures acted { result ≡ (read self.old).acted }
         ensures device { self.new ≡ (read self.old).device }
@@ -119,7 +119,7 @@ impl Tape {
     }
 
     /// READ BACKWARD.
-    fn read_backward(&mut self, chain: &Chain, area: &mut Area) -> Acted
+    fn read_backward(&mut self, chain: &Chain<'_>, area: &mut Area) -> Acted
         requires { AllLie Flow.Back area.old chain.now }
         ensures acted { result ≡ (read_backward self.old).acted }
         ensures device { self.new ≡ (read_backward self.old).device }
@@ -211,6 +211,16 @@ impl Tape {
         Acted::normal_end(len as u32)
     }
 
+    /// WRITE of what a chain gives.
+    fn write_from(&mut self, chain: &Chain<'_>, area: &Area) -> Acted
+        requires lies { AllLie Flow.Out area.now chain.now }
+        requires some { 1 ≤ length (gathered area.now chain.now) }
+        ensures acted { result ≡ (write self.old (gathered area.now chain.now)).acted }
+        ensures device { self.new ≡ (write self.old (gathered area.now chain.now)).device }
+    {
+        self.write(&Given::new(chain, area))
+    }
+
     /// WRITE TAPE MARK.
     fn write_tape_mark(&mut self) -> Acted
         ensures acted { result ≡ (write_tape_mark self.old).acted }
@@ -272,7 +282,7 @@ impl Device for Tape {
 
     fn prefix(&mut self, _seek: &Seek, _mask: u8) {}
 
-    fn act(&mut self, command: u8, chain: &Chain, area: &mut Area) -> Acted {
+    fn act(&mut self, command: u8, chain: &Chain<'_>, area: &mut Area) -> Acted {
         if let Some(fault) = self.faults.count() {
             return fault.acted();
         }
@@ -285,7 +295,7 @@ impl Device for Tape {
             }
             Some(Command::Read) => self.read(chain, area),
             Some(Command::ReadBackward) => self.read_backward(chain, area),
-            Some(Command::Write) => self.write(&Given::new(chain, area)),
+            Some(Command::Write) => self.write_from(chain, area),
         }
     }
 

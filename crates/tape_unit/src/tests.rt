@@ -49,12 +49,12 @@ fn act(
     assert!(rt; len >= 1 && len <= address);
     assert!(rt; area.get(address, usize::from(count)).is_some());
     assert!(rt; area.get(address + 1 - len, usize::from(count)).is_some());
-    let mut chain = Chain::new();
-    chain.push(Segment {
+    let parts = [Segment {
         address,
         count,
         skip: false,
-    });
+    }];
+    let chain = Chain::of(&parts);
     tape.act(command, &chain, area)
 }
 

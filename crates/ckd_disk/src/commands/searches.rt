@@ -17,6 +17,9 @@ fn is_match<const N: usize>(field: &[u8], given: &Given<'_>) -> bool
     requires small { N ≤ 255 }
     ensures { result ≡ matches field.now given.now }
 {
+    if let Some(bytes) = given.first(field.len()) {
+        return field.starts_with(bytes);
+    }
     let len = given.len().min(field.len());
     let mut argument = [0; N];
     given.fill(&mut argument[..len]);

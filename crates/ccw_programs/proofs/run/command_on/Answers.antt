@@ -14,5 +14,5 @@ pub returns-in-Ok-clause-step : goal.returns-in-Ok-clause-step
 returns-in-Ok-clause-step g c =
     let lies : areas (g.D.Device.meaning.flow c.args.device.now c.command_code-code.result) c.args.area.now c.args.links.now ≡ Parts c.data_areas.new.chain =
     rw (← c.flow-flow.ensures) c.in-Ok.ensures.value in
-    rw (c.advance.ensures, c.act-acted.ensures.acted, c.act-acted.ensures.device, c.act-acted.ensures.area, c.flow-flow.ensures)
+    rw (c.advance.ensures, c.act-acted.ensures.acted, c.act-acted.ensures.device, c.act-acted.ensures.area, c.of.ensures, c.as_slice.ensures.value, c.flow-flow.ensures)
     (sym (step-acted g.D.Device.meaning (program c.args.context.now c.args.device.now c.args.area.now) c.requires.running _ _ _ c.requires.fetched c.command_code-code.ensures _ lies))

@@ -17,8 +17,8 @@ returns-in-Some-clause-area c =
     rw met (sym (received-nothing (flow_of (command_of c.args.command)) c.args.chain.now c.args.area.now))
 
 -- the program gives a byte at least
-pub write-requires : goal.write-requires
-write-requires c =
+pub write_from-requires-clause-some : goal.write_from-requires-clause-some
+write_from-requires-clause-some c =
     let out : flow_of (command_of c.args.command) ≡ flow.Out = ap flow_of (sym c.decode.ensures ∙ c.in-Some-Write.is ∙ ap (λ (x : Command). Some x) c.in-Some-Write.field-0-is) in
     let can = subst (λ (f : Flow). CanAct f c.args.area.now c.args.chain.now) out c.requires in
-    omega (arith, can.1, ap length c.new.ensures, length-gathered c.args.area.now c.args.chain.now can.0)
+    omega (arith, can.1, length-gathered c.args.area.now c.args.chain.now can.0)

@@ -2,7 +2,7 @@ use Rattle.std.proofs.Common.{sym, ◌≡◌}
 use Rattle.ccw_programs.specs.Links.{chain, Broken}
 use Rattle.ccw_programs.specs.Step.{program}
 use Rattle.ccw_programs.proofs.Steps.{step-broken}
-use Rattle.ccw_programs.proofs.run.command.Goals as goal
+use Rattle.ccw_programs.proofs.run.command_of_chain.Goals as goal
 
 pub returns-in-Err-clause-step : goal.returns-in-Err-clause-step
 returns-in-Err-clause-step g c =
