@@ -2,12 +2,14 @@
 #![tactic(auto)]
 
 mod error;
+mod issued;
 mod piece;
 mod posted;
 mod request;
 mod scope;
 
 pub use error::RequestError;
+pub use issued::Issued;
 pub use piece::{Name, Piece};
 pub use posted::Posted;
 pub use request::Request;

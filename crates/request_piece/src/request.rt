@@ -1,20 +1,23 @@
 ghost use Rattle.std.specs.Prelude.{◌≡◌, true, false, IfErr, IfOk, IfSome, MatchOption};
+ghost use Rattle.std.specs.Arc.{arc_value};
 ghost use Rattle.io_area.specs.Storage.{bytes_at, lies_in};
 ghost use Rattle.io_images.specs.Images.{iob_of};
 ghost use Rattle.request_piece.specs.Places.{Placed, is_ecb_place, is_program_place};
-ghost use Rattle.request_piece.specs.Requests.{NoFault, RequestFault, iob_at, request_of};
+ghost use Rattle.request_piece.specs.Requests.{NoFault, RequestFault, iob_at, piece_of, request_of};
 
 use crate::error::RequestError;
+use crate::issued::Issued;
 use crate::piece::{Name, Piece};
 use io_area::Area;
 use io_images::{Address, Iob, Seek};
 use std::alloc::Global;
 use std::marker::Model;
+use std::sync::Arc;
 
 /// A request as issued, beside the copy that is worked on.
 #[derive(Drop)]
 pub struct Request {
-    issued: Box<Piece>,
+    issued: Issued,
     work: Box<Piece>,
 }
 
@@ -25,9 +28,9 @@ impl Model for Request {
 
     ghost Value = { Piece };
 
-    ghost view = { λ r. r.issued.value };
+    ghost view = { λ r. r.issued };
 
-    ghost invariant = { (λ r. (r.work.value ≡ r.issued.value) × Placed r.issued.value) };
+    ghost invariant = { (λ r. (r.work.value ≡ r.issued) × Placed r.issued) };
 }
 
 impl Request {
@@ -52,32 +55,59 @@ impl Request {
             Ok(image) => image,
             Err(error) => return Err((error, area)),
         };
-        let piece = Piece {
-            name,
-            unit,
-            dcb,
-            related: !image.unrelated,
-            start: image.start,
-            seek: image.seek,
-            iob,
-            ecb: image.ecb.get(),
-            area,
+        let Ok(kept) = area.copy() else {
+            return Err((RequestError::NoMemory, area));
         };
-        Request::issue(alloc, piece)
+        match Arc::new(alloc, kept) {
+            Ok(kept) => {
+                let piece = piece_of(name, unit, dcb, iob, &image, area);
+                Request::issue(alloc, piece, kept)
+            }
+            Err(_) => Err((RequestError::NoMemory, area)),
+        }
     }
 
-    /// The request with this piece, as issued and to be worked on.
-    fn issue(alloc: Global, work: Piece) -> Result<Request, (RequestError, Area)>
-        requires { Placed work }
+    /// The request that the IOB at `iob` describes, over storage that is shared: its storage as issued takes no
+    /// memory of its own. It is refused as by `new`.
+    pub fn over(
+        alloc: Global,
+        name: Name,
+        unit: u16,
+        dcb: u16,
+        iob: u32,
+        area: &Arc<Area, Global>,
+    ) -> Result<Request, RequestError>
+        ensures request { IfOk result (λ r. r ≡ request_of name unit dcb iob (arc_value area.now)) }
+        ensures ok { IfOk result (λ r. NoFault dcb iob (arc_value area.now)) }
+        ensures refused { IfErr result (RequestFault dcb iob (arc_value area.now)) }
+    {
+        let shared: &Area = area;
+        let image = read_iob(dcb, iob, shared)?;
+        let Ok(kept) = Arc::try_clone(area) else {
+            return Err(RequestError::NoMemory);
+        };
+        let Ok(work) = shared.copy() else {
+            return Err(RequestError::NoMemory);
+        };
+        let piece = piece_of(name, unit, dcb, iob, &image, work);
+        match Request::issue(alloc, piece, kept) {
+            Ok(request) => Ok(request),
+            Err((error, _)) => Err(error),
+        }
+    }
+
+    /// The request with this piece to be worked on, over this storage as issued.
+    fn issue(
+        alloc: Global,
+        work: Piece,
+        kept: Arc<Area, Global>,
+    ) -> Result<Request, (RequestError, Area)>
+        requires placed { Placed work }
+        requires same { arc_value kept ≡ work.area }
         ensures ok { IfOk result (λ r. r ≡ work) }
         ensures refused { IfErr result (λ e. e ≡ (RequestError.NoMemory, work.area)) }
     {
-        let Ok(issued) = work.copy() else {
-            return Err((RequestError::NoMemory, work.area));
-        };
-        let Ok(issued) = Box::new(alloc, issued) else {
-            return Err((RequestError::NoMemory, work.area));
-        };
+        let issued = Issued::of(&work, kept);
         match Box::new(alloc, work) {
             Ok(work) => Ok(Request { issued, work }),
             Err(failed) => Err((RequestError::NoMemory, failed.value.area)),
@@ -85,8 +115,8 @@ impl Request {
     }
 
     /// The piece as issued, and the piece to be worked on.
-    pub fn into_parts(self) -> (Box<Piece>, Box<Piece>)
-        ensures issued { result.0.value ≡ self }
+    pub fn into_parts(self) -> (Issued, Box<Piece>)
+        ensures issued { result.0 ≡ self }
         ensures work { result.1.value ≡ self }
         ensures placed { Placed self }
     {
@@ -97,49 +127,66 @@ impl Request {
     pub fn name(&self) -> Name
         ensures { result ≡ self.now.name }
     {
-        self.issued.name
+        self.issued.name()
     }
 
     /// The unit that it is for.
     pub fn unit(&self) -> u16
         ensures { result ≡ self.now.unit }
     {
-        self.issued.unit
+        self.issued.unit()
     }
 
     /// The number of its DCB.
     pub fn dcb(&self) -> u16
         ensures { result ≡ self.now.dcb }
     {
-        self.issued.dcb
+        self.issued.dcb()
     }
 
     /// Whether it is related to the other requests of its DCB.
     pub fn is_related(&self) -> bool
         ensures { result ≡ self.now.related }
     {
-        self.issued.related
+        self.issued.is_related()
     }
 
     /// The address of its channel program.
     pub fn start(&self) -> Address
         ensures { result ≡ self.now.start }
     {
-        self.issued.start
+        self.issued.start()
     }
 
     /// Its seek address.
     pub fn seek(&self) -> Seek
         ensures { result ≡ self.now.seek }
     {
-        self.issued.seek
+        self.issued.seek()
     }
 
     /// Its storage as issued.
     pub fn area(&self) -> &Area
         ensures { result.now ≡ self.now.area }
     {
-        &self.issued.area
+        self.issued.area()
+    }
+}
+
+/// The piece with these fields of its IOB.
+fn piece_of(name: Name, unit: u16, dcb: u16, iob: u32, image: &Iob, area: Area) -> Piece
+    ensures { result ≡ piece_of name unit dcb iob area image.now }
+{
+    Piece {
+        name,
+        unit,
+        dcb,
+        related: !image.unrelated,
+        start: image.start,
+        seek: image.seek,
+        iob,
+        ecb: image.ecb.get(),
+        area,
     }
 }
 

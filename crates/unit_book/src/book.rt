@@ -14,7 +14,7 @@ ghost use Rattle.unit_book.specs.Trace.{active, arrived_of, waiting};
 
 use crate::answer::{ArriveError, Interruption, OpenError, Running, Starting};
 use crate::decision::Next;
-use crate::entry::{Entry, Issued};
+use crate::entry::Entry;
 use crate::ledger::Ledger;
 use device_port::Device;
 use io_images::Extent;
@@ -100,7 +100,6 @@ impl<D: Device> UnitBook<D> {
         }
         let refused = self.ledger.is_refused(&request);
         let (issued, work) = request.into_parts();
-        let issued = Issued::new(issued);
         if refused {
             self.ledger.refuse(issued, work);
             return Ok(());

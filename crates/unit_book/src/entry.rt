@@ -1,11 +1,8 @@
 //! The trace of a unit: its entries.
 
-ghost use Rattle.std.specs.Prelude.{◌≡◌};
-
 use crate::extents::Extents;
 use io_images::{Code, Csw};
-use request_piece::{Name, Piece, Scope};
-use std::marker::Model;
+use request_piece::{Issued, Name, Scope};
 
 /// Whether a purge lets the active request go on to its end, or halts its program (DFSMSdfp Advanced
 /// Services, PURGE).
@@ -13,35 +10,6 @@ use std::marker::Model;
 pub enum Mode {
     Quiesce,
     Halt,
-}
-
-/// A request as it was issued.
-#[derive(Drop)]
-pub struct Issued {
-    piece: Box<Piece>,
-}
-
-impl Model for Issued {
-    ghost use Rattle.request_piece.specs.declared.piece.Piece.{Piece};
-
-    ghost Value = { Piece };
-
-    ghost view = { λ i. i.piece.value };
-}
-
-impl Issued {
-    pub(crate) fn new(piece: Box<Piece>) -> Self
-        ensures { result ≡ piece.value }
-    {
-        Issued { piece }
-    }
-
-    /// The request.
-    pub fn piece(&self) -> &Piece
-        ensures { result.now ≡ self.now }
-    {
-        &self.piece
-    }
 }
 
 /// What happened at a unit (profile).

@@ -19,13 +19,13 @@ ghost use Rattle.unit_queue.specs.Queue.{queue};
 
 use crate::active::Active;
 use crate::dcb::{Dcb, DcbTable};
-use crate::entry::{Entry, Issued};
+use crate::entry::Entry;
 use crate::extents::Extents;
 use circular_buffer::HeapCircularBuffer;
 use device_port::Device;
 use io_images::Extent;
 pub(crate) use posts::empty_status;
-use request_piece::{Piece, Posted};
+use request_piece::{Issued, Piece, Posted};
 use std::alloc::{AllocError, AllocFailed, Global};
 use std::marker::Model;
 use subchannel::Subchannel;

@@ -21,5 +21,6 @@ pub use answer::{
 };
 pub use book::UnitBook;
 pub use dcb::DcbState;
-pub use entry::{Entry, Issued, Mode};
+pub use entry::{Entry, Mode};
+pub use request_piece::Issued;
 pub use extents::Extents;

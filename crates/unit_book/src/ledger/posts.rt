@@ -17,12 +17,12 @@ ghost use Rattle.unit_book.specs.Answers.{PostsOne, Posts, Decided};
 
 use crate::decision::Decision;
 use crate::doom::doomed_by_post;
-use crate::entry::{Entry, Issued};
+use crate::entry::Entry;
 use crate::ledger::{Ledger, hand_out, write};
 use circular_buffer::HeapCircularBuffer;
 use device_port::Device;
 use io_images::{Address, Code, Csw, SubStatus, UnitStatus};
-use request_piece::{Name, Piece, Posted};
+use request_piece::{Issued, Name, Piece, Posted};
 use unit_queue::{Selection, WaitQueue};
 
 /// The status of a request that was never started.
