@@ -5,7 +5,7 @@ ghost use Rattle.std.specs.Prelude.{◌≡◌, ◌≤◌, IfOk};
 
 use crate::device::UnitDevice;
 use crate::fault::{Fault, FaultName, LineFault};
-use crate::output::{self, Show};
+use crate::output::{self, Lines, Show};
 use crate::reading::read_script;
 use crate::script::{Action, Command, Excp, Script, UnitSetup};
 use crate::station::Station;
@@ -38,17 +38,20 @@ pub fn run_script<R: Read, W: Write + Drop>(
         stations,
         posts: Vec::new(alloc),
         shows: Vec::new(alloc),
+        lines: Lines::new(alloc),
     };
     run.commands(alloc, &script)?;
-    output::write_posts(alloc, writer, &mut run.posts, &mut run.shows)
+    output::write_posts(alloc, writer, &mut run.lines)
 }
 
 /// The books of the units, and what was posted so far.
 #[derive(Drop)]
 struct Run {
     stations: Vec<Station>,
+    /// What was posted and the bytes that are to be shown, since the last time that the units were settled.
     posts: Vec<Posted>,
     shows: Vec<Show>,
+    lines: Lines,
 }
 
 /// Mounts the units in order.
@@ -113,10 +116,9 @@ fn request_of(alloc: Global, script: &Script, excp: Excp, name: Name) -> Result<
     let Some(area) = script.areas.get(excp.area) else {
         return Err(LineFault::Named(FaultName::Name));
     };
-    let area = area.copy()?;
-    let request = match Request::new(alloc, name, excp.dcb.unit, excp.dcb.number, excp.iob, area) {
+    let request = match Request::over(alloc, name, excp.dcb.unit, excp.dcb.number, excp.iob, area) {
         Ok(request) => request,
-        Err((RequestError::NoMemory, _)) => return Err(LineFault::NoMemory),
+        Err(RequestError::NoMemory) => return Err(LineFault::NoMemory),
         Err(_) => return Err(LineFault::Named(FaultName::Request)),
     };
     if !shows(request.area(), excp) {
@@ -221,6 +223,7 @@ impl Run {
                 }
             }
         }
+        self.lines.add(&mut self.posts, &mut self.shows)?;
         Ok(())
     }
 }

@@ -9,6 +9,7 @@ use device_port::Fault as DeviceFault;
 use io_area::Area;
 use io_images::Extent;
 use std::alloc::Global;
+use std::sync::Arc;
 use tape_unit::InitialItem;
 use unit_book::Mode;
 
@@ -88,7 +89,7 @@ pub struct Script {
     pub tasks: u16,
     pub units: Vec<UnitSetup>,
     pub openings: Vec<Opening>,
-    pub areas: Vec<Area>,
+    pub areas: Vec<Arc<Area, Global>>,
     pub commands: Vec<Command>,
 }
 

@@ -7,6 +7,7 @@ use crate::words::Words;
 use io_area::{Area, AreaError};
 use io_images::Extent;
 use std::alloc::Global;
+use std::sync::Arc;
 
 /// `tasks N`
 pub fn add_tasks(script: &mut Script, words: &mut Words<'_>) -> Result<(), LineFault> {
@@ -73,7 +74,7 @@ pub fn add_area(
         return Err(LineFault::Named(FaultName::Order));
     }
     match Area::new(alloc, base, &bytes) {
-        Ok(area) => script.areas.push(area)?,
+        Ok(area) => script.areas.push(Arc::new(alloc, area)?)?,
         Err(AreaError::NoMemory) => return Err(LineFault::NoMemory),
         Err(_) => return Err(LineFault::Named(FaultName::Area)),
     }
