@@ -92,5 +92,8 @@ disk_lawful = record {
   kind_after_prefix = λ d seek mask. refl;
   cylinders_after_prefix = λ d seek mask. refl;
   heads_after_prefix = λ d seek mask. refl;
+  cylinders_off_disk = λ d off. absurd (off refl);
+  heads_off_disk = λ d off. absurd (off refl);
+  prefix_off_disk = λ d seek mask off. absurd (off refl);
   gives = λ d code given. gives_by (fault_met d.ordinals) (record d { ordinals = counted d.ordinals }) code given;
 }

@@ -1,7 +1,9 @@
 -- The toy device keeps the laws of a device.
-use Rattle.std.specs.Prelude.{◌≡◌, ℕ, ◌==◌, List, [], length, reverse, Bool, true, false, Option, Some, None, if◌then◌else◌}
+use Rattle.std.specs.Prelude.{◌≡◌, ◌≢◌, ℕ, ◌==◌, List, [], length, reverse, Bool, true, false, Option, Some, None, if◌then◌else◌}
 use Rattle.std.proofs.Common.{refl, ap}
 use Rattle.std.proofs.lemmas.List.{length-reverse}
+use Rattle.device_port.specs.declared.kind.Kind.{Kind}
+use Rattle.device_port.specs.declared.kind.Kind.TheVariants.{Disk, Tape, Printer}
 use Rattle.device_port.specs.declared.kind.Flow.TheVariants.{None as NoFlow, Out, Input, Back}
 use Rattle.device_port.specs.declared.faults.Fault.{Fault}
 use Rattle.device_port.specs.Answers.{normal_end, unit_check}
@@ -48,6 +50,12 @@ toy_kind_by None d command given = toy_kind (command == 1) (command == 2) (comma
 toy_stays : (d : ToyBlock) (command : ℕ) (given : List ℕ) → (toy_act d command given).device.kind ≡ d.kind
 toy_stays d command given = toy_kind_by (fault_met d.ordinals) (record { kind = d.kind; block = d.block; ordinals = counted d.ordinals }) command given
 
+-- only where it stands for a disk has it a track
+off_disk : (kind : Kind) → kind ≢ Disk → tracks_of kind ≡ 0
+off_disk Disk off = absurd (off refl)
+off_disk Tape off = refl
+off_disk Printer off = refl
+
 pub toy_lawful : Lawful toy
 toy_lawful = record {
   kind_after_act = toy_stays;
@@ -56,5 +64,8 @@ toy_lawful = record {
   kind_after_prefix = λ d seek mask. refl;
   cylinders_after_prefix = λ d seek mask. refl;
   heads_after_prefix = λ d seek mask. refl;
+  cylinders_off_disk = λ d off. off_disk d.kind off;
+  heads_off_disk = λ d off. off_disk d.kind off;
+  prefix_off_disk = λ d seek mask off. refl;
   gives = λ d command given. toy_gives_by (fault_met d.ordinals) (record { kind = d.kind; block = d.block; ordinals = counted d.ordinals }) command given;
 }
