@@ -1,5 +1,5 @@
 -- What the commands of a disk mean on the track under its heads (count-key-data devices, in the profile's choice).
-use Rattle.std.specs.Prelude.{ℕ, ◌+◌, List, [], ◌∷◌, ◌++◌, Bool, Option, Some, None, nat_lt, ◌==◌, ◌&&◌, min, if◌then◌else◌, length, take, nat_eq}
+use Rattle.std.specs.Prelude.{ℕ, ◌+◌, List, [], ◌++◌, Bool, Option, Some, None, nat_lt, ◌==◌, ◌&&◌, min, if◌then◌else◌, length, take, nat_eq}
 use Rattle.std.specs.List.{starts_with}
 use Rattle.io_images.specs.FileMask.{inhibits_writes, inhibits_formatting}
 use Rattle.device_port.specs.declared.answer.Acted.{Acted}

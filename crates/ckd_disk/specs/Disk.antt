@@ -1,5 +1,5 @@
 -- A disk: its tracks, the track under its heads, and what its commands mean.
-use Rattle.std.specs.Prelude.{◌≡◌, ℕ, ◌+◌, ◌*◌, ◌<◌, List, [], ◌∷◌, ◌++◌, Option, Some, None, Bool, not, ◌&&◌, ◌||◌, nat_lt, length, take, slice_index_or, slice_set, ◌==◌, if◌then◌else◌}
+use Rattle.std.specs.Prelude.{◌≡◌, ℕ, ◌+◌, ◌*◌, ◌<◌, List, [], ◌∷◌, ◌++◌, Option, Some, None, Bool, not, ◌&&◌, ◌||◌, nat_lt, length, take, slice_index_or, slice_set, if◌then◌else◌}
 use Rattle.std.specs.List.{AllByRecursion}
 use Rattle.io_images.specs.declared.seek.Seek.{Seek}
 use Rattle.io_images.specs.Images.{seek_of}

@@ -1,5 +1,5 @@
-use Rattle.std.proofs.Common.{◌≡◌, ◌+◌, take, sym, arith}
-use Rattle.ckd_disk.proofs.Opening.{opening_bytes, bytes_start, bytes_more, item_ok, too_full, room_of_all}
+use Rattle.std.proofs.Common.{◌+◌, sym, arith}
+use Rattle.ckd_disk.proofs.Opening.{bytes_start, bytes_more, item_ok, too_full, room_of_all}
 use Rattle.ckd_disk.proofs.mount.fits_on.Goals as goal
 
 pub loop-initial-init : goal.loop-initial-init
