@@ -1,5 +1,5 @@
 -- What stands on a track as more records are handed in.
-use Rattle.std.proofs.Common.{◌≡◌, ◌≢◌, ℕ, zero, suc, ◌+◌, ◌*◌, ◌/◌, ◌%◌, ◌<◌, ◌≤◌, Bool, true, false, nat_le, cond, List, [], ◌∷◌, ◌++◌, length, map, get_or, set, take, drop, All, suc-mul, refl, sym, ap, subst, ◌∙◌, arith, inl, inr}
+use Rattle.std.proofs.Common.{◌≡◌, ◌≢◌, ℕ, zero, suc, ◌+◌, ◌*◌, ◌/◌, ◌%◌, ◌<◌, ◌≤◌, Bool, true, false, nat_le, cond, List, [], ◌∷◌, ◌++◌, length, map, get_or, set, take, drop, All, suc-mul, add-zero, refl, sym, ap, subst, ◌∙◌, arith, inl, inr}
 use Rattle.std.specs.List.{filter, range_with_len, list_all, AllByRecursion}
 use Rattle.std.proofs.lemmas.Bool.{cases_eq, eq-eqb, ne_eqb}
 use Rattle.std.proofs.lemmas.Bool.Decides.{nat_tests}
@@ -20,7 +20,7 @@ use Rattle.ckd_disk.specs.Access.{access_of, IsPlaced}
 use Rattle.ckd_disk.specs.Disk.{no_track, IsDisk}
 use Rattle.ckd_disk.specs.Record.{Record, ckd, packed, size_of, Fits}
 use Rattle.ckd_disk.specs.Track.{TrackState, bytes_of, with_last}
-use Rattle.ckd_disk.specs.Mount.{track_count, track_descriptor, initial, track_of_initial, stands_on, opening_records, has_room, opening_track, opening_tracks}
+use Rattle.ckd_disk.specs.Mount.{track_count, track_descriptor, initial, track_of_initial, stands_on, bytes_on, opening_records, has_room, opening_track, opening_tracks}
 use Rattle.ckd_disk.specs.MountFacts.{IsGeometry, IsInitial}
 use Rattle.ckd_disk.proofs.Packing.{length-packed}
 
@@ -92,9 +92,17 @@ pub bytes_more_here : (g : Geometry) (records : List InitialRecord) (k : ℕ) (r
     → opening_bytes g (take (k + 1) records) track ≡ opening_bytes g (take k records) track + size_of (initial r)
 bytes_more_here g records k r track lt is ok e = ap (λ (l : List InitialRecord). opening_bytes g l track) (taken_more records k r lt is) ∙ bytes_here g (take k records) r track ok e
 
-pub bytes_more_elsewhere : (g : Geometry) (records : List InitialRecord) (k : ℕ) (r : InitialRecord) (track : ℕ) → k < length records → r ≡ get_or records k r → track_of_initial g r ≢ track
+bytes_more_elsewhere : (g : Geometry) (records : List InitialRecord) (k : ℕ) (r : InitialRecord) (track : ℕ) → k < length records → r ≡ get_or records k r → track_of_initial g r ≢ track
     → opening_bytes g (take (k + 1) records) track ≡ opening_bytes g (take k records) track
 bytes_more_elsewhere g records k r track lt is ne = ap (λ (l : List InitialRecord). opening_bytes g l track) (taken_more records k r lt is) ∙ bytes_elsewhere g (take k records) r track ne
+
+-- either way
+pub bytes_more : (g : Geometry) (records : List InitialRecord) (k : ℕ) (r : InitialRecord) (track : ℕ) → k < length records → r ≡ get_or records k r → IsInitial g r
+    → opening_bytes g (take (k + 1) records) track ≡ opening_bytes g (take k records) track + bytes_on g track r
+bytes_more g records k r track lt is ok = elim (cases_eq (track_of_initial g r) track) [
+  | inl e ↦ rw (eq-eqb (track_of_initial g r) track e) (bytes_more_here g records k r track lt is ok e)
+  | inr ne ↦ rw (ne_eqb (track_of_initial g r) track ne) (bytes_more_elsewhere g records k r track lt is ne ∙ sym (add-zero (opening_bytes g (take k records) track)))
+]
 
 pub item_ok : (g : Geometry) (records : List InitialRecord) (k : ℕ) (r : InitialRecord) → All (IsInitial g) records → k < length records → r ≡ get_or records k r → IsInitial g r
 item_ok g records k r each lt is = subst (λ (x : InitialRecord). IsInitial g x) (sym is) (each k r lt)
@@ -201,10 +209,10 @@ some_track (suc a) b p q = omega (arith, suc-mul a b)
 
 -- the opening disk as the code has it
 pub IsDisk-opening : (g : Geometry) (records : List InitialRecord) (tracks : List TrackState) (access : Access) (ordinals : Ordinals) → IsGeometry g → tracks ≡ opening_tracks g records
-    → access ≡ record { mask = 0; orientation = at.Index; passes = 0; armed = by.No }
+    → access ≡ record { mask = record { 0 = 0 }; orientation = at.Index; passes = 0; armed = by.No }
     → IsDisk (record { cylinders = g.cylinders; heads = g.heads; tracks = tracks; track = 0; access = access_of access; ordinals = ordinals }) access
 IsDisk-opening g records tracks access ordinals ok e access-is =
-    let start : Access = record { mask = 0; orientation = at.Index; passes = 0; armed = by.No } in
+    let start : Access = record { mask = record { 0 = 0 }; orientation = at.Index; passes = 0; armed = by.No } in
     let there : 0 < track_count g = some_track g.cylinders g.heads ok.cylinders ok.heads in
     let all = opening_tracks g records in
     let opened : IsDisk (record { cylinders = g.cylinders; heads = g.heads; tracks = all; track = 0; access = access_of start; ordinals = ordinals }) start = record {

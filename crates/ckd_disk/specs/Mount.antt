@@ -1,5 +1,5 @@
 -- Which disks can be mounted, and what is on them then (profile).
-use Rattle.std.specs.Prelude.{◌≡◌, ℕ, ◌*◌, ◌/◌, ◌%◌, Bool, true, false, nat_lt, nat_le, ◌&&◌, List, [], ◌∷◌, ◌++◌, Result, Ok, Err, length, map, filter, replicate, ◌==◌}
+use Rattle.std.specs.Prelude.{◌≡◌, ℕ, ◌*◌, ◌/◌, ◌%◌, Bool, true, false, nat_lt, nat_le, ◌&&◌, List, [], ◌∷◌, ◌++◌, Result, Ok, Err, length, map, filter, replicate, ◌==◌, if◌then◌else◌}
 use Rattle.std.specs.Int.{w16, to_be_bytes}
 use Rattle.std.specs.List.{range_with_len, list_all}
 use Rattle.device_port.specs.declared.device.MountError.{MountError}
@@ -8,7 +8,7 @@ use Rattle.device_port.specs.declared.faults.Fault.{Fault}
 use Rattle.device_port.specs.Faults.{is_script}
 use Rattle.ckd_disk.specs.declared.mount.Geometry.{Geometry}
 use Rattle.ckd_disk.specs.declared.mount.InitialRecord.{InitialRecord}
-use Rattle.ckd_disk.specs.Record.{Record}
+use Rattle.ckd_disk.specs.Record.{Record, size_of}
 use Rattle.ckd_disk.specs.Track.{TrackState, bytes_of}
 use Rattle.ckd_disk.specs.Disk.{DiskState, track_number, at_start}
 
@@ -41,6 +41,10 @@ track_of_initial g r = track_number g.heads r.cylinder r.head
 -- WHAT STANDS ON A TRACK AT FIRST: R0, and behind it the records handed in for the track, in their order
 abbrev pub stands_on : Geometry → ℕ → InitialRecord → Bool
 stands_on g track r = track_of_initial g r == track
+
+-- how many bytes a record takes of a track
+abbrev pub bytes_on : Geometry → ℕ → InitialRecord → ℕ
+bytes_on g track r = if stands_on g track r then size_of (initial r) else 0
 
 abbrev pub opening_records : Geometry → List InitialRecord → ℕ → List Record
 opening_records g records track = track_descriptor (track / g.heads) (track % g.heads) ∷ map initial (filter (stands_on g track) records)

@@ -5,7 +5,7 @@ ghost use Rattle.std.specs.Bool.{OnTrue};
 ghost use Rattle.std.specs.List.{list_all};
 ghost use Rattle.ckd_disk.specs.Record.{size_of};
 ghost use Rattle.ckd_disk.specs.Track.{bytes_of};
-ghost use Rattle.ckd_disk.specs.Mount.{track_count, is_geometry, is_initial, has_room, initial as record_of, id_on, track_of_initial, opening_records, opening_track, opening_tracks};
+ghost use Rattle.ckd_disk.specs.Mount.{track_count, is_geometry, is_initial, has_room, initial as record_of, id_on, track_of_initial, bytes_on, opening_records, opening_track, opening_tracks};
 ghost use Rattle.ckd_disk.specs.MountFacts.{IsGeometry, IsInitial};
 
 use crate::track::Track;
@@ -102,6 +102,20 @@ fn size_of(initial: &InitialRecord) -> usize
     8 + initial.key.len() + initial.content.len()
 }
 
+/// How many bytes of a track a record takes: none where it stands on another.
+fn bytes_on(geometry: Geometry, initial: &InitialRecord, track: u64) -> u64
+    requires geometry { IsGeometry geometry }
+    requires initial { IsInitial geometry initial.now }
+    ensures bytes { result ≡ bytes_on geometry track initial.now }
+    ensures small { result < 2 ^ 17 }
+{
+    if track_of(geometry, initial) == track {
+        size_of(initial) as u64
+    } else {
+        0
+    }
+}
+
 /// Whether what stands on a track at first fits the track.
 fn fits_on(geometry: Geometry, records: &[InitialRecord], track: u64) -> bool
     requires geometry { IsGeometry geometry }
@@ -110,9 +124,7 @@ fn fits_on(geometry: Geometry, records: &[InitialRecord], track: u64) -> bool
 {
     let mut total = 16;
     for initial in records {
-        if track_of(geometry, initial) == track {
-            total += size_of(initial) as u64;
-        }
+        total += bytes_on(geometry, initial, track);
         if total > geometry.track_bytes {
             return false;
         }
