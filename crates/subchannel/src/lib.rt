@@ -35,11 +35,12 @@ impl<D: Device> Model for Subchannel<D> {
 
     ghost Value = { Channel D };
 
+    ghost use Rattle.std.specs.Prelude.{◌≤◌};
     ghost use Rattle.subchannel.specs.Inside.{channel_of, IsGoing};
 
     ghost view = { λ s. channel_of s.isc s.device s.phase };
 
-    ghost invariant = { λ s. IsGoing s.phase };
+    ghost invariant = { λ s. (s.isc ≤ 7) × IsGoing s.phase };
 }
 
 impl<D: Device> Subchannel<D> {
@@ -67,9 +68,10 @@ impl<D: Device> Subchannel<D> {
         }
     }
 
-    /// The interruption subclass.
+    /// The interruption subclass (0 to 7).
     pub fn isc(&self) -> u8
-        ensures { result ≡ self.now.isc }
+        ensures is { result ≡ self.now.isc }
+        ensures few { result ≤ 7 }
     {
         self.isc
     }
