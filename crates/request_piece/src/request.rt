@@ -124,6 +124,13 @@ impl Request {
         (issued, work)
     }
 
+    /// What is worked on.
+    pub(crate) fn piece(&self) -> &Piece
+        ensures { result.now ≡ self.now }
+    {
+        &self.work
+    }
+
     pub fn name(&self) -> Name
         ensures { result ≡ self.now.name }
     {

@@ -103,7 +103,7 @@ impl Active {
     pub fn purged(self, scope: Scope, mode: Mode) -> Self
         ensures { result ≡ after_cover scope mode self }
     {
-        let covers = mode == Mode::Halt && scope.covers(&self.piece);
+        let covers = mode == Mode::Halt && scope.covers_piece(&self.piece);
         Active {
             piece: self.piece,
             starts: self.starts,

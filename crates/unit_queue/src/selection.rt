@@ -18,7 +18,7 @@ impl Selection {
         ensures { result ≡ selects self.now piece.now }
     {
         match self {
-            Selection::Scope(scope) => scope.covers(piece),
+            Selection::Scope(scope) => scope.covers_piece(piece),
             Selection::Related(dcb) => piece.related && *dcb == piece.dcb,
         }
     }

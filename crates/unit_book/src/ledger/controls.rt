@@ -22,7 +22,7 @@ impl<D: Device> Ledger<D> {
         ensures { result ≡ active_of scope self.now.trace }
     {
         match &self.active {
-            Some(active) if scope.covers(&active.piece) => Some(active.name()),
+            Some(active) if scope.covers_piece(&active.piece) => Some(active.name()),
             _ => None,
         }
     }
