@@ -162,18 +162,18 @@ not-or_right true b h = absurd cc
 not-or_right false true h = absurd cc
 not-or_right false false h = refl
 
-first-unposted : (r : Piece) (H : List Entry) → slice_get (waiting H) 0 ≡ Some r → is_posted r.name H ≡ false
+pub first-unposted : (r : Piece) (H : List Entry) → slice_get (waiting H) 0 ≡ Some r → is_posted r.name H ≡ false
 unfolding waiting
 first-unposted r H e =
     let p = λ (q : Piece). not (has_started q.name H || is_posted q.name H) in
     not-or_right (has_started r.name H) (is_posted r.name H) (first-passes p (waiting H) r (all-filter p (arrivals H)) e)
 
-still-none : (n : Name) (csw : Csw) (sense : ℕ) (code : Code) (H : List Entry) → active H ≡ None → active (Post n csw sense code ∷ H) ≡ None
+pub still-none : (n : Name) (csw : Csw) (sense : ℕ) (code : Code) (H : List Entry) → active H ≡ None → active (Post n csw sense code ∷ H) ≡ None
 unfolding active started
 still-none n csw sense code H h =
     find-still_none (λ k. not (is_posted k H)) (λ k. not (same n k || is_posted k H)) (λ k e. rw (not-or_right (same n k) (is_posted k H) e) refl) (started H) h
 
-posts-none : (rs : List Piece) (H : List Entry) → active H ≡ None → active (all_posted rs H) ≡ None
+pub posts-none : (rs : List Piece) (H : List Entry) → active H ≡ None → active (all_posted rs H) ≡ None
 posts-none [] H h = h
 posts-none (r ∷ rs) H h = posts-none rs (Post r.name no_status 0 Purged ∷ H) (still-none r.name no_status 0 Purged H h)
 

@@ -129,7 +129,7 @@ module _ {D : Type 0} (meaning : Meaning D) where
       (grows-post meaning old.mounted n no_status 0 ExtentViolated old.trace s.0 s.1 f)
 
   -- a program that is to run is that of the active request, and goes
-  going-is : (mounted : D) (H : List Entry) (n : Name) → going_by meaning mounted H (active H) ≡ Some n →
+  pub going-is : (mounted : D) (H : List Entry) (n : Name) → going_by meaning mounted H (active H) ≡ Some n →
       (active H ≡ Some n) × (goes (stage meaning mounted n H) ≡ true)
   going-is mounted H n h = by_active (active H) h where
     by_active : (o : Option Name) → going_by meaning mounted H o ≡ Some n → (o ≡ Some n) × (goes (stage meaning mounted n H) ≡ true)

@@ -45,6 +45,11 @@ Adds old e new = new ≡ record old { trace = e ∷ old.trace; spare = new.spare
 abbrev pub StartsOne : {D : Type 0} → Book D → Name → Book D → Type 0
 StartsOne old n new = new ≡ record old { trace = Start n ∷ old.trace; again = false; spare = new.spare }
 
+-- whether a status is pending after a run
+abbrev pub pending_after : Bool → Running → Bool
+pending_after before NothingRuns = before
+pending_after before (RanSome commands pending) = pending
+
 module _ {D : Type 0} (meaning : Meaning D) where
   -- the book with a longer trace: what was posted since stands behind what was out
   abbrev pub Posts : Book D → List Entry → Bool → Book D → Type 0

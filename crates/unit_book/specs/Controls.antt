@@ -22,7 +22,7 @@ use Rattle.unit_book.specs.Trace.{is_halt, active, request_of}
 use Rattle.unit_book.specs.Dcbs.{is_opened, is_open}
 use Rattle.unit_book.specs.Legal.{Due, ToHalt, ToPost, Free, due, doomed_first, PostsActive}
 use Rattle.unit_book.specs.Dooms.{after_dooms}
-use Rattle.unit_book.specs.Book.{Book}
+use Rattle.unit_book.specs.Book.{Book, going}
 use Rattle.unit_book.specs.Answers.{Posts}
 
 -- THE ACTIVE REQUEST, if it is of the scope
@@ -74,6 +74,10 @@ module _ {D : Type 0} (meaning : Meaning D) where
 
   abbrev pub after_purge : D → Scope → Mode → List Entry → List Entry
   after_purge mounted scope mode H = after_dooms (after_halt mounted (Purge scope mode ∷ H))
+
+  -- a purge with Halt covers the active request, whose program runs: it is halted, and its status is pending
+  abbrev pub halts_program : Book D → Scope → Mode → Bool
+  halts_program b scope mode = is_halt mode && is_some (covered_by scope b.trace (going meaning b))
 
   -- the active request awaited its restart and is purged behind those that waited
   pub record PurgesAwaiting (old : Book D) (scope : Scope) (mode : Mode) (new : Book D) : Type 0 where

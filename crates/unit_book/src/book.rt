@@ -4,8 +4,8 @@ mod controls;
 mod readers;
 mod settle;
 
-ghost use Rattle.std.specs.Prelude.{◌≡◌, ◌≢◌, ◌≤◌, ◌<◌, ◌+◌, ◌∷◌, ◌++◌, [], IfOk, IfErr, OnOk, OnErr, IfSome, IsSome, length, slice_get, drop, true};
-ghost use Rattle.unit_book.specs.Answers.{ArriveRefused, InterruptsBook, OpenRefused, OpensBook, Posts, RunsBook, StartsBook};
+ghost use Rattle.std.specs.Prelude.{◌≡◌, ◌≢◌, ◌≤◌, ◌<◌, ◌+◌, ◌∷◌, ◌++◌, [], IfOk, IfErr, OnOk, OnErr, IfSome, IsSome, length, slice_get, drop, true, false, None};
+ghost use Rattle.unit_book.specs.Answers.{ArriveRefused, InterruptsBook, OpenRefused, OpensBook, Posts, RunsBook, StartsBook, pending_after};
 ghost use Rattle.unit_book.specs.Book.{IsLastGiven, given, going, held, is_pending, opening};
 ghost use Rattle.unit_book.specs.Dooms.{after_dooms};
 ghost use Rattle.unit_book.specs.Legal.{Legal, Settled};
@@ -60,12 +60,15 @@ impl<D: Device> UnitBook<D> {
     }
 
     /// What holds of every book: its trace is legal and nothing is due, the posted values are those that
-    /// were taken and those that are out, and it holds no more requests than it may.
+    /// were taken and those that are out, it holds no more requests than it may, its interruption subclass is
+    /// 0 to 7, and no program runs where the active request awaits its restart.
     pub fn holds(&self)
         ensures legal { Legal D.meaning self.now.mounted self.now.trace }
         ensures settled { Settled D.meaning self.now.mounted self.now.trace }
         ensures given { given D.meaning self.now ++ self.now.out ≡ posted D.meaning self.now.mounted self.now.trace }
         ensures held { held self.now ≤ self.now.capacity }
+        ensures isc { self.now.isc ≤ 7 }
+        ensures awaits { self.now.again ≡ true → going D.meaning self.now ≡ None }
     {
         self.ledger.holds();
     }
@@ -91,7 +94,9 @@ impl<D: Device> UnitBook<D> {
         ensures refused { IfErr result (λ e. ArriveRefused self.old e.0) }
         ensures given_back { IfErr result (λ e. e.1 ≡ request) }
         ensures err { OnErr result (self.new ≡ self.old) }
+        ensures pending { is_pending D.meaning self.new ≡ is_pending D.meaning self.old }
     {
+        self.ledger.holds();
         if !self.ledger.has_room() {
             return Err((ArriveError::Held, request));
         }
@@ -116,6 +121,7 @@ impl<D: Device> UnitBook<D> {
         ensures refused { IfErr result (OpenRefused D.meaning self.old extents.now) }
         ensures err { OnErr result (self.new ≡ record self.old { spare = self.new.spare }) }
         ensures kept { OnErr result (self.old.spare ≤ self.new.spare) }
+        ensures pending { is_pending D.meaning self.new ≡ is_pending D.meaning self.old }
     {
         if self.ledger.dcb_count() >= MOST_DCBS {
             return Err(OpenError::TooManyDcbs);
@@ -140,6 +146,7 @@ impl<D: Device> UnitBook<D> {
         ensures busy { OnErr result (IsSome (active self.old.trace) → self.old.again ≡ true) }
         ensures idle { OnErr result (active self.old.trace ≡ None → waiting self.old.trace ≢ []) }
         ensures full { OnErr result (self.old.spare < length (waiting self.old.trace) + 1) }
+        ensures pending { is_pending D.meaning self.new ≡ is_pending D.meaning self.old }
     {
         match self.ledger.next_start() {
             Next::Busy => Ok(Starting::Busy),
@@ -170,7 +177,9 @@ impl<D: Device> UnitBook<D> {
         ensures err { OnErr result (self.new ≡ self.old) }
         ensures runs { OnErr result (IsSome (going D.meaning self.old)) }
         ensures full { OnErr result (self.old.spare < 1) }
+        ensures pending { IfOk result (λ answer. is_pending D.meaning self.new ≡ pending_after (is_pending D.meaning self.old) answer) }
     {
+        self.ledger.holds();
         if !self.ledger.goes() {
             return Ok(Running::Quiet);
         }
@@ -185,7 +194,9 @@ impl<D: Device> UnitBook<D> {
         ensures err { OnErr result (self.new ≡ self.old) }
         ensures pending { OnErr result (is_pending D.meaning self.old ≡ true) }
         ensures full { OnErr result (self.old.spare < length (waiting self.old.trace) + 1) }
+        ensures taken { OnOk result (is_pending D.meaning self.new ≡ false) }
     {
+        self.ledger.holds();
         let Some(decision) = self.ledger.decide() else {
             return Ok(Interruption::Quiet);
         };

@@ -5,10 +5,10 @@ mod posts;
 mod programs;
 mod readers;
 
-ghost use Rattle.std.specs.Prelude.{◌≡◌, ◌≤◌, ◌<◌, ◌+◌, ◌-◌, false, ◌∷◌, ◌++◌, [], reverse, length, vec_len, vec_capacity, IfOk, IfErr, OnOk, OnErr};
+ghost use Rattle.std.specs.Prelude.{◌≡◌, ◌≤◌, ◌<◌, ◌+◌, ◌-◌, true, false, None, ◌∷◌, ◌++◌, [], reverse, length, vec_len, vec_capacity, IfOk, IfErr, OnOk, OnErr};
 ghost use Rattle.circular_buffer.specs.Buffer.{buffer};
 ghost use Rattle.request_piece.specs.Places.{Placed};
-ghost use Rattle.unit_book.specs.Book.{Book, held, given, opening};
+ghost use Rattle.unit_book.specs.Book.{Book, going, held, given, opening};
 ghost use Rattle.unit_book.specs.Legal.{Fits, Legal, Settled, OpenFits};
 ghost use Rattle.unit_book.specs.Answers.{Adds, Posts};
 ghost use Rattle.unit_book.specs.Dcbs.{is_refused, opened_count};
@@ -102,8 +102,10 @@ impl<D: Device> Ledger<D> {
         ensures legal { Legal D.meaning self.now.mounted self.now.trace }
         ensures given { given D.meaning self.now ++ self.now.out ≡ posted D.meaning self.now.mounted self.now.trace }
         ensures held { held self.now ≤ self.now.capacity }
+        ensures isc { self.now.isc ≤ 7 }
+        ensures awaits { self.now.again ≡ true → going D.meaning self.now ≡ None }
     {
-        let _ = &self.trace;
+        let _isc = self.channel.isc();
     }
 
     /// Makes room for so many entries.
