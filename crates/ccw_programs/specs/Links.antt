@@ -1,4 +1,4 @@
--- The CCWs that one command fetches.
+-- The CCWs that one command fetches (Principles of Operation, chapter 15).
 use Rattle.std.specs.Prelude.{ℕ, zero, suc, ◌+◌, ◌-◌, ◌%◌, ◌==◌, nat_lt, ◌<◌, ◌≤◌, ◌^◌, Bool, true, false, not, ◌&&◌, if◌then◌else◌, List, [], ◌∷◌, sum_by, bit_and}
 use Rattle.io_area.specs.Storage.{Storage, lies_in, bytes_at}
 use Rattle.io_images.specs.Images.{ccw_of}
@@ -23,7 +23,7 @@ skips ccw = bit_and ccw.flags.0 16 == 16
 abbrev pub is_indirect : Ccw → Bool
 is_indirect ccw = bit_and ccw.flags.0 4 == 4
 
--- transfer in channel
+-- transfer in channel ("Transfer in Channel")
 abbrev pub is_transfer : Ccw → Bool
 is_transfer ccw = ccw.command % 16 == 8
 
