@@ -201,10 +201,10 @@ some_track (suc a) b p q = omega (arith, suc-mul a b)
 
 -- the opening disk as the code has it
 pub IsDisk-opening : (g : Geometry) (records : List InitialRecord) (tracks : List TrackState) (access : Access) (ordinals : Ordinals) → IsGeometry g → tracks ≡ opening_tracks g records
-    → access ≡ record { mask = 0; orientation = at.Index; passes = 0; armed = by.No }
+    → access ≡ record { mask = record { 0 = 0 }; orientation = at.Index; passes = 0; armed = by.No }
     → IsDisk (record { cylinders = g.cylinders; heads = g.heads; tracks = tracks; track = 0; access = access_of access; ordinals = ordinals }) access
 IsDisk-opening g records tracks access ordinals ok e access-is =
-    let start : Access = record { mask = 0; orientation = at.Index; passes = 0; armed = by.No } in
+    let start : Access = record { mask = record { 0 = 0 }; orientation = at.Index; passes = 0; armed = by.No } in
     let there : 0 < track_count g = some_track g.cylinders g.heads ok.cylinders ok.heads in
     let all = opening_tracks g records in
     let opened : IsDisk (record { cylinders = g.cylinders; heads = g.heads; tracks = all; track = 0; access = access_of start; ordinals = ordinals }) start = record {

@@ -46,7 +46,7 @@ armed_of (by.Key spot) = armed_by_key spot.place
 armed_of (by.Format spot) = armed_by_format spot.place
 
 abbrev pub access_of : Access → AccessState
-access_of a = record { mask = a.mask; orientation = orientation_of a.orientation; passes = a.passes; armed = armed_of a.armed }
+access_of a = record { mask = a.mask.0; orientation = orientation_of a.orientation; passes = a.passes; armed = armed_of a.armed }
 
 -- the spots stand on the track
 abbrev pub IsOriented : CodeOrientation → List Record → Type 0

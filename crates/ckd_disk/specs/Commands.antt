@@ -1,8 +1,10 @@
 -- What the commands of a disk mean on the track under its heads (count-key-data devices, in the profile's choice).
-use Rattle.std.specs.Prelude.{ℕ, ◌+◌, ◌/◌, List, [], ◌∷◌, ◌++◌, Bool, Option, Some, None, nat_lt, ◌==◌, ◌||◌, ◌&&◌, min, if◌then◌else◌, length, take, nat_eq}
+use Rattle.std.specs.Prelude.{ℕ, ◌+◌, List, [], ◌∷◌, ◌++◌, Bool, Option, Some, None, nat_lt, ◌==◌, ◌&&◌, min, if◌then◌else◌, length, take, nat_eq}
 use Rattle.std.specs.List.{starts_with}
+use Rattle.io_images.specs.FileMask.{inhibits_writes, inhibits_formatting}
 use Rattle.device_port.specs.declared.answer.Acted.{Acted}
 use Rattle.device_port.specs.Answers.{normal_end, status_modifier, unit_check, unit_exception, no_operation_ended, sense_bytes, sense_ended}
+use Rattle.device_port.specs.Sense.{command_reject, no_record_found, invalid_track_format}
 use Rattle.ckd_disk.specs.declared.access.Access.{Access}
 use Rattle.ckd_disk.specs.Record.{Record, count_area, packed, size_at, record_written}
 use Rattle.ckd_disk.specs.Track.{TrackState, record_of, bytes_before, with_content, with_key_and_content, with_record_behind}
@@ -50,7 +52,7 @@ sense access = record { acted = sense_ended; access = left access access.orienta
 
 -- 1F SET FILE MASK: rejected, since the system has set the mask
 abbrev pub set_file_mask : AccessState → Answer
-set_file_mask access = checked 0x8000 access
+set_file_mask access = checked command_reject access
 
 -- ---- searches
 
@@ -77,20 +79,20 @@ search_id_at track access given reached =
     let equal = matches (record_of track.records reached.place).id given in
     if nat_lt (access.passes + reached.passed) 2
     then searched access reached (at_count reached.place) 5 equal (armed_by_id reached.place)
-    else checked 0x0008 access
+    else checked no_record_found access
 
 abbrev pub search_id : TrackState → AccessState → List ℕ → Answer
 search_id track access given = search_id_at track access given (next access.orientation (length track.records))
 
 -- 29 SEARCH KEY EQUAL: at least one byte of a key area
 abbrev pub search_key_at : TrackState → AccessState → List ℕ → Option Reached → Answer
-search_key_at track access given None = checked 0x0008 access
+search_key_at track access given None = checked no_record_found access
 search_key_at track access given (Some reached) =
     let key = (record_of track.records reached.place).key in
     let equal = nat_lt 0 (min (length given) (length key)) && matches key given in
     if nat_lt (access.passes + reached.passed) 2
     then searched access reached (at_key reached.place) (length key) equal (armed_by_key reached.place)
-    else checked 0x0008 access
+    else checked no_record_found access
 
 abbrev pub search_key : TrackState → AccessState → List ℕ → Answer
 search_key track access given = search_key_at track access given (key_record access.orientation (length track.records))
@@ -99,7 +101,7 @@ search_key track access given = search_key_at track access given (key_record acc
 
 -- 12 READ COUNT: all bytes of the count area, which are 8
 abbrev pub read_count_at : TrackState → AccessState → Option Reached → Answer
-read_count_at track access None = checked 0x0008 access
+read_count_at track access None = checked no_record_found access
 read_count_at track access (Some reached) =
     let bytes = count_area (record_of track.records reached.place) in
     record { acted = normal_end (length bytes); access = left access (at_count reached.place) unarmed; bytes = bytes }
@@ -116,7 +118,7 @@ part_read access place r bytes = record {
 }
 
 abbrev pub read_part : (Record → List ℕ) → TrackState → AccessState → Option Reached → Answer
-read_part part track access None = checked 0x0008 access
+read_part part track access None = checked no_record_found access
 read_part part track access (Some reached) =
     let r = record_of track.records reached.place in
     part_read access reached.place r (part r)
@@ -134,13 +136,6 @@ abbrev pub read_count_key_and_data : TrackState → AccessState → Answer
 read_count_key_and_data track access = read_part packed track access (next_record access.orientation (length track.records))
 
 -- ---- writes
-
--- FILE MASK, bits 0 and 1: 01 inhibits all writes, 10 those that format; bits 3 and 4: a seek only if 00
-abbrev pub inhibits_writes : ℕ → Bool
-inhibits_writes mask = mask / 64 == 1
-
-abbrev pub inhibits_formatting : ℕ → Bool
-inhibits_formatting mask = (mask / 64 == 1) || (mask / 64 == 2)
 
 -- the record that may be written on, or behind which a record may be written
 abbrev pub armed_for_data : Armed → Option ℕ
@@ -163,7 +158,7 @@ armed_for_format (armed_by_format place) = Some place
 
 -- 05 WRITE DATA: the lengths stay; unit exception where the data area is empty
 abbrev pub write_data_at : TrackState → AccessState → List ℕ → Option ℕ → Written
-write_data_at track access given None = refused 0x8000 track access
+write_data_at track access given None = refused command_reject track access
 write_data_at track access given (Some place) =
     let len = length (record_of track.records place).content in
     record {
@@ -174,12 +169,12 @@ write_data_at track access given (Some place) =
 
 abbrev pub write_data : TrackState → AccessState → List ℕ → Written
 write_data track access given =
-    if inhibits_writes access.mask then refused 0x8000 track access
+    if inhibits_writes access.mask then refused command_reject track access
     else write_data_at track access given (armed_for_data access.armed)
 
 -- 0D WRITE KEY AND DATA: the lengths stay
 abbrev pub write_key_and_data_at : TrackState → AccessState → List ℕ → Option ℕ → Written
-write_key_and_data_at track access given None = refused 0x8000 track access
+write_key_and_data_at track access given None = refused command_reject track access
 write_key_and_data_at track access given (Some place) =
     let r = record_of track.records place in
     record {
@@ -190,15 +185,15 @@ write_key_and_data_at track access given (Some place) =
 
 abbrev pub write_key_and_data : TrackState → AccessState → List ℕ → Written
 write_key_and_data track access given =
-    if inhibits_writes access.mask then refused 0x8000 track access
+    if inhibits_writes access.mask then refused command_reject track access
     else write_key_and_data_at track access given (armed_for_key_and_data access.armed)
 
 -- 1D WRITE COUNT, KEY AND DATA: a new record behind a place, and nothing behind that
 abbrev pub write_count_key_and_data_at : TrackState → AccessState → List ℕ → Option ℕ → Written
-write_count_key_and_data_at track access given None = refused 0x8000 track access
+write_count_key_and_data_at track access given None = refused command_reject track access
 write_count_key_and_data_at track access given (Some place) =
-    if nat_lt (length given) 8 then refused 0x8000 track access
-    else if nat_lt track.size (bytes_before track.records (place + 1) + size_at given) then refused 0x0040 track access
+    if nat_lt (length given) 8 then refused command_reject track access
+    else if nat_lt track.size (bytes_before track.records (place + 1) + size_at given) then refused invalid_track_format track access
     else record {
       acted = normal_end (size_at given);
       access = left access (at_end (place + 1)) (armed_by_format (place + 1));
@@ -207,5 +202,5 @@ write_count_key_and_data_at track access given (Some place) =
 
 abbrev pub write_count_key_and_data : TrackState → AccessState → List ℕ → Written
 write_count_key_and_data track access given =
-    if inhibits_formatting access.mask then refused 0x8000 track access
+    if inhibits_formatting access.mask then refused command_reject track access
     else write_count_key_and_data_at track access given (armed_for_format access.armed)

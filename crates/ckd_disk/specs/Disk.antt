@@ -1,12 +1,14 @@
 -- A disk: its tracks, the track under its heads, and what its commands mean.
-use Rattle.std.specs.Prelude.{◌≡◌, ℕ, ◌+◌, ◌*◌, ◌/◌, ◌%◌, ◌<◌, List, [], ◌∷◌, ◌++◌, Option, Some, None, Bool, not, ◌||◌, nat_lt, length, take, slice_index_or, slice_set, ◌==◌, if◌then◌else◌}
+use Rattle.std.specs.Prelude.{◌≡◌, ℕ, ◌+◌, ◌*◌, ◌<◌, List, [], ◌∷◌, ◌++◌, Option, Some, None, Bool, not, ◌&&◌, ◌||◌, nat_lt, length, take, slice_index_or, slice_set, ◌==◌, if◌then◌else◌}
 use Rattle.std.specs.List.{AllByRecursion}
 use Rattle.io_images.specs.declared.seek.Seek.{Seek}
 use Rattle.io_images.specs.Images.{seek_of}
+use Rattle.io_images.specs.FileMask.{inhibits_seeks}
 use Rattle.device_port.specs.declared.kind.Kind.TheVariants as kind
 use Rattle.device_port.specs.declared.faults.Fault.{Fault}
 use Rattle.device_port.specs.Answers.{normal_end}
 use Rattle.device_port.specs.Faults.{Ordinals, fault_met, counted, failed}
+use Rattle.device_port.specs.Sense.{command_reject, file_protected}
 use Rattle.device_port.specs.Meaning.{Meaning, Outcome, fits_seek}
 use Rattle.ckd_disk.specs.declared.access.Access.{Access}
 use Rattle.ckd_disk.specs.declared.command.Command.{Command}
@@ -17,6 +19,7 @@ use Rattle.ckd_disk.specs.declared.command.Read.{Read as ReadCommand}
 use Rattle.ckd_disk.specs.declared.command.Read.TheVariants as read
 use Rattle.ckd_disk.specs.declared.command.Write.{Write as WriteCommand}
 use Rattle.ckd_disk.specs.declared.command.Write.TheVariants as write
+use Rattle.ckd_disk.specs.Record.{Record}
 use Rattle.ckd_disk.specs.Track.{TrackState}
 use Rattle.ckd_disk.specs.Access.{AccessState, access_of, at_index, unarmed, IsPlaced}
 use Rattle.ckd_disk.specs.Command.{command_of, flow_of}
@@ -56,6 +59,13 @@ current disk = track_of disk.tracks disk.track
 abbrev pub track_number : ℕ → ℕ → ℕ → ℕ
 track_number heads cylinder head = cylinder * heads + head
 
+-- the records of a track; none of one that the disk does not have
+abbrev pub records_of : DiskState → ℕ → ℕ → List Record
+records_of disk cylinder head =
+    if nat_lt cylinder disk.cylinders && nat_lt head disk.heads
+    then (track_of disk.tracks (track_number disk.heads cylinder head)).records
+    else []
+
 -- at the index point of a track, with a file mask
 abbrev pub at_start : ℕ → AccessState
 at_start mask = record { mask = mask; orientation = at_index; passes = 0; armed = unarmed }
@@ -77,10 +87,7 @@ wrote disk written = record {
   bytes = [];
 }
 
--- 07 SEEK: BBCCHH, the middle of a seek address. Bits 3 and 4 of the file mask let it only where they are 00
-abbrev pub inhibits_seeks : ℕ → Bool
-inhibits_seeks mask = not (mask / 8 % 4 == 0)
-
+-- 07 SEEK: BBCCHH, the middle of a seek address
 abbrev pub seek_given : List ℕ → Seek
 seek_given given = seek_of (0 ∷ (take 6 given ++ 0 ∷ []))
 
@@ -89,8 +96,8 @@ is_seek disk seek = fits_seek kind.Disk disk.cylinders disk.heads seek
 
 abbrev pub seek : DiskState → List ℕ → Outcome DiskState
 seek disk given =
-    if inhibits_seeks disk.access.mask then answered disk (checked 0x0004 disk.access)
-    else if nat_lt (length given) 6 || not (is_seek disk (seek_given given)) then answered disk (checked 0x8000 disk.access)
+    if inhibits_seeks disk.access.mask then answered disk (checked file_protected disk.access)
+    else if nat_lt (length given) 6 || not (is_seek disk (seek_given given)) then answered disk (checked command_reject disk.access)
     else record { acted = normal_end 6; device = prefix disk (seek_given given) disk.access.mask; bytes = [] }
 
 -- a command on the disk
@@ -115,7 +122,7 @@ write_on disk write.CountKeyAndData given = wrote disk (write_count_key_and_data
 
 -- a code that is not listed is rejected
 abbrev pub command_on : DiskState → Option Command → List ℕ → Outcome DiskState
-command_on disk None given = answered disk (checked 0x8000 disk.access)
+command_on disk None given = answered disk (checked command_reject disk.access)
 command_on disk (Some (Control command)) given = control_on disk command
 command_on disk (Some (Read command)) given = read_on disk command
 command_on disk (Some (Write command)) given = write_on disk command given

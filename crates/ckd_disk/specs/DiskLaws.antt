@@ -1,5 +1,6 @@
 -- The disk keeps the laws of a device.
 use Rattle.std.specs.Prelude.{◌≡◌, ℕ, Bool, true, false, List, ◌++◌, Option, Some, None, nat_lt, not, ◌||◌, length, refl, if◌then◌else◌}
+use Rattle.io_images.specs.FileMask.{inhibits_seeks}
 use Rattle.device_port.specs.declared.faults.Fault.{Fault}
 use Rattle.device_port.specs.Answers.{normal_end, unit_exception}
 use Rattle.device_port.specs.Faults.{fault_met, counted}
@@ -16,7 +17,7 @@ use Rattle.ckd_disk.specs.Access.{AccessState}
 use Rattle.ckd_disk.specs.Walk.{Reached, next_record, key_record, content_record}
 use Rattle.ckd_disk.specs.Command.{command_of, flow_of}
 use Rattle.ckd_disk.specs.Commands.{read_count_at, read_part}
-use Rattle.ckd_disk.specs.Disk.{DiskState, disk, current, act_by, act, command_on, inhibits_seeks, is_seek, seek_given}
+use Rattle.ckd_disk.specs.Disk.{DiskState, disk, current, act_by, act, command_on, is_seek, seek_given}
 
 -- a command keeps the geometry
 record Keeps (before after : DiskState) : Type 0 where
@@ -92,5 +93,8 @@ disk_lawful = record {
   kind_after_prefix = λ d seek mask. refl;
   cylinders_after_prefix = λ d seek mask. refl;
   heads_after_prefix = λ d seek mask. refl;
+  cylinders_off_disk = λ d off. absurd (off refl);
+  heads_off_disk = λ d off. absurd (off refl);
+  prefix_off_disk = λ d seek mask off. absurd (off refl);
   gives = λ d code given. gives_by (fault_met d.ordinals) (record d { ordinals = counted d.ordinals }) code given;
 }

@@ -1,6 +1,9 @@
+//! Where the heads stand, and what a command leaves for the next one.
+
 ghost use Rattle.std.specs.Prelude.{◌≡◌};
 
 use crate::track::Spot;
+use io_images::FileMask;
 
 /// Where the heads stand on a track: at the index point, or behind the count area, the key area or the
 /// whole of a record.
@@ -24,8 +27,7 @@ pub enum Armed {
 /// What commands leave for the next one, beside the medium.
 #[derive(Clone, Copy, Debug, PartialEq, Eq)]
 pub struct Access {
-    /// The file mask.
-    pub mask: u8,
+    pub mask: FileMask,
     pub orientation: Orientation,
     /// How many index points the searches have gone by.
     pub passes: u8,
@@ -34,7 +36,7 @@ pub struct Access {
 
 impl Access {
     /// At the index point of a track, with a file mask.
-    pub fn start(mask: u8) -> Self
+    pub fn start(mask: FileMask) -> Self
         ensures { result
             ≡ record { mask = mask; orientation = Orientation.Index; passes = 0; armed = Armed.No } }
     {

@@ -1,3 +1,5 @@
+//! The commands of a disk, by their codes.
+
 ghost use Rattle.std.specs.Prelude.{◌≡◌};
 ghost use Rattle.ckd_disk.specs.Command.{command_of, flow_of};
 

@@ -1,3 +1,5 @@
+//! The disk as a device: its mounting, its commands, and its reader.
+
 ghost use Rattle.std.specs.Prelude.{◌≡◌, ◌+◌, ◌*◌, ◌<◌, ◌≤◌, ℕ, length, IfOk, [], true};
 ghost use Rattle.ckd_disk.specs.Disk.{disk, seek_given};
 ghost use Rattle.ckd_disk.specs.DiskLaws.{disk_lawful};
@@ -17,7 +19,7 @@ use device_port::{
     MountError, is_script,
 };
 use io_area::Area;
-use io_images::Seek;
+use io_images::{FileMask, Seek};
 use std::alloc::{AllocError, Global};
 use std::marker::Model;
 
@@ -47,7 +49,7 @@ impl Disk {
     ghost use Rattle.std.specs.Prelude.{◌≡◌, ◌<◌, [], length};
     ghost use Rattle.device_port.specs.Moves.{AllLie, gathered, stored};
     ghost use Rattle.io_area.specs.Storage.{SamePlace};
-    ghost use Rattle.ckd_disk.specs.Disk.{track_of, control_on, read_on, write_on, seek, is_seek, prefix, track_number};
+    ghost use Rattle.ckd_disk.specs.Disk.{records_of, control_on, read_on, write_on, seek, is_seek, prefix};
     ghost use Rattle.ckd_disk.specs.Mount.{Mounts};
 
     /// A disk that holds these records behind the R0 of each track, with its heads at the index point of track
@@ -88,17 +90,18 @@ impl Disk {
             heads: geometry.heads as u16,
             tracks,
             track: 0,
-            access: Access::start(0),
+            access: Access::start(FileMask(0)),
             faults,
         })
     }
 
-    /// The records of a track, from the index point on.
+    /// The records of a track, from the index point on; none of a track that the disk does not have.
     pub fn records(&self, cylinder: u16, head: u16) -> Records<'_>
-        requires cylinder { cylinder < self.now.cylinders }
-        requires head { head < self.now.heads }
-        ensures { result ≡ (track_of self.now.tracks (track_number self.now.heads cylinder head)).records }
+        ensures { result ≡ records_of self.now cylinder head }
     {
+        if cylinder >= self.cylinders || head >= self.heads {
+            return Records::none();
+        }
         let number = usize::from(cylinder) * usize::from(self.heads) + usize::from(head);
         self.tracks[number].records()
     }
@@ -159,7 +162,7 @@ impl Disk {
         ensures acted { result ≡ (seek self.old given.now).acted }
         ensures device { self.new ≡ (seek self.old given.now).device }
     {
-        if (self.access.mask >> 3) % 4 != 0b00 {
+        if self.access.mask.inhibits_seeks() {
             return check(&mut self.access, FILE_PROTECTED);
         }
         if given.len() < 6 {
@@ -181,9 +184,9 @@ impl Disk {
     }
 
     /// Puts the heads on a track, at its index point.
-    fn move_to(&mut self, seek: &Seek, mask: u8)
+    fn move_to(&mut self, seek: &Seek, mask: FileMask)
         requires { is_seek self.old seek.now ≡ true }
-        ensures { self.new ≡ prefix self.old seek.now mask }
+        ensures { self.new ≡ prefix self.old seek.now mask.0 }
     {
         self.track = usize::from(seek.cylinder) * usize::from(self.heads) + usize::from(seek.head);
         self.access = Access::start(mask);
@@ -214,7 +217,7 @@ impl Device for Disk {
     }
 
     fn prefix(&mut self, seek: &Seek, mask: u8) {
-        self.move_to(seek, mask);
+        self.move_to(seek, FileMask(mask));
     }
 
     fn act(&mut self, command: u8, chain: &Chain<'_>, area: &mut Area) -> Acted {

@@ -1,3 +1,5 @@
+//! Records read, searched and written, and mounting refused.
+
 use super::{Disk, Geometry, InitialRecord};
 use device_port::{
     Acted, COMMAND_REJECT, Chain, Device, FILE_PROTECTED, Fault, Flow, INVALID_TRACK_FORMAT,
@@ -218,6 +220,7 @@ fn writes(rt: HostRuntime) -> Result<(), Fail> {
             assert_eq!(rt; found.content(), content);
         }
         assert!(rt; records.next().is_none());
+        assert!(rt; medium.records(0, 1).next().is_none() && medium.records(1, 0).next().is_none());
     }
     Ok(())
 }

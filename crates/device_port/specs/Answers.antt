@@ -1,6 +1,8 @@
 -- How commands end (Principles of Operation, chapter 16, "Unit status"; the rules on `want` are the profile's).
 use Rattle.std.specs.Prelude.{ℕ, List, [], ◌∷◌, length}
+use Rattle.io_images.specs.Bits.{normal_end_status, modifier_end_status, check_end_status, exception_end_status}
 use Rattle.device_port.specs.declared.answer.Acted.{Acted}
+use Rattle.device_port.specs.Sense.{no_sense, command_reject}
 
 -- a command that ended with this unit status and sense, and no subchannel status
 abbrev pub ended : ℕ → ℕ → ℕ → Acted
@@ -8,19 +10,19 @@ ended unit sense want = record { unit = record { 0 = unit }; sub = record { 0 = 
 
 -- channel end and device end
 abbrev pub normal_end : ℕ → Acted
-normal_end want = ended 0x0C 0 want
+normal_end want = ended normal_end_status no_sense want
 
 -- a search that found what it looked for: status modifier too
 abbrev pub status_modifier : ℕ → Acted
-status_modifier want = ended 0x4C 0 want
+status_modifier want = ended modifier_end_status no_sense want
 
 -- unit check with this sense; no byte is wanted
 abbrev pub unit_check : ℕ → Acted
-unit_check sense = ended 0x0E sense 0
+unit_check sense = ended check_end_status sense 0
 
 -- unit exception
 abbrev pub unit_exception : ℕ → Acted
-unit_exception want = ended 0x0D 0 want
+unit_exception want = ended exception_end_status no_sense want
 
 -- ---- the commands that every device has (profile)
 
@@ -37,4 +39,4 @@ sense_ended = normal_end (length sense_bytes)
 
 -- COMMAND REJECT: a code that is not listed for a device, or a command that it does not take where it stands
 abbrev pub rejected : Acted
-rejected = unit_check 0x8000
+rejected = unit_check command_reject

@@ -1,8 +1,10 @@
 -- The fault script of a device, and the numbers of its commands (profile).
 use Rattle.std.specs.Prelude.{◌≡◌, ◌<◌, ◌≤◌, ℕ, ◌+◌, ◌-◌, ◌^◌, ◌==◌, nat_lt, min, Bool, true, ◌&&◌, ◌||◌, List, [], ◌∷◌, length, take, drop, Option, Some, None, if◌then◌else◌}
 use Rattle.std.specs.List.{AllByRecursion}
+use Rattle.io_images.specs.Bits.{check_end_status, channel_data_check_bit, channel_control_check_bit, interface_control_check_bit}
 use Rattle.device_port.specs.declared.faults.Fault.{Fault}
 use Rattle.device_port.specs.declared.answer.Acted.{Acted}
+use Rattle.device_port.specs.Sense.{no_sense}
 
 -- the commands that a device was given since it was mounted, and the faults that it is to meet
 pub record Ordinals : Type 0 where
@@ -30,11 +32,16 @@ counted o = record { script = o.script; done = next_ordinal o.done }
 abbrev pub failed : Fault → Acted
 failed f = record { unit = f.unit; sub = f.sub; sense = f.sense; want = 0 }
 
--- a fault that a device may show: unit check with any sense, or one of the channel's checks without one
+-- the checks of the channel that a device may show: channel data, channel control or interface control check
+abbrev pub is_channel_check : ℕ → Bool
+is_channel_check sub =
+    (sub == channel_data_check_bit) || (sub == channel_control_check_bit) || (sub == interface_control_check_bit)
+
+-- a fault that a device may show: unit check with any sense, or one of those checks without one
 abbrev pub is_fault : Fault → Bool
 is_fault f =
-    ((f.unit.0 == 0x0E) && (f.sub.0 == 0))
-    || ((f.unit.0 == 0) && ((f.sub.0 == 8) || (f.sub.0 == 4) || (f.sub.0 == 2)) && (f.sense == 0))
+    ((f.unit.0 == check_end_status) && (f.sub.0 == 0))
+    || ((f.unit.0 == 0) && is_channel_check f.sub.0 && (f.sense == no_sense))
 
 -- the faults are such, and their numbers rise from one that is above `last`
 abbrev pub are_faults_after : ℕ → List Fault → Bool

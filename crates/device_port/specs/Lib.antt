@@ -6,5 +6,6 @@ pub mod MeaningLaws
 pub mod Moves
 pub mod MovesLaws
 pub mod Packed
+pub mod Sense
 pub mod Toy
 pub mod ToyLaws

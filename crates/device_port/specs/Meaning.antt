@@ -1,5 +1,5 @@
 -- What a device means: every call of the trait `Device`, as a function of the device.
-use Rattle.std.specs.Prelude.{◌≡◌, ℕ, ◌==◌, nat_lt, ◌&&◌, Bool, true, List, length}
+use Rattle.std.specs.Prelude.{◌≡◌, ◌≢◌, ℕ, ◌==◌, nat_lt, ◌&&◌, Bool, true, List, length}
 use Rattle.io_images.specs.declared.seek.Seek.{Seek}
 use Rattle.io_area.specs.Storage.{Storage}
 use Rattle.device_port.specs.Moves.{offered, received}
@@ -58,7 +58,8 @@ GivesWhatItWants Out outcome = Unit {0}
 GivesWhatItWants Input outcome = length outcome.bytes ≡ outcome.acted.want
 GivesWhatItWants Back outcome = length outcome.bytes ≡ outcome.acted.want
 
--- THE LAWS of a device: kind and geometry never change, and the bytes given are those wanted
+-- THE LAWS of a device: kind and geometry never change, only a disk has tracks or is moved by a prefix, and
+-- the bytes given are those wanted
 pub record Lawful {D : Type 0} (meaning : Meaning D) : Type 0 where
   pub kind_after_act : (d : D) (command : ℕ) (bytes : List ℕ) → meaning.kind (meaning.act d command bytes).device ≡ meaning.kind d
   pub cylinders_after_act : (d : D) (command : ℕ) (bytes : List ℕ) → meaning.cylinders (meaning.act d command bytes).device ≡ meaning.cylinders d
@@ -66,4 +67,7 @@ pub record Lawful {D : Type 0} (meaning : Meaning D) : Type 0 where
   pub kind_after_prefix : (d : D) (seek : Seek) (mask : ℕ) → meaning.kind (meaning.prefix d seek mask) ≡ meaning.kind d
   pub cylinders_after_prefix : (d : D) (seek : Seek) (mask : ℕ) → meaning.cylinders (meaning.prefix d seek mask) ≡ meaning.cylinders d
   pub heads_after_prefix : (d : D) (seek : Seek) (mask : ℕ) → meaning.heads (meaning.prefix d seek mask) ≡ meaning.heads d
+  pub cylinders_off_disk : (d : D) → meaning.kind d ≢ Disk → meaning.cylinders d ≡ 0
+  pub heads_off_disk : (d : D) → meaning.kind d ≢ Disk → meaning.heads d ≡ 0
+  pub prefix_off_disk : (d : D) (seek : Seek) (mask : ℕ) → meaning.kind d ≢ Disk → meaning.prefix d seek mask ≡ d
   pub gives : (d : D) (command : ℕ) (bytes : List ℕ) → GivesWhatItWants (meaning.flow d command) (meaning.act d command bytes)

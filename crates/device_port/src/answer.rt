@@ -1,6 +1,11 @@
+//! What a device answers to a command, and its sense bytes.
+
 ghost use Rattle.std.specs.Prelude.{◌≡◌};
 
 use io_images::{SubStatus, UnitStatus};
+
+/// The sense of a command that ended without unit check.
+const NO_SENSE: u16 = 0;
 
 /// Sense byte 0: the command, or its place in the program, is not one that the device takes.
 pub const COMMAND_REJECT: u16 = 0x8000;
@@ -22,20 +27,24 @@ pub const SENSE_BYTES: [u8; 2] = [0, 0];
 /// of bytes that it wants to move.
 #[derive(Clone, Copy, PartialEq, Eq, Debug)]
 pub struct Acted {
+    /// Unit status.
     pub unit: UnitStatus,
+    /// Subchannel status.
     pub sub: SubStatus,
+    /// Sense bytes 0 and 1; 0 without unit check.
     pub sense: u16,
+    /// How many bytes the device wants to move.
     pub want: u32,
 }
 
 impl Acted {
     ghost use Rattle.device_port.specs.Answers.{normal_end, status_modifier, unit_check, unit_exception, ended, no_operation_ended, sense_ended, rejected};
 
-    fn ended(unit: u8, sense: u16, want: u32) -> Self
-        ensures { result ≡ ended unit sense want }
+    fn ended(unit: UnitStatus, sense: u16, want: u32) -> Self
+        ensures { result ≡ ended unit.0 sense want }
     {
         Acted {
-            unit: UnitStatus::new(unit),
+            unit,
             sub: SubStatus::new(0),
             sense,
             want,
@@ -46,28 +55,28 @@ impl Acted {
     pub fn normal_end(want: u32) -> Self
         ensures { result ≡ normal_end want }
     {
-        Self::ended(0x0C, 0, want)
+        Self::ended(UnitStatus::NORMAL_END, NO_SENSE, want)
     }
 
     /// Channel end, device end and status modifier: a search has found what it looked for.
     pub fn status_modifier(want: u32) -> Self
         ensures { result ≡ status_modifier want }
     {
-        Self::ended(0x4C, 0, want)
+        Self::ended(UnitStatus::MODIFIER_END, NO_SENSE, want)
     }
 
     /// Channel end, device end and unit check, with this sense; no byte is wanted.
     pub fn unit_check(sense: u16) -> Self
         ensures { result ≡ unit_check sense }
     {
-        Self::ended(0x0E, sense, 0)
+        Self::ended(UnitStatus::CHECK_END, sense, 0)
     }
 
     /// Channel end, device end and unit exception.
     pub fn unit_exception(want: u32) -> Self
         ensures { result ≡ unit_exception want }
     {
-        Self::ended(0x0D, 0, want)
+        Self::ended(UnitStatus::EXCEPTION_END, NO_SENSE, want)
     }
 
     /// The end of NO-OPERATION, on every device.

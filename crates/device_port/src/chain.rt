@@ -1,3 +1,5 @@
+//! The parts of the data of a command.
+
 ghost use Rattle.std.specs.Prelude.{◌≡◌, ◌≤◌, length, reverse};
 ghost use Rattle.io_area.specs.Storage.{SamePlace};
 ghost use Rattle.device_port.specs.Moves.{AllLie, total, stored, stored_back};
@@ -15,8 +17,11 @@ pub const MOST_SEGMENTS: usize = 528;
 /// whether they are to leave storage as it is (SKIP).
 #[derive(Clone, Copy, PartialEq, Eq, Debug, Default)]
 pub struct Segment {
+    /// The address of the first byte that is moved, the highest one where data is read backward.
     pub address: u32,
+    /// The number of bytes.
     pub count: u16,
+    /// Whether the bytes that a device gives are to leave storage as it is.
     pub skip: bool,
 }
 
@@ -65,10 +70,7 @@ impl<'a> Chain<'a> {
     pub fn total(&self) -> u32
         ensures { result ≡ total self.now }
     {
-        self.segments
-            .iter()
-            .map(|s| u32::from(s.count))
-            .sum()
+        self.segments.iter().map(|s| u32::from(s.count)).sum()
     }
 
     /// Moves bytes into storage at rising addresses, as many as there is room for. A part with SKIP is left

@@ -1,3 +1,5 @@
+//! The calls of a device, and why one is not mounted.
+
 ghost use Rattle.std.specs.Prelude.{◌≡◌, IfOk, true};
 ghost use Rattle.io_area.specs.Storage.{SamePlace};
 ghost use Rattle.device_port.specs.Meaning.{Meaning, Lawful, effect, fits};

@@ -1,5 +1,7 @@
+//! Faults that a device is to meet, by the numbers of its commands.
+
 ghost use Rattle.std.specs.Prelude.{◌≡◌, ◌<◌, IfOk, IsSome, length, true};
-ghost use Rattle.device_port.specs.Faults.{Ordinals, fault_met, counted, failed, is_fault, is_script, are_faults_after, Follows};
+ghost use Rattle.device_port.specs.Faults.{Ordinals, fault_met, counted, failed, is_channel_check, is_script, are_faults_after, Follows};
 
 use crate::answer::Acted;
 use io_images::{SubStatus, UnitStatus};
@@ -11,9 +13,13 @@ use std::marker::Model;
 /// interface-control check without sense.
 #[derive(Clone, Copy, PartialEq, Eq, Debug)]
 pub struct Fault {
+    /// The number of the command.
     pub ordinal: u64,
+    /// Unit status: X'0E' or 0.
     pub unit: UnitStatus,
+    /// Subchannel status: 0, or X'08', X'04' or X'02'.
     pub sub: SubStatus,
+    /// Sense bytes 0 and 1.
     pub sense: u16,
 }
 
@@ -36,11 +42,20 @@ impl Fault {
     fn is_shown(&self) -> bool
         ensures { result ≡ is_fault self.now }
     {
-        let unit = self.unit.bits();
-        let sub = self.sub.bits();
-        (unit == 0x0E && sub == 0)
-            || (unit == 0 && (sub == 8 || sub == 4 || sub == 2) && self.sense == 0)
+        if self.unit == UnitStatus::CHECK_END {
+            return self.sub.is_clear();
+        }
+        self.unit.bits() == 0 && is_channel_check(self.sub) && self.sense == 0
     }
+}
+
+/// Whether a subchannel status is one of the checks that a device may show.
+fn is_channel_check(sub: SubStatus) -> bool
+    ensures { result ≡ is_channel_check sub.0 }
+{
+    sub == SubStatus::CHANNEL_DATA_CHECK
+        || sub == SubStatus::CHANNEL_CONTROL_CHECK
+        || sub == SubStatus::INTERFACE_CONTROL_CHECK
 }
 
 /// Whether the faults are such that a device may show and their numbers rise from at least 1.

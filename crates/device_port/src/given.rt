@@ -1,3 +1,5 @@
+//! The bytes that a program gives to a command.
+
 ghost use Rattle.std.specs.Prelude.{◌≡◌, ◌<◌, ℕ, length, slice_index, take, IfSome};
 ghost use Rattle.device_port.specs.Moves.{AllLie, gathered, padded};
 
@@ -59,10 +61,13 @@ impl<'a> Given<'a> {
         ensures { IfSome result (λ bytes. bytes.now ≡ take most self.now) }
     {
         match self.segments {
-            [only] => match self.area.get(only.address, usize::from(only.count).min(most)) {
-                Some(bytes) => Some(bytes),
-                None => None,
-            },
+            [only] => {
+                let len = usize::from(only.count).min(most);
+                let Some(bytes) = self.area.get(only.address, len) else {
+                    unreachable!()
+                };
+                Some(bytes)
+            }
             _ => None,
         }
     }

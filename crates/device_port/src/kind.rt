@@ -1,3 +1,5 @@
+//! The kinds of devices, and the ways that data flow.
+
 /// The kind of a device.
 #[derive(Clone, Copy, PartialEq, Eq, Debug)]
 pub enum Kind {

@@ -77,8 +77,9 @@ fn gather_part(area: &Area, segment: &Segment, into: &mut [u8], at: usize) -> us
     ensures wrote { into.new ≡ written into.old at (take (min segment.now.count (length into.old - at)) (bytes_at area.now segment.now.address segment.now.count)) }
 {
     let n = usize::from(segment.count).min(into.len() - at);
-    if let Some(bytes) = area.get(segment.address, n) {
-        put_at(into, at, bytes);
-    }
+    let Some(bytes) = area.get(segment.address, n) else {
+        unreachable!()
+    };
+    put_at(into, at, bytes);
     at + n
 }

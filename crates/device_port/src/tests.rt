@@ -10,21 +10,21 @@ use io_images::{Seek, SubStatus, UnitStatus};
 use std::test::Fail;
 
 /// Two parts, one of three bytes and one of two with SKIP.
-fn two_parts(first: u32, second: u32) -> Chain
+fn two_parts(first: u32, second: u32) -> [Segment; 2]
     ensures { result ≡ record { address = first; count = 3; skip = false } ∷ record { address = second; count = 2; skip = true } ∷ [] }
 {
-    let mut chain = Chain::new();
-    chain.push(Segment {
-        address: first,
-        count: 3,
-        skip: false,
-    });
-    chain.push(Segment {
-        address: second,
-        count: 2,
-        skip: true,
-    });
-    chain
+    [
+        Segment {
+            address: first,
+            count: 3,
+            skip: false,
+        },
+        Segment {
+            address: second,
+            count: 2,
+            skip: true,
+        },
+    ]
 }
 
 /// Whether storage from X'1000' on is these bytes.
@@ -43,14 +43,14 @@ fn moves_through_two_parts(rt: HostRuntime) -> Result<(), Fail> {
     // upward: SKIP keeps the last byte out of storage
     assert_eq!(rt; block.flow(0x02), Flow::Input);
     assert_eq!(rt;
-        block.act(0x02, &two_parts(0x1000, 0x1005), &mut area),
+        block.act(0x02, &Chain::of(&two_parts(0x1000, 0x1005)), &mut area),
         Acted::normal_end(4)
     );
     assert!(rt; holds(&area, &[1, 2, 3, 0, 0, 7, 7, 0]));
     // outward: SKIP is ignored
-    let _ = block.act(0x01, &two_parts(0x1000, 0x1005), &mut area);
+    let _ = block.act(0x01, &Chain::of(&two_parts(0x1000, 0x1005)), &mut area);
     // downward: the last byte of 1, 2, 3, 7 stands at the first address, and SKIP keeps the 1 out
-    let _ = block.act(0x0C, &two_parts(0x1007, 0x1001), &mut area);
+    let _ = block.act(0x0C, &Chain::of(&two_parts(0x1007, 0x1001)), &mut area);
     assert!(rt; holds(&area, &[1, 2, 3, 0, 0, 2, 3, 7]));
     Ok(())
 }
@@ -69,7 +69,7 @@ fn meets_a_fault_once(rt: HostRuntime) -> Result<(), Fail> {
     assert!(rt; block.fits(&Seek::default()) && block.cylinders() == 1 && block.heads() == 1);
     block.prefix(&Seek::default(), 0x18);
     let mut area = Area::new(rt.alloc(), 0x1000, &[])?;
-    let chain = Chain::new();
+    let chain = Chain::of(&[]);
     assert_eq!(rt; block.act(0x03, &chain, &mut area), Acted::normal_end(0));
     let mut copy = block.copy()?;
     assert_eq!(rt; block.act(0x03, &chain, &mut area), fault.acted());

@@ -17,6 +17,15 @@ use io_images::Seek;
 use std::alloc::{AllocError, Global};
 use std::marker::Model;
 
+/// The commands of a block.
+const WRITE: u8 = 0x01;
+
+const READ: u8 = 0x02;
+
+const NO_OPERATION: u8 = 0x03;
+
+const READ_BACKWARD: u8 = 0x0C;
+
 /// A block of four bytes: 01 writes it, 02 reads it, 0C reads it backward, 03 is no-operation and every
 /// other command is rejected. Standing for a disk it has one track.
 #[derive(Drop)]
@@ -89,9 +98,9 @@ impl Device for ToyBlock {
 
     fn flow(&self, command: u8) -> Flow {
         match command {
-            0x01 => Flow::Out,
-            0x02 => Flow::Input,
-            0x0C => Flow::Back,
+            WRITE => Flow::Out,
+            READ => Flow::Input,
+            READ_BACKWARD => Flow::Back,
             _ => Flow::None,
         }
     }
@@ -103,19 +112,19 @@ impl Device for ToyBlock {
             return fault.acted();
         }
         match command {
-            0x01 => {
+            WRITE => {
                 self.write(chain, area);
                 Acted::normal_end(4)
             }
-            0x02 => {
+            READ => {
                 chain.store(area, &self.block);
                 Acted::normal_end(4)
             }
-            0x0C => {
+            READ_BACKWARD => {
                 chain.store_back(area, &self.block);
                 Acted::normal_end(4)
             }
-            0x03 => Acted::no_operation(),
+            NO_OPERATION => Acted::no_operation(),
             _ => Acted::rejected(),
         }
     }

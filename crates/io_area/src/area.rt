@@ -1,3 +1,5 @@
+//! The bytes that a request brings.
+
 ghost use Rattle.std.specs.Prelude.{◌≡◌, ◌==◌, ◌+◌, ◌<◌, ◌≤◌, ◌^◌, length, true, false, IfErr, IfOk, IfSome, IsOk, IsSome, MatchOption, if◌then◌else◌};
 ghost use Rattle.io_area.specs.Storage.{IsOffset, SamePlace, bytes_at, lies_in, with_bytes};
 ghost use Rattle.io_area.specs.AreaFault.{AreaFault, NoFault};

@@ -1,3 +1,5 @@
+//! Why no area is made.
+
 use thiserror::Error;
 
 /// Why no area is made, the first reason in this order (profile).

@@ -1,3 +1,5 @@
+//! The limits of an area, and bytes read and written at its ends.
+
 use crate::{Area, AreaError};
 use std::test::Fail;
 

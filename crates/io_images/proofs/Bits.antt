@@ -2,7 +2,7 @@
 use Rattle.std.proofs.Common.{◌≡◌, ℕ, ◌-◌, ◌==◌, Bool, true, false, bit_and, refl, eq-eqb}
 use Rattle.std.proofs.lemmas.Nat.{and_assoc, and_or_apart, and_or_self}
 use Rattle.std.specs.Int.Bits.{and_zero_r}
-use Rattle.io_images.specs.Images.{is_on}
+use Rattle.io_images.specs.Bits.{is_on}
 use Rattle.io_images.specs.Written.{with_bit}
 
 -- the bit itself

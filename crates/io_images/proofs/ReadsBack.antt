@@ -9,7 +9,8 @@ use Rattle.io_images.specs.declared.ecb.Ecb.{Ecb}
 use Rattle.io_images.specs.declared.extent.Extent.{Extent}
 use Rattle.io_images.specs.declared.iob.Iob.{Iob}
 use Rattle.io_images.specs.declared.seek.Seek.{Seek}
-use Rattle.io_images.specs.Images.{ccw_of, csw_of, ecb_of, extent_of, iob_of, is_on, seek_of}
+use Rattle.io_images.specs.Bits.{is_on, iob_data_chaining_bit, iob_command_chaining_bit, iob_io_error_bit, iob_unrelated_bit}
+use Rattle.io_images.specs.Images.{ccw_of, csw_of, ecb_of, extent_of, iob_of, seek_of}
 use Rattle.io_images.specs.Written.{ccw_image, csw_image, ecb_image, extent_image, flag_byte, iob_image, seek_image, with_bit}
 
 -- a CCW
@@ -67,22 +68,22 @@ extent-reads_back extent fits =
 
 -- the flags of an IOB
 flags-read_back : (iob : Iob) (old : ℕ)
-    → (is_on 0x80 (flag_byte iob old) ≡ iob.data_chaining) × (is_on 0x40 (flag_byte iob old) ≡ iob.command_chaining)
-    × (is_on 0x04 (flag_byte iob old) ≡ iob.io_error) × (is_on 0x02 (flag_byte iob old) ≡ iob.unrelated)
+    → (is_on iob_data_chaining_bit (flag_byte iob old) ≡ iob.data_chaining) × (is_on iob_command_chaining_bit (flag_byte iob old) ≡ iob.command_chaining)
+    × (is_on iob_io_error_bit (flag_byte iob old) ≡ iob.io_error) × (is_on iob_unrelated_bit (flag_byte iob old) ≡ iob.unrelated)
 flags-read_back iob old =
-    let data_on = with_bit 0x80 iob.data_chaining old in
-    let command_on = with_bit 0x40 iob.command_chaining data_on in
-    let error_on = with_bit 0x04 iob.io_error command_on in (
-      is_on-other 0x80 0x02 error_on iob.unrelated refl refl
-          ∙ is_on-other 0x80 0x04 command_on iob.io_error refl refl
-          ∙ is_on-other 0x80 0x40 data_on iob.command_chaining refl refl
-          ∙ is_on-same 0x80 old iob.data_chaining refl refl,
-      is_on-other 0x40 0x02 error_on iob.unrelated refl refl
-          ∙ is_on-other 0x40 0x04 command_on iob.io_error refl refl
-          ∙ is_on-same 0x40 data_on iob.command_chaining refl refl,
-      is_on-other 0x04 0x02 error_on iob.unrelated refl refl
-          ∙ is_on-same 0x04 command_on iob.io_error refl refl,
-      is_on-same 0x02 error_on iob.unrelated refl refl,
+    let data_on = with_bit iob_data_chaining_bit iob.data_chaining old in
+    let command_on = with_bit iob_command_chaining_bit iob.command_chaining data_on in
+    let error_on = with_bit iob_io_error_bit iob.io_error command_on in (
+      is_on-other iob_data_chaining_bit iob_unrelated_bit error_on iob.unrelated refl refl
+          ∙ is_on-other iob_data_chaining_bit iob_io_error_bit command_on iob.io_error refl refl
+          ∙ is_on-other iob_data_chaining_bit iob_command_chaining_bit data_on iob.command_chaining refl refl
+          ∙ is_on-same iob_data_chaining_bit old iob.data_chaining refl refl,
+      is_on-other iob_command_chaining_bit iob_unrelated_bit error_on iob.unrelated refl refl
+          ∙ is_on-other iob_command_chaining_bit iob_io_error_bit command_on iob.io_error refl refl
+          ∙ is_on-same iob_command_chaining_bit data_on iob.command_chaining refl refl,
+      is_on-other iob_io_error_bit iob_unrelated_bit error_on iob.unrelated refl refl
+          ∙ is_on-same iob_io_error_bit command_on iob.io_error refl refl,
+      is_on-same iob_unrelated_bit error_on iob.unrelated refl refl,
     )
 
 -- what is known of the fields of an IOB

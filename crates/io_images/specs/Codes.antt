@@ -1,6 +1,6 @@
 -- Completion codes and the event control block (DFSMSdfp Advanced Services, "Event Control Block Fields").
-use Rattle.std.specs.Prelude.{ℕ, ◌*◌, ◌^◌, ◌==◌, Bool, true, false, not}
-use Rattle.std.specs.Int.RustNames.{bit_and}
+use Rattle.std.specs.Prelude.{ℕ, ◌*◌, ◌^◌, Bool, true, false}
+use Rattle.io_images.specs.Bits.{is_on, ecb_complete_bit}
 use Rattle.io_images.specs.declared.code.Code.{Code}
 use Rattle.io_images.specs.declared.code.Code.TheVariants.{Ended, PermanentError, ExtentViolated, Purged}
 use Rattle.io_images.specs.declared.ecb.Ecb.{Ecb}
@@ -30,6 +30,6 @@ sets_io_error Purged = true
 abbrev pub posted_ecb : Code → Ecb
 posted_ecb code = record { word = code_byte code * 2 ^ 24 }
 
--- the complete bit, X'40' of byte 0, is on
+-- the complete bit is on
 abbrev pub is_complete : Ecb → Bool
-is_complete ecb = not (bit_and ecb.word (2 ^ 30) == 0)
+is_complete ecb = is_on ecb_complete_bit ecb.word

@@ -1,7 +1,7 @@
 -- What the bytes of an image say.
-use Rattle.std.specs.Prelude.{ℕ, ◌==◌, Bool, List, drop, slice_index}
-use Rattle.std.specs.Int.RustNames.{bit_and}
+use Rattle.std.specs.Prelude.{ℕ, List, drop, slice_index}
 use Rattle.byteorder.specs.Endian.{big_from}
+use Rattle.io_images.specs.Bits.{is_on, iob_data_chaining_bit, iob_command_chaining_bit, iob_io_error_bit, iob_unrelated_bit}
 use Rattle.io_images.specs.declared.ccw.Ccw.{Ccw}
 use Rattle.io_images.specs.declared.csw.Csw.{Csw}
 use Rattle.io_images.specs.declared.ecb.Ecb.{Ecb}
@@ -37,6 +37,10 @@ csw_of image = record {
   residual = big_from 6 2 image;
 }
 
+-- THE EMPTY STATUS: that of a request that was never started, and of an idle subchannel that is halted (profile)
+abbrev pub no_status : Csw
+no_status = record { address = 0; unit = record { 0 = 0 }; sub = record { 0 = 0 }; residual = 0 }
+
 -- a seek address MBBCCHHR (DFSMSdfp Advanced Services, "Input/Output Block Fields", IOBSEEK)
 abbrev pub seek_of : List ℕ → Seek
 seek_of image = record {
@@ -65,18 +69,14 @@ extent_of image = record {
 abbrev pub ecb_of : List ℕ → Ecb
 ecb_of image = record { word = big_from 0 4 image }
 
--- a bit of a byte is on
-abbrev pub is_on : ℕ → ℕ → Bool
-is_on bit byte = bit_and byte bit == bit
-
 -- an IOB: IOBFLAG1 0, sense 2 to 3, completion code 4, ECB address 5 to 7, CSW 8 to 15, IOBSTART 17 to 19,
 -- DCB pointer 21 to 23, IOBSEEK 32 to 39 (DFSMSdfp Advanced Services, "Input/Output Block Fields")
 abbrev pub iob_of : List ℕ → Iob
 iob_of image = record {
-  data_chaining = is_on 0x80 (slice_index image 0);
-  command_chaining = is_on 0x40 (slice_index image 0);
-  io_error = is_on 0x04 (slice_index image 0);
-  unrelated = is_on 0x02 (slice_index image 0);
+  data_chaining = is_on iob_data_chaining_bit (slice_index image 0);
+  command_chaining = is_on iob_command_chaining_bit (slice_index image 0);
+  io_error = is_on iob_io_error_bit (slice_index image 0);
+  unrelated = is_on iob_unrelated_bit (slice_index image 0);
   sense = big_from 2 2 image;
   completion = slice_index image 4;
   ecb = big_from 5 3 image;

@@ -1,3 +1,5 @@
+pub mod Bits
 pub mod Codes
+pub mod FileMask
 pub mod Images
 pub mod Written

@@ -3,6 +3,7 @@ use Rattle.std.specs.Prelude.{ℕ, Bool, List, [], ◌∷◌, ◌++◌, take, dr
 use Rattle.std.specs.Int.RustNames.{bit_or}
 use Rattle.bitflags.specs.Sets.{without}
 use Rattle.byteorder.specs.Endian.{big_bytes}
+use Rattle.io_images.specs.Bits.{iob_data_chaining_bit, iob_command_chaining_bit, iob_io_error_bit, iob_unrelated_bit}
 use Rattle.io_images.specs.declared.ccw.Ccw.{Ccw}
 use Rattle.io_images.specs.declared.csw.Csw.{Csw}
 use Rattle.io_images.specs.declared.ecb.Ecb.{Ecb}
@@ -52,8 +53,8 @@ with_bit bit on byte = if on then bit_or byte bit else without 8 byte bit
 -- IOBFLAG1: the bits that an IOB does not name are kept
 abbrev pub flag_byte : Iob → ℕ → ℕ
 flag_byte iob old =
-    with_bit 0x02 iob.unrelated (with_bit 0x04 iob.io_error (
-    with_bit 0x40 iob.command_chaining (with_bit 0x80 iob.data_chaining old)))
+    with_bit iob_unrelated_bit iob.unrelated (with_bit iob_io_error_bit iob.io_error (
+    with_bit iob_command_chaining_bit iob.command_chaining (with_bit iob_data_chaining_bit iob.data_chaining old)))
 
 -- an IOB: the other bits of byte 0 and the bytes 1, 8, 16, 20 and 24 to 31 are kept
 abbrev pub iob_image : Iob → List ℕ → List ℕ

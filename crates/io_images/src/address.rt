@@ -1,3 +1,5 @@
+//! Addresses below 2^24.
+
 ghost use Rattle.std.specs.Prelude.{◌≡◌, ◌<◌, ◌^◌, ◌%◌, ◌+◌};
 ghost use Rattle.io_images.specs.Images.{address_of};
 ghost use Rattle.io_images.specs.Written.{address_image};

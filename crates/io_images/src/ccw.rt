@@ -1,5 +1,7 @@
-ghost use Rattle.std.specs.Prelude.{⊤, ◌≡◌, ◌==◌, [], ◌∷◌, codes, slice_index};
-ghost use Rattle.std.specs.Int.RustNames.{bit_and};
+//! Channel-command words and their flags.
+
+ghost use Rattle.std.specs.Prelude.{⊤, ◌≡◌, [], ◌∷◌, codes, slice_index};
+ghost use Rattle.io_images.specs.Bits.{is_on, is_off, chain_data_bit, chain_command_bit, suppress_length_bit, skip_bit, interrupt_bit, indirect_bit, suspend_bit, reserved_bit, unusable_flags};
 ghost use Rattle.io_images.specs.Images.{ccw_of};
 ghost use Rattle.io_images.specs.Written.{ccw_image};
 
@@ -29,7 +31,7 @@ impl Flags for CcwFlags {
 
     ghost exact = { ⊤ };
 
-    ghost table = { (codes "CHAIN_DATA", 128) ∷ (codes "CHAIN_COMMAND", 64) ∷ (codes "SUPPRESS_LENGTH", 32) ∷ (codes "SKIP", 16) ∷ (codes "INTERRUPT", 8) ∷ (codes "INDIRECT", 4) ∷ (codes "SUSPEND", 2) ∷ (codes "RESERVED", 1) ∷ [] };
+    ghost table = { (codes "CHAIN_DATA", chain_data_bit) ∷ (codes "CHAIN_COMMAND", chain_command_bit) ∷ (codes "SUPPRESS_LENGTH", suppress_length_bit) ∷ (codes "SKIP", skip_bit) ∷ (codes "INTERRUPT", interrupt_bit) ∷ (codes "INDIRECT", indirect_bit) ∷ (codes "SUSPEND", suspend_bit) ∷ (codes "RESERVED", reserved_bit) ∷ [] };
 
     ghost set_of = { λ p. p.0 };
 
@@ -45,6 +47,9 @@ impl Flags for CcwFlags {
         Self(bits)
     }
 }
+
+/// The flags that a program may not use (profile).
+const UNUSABLE: u8 = 0x03;
 
 impl CcwFlags {
     /// The flags with these bits on.
@@ -71,44 +76,44 @@ impl CcwFlags {
 
     /// Whether the next CCW continues the same data.
     pub fn chains_data(self) -> bool
-        ensures { result ≡ (bit_and self.0 128 == 128) }
+        ensures { result ≡ is_on chain_data_bit self.0 }
     {
         self.contains(CcwFlags::CHAIN_DATA)
     }
 
     /// Whether another command follows.
     pub fn chains_command(self) -> bool
-        ensures { result ≡ (bit_and self.0 64 == 64) }
+        ensures { result ≡ is_on chain_command_bit self.0 }
     {
         self.contains(CcwFlags::CHAIN_COMMAND)
     }
 
     /// Whether incorrect length is not to be shown.
     pub fn suppresses_length(self) -> bool
-        ensures { result ≡ (bit_and self.0 32 == 32) }
+        ensures { result ≡ is_on suppress_length_bit self.0 }
     {
         self.contains(CcwFlags::SUPPRESS_LENGTH)
     }
 
     /// Whether the data of a read are not to be stored.
     pub fn skips(self) -> bool
-        ensures { result ≡ (bit_and self.0 16 == 16) }
+        ensures { result ≡ is_on skip_bit self.0 }
     {
         self.contains(CcwFlags::SKIP)
     }
 
     /// Whether the address is that of a list of address words.
     pub fn is_indirect(self) -> bool
-        ensures { result ≡ (bit_and self.0 4 == 4) }
+        ensures { result ≡ is_on indirect_bit self.0 }
     {
         self.contains(CcwFlags::INDIRECT)
     }
 
     /// Whether the flags that a program may not use, suspend and the last bit, are off (profile).
     pub fn reserved_off(self) -> bool
-        ensures { result ≡ (bit_and self.0 3 == 0) }
+        ensures { result ≡ is_off unusable_flags self.0 }
     {
-        self.0 & 3 == 0
+        self.0 & UNUSABLE == 0
     }
 }
 
@@ -147,17 +152,5 @@ impl Ccw {
         BigEndian::write_u24(&mut image[1..], self.address.get());
         image[4] = self.flags.0;
         BigEndian::write_u16(&mut image[6..], count);
-    }
-
-    /// The same CCW.
-    pub fn copy(&self) -> Ccw
-        ensures { result ≡ self.now }
-    {
-        Ccw {
-            command: self.command,
-            address: self.address,
-            flags: self.flags,
-            count: self.count,
-        }
     }
 }

@@ -1,3 +1,5 @@
+//! Completion codes.
+
 ghost use Rattle.std.specs.Prelude.{◌≡◌};
 ghost use Rattle.io_images.specs.Codes.{code_byte, is_error, sets_io_error};
 

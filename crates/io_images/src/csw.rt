@@ -1,5 +1,7 @@
+//! The status of a channel program.
+
 ghost use Rattle.std.specs.Prelude.{◌≡◌, ◌≤◌, ◌++◌, length, drop};
-ghost use Rattle.io_images.specs.Images.{csw_of};
+ghost use Rattle.io_images.specs.Images.{csw_of, no_status};
 ghost use Rattle.io_images.specs.Written.{csw_image};
 
 use crate::address::Address;
@@ -36,16 +38,12 @@ impl Csw {
         self.put(image);
     }
 
-    /// The same status.
-    pub fn copy(&self) -> Csw
-        ensures { result ≡ self.now }
+    /// The empty status: that of a request that was never started, and of an idle subchannel that is halted
+    /// (profile).
+    pub fn empty() -> Csw
+        ensures { result ≡ no_status }
     {
-        Csw {
-            address: self.address,
-            unit: self.unit,
-            sub: self.sub,
-            residual: self.residual,
-        }
+        Csw::default()
     }
 
     /// The fields in the first eight bytes.

@@ -1,11 +1,15 @@
-ghost use Rattle.std.specs.Prelude.{◌≡◌, ◌*◌, ◌==◌, ◌^◌};
-ghost use Rattle.std.specs.Int.RustNames.{bit_and};
+//! Event control blocks.
+
+ghost use Rattle.std.specs.Prelude.{◌≡◌};
 ghost use Rattle.io_images.specs.Images.{ecb_of};
 ghost use Rattle.io_images.specs.Written.{ecb_image};
 ghost use Rattle.io_images.specs.Codes.{posted_ecb, is_complete};
 
 use crate::code::Code;
 use byteorder::{BigEndian, ByteOrder};
+
+/// The complete bit, X'40' of byte 0.
+const COMPLETE: u32 = 0x4000_0000;
 
 /// An event control block, a fullword (DFSMSdfp Advanced Services, "Event Control Block Fields").
 #[derive(Clone, Copy, PartialEq, Eq, Debug, Default)]
@@ -29,7 +33,7 @@ impl Ecb {
     pub fn is_complete(&self) -> bool
         ensures { result ≡ is_complete self.now }
     {
-        self.word & 0x4000_0000 != 0
+        self.word & COMPLETE == COMPLETE
     }
 
     /// The word of an image.

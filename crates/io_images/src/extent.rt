@@ -1,3 +1,5 @@
+//! Extents of a disk.
+
 ghost use Rattle.std.specs.Prelude.{◌≡◌};
 ghost use Rattle.io_images.specs.Images.{extent_of};
 ghost use Rattle.io_images.specs.Written.{extent_image};

@@ -1,4 +1,7 @@
+//! Input/output blocks.
+
 ghost use Rattle.std.specs.Prelude.{⊤, ◌≡◌, [], ◌∷◌, codes};
+ghost use Rattle.io_images.specs.Bits.{iob_data_chaining_bit, iob_command_chaining_bit, iob_io_error_bit, iob_unrelated_bit};
 ghost use Rattle.io_images.specs.Images.{iob_of};
 ghost use Rattle.io_images.specs.Written.{iob_image, flag_byte};
 
@@ -26,7 +29,7 @@ impl Flags for IobFlags {
 
     ghost exact = { ⊤ };
 
-    ghost table = { (codes "DATA_CHAINING", 128) ∷ (codes "COMMAND_CHAINING", 64) ∷ (codes "IO_ERROR", 4) ∷ (codes "UNRELATED", 2) ∷ [] };
+    ghost table = { (codes "DATA_CHAINING", iob_data_chaining_bit) ∷ (codes "COMMAND_CHAINING", iob_command_chaining_bit) ∷ (codes "IO_ERROR", iob_io_error_bit) ∷ (codes "UNRELATED", iob_unrelated_bit) ∷ [] };
 
     ghost set_of = { λ p. p.0 };
 

@@ -1,3 +1,5 @@
+//! Seek addresses.
+
 ghost use Rattle.std.specs.Prelude.{◌≡◌, ◌≤◌, ◌++◌, length, drop};
 ghost use Rattle.io_images.specs.Images.{seek_of};
 ghost use Rattle.io_images.specs.Written.{seek_image};

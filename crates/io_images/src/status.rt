@@ -1,5 +1,7 @@
+//! Unit status and subchannel status.
+
 ghost use Rattle.std.specs.Prelude.{⊤, ◌≡◌, ◌==◌, [], ◌∷◌, codes, slice_index};
-ghost use Rattle.std.specs.Int.RustNames.{bit_and};
+ghost use Rattle.io_images.specs.Bits.{is_off, check_or_exception, attention_bit, status_modifier_bit, control_unit_end_bit, busy_bit, channel_end_bit, device_end_bit, unit_check_bit, unit_exception_bit, program_interruption_bit, incorrect_length_bit, program_check_bit, protection_check_bit, channel_data_check_bit, channel_control_check_bit, interface_control_check_bit, chaining_check_bit};
 
 use bitflags::{Flag, Flags, bitflag_items};
 
@@ -26,7 +28,7 @@ impl Flags for UnitStatus {
 
     ghost exact = { ⊤ };
 
-    ghost table = { (codes "ATTENTION", 128) ∷ (codes "STATUS_MODIFIER", 64) ∷ (codes "CONTROL_UNIT_END", 32) ∷ (codes "BUSY", 16) ∷ (codes "CHANNEL_END", 8) ∷ (codes "DEVICE_END", 4) ∷ (codes "UNIT_CHECK", 2) ∷ (codes "UNIT_EXCEPTION", 1) ∷ [] };
+    ghost table = { (codes "ATTENTION", attention_bit) ∷ (codes "STATUS_MODIFIER", status_modifier_bit) ∷ (codes "CONTROL_UNIT_END", control_unit_end_bit) ∷ (codes "BUSY", busy_bit) ∷ (codes "CHANNEL_END", channel_end_bit) ∷ (codes "DEVICE_END", device_end_bit) ∷ (codes "UNIT_CHECK", unit_check_bit) ∷ (codes "UNIT_EXCEPTION", unit_exception_bit) ∷ [] };
 
     ghost set_of = { λ s. s.0 };
 
@@ -43,7 +45,22 @@ impl Flags for UnitStatus {
     }
 }
 
+/// Unit check and unit exception.
+const CHECK_OR_EXCEPTION: u8 = 0x03;
+
 impl UnitStatus {
+    /// Channel end and device end, which come at once (profile): a command has ended normally.
+    pub const NORMAL_END: UnitStatus = UnitStatus(0x0C);
+
+    /// The same with status modifier.
+    pub const MODIFIER_END: UnitStatus = UnitStatus(0x4C);
+
+    /// The same with unit check.
+    pub const CHECK_END: UnitStatus = UnitStatus(0x0E);
+
+    /// The same with unit exception.
+    pub const EXCEPTION_END: UnitStatus = UnitStatus(0x0D);
+
     /// The status with these bits on.
     pub fn new(bits: u8) -> UnitStatus
         ensures { result.0 ≡ bits }
@@ -75,9 +92,9 @@ impl UnitStatus {
 
     /// Whether neither unit check nor unit exception is on.
     pub fn is_normal(self) -> bool
-        ensures { result ≡ (bit_and self.0 3 == 0) }
+        ensures { result ≡ is_off check_or_exception self.0 }
     {
-        self.0 & 3 == 0
+        self.0 & CHECK_OR_EXCEPTION == 0
     }
 }
 
@@ -104,7 +121,7 @@ impl Flags for SubStatus {
 
     ghost exact = { ⊤ };
 
-    ghost table = { (codes "PROGRAM_INTERRUPTION", 128) ∷ (codes "INCORRECT_LENGTH", 64) ∷ (codes "PROGRAM_CHECK", 32) ∷ (codes "PROTECTION_CHECK", 16) ∷ (codes "CHANNEL_DATA_CHECK", 8) ∷ (codes "CHANNEL_CONTROL_CHECK", 4) ∷ (codes "INTERFACE_CONTROL_CHECK", 2) ∷ (codes "CHAINING_CHECK", 1) ∷ [] };
+    ghost table = { (codes "PROGRAM_INTERRUPTION", program_interruption_bit) ∷ (codes "INCORRECT_LENGTH", incorrect_length_bit) ∷ (codes "PROGRAM_CHECK", program_check_bit) ∷ (codes "PROTECTION_CHECK", protection_check_bit) ∷ (codes "CHANNEL_DATA_CHECK", channel_data_check_bit) ∷ (codes "CHANNEL_CONTROL_CHECK", channel_control_check_bit) ∷ (codes "INTERFACE_CONTROL_CHECK", interface_control_check_bit) ∷ (codes "CHAINING_CHECK", chaining_check_bit) ∷ [] };
 
     ghost set_of = { λ s. s.0 };
 

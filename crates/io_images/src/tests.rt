@@ -1,5 +1,8 @@
+//! Images read and written, against bytes worked out by hand.
+
 use crate::{
-    Address, AddressWord, Ccw, CcwFlags, Code, Csw, Ecb, Extent, Iob, Seek, SubStatus, UnitStatus,
+    Address, AddressWord, Ccw, CcwFlags, Code, Csw, Ecb, Extent, FileMask, Iob, Seek, SubStatus,
+    UnitStatus,
 };
 use bitflags::Flags;
 
@@ -14,7 +17,7 @@ fn ccw_keeps_its_ignored_byte(rt: HostRuntime) {
     assert!(rt; ccw.flags.reserved_off() && ccw.flags.contains(CcwFlags::CHAIN_DATA));
     assert_eq!(rt; ccw.count, 0x102);
     let mut other = [0xFF; 8];
-    ccw.copy().write(&mut other);
+    ccw.write(&mut other);
     assert_eq!(rt; other, [0x06, 0x00, 0x10, 0x60, 0xA0, 0xFF, 0x01, 0x02]);
 }
 
@@ -29,10 +32,21 @@ fn csw_and_status(rt: HostRuntime) {
     assert!(rt; !csw.unit.is_normal() && csw.unit.contains(UnitStatus::UNIT_CHECK));
     assert!(rt; !csw.sub.is_clear() && csw.sub.contains(SubStatus::INCORRECT_LENGTH));
     let mut image = [0xEE; 8];
-    csw.copy().write(&mut image);
+    csw.write(&mut image);
     assert_eq!(rt; image, [0xEE, 0x00, 0x10, 0x38, 0x0E, 0x40, 0x00, 0x04]);
     assert_eq!(rt; Csw::read(&image), csw);
     assert_eq!(rt; Address::stored(0xFF_FFF8).get(), 0);
+    Csw::empty().write(&mut image);
+    assert_eq!(rt; image, [0xEE, 0, 0, 0, 0, 0, 0, 0]);
+    let ends = UnitStatus::CHANNEL_END.bits() + UnitStatus::DEVICE_END.bits();
+    for (status, further) in [
+        (UnitStatus::NORMAL_END, 0x00),
+        (UnitStatus::MODIFIER_END, 0x40),
+        (UnitStatus::CHECK_END, 0x02),
+        (UnitStatus::EXCEPTION_END, 0x01),
+    ] {
+        assert_eq!(rt; status.bits(), ends + further);
+    }
 }
 
 #[test]
@@ -71,6 +85,11 @@ fn extent_ecb_and_words(rt: HostRuntime) {
     let mut other = [0xFF; 16];
     extent.write(&mut other);
     assert_eq!(rt; other, image);
+    let (input, output) = (FileMask::INPUT, FileMask::OUTPUT);
+    assert_eq!(rt; (input.0, output.0), (0x58, 0x18));
+    assert!(rt; input.inhibits_writes() && input.inhibits_formatting() && input.inhibits_seeks());
+    assert!(rt; !output.inhibits_writes() && !output.inhibits_formatting());
+    assert!(rt; output.inhibits_seeks() && !FileMask(0xC0).inhibits_seeks());
     let mut word = [0; 4];
     Ecb::posted(Code::Purged).write(&mut word);
     assert_eq!(rt; word, [0x48, 0, 0, 0]);

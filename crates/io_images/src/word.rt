@@ -1,3 +1,5 @@
+//! Words of address lists.
+
 ghost use Rattle.std.specs.Prelude.{◌≡◌};
 ghost use Rattle.io_images.specs.Images.{word_of};
 ghost use Rattle.io_images.specs.Written.{word_image};

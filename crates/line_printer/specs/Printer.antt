@@ -7,6 +7,7 @@ use Rattle.device_port.specs.Answers.{normal_end}
 use Rattle.device_port.specs.Common.{unchanged, no_operation, sense, checked, unlisted, faulted}
 use Rattle.device_port.specs.Faults.{Ordinals, fault_met, counted}
 use Rattle.device_port.specs.Meaning.{Meaning, Outcome}
+use Rattle.device_port.specs.Sense.{intervention_required}
 use Rattle.line_printer.specs.declared.command.Command.{Command}
 use Rattle.line_printer.specs.declared.command.Command.TheVariants.{NoOperation, Sense, Print, Move}
 use Rattle.line_printer.specs.declared.paper.Motion.{Motion}
@@ -45,14 +46,14 @@ abbrev pub print : PrinterState → Motion → List ℕ → Outcome PrinterState
 print printer motion given =
     let to = moved motion printer.at in
     let bytes = columns_of given in
-    if is_full printer || is_past printer to then checked printer 0x4000
+    if is_full printer || is_past printer to then checked printer intervention_required
     else unchanged (with_line printer bytes to) (normal_end (length bytes))
 
 -- MOVE the paper at once: 0B by one line, 13 by two, 1B by three, 8B to channel 1
 abbrev pub move : PrinterState → Motion → Outcome PrinterState
 move printer motion =
     let to = moved motion printer.at in
-    if is_past printer to then checked printer 0x4000 else unchanged (record printer { at = to }) (normal_end 0)
+    if is_past printer to then checked printer intervention_required else unchanged (record printer { at = to }) (normal_end 0)
 
 -- ---- the printer as a device
 

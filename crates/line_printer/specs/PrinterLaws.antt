@@ -36,5 +36,8 @@ printer_lawful = record {
   kind_after_prefix = λ p seek mask. refl;
   cylinders_after_prefix = λ p seek mask. refl;
   heads_after_prefix = λ p seek mask. refl;
+  cylinders_off_disk = λ d off. refl;
+  heads_off_disk = λ d off. refl;
+  prefix_off_disk = λ d seek mask off. refl;
   gives = λ p code given. gives_by (fault_met p.ordinals) (record p { ordinals = counted p.ordinals }) code given;
 }

@@ -1,3 +1,5 @@
+//! The commands of a printer, by their codes.
+
 ghost use Rattle.std.specs.Prelude.{◌≡◌};
 ghost use Rattle.line_printer.specs.Command.{command_of, flow_of};
 

@@ -1,3 +1,5 @@
+//! The list of the printed lines.
+
 ghost use Rattle.std.specs.Prelude.{◌≡◌, ◌<◌, ◌++◌, ◌∷◌, [], IfOk, length, nat_le};
 
 use crate::printed_line::PrintedLine;

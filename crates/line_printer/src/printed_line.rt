@@ -1,3 +1,5 @@
+//! A line that was printed.
+
 ghost use Rattle.std.specs.Prelude.{◌≡◌, ◌≤◌, length};
 ghost use Rattle.line_printer.specs.Printer.{columns_of};
 

@@ -1,3 +1,5 @@
+//! The printer as a device: its mounting, its commands, and its readers.
+
 ghost use Rattle.std.specs.Prelude.{◌≡◌};
 ghost use Rattle.line_printer.specs.Mount.{is_paper};
 ghost use Rattle.line_printer.specs.Printer.{printer};

@@ -1,3 +1,5 @@
+//! Lines printed, paper moved, and mounting refused.
+
 use super::{Position, Printer};
 use device_port::{
     Acted, Chain, Device, Fault, Flow, INTERVENTION_REQUIRED, Kind, MountError, Segment,

@@ -9,6 +9,7 @@ use Rattle.device_port.specs.Answers.{normal_end, unit_exception}
 use Rattle.device_port.specs.Common.{unchanged, no_operation, sense, checked, unlisted, faulted}
 use Rattle.device_port.specs.Faults.{Ordinals, fault_met, counted}
 use Rattle.device_port.specs.Meaning.{Meaning, Outcome}
+use Rattle.device_port.specs.Sense.{command_reject, equipment_check}
 use Rattle.tape_unit.specs.declared.command.Command.{Command}
 use Rattle.tape_unit.specs.declared.command.Command.TheVariants.{Control, Sense, Read, ReadBackward, Write}
 use Rattle.tape_unit.specs.declared.command.Control.{Control as ControlCommand}
@@ -48,7 +49,7 @@ spaced_ended (block bytes) = normal_end 0
 
 -- 02 READ
 abbrev pub read_first : TapeState → List Item → Outcome TapeState
-read_first tape [] = checked tape 0x1000
+read_first tape [] = checked tape equipment_check
 read_first tape (x ∷ rest) = record { acted = read_ended x; device = moved_to tape (tape.place + 1); bytes = content_of x }
 
 abbrev pub read : TapeState → Outcome TapeState
@@ -56,7 +57,7 @@ read tape = read_first tape (ahead tape)
 
 -- 0C READ BACKWARD: the last byte first
 abbrev pub read_backward_first : TapeState → List Item → Outcome TapeState
-read_backward_first tape [] = checked tape 0x8000
+read_backward_first tape [] = checked tape command_reject
 read_backward_first tape (x ∷ rest) = record { acted = read_ended x; device = moved_to tape (tape.place - 1); bytes = reverse (content_of x) }
 
 abbrev pub read_backward : TapeState → Outcome TapeState
@@ -64,7 +65,7 @@ read_backward tape = read_backward_first tape (behind tape)
 
 -- 37 FORWARD SPACE BLOCK
 abbrev pub forward_space_first : TapeState → List Item → Outcome TapeState
-forward_space_first tape [] = checked tape 0x1000
+forward_space_first tape [] = checked tape equipment_check
 forward_space_first tape (x ∷ rest) = unchanged (moved_to tape (tape.place + 1)) (spaced_ended x)
 
 abbrev pub forward_space_block : TapeState → Outcome TapeState
@@ -72,7 +73,7 @@ forward_space_block tape = forward_space_first tape (ahead tape)
 
 -- 27 BACKSPACE BLOCK
 abbrev pub backspace_first : TapeState → List Item → Outcome TapeState
-backspace_first tape [] = checked tape 0x8000
+backspace_first tape [] = checked tape command_reject
 backspace_first tape (x ∷ rest) = unchanged (moved_to tape (tape.place - 1)) (spaced_ended x)
 
 abbrev pub backspace_block : TapeState → Outcome TapeState
@@ -82,7 +83,7 @@ backspace_block tape = backspace_first tape (behind tape)
 
 -- 3F FORWARD SPACE FILE: without a mark the tape stops behind the last item
 abbrev pub forward_space_over : TapeState → Option ℕ → Outcome TapeState
-forward_space_over tape None = checked (moved_to tape (length tape.reel.items)) 0x1000
+forward_space_over tape None = checked (moved_to tape (length tape.reel.items)) equipment_check
 forward_space_over tape (Some blocks) = unchanged (moved_to tape (tape.place + (blocks + 1))) (normal_end 0)
 
 abbrev pub forward_space_file : TapeState → Outcome TapeState
@@ -90,7 +91,7 @@ forward_space_file tape = forward_space_over tape (position is_mark (ahead tape)
 
 -- 2F BACKSPACE FILE: without a mark the tape stops at the load point
 abbrev pub backspace_over : TapeState → Option ℕ → Outcome TapeState
-backspace_over tape None = checked (moved_to tape 0) 0x8000
+backspace_over tape None = checked (moved_to tape 0) command_reject
 backspace_over tape (Some blocks) = unchanged (moved_to tape (tape.place - (blocks + 1))) (normal_end 0)
 
 abbrev pub backspace_file : TapeState → Outcome TapeState
@@ -106,7 +107,7 @@ abbrev pub put : TapeState → Item → Acted → Outcome TapeState
 put tape x ended =
     if has_room tape.reel tape.place (length (content_of x))
     then unchanged (record tape { reel = with_item_at tape.reel tape.place x; place = tape.place + 1 }) ended
-    else checked tape 0x1000
+    else checked tape equipment_check
 
 -- 01 WRITE: a block of at most 65,535 bytes
 abbrev pub write : TapeState → List ℕ → Outcome TapeState

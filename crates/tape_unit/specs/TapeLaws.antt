@@ -80,5 +80,8 @@ tape_lawful = record {
   kind_after_prefix = λ t seek mask. refl;
   cylinders_after_prefix = λ t seek mask. refl;
   heads_after_prefix = λ t seek mask. refl;
+  cylinders_off_disk = λ d off. refl;
+  heads_off_disk = λ d off. refl;
+  prefix_off_disk = λ d seek mask off. refl;
   gives = λ t code given. gives_by (fault_met t.ordinals) (record t { ordinals = counted t.ordinals }) code given;
 }

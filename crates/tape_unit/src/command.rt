@@ -1,3 +1,5 @@
+//! The commands of a tape, by their codes.
+
 ghost use Rattle.std.specs.Prelude.{◌≡◌};
 ghost use Rattle.tape_unit.specs.Command.{command_of, flow_of};
 

@@ -1,3 +1,5 @@
+//! Where the items of a tape begin.
+
 ghost use Rattle.std.specs.Prelude.{◌≡◌, ◌<◌, ◌≤◌, ◌^◌, ◌++◌, ◌∷◌, [], IfOk, length, take, slice_index};
 
 use std::alloc::{AllocError, Global};

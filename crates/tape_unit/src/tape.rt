@@ -1,3 +1,5 @@
+//! The tape as a device: its mounting, its commands, and its reader.
+
 ghost use Rattle.std.specs.Prelude.{◌≡◌, ◌≤◌, length};
 ghost use Rattle.tape_unit.specs.Item.{content_of};
 ghost use Rattle.tape_unit.specs.Tape.{tape, read_ended, spaced_ended};

@@ -1,3 +1,5 @@
+//! Tapes read, written and spaced over, and mounting refused.
+
 use super::{InitialItem, Tape};
 use device_port::{
     Acted, COMMAND_REJECT, Chain, Device, EQUIPMENT_CHECK, Fault, Flow, Kind, MountError, Segment,

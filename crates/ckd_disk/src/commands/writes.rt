@@ -2,26 +2,12 @@
 
 ghost use Rattle.std.specs.Prelude.{◌≡◌};
 ghost use Rattle.ckd_disk.specs.Access.{access_of, IsPlaced};
-ghost use Rattle.ckd_disk.specs.Commands.{written_of, inhibits_writes, inhibits_formatting, write_data, write_key_and_data, write_count_key_and_data};
+ghost use Rattle.ckd_disk.specs.Commands.{written_of, write_data, write_key_and_data, write_count_key_and_data};
 
 use super::check;
 use crate::access::{Access, Armed, Orientation};
 use crate::track::{Track, size_given};
 use device_port::{Acted, COMMAND_REJECT, Given, INVALID_TRACK_FORMAT};
-
-/// Whether a file mask inhibits all writes.
-fn inhibits_writes(mask: u8) -> bool
-    ensures { result ≡ inhibits_writes mask }
-{
-    mask >> 6 == 0b01
-}
-
-/// Whether a file mask inhibits writes that format.
-fn inhibits_formatting(mask: u8) -> bool
-    ensures { result ≡ inhibits_formatting mask }
-{
-    matches!(mask >> 6, 0b01 | 0b10)
-}
 
 /// WRITE DATA.
 pub fn write_data(track: &mut Track, access: &mut Access, given: &Given<'_>) -> Acted
@@ -33,7 +19,7 @@ pub fn write_data(track: &mut Track, access: &mut Access, given: &Given<'_>) -> 
     let (Armed::Id(spot) | Armed::Key(spot)) = access.armed else {
         return check(access, COMMAND_REJECT);
     };
-    if inhibits_writes(access.mask) {
+    if access.mask.inhibits_writes() {
         return check(access, COMMAND_REJECT);
     }
     let want = track.content(spot).len() as u32;
@@ -56,7 +42,7 @@ pub fn write_key_and_data(track: &mut Track, access: &mut Access, given: &Given<
     let Armed::Id(spot) = access.armed else {
         return check(access, COMMAND_REJECT);
     };
-    if inhibits_writes(access.mask) {
+    if access.mask.inhibits_writes() {
         return check(access, COMMAND_REJECT);
     }
     let want = track.parts(spot).len() as u32;
@@ -75,7 +61,7 @@ pub fn write_count_key_and_data(track: &mut Track, access: &mut Access, given: &
     let (Armed::Id(spot) | Armed::Key(spot) | Armed::Format(spot)) = access.armed else {
         return check(access, COMMAND_REJECT);
     };
-    if inhibits_formatting(access.mask) || given.len() < 8 {
+    if access.mask.inhibits_formatting() || given.len() < 8 {
         return check(access, COMMAND_REJECT);
     }
     let want = size_given(given);

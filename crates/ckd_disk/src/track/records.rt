@@ -1,4 +1,6 @@
-ghost use Rattle.std.specs.Prelude.{◌≡◌};
+//! A reader of the records of a track.
+
+ghost use Rattle.std.specs.Prelude.{◌≡◌, []};
 ghost use Rattle.std.specs.Iterator.{YieldsFirst, item_count};
 ghost use Rattle.device_port.specs.Packed.{items_at, HoldsItems};
 ghost use Rattle.ckd_disk.specs.Record.{ckd};
@@ -66,6 +68,15 @@ impl<'a> Model for Records<'a> {
 }
 
 impl<'a> Records<'a> {
+    /// No record.
+    #[tactic(auto, unfolding(device_port::specs::Packed::items_at))]
+    pub fn none() -> Self
+        ensures { result ≡ [] }
+    {
+        Records::new(&[], 0, 0)
+    }
+
+    /// The packed records of an image: how many bytes they take, and how many they are.
     pub fn new(rest: &'a [u8], used: usize, left: usize) -> Self
         requires { HoldsItems ckd rest.now used left }
         ensures { result ≡ items_at ckd left rest.now }
