@@ -1,5 +1,6 @@
 -- One command step, and what comes after so many of them (Principles of Operation, chapters 15 and 16, and profile).
-use Rattle.std.specs.Prelude.{◌≡◌, ◌<◌, ◌≤◌, ℕ, zero, suc, ◌+◌, ◌-◌, ◌==◌, nat_lt, min, bit_and, Bool, true, false, not, ◌&&◌, ◌||◌, if◌then◌else◌, List, [], ◌∷◌, length, slice_index_or}
+use Rattle.std.specs.Prelude.{◌≡◌, ◌<◌, ◌≤◌, ℕ, zero, suc, ◌+◌, ◌-◌, ◌==◌, nat_lt, min, Bool, true, false, not, ◌&&◌, ◌||◌, if◌then◌else◌, List, [], ◌∷◌, length, slice_index_or}
+use Rattle.io_images.specs.Bits.{is_off, check_or_exception, incorrect_length_bit, normal_end_status, modifier_end_status}
 use Rattle.io_area.specs.Storage.{Storage}
 use Rattle.device_port.specs.Meaning.{Meaning, effect}
 use Rattle.device_port.specs.declared.answer.Acted.{Acted}
@@ -42,7 +43,7 @@ shows_length Back first counted want ended = not (want == counted) && (chains_da
 -- the subchannel status: an incorrect length is shown beside no other error
 abbrev pub sub_status : Flow → Link → ℕ → Acted → Link → ℕ
 sub_status flow first counted acted ended =
-    if (bit_and acted.unit.0 0x03 == 0) && (acted.sub.0 == 0) && shows_length flow first counted acted.want ended then 0x40 else acted.sub.0
+    if is_off check_or_exception acted.unit.0 && (acted.sub.0 == 0) && shows_length flow first counted acted.want ended then incorrect_length_bit else acted.sub.0
 
 -- the bytes that are moved
 abbrev pub moved : List Link → Acted → ℕ
@@ -50,11 +51,11 @@ moved links acted = min (total_count links) acted.want
 
 -- the program goes on to another command behind this last CCW (chapter 15, "Command Chaining")
 abbrev pub goes_on : Link → ℕ → ℕ → Bool
-goes_on last unit sub = chains_command last.ccw && ((unit == 0x0C) || (unit == 0x4C)) && (sub == 0)
+goes_on last unit sub = chains_command last.ccw && ((unit == normal_end_status) || (unit == modifier_end_status)) && (sub == 0)
 
 -- the address of the next command: behind the last CCW, and behind one more with status modifier
 abbrev pub next_address : Link → ℕ → ℕ
-next_address last unit = last.at + (if unit == 0x4C then 16 else 8)
+next_address last unit = last.at + (if unit == modifier_end_status then 16 else 8)
 
 -- the place after a command with this last CCW that ended there with this subchannel status
 abbrev pub placed : Place → Link → ℕ → Acted → Ending → ℕ → Place

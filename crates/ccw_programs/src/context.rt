@@ -2,6 +2,7 @@
 //! of Operation, chapters 15 and 16).
 
 ghost use Rattle.std.specs.Prelude.{◌≡◌, ◌≤◌, ◌<◌, ◌^◌, ◌+◌, [], ◌∷◌, length, All};
+ghost use Rattle.io_images.specs.Bits.{normal_end_status};
 ghost use Rattle.ccw_programs.specs.Links.{Sound};
 ghost use Rattle.ccw_programs.specs.Place.{Place, start_place, ended_place, checked_place};
 ghost use Rattle.ccw_programs.specs.Step.{acted_place, placed};
@@ -74,12 +75,12 @@ impl Context {
     /// count of its last command, or its start and 0 (chapter 14, "Halt Subchannel"; that it ends at once is the
     /// profile's).
     pub fn halted(&self) -> Csw
-        ensures { result ≡ record { address = self.now.address; unit = record { 0 = 0x0C }; sub = record { 0 = 0 }; residual = self.now.residual } }
+        ensures { result ≡ record { address = self.now.address; unit = record { 0 = normal_end_status }; sub = record { 0 = 0 }; residual = self.now.residual } }
     {
         Csw {
             address: self.address,
-            unit: UnitStatus::new(0x0C),
-            sub: SubStatus::new(0),
+            unit: UnitStatus::NORMAL_END,
+            sub: SubStatus::default(),
             residual: self.residual,
         }
     }
@@ -107,8 +108,8 @@ impl Context {
         self.end(
             Csw {
                 address,
-                unit: UnitStatus::new(0),
-                sub: SubStatus::new(0x20),
+                unit: UnitStatus::default(),
+                sub: SubStatus::PROGRAM_CHECK,
                 residual: 0,
             },
             0,

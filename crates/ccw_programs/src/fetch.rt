@@ -30,14 +30,14 @@ pub enum Fetch {
 fn is_transfer(ccw: &Ccw) -> bool
     ensures { result ≡ is_transfer ccw.now }
 {
-    ccw.command % 16 == 8
+    ccw.command % 0x10 == 0x08
 }
 
 /// Whether a CCW that is no transfer may stand at this place of its chain.
 fn is_allowed(place: usize, ccw: &Ccw) -> bool
     ensures { result ≡ is_allowed place ccw.now }
 {
-    !(place == 0 && ccw.command % 16 == 0)
+    !(place == 0 && ccw.command % 0x10 == 0)
         && ccw.flags.reserved_off()
         && ccw.count != 0
         && place < 16

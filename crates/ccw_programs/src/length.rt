@@ -49,7 +49,7 @@ pub(crate) fn sub_status(
         && acted.sub.is_clear()
         && shows_length(flow, first, counted, acted.want, ended)
     {
-        SubStatus::new(0x40)
+        SubStatus::INCORRECT_LENGTH
     } else {
         acted.sub
     }
@@ -61,7 +61,7 @@ pub(crate) fn goes_on(last: &Link, unit: UnitStatus, sub: SubStatus) -> bool
     ensures { result ≡ goes_on last.now unit.0 sub.0 }
 {
     last.ccw.flags.chains_command()
-        && (unit.bits() == 0x0C || unit.bits() == 0x4C)
+        && (unit == UnitStatus::NORMAL_END || unit == UnitStatus::MODIFIER_END)
         && sub.is_clear()
 }
 
@@ -71,7 +71,7 @@ pub(crate) fn next_address(last: &Link, unit: UnitStatus) -> u32
     requires { Sound last.now }
     ensures { result ≡ next_address last.now unit.0 }
 {
-    if unit.bits() == 0x4C {
+    if unit == UnitStatus::MODIFIER_END {
         last.at + 16
     } else {
         last.at + 8

@@ -1,3 +1,5 @@
+//! A request that is made from its IOB.
+
 ghost use Rattle.std.specs.Prelude.{◌≡◌, true, false, IfErr, IfOk, IfSome, MatchOption};
 ghost use Rattle.std.specs.Arc.{arc_value};
 ghost use Rattle.io_area.specs.Storage.{bytes_at, lies_in};

@@ -1,3 +1,5 @@
+//! Whose requests a purge speaks of.
+
 ghost use Rattle.std.specs.Prelude.{◌≡◌};
 ghost use Rattle.request_piece.specs.Scope.{covers};
 

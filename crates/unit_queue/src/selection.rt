@@ -1,3 +1,5 @@
+//! Which of them a sweep takes out.
+
 ghost use Rattle.std.specs.Prelude.{◌≡◌};
 ghost use Rattle.unit_queue.specs.Selection.{selects};
 

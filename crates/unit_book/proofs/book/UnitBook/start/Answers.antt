@@ -1,6 +1,6 @@
 use Rattle.std.proofs.Common.{refl}
 use Rattle.io_images.specs.declared.code.Code.TheVariants.{ExtentViolated}
-use Rattle.subchannel.specs.Subchannel.{no_status}
+use Rattle.io_images.specs.Images.{no_status}
 use Rattle.unit_book.specs.Answers.{MayFirst, MayAgain}
 use Rattle.unit_book.proofs.Dooms.{settled-start}
 use Rattle.unit_book.proofs.Calls.{post-then-sweep, sweep-room, sweep-due}
