@@ -1,5 +1,7 @@
 -- Laws of command steps.
-use Rattle.std.proofs.Common.{◌≡◌, ℕ, zero, suc, ◌+◌, ◌-◌, ◌<◌, ◌≤◌, List, ◌∷◌, refl, ap, arith, ◌∙◌, sym, Bool, true, false, add-zero, add-suc, add-one}
+use Rattle.std.proofs.Common.{◌≡◌, ℕ, zero, suc, ◌+◌, ◌-◌, ◌<◌, ◌≤◌, List, ◌∷◌, refl, ap, arith, ◌∙◌, sym, Bool, true, false, min, inl, inr, add-zero, add-suc, add-one}
+use Rattle.std.proofs.Math.Dec.{ltb}
+use Rattle.std.proofs.lemmas.Bool.{cases_Bool, ltb-true, ltb-false}
 use Rattle.io_area.specs.Storage.{Storage}
 use Rattle.device_port.specs.Moves.{offered}
 use Rattle.device_port.specs.Meaning.{Meaning, effect}
@@ -10,10 +12,10 @@ use Rattle.ccw_programs.specs.declared.fetch.Fetch.TheVariants.{Refused, Transfe
 use Rattle.ccw_programs.specs.declared.context.State.{State}
 use Rattle.ccw_programs.specs.declared.context.State.TheVariants.{Running, Ended}
 use Rattle.ccw_programs.specs.declared.ending.Ending.{Ending}
-use Rattle.ccw_programs.specs.Links.{Fetched, Whole, Broken, behind, chain_by, chain_within, fetch_at, chain}
+use Rattle.ccw_programs.specs.Links.{Fetched, Whole, Broken, behind, chain_by, chain_within, fetch_at, chain, total_count}
 use Rattle.ccw_programs.specs.Areas.{areas, Areas, Parts, Bad}
 use Rattle.ccw_programs.specs.Place.{Place}
-use Rattle.ccw_programs.specs.Step.{Program, step, step_from, step_on_chain, step_on_areas, after, steps_within, length_of, is_running, placed, goes_on, first_of, sub_status, ending, moved}
+use Rattle.ccw_programs.specs.Step.{Program, step, step_from, step_on_chain, step_on_areas, after, steps_within, length_of, is_running, placed, goes_on, first_of, last_of, sub_status, ending, moved}
 
 -- a whole chain ends with more fetches than it began with, and with 4,096 at most
 pub record Later (left fetches : ℕ) : Type 0 where
@@ -51,10 +53,10 @@ chain-later m at fetches links n b h =
     let l = chain_within-later (4096 - fetches) m _ 0 at links n (omega arith) h in (omega (arith, l.more), l.few)
 
 -- a place that goes on has made its fetches
-placed-running : (place : Place) (links : List Link) (fetches : ℕ) (acted : Acted) (end : Ending) (sub : ℕ) →
-    is_running (placed place links fetches acted end sub).state ≡ true → (placed place links fetches acted end sub).fetched ≡ fetches
-placed-running place links fetches acted end sub h = by_test (goes_on links acted.unit.0 sub) refl where
-  by_test : (b : Bool) → b ≡ goes_on links acted.unit.0 sub → (placed place links fetches acted end sub).fetched ≡ fetches
+placed-running : (place : Place) (last : Link) (fetches : ℕ) (acted : Acted) (end : Ending) (sub : ℕ) →
+    is_running (placed place last fetches acted end sub).state ≡ true → (placed place last fetches acted end sub).fetched ≡ fetches
+placed-running place last fetches acted end sub h = by_test (goes_on last acted.unit.0 sub) refl where
+  by_test : (b : Bool) → b ≡ goes_on last acted.unit.0 sub → (placed place last fetches acted end sub).fetched ≡ fetches
   by_test true e = rw (← e) refl
   by_test false e = absurd (no (rw (← e) at h)) where
     no : false ≡ true → ⊥
@@ -98,7 +100,7 @@ module _ {D : Type 0} (meaning : Meaning D) where
       let acted = (effect meaning p.device (first_of links).ccw.command parts p.area).acted in
       let end = ending links (moved links acted) in
       let e : (step_on_areas meaning p links n (Parts parts)).place.fetched ≡ n =
-      placed-running p.place links n acted end (sub_status flow links acted end.link) h in
+      placed-running p.place (last_of links) n acted end (sub_status flow (first_of links) (total_count links) acted end.link) h in
       (omega arith, omega arith)
 
   fetched-later : (p : Program D) (f : ℕ) (c : Fetched) → ((links : List Link) (n : ℕ) → c ≡ Whole links n → (f < n) × (n ≤ 4096)) → GoesLater f (step_on_chain meaning p c)
@@ -183,6 +185,10 @@ module _ {D : Type 0} (meaning : Meaning D) where
     by_state true e r = rw (steps_within-running k p (sym e)) (omega arith)
     by_state false e r = rw (steps_within-ended (suc k) p (sym e)) (omega arith)
 
+  -- it has a step at least, if it runs
+  pub length-some : (p : Program D) → is_running p.place.state ≡ true → 1 ≤ length_of meaning p
+  length-some p h = omega (arith, steps_within-running 4096 p h)
+
   -- before its length it runs
   pub runs-before : (k j : ℕ) (p : Program D) → j < steps_within meaning k p → is_running (after meaning j p).place.state ≡ true
   runs-before zero j p h = absurd (omega (arith, steps_within-zero p))
@@ -224,6 +230,44 @@ module _ {D : Type 0} (meaning : Meaning D) where
 
   pub after-more : (start p q : Program D) (a c n : ℕ) → p ≡ after meaning a start → q ≡ after meaning c p → n ≡ a + c → q ≡ after meaning n start
   after-more start p q a c n hp hq e = rw (e, after-add a c start, ← hp) hq
+
+  -- it runs only before its length
+  pub running-before : (j : ℕ) (p : Program D) → p.place.fetched ≤ 4096 → is_running (after meaning j p).place.state ≡ true → j < length_of meaning p
+  running-before j p b h =
+      elim (cases_Bool (ltb j (length_of meaning p))) [
+        | inl e ↦ ltb-true j (length_of meaning p) e
+        | inr e ↦
+            let n = length_of meaning p in
+            let le : n ≤ j = ltb-false j n e in
+            let k : n + (j - n) ≡ j = omega arith in
+            let stays : after meaning j p ≡ after meaning n p = rw (← k) (after-add n (j - n) p ∙ after-ended (j - n) (after meaning n p) (length-ends p b)) in
+            let over = rw stays at h in
+            let ends = length-ends p b in
+            absurd cc
+      ]
+
+  -- A BURST of a program that runs after some steps: the steps of both, up to the length
+  module _ (start p q : Program D) (a size c : ℕ) (bound : start.place.fetched ≤ 4096) (stands : p ≡ after meaning a start) (runs : is_running p.place.state ≡ true)
+      (burst : q ≡ after meaning c p) (most : c ≡ min size (length_of meaning p)) where
+    pub bursts-count : a + c ≡ min (a + size) (length_of meaning start)
+    bursts-count =
+        let before : a < length_of meaning start = running-before a start bound (rw (← stands) runs) in
+        let left : length_of meaning p ≡ length_of meaning start - a = rw stands (length-after a start bound (omega arith)) in
+        omega (arith, before, left, most)
+
+    -- it has ended at the length
+    pub bursts-ended : is_running q.place.state ≡ false → a + c ≡ length_of meaning start
+    bursts-ended h =
+        let n = length_of meaning start in
+        let count = bursts-count in
+        elim (cases_Bool (ltb (a + c) n)) [
+          | inl e ↦
+              let there = runs-before 4097 (a + c) start (ltb-true (a + c) n e) in
+              let q_is : q ≡ after meaning (a + c) start = burst ∙ ap (after meaning c) stands ∙ sym (after-add a c start) in
+              let goes = rw (← q_is) at there in
+              absurd cc
+          | inr e ↦ let le : n ≤ a + c = ltb-false (a + c) n e in omega (arith, count, le)
+        ]
 
   -- what no command changes of a device stays over every program
   module _ {X : Type 0} (f : D → X) (keeps : (d : D) (command : ℕ) (bytes : List ℕ) → f (meaning.act d command bytes).device ≡ f d) where

@@ -1,4 +1,5 @@
--- Where the data of a chain lies in storage.
+-- Where the data of a chain lies in storage (Principles of Operation, chapter 15, "Designation of Storage Area", "Data
+-- Chaining" and "CCW Indirect Data Addressing").
 use Rattle.std.specs.Prelude.{ℕ, zero, suc, ◌+◌, ◌-◌, ◌/◌, ◌%◌, ◌^◌, ◌==◌, nat_lt, min, Bool, true, false, ◌&&◌, ◌||◌, if◌then◌else◌, List, [], ◌∷◌, ◌++◌, Option, Some, None}
 use Rattle.io_area.specs.Storage.{Storage, lies_in, bytes_at}
 use Rattle.io_images.specs.Images.{word_of}

@@ -1,6 +1,7 @@
--- The CCWs that one command fetches.
-use Rattle.std.specs.Prelude.{ℕ, zero, suc, ◌+◌, ◌-◌, ◌%◌, ◌==◌, nat_lt, ◌<◌, ◌≤◌, ◌^◌, Bool, true, false, not, ◌&&◌, if◌then◌else◌, List, [], ◌∷◌, sum_by, bit_and}
+-- The CCWs that one command fetches (Principles of Operation, chapter 15).
+use Rattle.std.specs.Prelude.{ℕ, zero, suc, ◌+◌, ◌-◌, ◌%◌, ◌==◌, nat_lt, ◌<◌, ◌≤◌, ◌^◌, Bool, true, false, not, ◌&&◌, if◌then◌else◌, List, [], ◌∷◌, sum_by}
 use Rattle.io_area.specs.Storage.{Storage, lies_in, bytes_at}
+use Rattle.io_images.specs.Bits.{is_on, is_off, chain_data_bit, chain_command_bit, suppress_length_bit, skip_bit, indirect_bit, unusable_flags}
 use Rattle.io_images.specs.Images.{ccw_of}
 use Rattle.io_images.specs.declared.ccw.Ccw.{Ccw}
 use Rattle.ccw_programs.specs.declared.fetch.Link.{Link}
@@ -9,29 +10,33 @@ use Rattle.ccw_programs.specs.declared.fetch.Fetch.TheVariants.{Refused, Transfe
 
 -- flags of a CCW
 abbrev pub chains_data : Ccw → Bool
-chains_data ccw = bit_and ccw.flags.0 128 == 128
+chains_data ccw = is_on chain_data_bit ccw.flags.0
 
 abbrev pub chains_command : Ccw → Bool
-chains_command ccw = bit_and ccw.flags.0 64 == 64
+chains_command ccw = is_on chain_command_bit ccw.flags.0
 
 abbrev pub suppresses_length : Ccw → Bool
-suppresses_length ccw = bit_and ccw.flags.0 32 == 32
+suppresses_length ccw = is_on suppress_length_bit ccw.flags.0
 
 abbrev pub skips : Ccw → Bool
-skips ccw = bit_and ccw.flags.0 16 == 16
+skips ccw = is_on skip_bit ccw.flags.0
 
 abbrev pub is_indirect : Ccw → Bool
-is_indirect ccw = bit_and ccw.flags.0 4 == 4
+is_indirect ccw = is_on indirect_bit ccw.flags.0
 
--- transfer in channel
+-- the low four bits of a command
+abbrev pub low_bits : Ccw → ℕ
+low_bits ccw = ccw.command % 0x10
+
+-- transfer in channel ("Transfer in Channel")
 abbrev pub is_transfer : Ccw → Bool
-is_transfer ccw = ccw.command % 16 == 8
+is_transfer ccw = low_bits ccw == 0x08
 
 -- a CCW that is no transfer may stand at this place of its chain: the first one has a command that
 -- is no zero in its low bits, the reserved flags are off, it has a count, and there are at most 16
 abbrev pub is_allowed : ℕ → Ccw → Bool
 is_allowed place ccw =
-    not ((place == 0) && (ccw.command % 16 == 0)) && (bit_and ccw.flags.0 3 == 0) && not (ccw.count == 0) && nat_lt place 16
+    not ((place == 0) && (low_bits ccw == 0)) && is_off unusable_flags ccw.flags.0 && not (ccw.count == 0) && nat_lt place 16
 
 -- what a CCW is at this place, where a transfer may come next or not
 abbrev pub kind_of_fetch : Bool → ℕ → Ccw → Fetch

@@ -1,5 +1,6 @@
--- Where a channel program stands between two commands.
+-- Where a channel program stands between two commands (Principles of Operation, chapters 15 and 16).
 use Rattle.std.specs.Prelude.{ℕ, ◌+◌, ◌%◌, ◌^◌}
+use Rattle.io_images.specs.Bits.{program_check_bit}
 use Rattle.io_images.specs.declared.csw.Csw.{Csw}
 use Rattle.ccw_programs.specs.declared.context.State.{State}
 use Rattle.ccw_programs.specs.declared.context.State.TheVariants.{Running, Ended}
@@ -25,6 +26,6 @@ ended_place place csw sense = record { next = place.next; fetched = place.fetche
 abbrev pub stored_address : ℕ → ℕ
 stored_address at = (at + 8) % 2 ^ 24
 
--- the program has ended with a program check of the CCW at an address
+-- the program has ended with a program check (chapter 16, "Program Check") of the CCW at an address
 abbrev pub checked_place : Place → ℕ → Place
-checked_place place at = ended_place place (record { address = stored_address at; unit = record { 0 = 0 }; sub = record { 0 = 32 }; residual = 0 }) 0
+checked_place place at = ended_place place (record { address = stored_address at; unit = record { 0 = 0 }; sub = record { 0 = program_check_bit }; residual = 0 }) 0

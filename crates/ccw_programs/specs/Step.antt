@@ -1,5 +1,6 @@
--- One command step, and what comes after so many of them.
-use Rattle.std.specs.Prelude.{◌≡◌, ◌<◌, ◌≤◌, ℕ, zero, suc, ◌+◌, ◌-◌, ◌==◌, nat_lt, min, bit_and, Bool, true, false, not, ◌&&◌, ◌||◌, if◌then◌else◌, List, [], ◌∷◌, length, slice_index_or}
+-- One command step, and what comes after so many of them (Principles of Operation, chapters 15 and 16, and profile).
+use Rattle.std.specs.Prelude.{◌≡◌, ◌<◌, ◌≤◌, ℕ, zero, suc, ◌+◌, ◌-◌, ◌==◌, nat_lt, min, Bool, true, false, not, ◌&&◌, ◌||◌, if◌then◌else◌, List, [], ◌∷◌, length, slice_index_or}
+use Rattle.io_images.specs.Bits.{is_off, check_or_exception, incorrect_length_bit, normal_end_status, modifier_end_status}
 use Rattle.io_area.specs.Storage.{Storage}
 use Rattle.device_port.specs.Meaning.{Meaning, effect}
 use Rattle.device_port.specs.declared.answer.Acted.{Acted}
@@ -31,41 +32,42 @@ ending (l ∷ []) n = record { link = l; residual = l.ccw.count - n }
 ending (l ∷ k ∷ ls) n =
     if nat_lt n l.ccw.count then record { link = l; residual = l.ccw.count - n } else ending (k ∷ ls) (n - l.ccw.count)
 
--- the length that the program counts is not the one that the device wants, and this is to be shown
-abbrev pub shows_length : Flow → List Link → ℕ → Link → Bool
-shows_length NoFlow links want last = chains_data (first_of links).ccw
-shows_length Out links want last = not (want == total_count links) && (chains_data last.ccw || not (suppresses_length last.ccw))
-shows_length Input links want last = not (want == total_count links) && (chains_data last.ccw || not (suppresses_length last.ccw))
-shows_length Back links want last = not (want == total_count links) && (chains_data last.ccw || not (suppresses_length last.ccw))
+-- INCORRECT LENGTH is to be shown (chapter 16, "Incorrect Length"): from the first CCW on the program counts so many
+-- bytes, the device wants others, and the CCW where the command ended chains data or does not suppress it
+abbrev pub shows_length : Flow → Link → ℕ → ℕ → Link → Bool
+shows_length NoFlow first counted want ended = chains_data first.ccw
+shows_length Out first counted want ended = not (want == counted) && (chains_data ended.ccw || not (suppresses_length ended.ccw))
+shows_length Input first counted want ended = not (want == counted) && (chains_data ended.ccw || not (suppresses_length ended.ccw))
+shows_length Back first counted want ended = not (want == counted) && (chains_data ended.ccw || not (suppresses_length ended.ccw))
 
 -- the subchannel status: an incorrect length is shown beside no other error
-abbrev pub sub_status : Flow → List Link → Acted → Link → ℕ
-sub_status flow links acted last =
-    if (bit_and acted.unit.0 3 == 0) && (acted.sub.0 == 0) && shows_length flow links acted.want last then 64 else acted.sub.0
+abbrev pub sub_status : Flow → Link → ℕ → Acted → Link → ℕ
+sub_status flow first counted acted ended =
+    if is_off check_or_exception acted.unit.0 && (acted.sub.0 == 0) && shows_length flow first counted acted.want ended then incorrect_length_bit else acted.sub.0
 
 -- the bytes that are moved
 abbrev pub moved : List Link → Acted → ℕ
 moved links acted = min (total_count links) acted.want
 
--- the program goes on to another command
-abbrev pub goes_on : List Link → ℕ → ℕ → Bool
-goes_on links unit sub = chains_command (last_of links).ccw && ((unit == 12) || (unit == 76)) && (sub == 0)
+-- the program goes on to another command behind this last CCW (chapter 15, "Command Chaining")
+abbrev pub goes_on : Link → ℕ → ℕ → Bool
+goes_on last unit sub = chains_command last.ccw && ((unit == normal_end_status) || (unit == modifier_end_status)) && (sub == 0)
 
 -- the address of the next command: behind the last CCW, and behind one more with status modifier
-abbrev pub next_address : List Link → ℕ → ℕ
-next_address links unit = (last_of links).at + (if unit == 76 then 16 else 8)
+abbrev pub next_address : Link → ℕ → ℕ
+next_address last unit = last.at + (if unit == modifier_end_status then 16 else 8)
 
--- the place after a command that ended there with this subchannel status
-abbrev pub placed : Place → List Link → ℕ → Acted → Ending → ℕ → Place
-placed place links fetches acted end sub =
-    if goes_on links acted.unit.0 sub
-    then record { next = next_address links acted.unit.0; fetched = fetches; address = stored_address end.link.at; residual = end.residual; state = Running }
+-- the place after a command with this last CCW that ended there with this subchannel status
+abbrev pub placed : Place → Link → ℕ → Acted → Ending → ℕ → Place
+placed place last fetches acted end sub =
+    if goes_on last acted.unit.0 sub
+    then record { next = next_address last acted.unit.0; fetched = fetches; address = stored_address end.link.at; residual = end.residual; state = Running }
     else ended_place place (record { address = stored_address end.link.at; unit = acted.unit; sub = record { 0 = sub }; residual = end.residual }) acted.sense
 
 abbrev pub acted_place : Place → Flow → List Link → ℕ → Acted → Place
 acted_place place flow links fetches acted =
-    placed place links fetches acted (ending links (moved links acted))
-    (sub_status flow links acted (ending links (moved links acted)).link)
+    placed place (last_of links) fetches acted (ending links (moved links acted))
+    (sub_status flow (first_of links) (total_count links) acted (ending links (moved links acted)).link)
 
 -- a channel program in flight: where it stands, the device and the area
 pub record Program (D : Type 0) : Type 0 where
@@ -120,13 +122,14 @@ module _ {D : Type 0} (meaning : Meaning D) where
   length_of p = steps_within 4097 p
 
   -- the laws of steps: steps after steps are as many together; before its length a program runs, and at
-  -- its length it has ended; what is left of it after some steps; it has at most 4,097
+  -- its length it has ended; what is left of it after some steps; it has at most 4,097, and one at least if it runs
   pub record StepsCompose : Type 0 where
     pub together : (j k : ℕ) (p : Program D) → after (j + k) p ≡ after k (after j p)
     pub runs : (j : ℕ) (p : Program D) → j < length_of p → is_running (after j p).place.state ≡ true
     pub ends : (p : Program D) → p.place.fetched ≤ 4096 → is_running (after (length_of p) p).place.state ≡ false
     pub left : (c : ℕ) (p : Program D) → p.place.fetched ≤ 4096 → c ≤ length_of p → length_of (after c p) ≡ length_of p - c
     pub few : (p : Program D) → length_of p ≤ 4097
+    pub some : (p : Program D) → is_running p.place.state ≡ true → 1 ≤ length_of p
 
   -- kind and geometry of a device stay over every program
   pub record DeviceStays : Type 0 where

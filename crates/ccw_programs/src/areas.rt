@@ -1,3 +1,6 @@
+//! The data areas of a chain: direct or by a list of words (Principles of Operation, chapter 15, "Designation of
+//! Storage Area", "Data Chaining" and "CCW Indirect Data Addressing").
+
 ghost use Rattle.std.specs.Prelude.{◌≡◌, ◌≤◌, ◌<◌, ◌+◌, ◌*◌, ◌^◌, ◌-◌, min, List, length, [], ◌∷◌, MatchResult, MatchOption, OnOk, IfSome, IsSome, All, Some, None, true, false, if◌then◌else◌};
 ghost use Rattle.io_area.specs.Storage.{lies_in};
 ghost use Rattle.device_port.specs.Moves.{CanAct, segment_lies};
@@ -10,6 +13,7 @@ use device_port::{Flow, Segment};
 use io_area::Area;
 use io_images::{AddressWord, Ccw};
 
+/// The word of a list at an address.
 fn word_at(area: &Area, at: u32) -> Option<u32>
     ensures answer { MatchOption result (lies_in area.now at 4 ≡ false) (λ w. (lies_in area.now at 4 ≡ true) × (w ≡ word_at area.now at)) }
     ensures bound { IsSome result → at + 4 ≤ 2 ^ 24 }
@@ -20,6 +24,7 @@ fn word_at(area: &Area, at: u32) -> Option<u32>
     }
 }
 
+/// Whether the bytes of a part lie in storage, backward where they flow so.
 fn segment_lies(flow: Flow, area: &Area, segment: &Segment) -> bool
     ensures { result ≡ segment_lies flow area.now segment.now }
 {
@@ -39,6 +44,7 @@ fn segment_lies(flow: Flow, area: &Area, segment: &Segment) -> bool
     }
 }
 
+/// Adds the one part of a CCW that names its data.
 fn push_direct(chain: &mut PartList, flow: Flow, area: &Area, ccw: &Ccw) -> bool
     requires { length chain.old ≤ 495 }
     ensures room { length chain.new ≤ length chain.old + 33 }
@@ -52,6 +58,7 @@ fn push_direct(chain: &mut PartList, flow: Flow, area: &Area, ccw: &Ccw) -> bool
     lies
 }
 
+/// Adds the parts of a CCW that names a list of words.
 fn push_indirect(chain: &mut PartList, area: &Area, ccw: &Ccw) -> bool
     requires { length chain.old ≤ 495 }
     ensures room { length chain.new ≤ length chain.old + 33 }
@@ -69,6 +76,7 @@ fn push_indirect(chain: &mut PartList, area: &Area, ccw: &Ccw) -> bool
     push_words(chain, area, list, words, count, ccw.flags.skips())
 }
 
+/// Adds the parts that so many words of a list give.
 fn push_words(
     chain: &mut PartList,
     area: &Area,
@@ -94,6 +102,7 @@ fn push_words(
     true
 }
 
+/// The part that a word of a list gives, if the word may be used.
 fn usable_part(area: &Area, is_first: bool, at: u32, count: u16, skip: bool) -> Option<Segment>
     ensures answer { MatchOption result (is_usable area.now is_first at count ≡ false) (λ s. (is_usable area.now is_first at count ≡ true) × (s ≡ record { address = word_at area.now at; count = min count (room_after (word_at area.now at)); skip = skip })) }
     ensures bound { IfSome result (λ s. (at + 4 ≤ 2 ^ 24) × (s.count ≤ count) × (count - s.count ≡ count - room_after (word_at area.now at))) }
@@ -111,6 +120,7 @@ fn usable_part(area: &Area, is_first: bool, at: u32, count: u16, skip: bool) -> 
     })
 }
 
+/// Adds the parts of a CCW, and answers whether they lie in storage.
 fn push_parts(chain: &mut PartList, flow: Flow, area: &Area, ccw: &Ccw) -> bool
     requires { length chain.old ≤ 495 }
     ensures room { length chain.new ≤ length chain.old + 33 }

@@ -1,18 +1,21 @@
+//! Where a channel program stands between two commands, and what it stores when it ends or is halted (Principles
+//! of Operation, chapters 15 and 16).
+
 ghost use Rattle.std.specs.Prelude.{◌≡◌, ◌≤◌, ◌<◌, ◌^◌, ◌+◌, [], ◌∷◌, length, All};
+ghost use Rattle.io_images.specs.Bits.{normal_end_status};
 ghost use Rattle.ccw_programs.specs.Links.{Sound};
 ghost use Rattle.ccw_programs.specs.Place.{Place, start_place, ended_place, checked_place};
-ghost use Rattle.ccw_programs.specs.Step.{acted_place};
+ghost use Rattle.ccw_programs.specs.Step.{acted_place, placed};
 
-use crate::ending::{ending_of, rest_of};
+use crate::ending::{Ending, ended_in, ending_of, last_of, total_count};
 use crate::fetch::Link;
-use crate::length::{
-    address_behind, goes_on, goes_on_behind, moved, next_address, sub_status, sub_status_one,
-};
+use crate::length::{goes_on, moved, next_address, sub_status};
 use device_port::{Acted, Flow};
 use io_images::{Address, Csw, SubStatus, UnitStatus};
 use std::marker::Model;
 
-/// Whether a program runs or how it ended.
+/// Whether a program runs, or how it ended: its CSW and its first two sense bytes (Principles of Operation,
+/// chapter 16, "Subchannel-Status Word"; its shape as a CSW is the profile's).
 #[derive(Clone, Copy, PartialEq, Eq, Debug)]
 pub enum State {
     Running,
@@ -48,6 +51,7 @@ impl Model for Context {
 }
 
 impl Context {
+    /// A program that is to begin at an address, of which no CCW was fetched (chapter 15, "Channel-Command Word").
     pub fn begin(start: Address) -> Context
         ensures { result ≡ start_place start }
     {
@@ -60,30 +64,35 @@ impl Context {
         }
     }
 
+    /// Whether it runs, or how it ended.
     pub(crate) fn state(&self) -> State
         ensures { result ≡ self.now.state }
     {
         self.state
     }
 
-    /// The status of a program that is halted here.
+    /// The status of a program that is halted here: channel end and device end, with the CCW address and the residual
+    /// count of its last command, or its start and 0 (chapter 14, "Halt Subchannel"; that it ends at once is the
+    /// profile's).
     pub fn halted(&self) -> Csw
-        ensures { result ≡ record { address = self.now.address; unit = record { 0 = 12 }; sub = record { 0 = 0 }; residual = self.now.residual } }
+        ensures { result ≡ record { address = self.now.address; unit = record { 0 = normal_end_status }; sub = record { 0 = 0 }; residual = self.now.residual } }
     {
         Csw {
             address: self.address,
-            unit: UnitStatus::new(0x0C),
-            sub: SubStatus::new(0),
+            unit: UnitStatus::NORMAL_END,
+            sub: SubStatus::default(),
             residual: self.residual,
         }
     }
 
+    /// The address of the next CCW.
     pub(crate) fn next(&self) -> u32
         ensures { result ≡ self.now.next }
     {
         self.next
     }
 
+    /// How many CCWs were fetched.
     pub(crate) fn fetched(&self) -> u16
         ensures value { result ≡ self.now.fetched }
         ensures bound { result ≤ 4096 }
@@ -91,6 +100,7 @@ impl Context {
         self.fetched
     }
 
+    /// Ends the program with a program check of the CCW at an address (chapter 16, "Program Check").
     pub(crate) fn check(&mut self, at: u32)
         ensures { self.new ≡ checked_place self.old at }
     {
@@ -98,14 +108,15 @@ impl Context {
         self.end(
             Csw {
                 address,
-                unit: UnitStatus::new(0),
-                sub: SubStatus::new(0x20),
+                unit: UnitStatus::default(),
+                sub: SubStatus::PROGRAM_CHECK,
                 residual: 0,
             },
             0,
         );
     }
 
+    /// Ends the program with this status and sense.
     pub(crate) fn end(&mut self, csw: Csw, sense: u16)
         ensures { self.new ≡ ended_place self.old csw sense }
     {
@@ -123,10 +134,33 @@ impl Context {
         ensures { self.new ≡ acted_place self.old flow links.now fetches acted }
     {
         let end = ending_of(links, moved(links, acted));
-        let sub = sub_status(flow, links, acted, end.link);
+        let sub = sub_status(flow, &links[0], total_count(links), acted, &end.link);
+        self.stand_behind(&last_of(links), fetches, acted, end, sub);
+    }
+
+    /// After a command of one CCW that the device did.
+    #[inline(always)]
+    pub(crate) fn advance_one(&mut self, flow: Flow, link: &Link, fetches: u16, acted: Acted)
+        requires sound { Sound link.now }
+        requires fetches { fetches ≤ 4096 }
+        ensures { self.new ≡ acted_place self.old flow (link.now ∷ []) fetches acted }
+    {
+        let end = ended_in(*link, acted.want);
+        let sub = sub_status(flow, link, u32::from(link.ccw.count), acted, link);
+        self.stand_behind(link, fetches, acted, end, sub);
+    }
+
+    /// Behind the last CCW of a command that ended there with this subchannel status: at the next command, or at
+    /// the end of the program.
+    #[inline(always)]
+    fn stand_behind(&mut self, last: &Link, fetches: u16, acted: Acted, end: Ending, sub: SubStatus)
+        requires sound { Sound last.now }
+        requires fetches { fetches ≤ 4096 }
+        ensures { self.new ≡ placed self.old last.now fetches acted end sub.0 }
+    {
         let address = Address::stored(end.link.at);
-        if goes_on(links, acted.unit, sub) {
-            self.next = next_address(links, acted.unit);
+        if goes_on(last, acted.unit, sub) {
+            self.next = next_address(last, acted.unit);
             self.fetched = fetches;
             self.address = address;
             self.residual = end.residual;
@@ -138,35 +172,6 @@ impl Context {
                     unit: acted.unit,
                     sub,
                     residual: end.residual,
-                },
-                acted.sense,
-            );
-        }
-    }
-
-    /// After a command of one CCW that the device did.
-    #[inline(always)]
-    pub(crate) fn advance_one(&mut self, flow: Flow, link: &Link, fetches: u16, acted: Acted)
-        requires sound { Sound link.now }
-        requires fetches { fetches ≤ 4096 }
-        ensures { self.new ≡ acted_place self.old flow (link.now ∷ []) fetches acted }
-    {
-        let residual = rest_of(link, acted.want);
-        let sub = sub_status_one(flow, link, acted);
-        let address = Address::stored(link.at);
-        if goes_on_behind(link, acted.unit, sub) {
-            self.next = address_behind(link, acted.unit);
-            self.fetched = fetches;
-            self.address = address;
-            self.residual = residual;
-            self.state = State::Running;
-        } else {
-            self.end(
-                Csw {
-                    address,
-                    unit: acted.unit,
-                    sub,
-                    residual,
                 },
                 acted.sense,
             );

@@ -1,3 +1,6 @@
+//! Where a command ended, and what its chain counts (Principles of Operation, chapter 15, "Data Chaining", and
+//! chapter 16, "Count Field").
+
 ghost use Rattle.std.specs.Prelude.{◌≡◌, ◌≤◌, ◌<◌, ◌+◌, ◌*◌, ◌-◌, length};
 ghost use Rattle.ccw_programs.specs.Step.{ending, last_of, first_of};
 ghost use Rattle.ccw_programs.specs.Links.{total_count};
@@ -30,21 +33,15 @@ pub(crate) fn ending_of(links: &[Link], n: u32) -> Ending
     }
 }
 
-fn ended_in(link: Link, n: u32) -> Ending
+/// A command that used up `n` bytes of this CCW ended there.
+#[inline(always)]
+pub(crate) fn ended_in(link: Link, n: u32) -> Ending
     ensures { result ≡ record { link = link; residual = link.ccw.count - n } }
 {
     Ending {
         link,
-        residual: rest_of(&link, n),
+        residual: u32::from(link.ccw.count).saturating_sub(n) as u16,
     }
-}
-
-/// What is left of the count of a CCW that has used up `n` bytes.
-#[inline(always)]
-pub(crate) fn rest_of(link: &Link, n: u32) -> u16
-    ensures { result ≡ link.now.ccw.count - n }
-{
-    u32::from(link.ccw.count).saturating_sub(n) as u16
 }
 
 /// The bytes that a chain counts.
@@ -55,6 +52,7 @@ pub(crate) fn total_count(links: &[Link]) -> u32
     links.iter().map(|l| u32::from(l.ccw.count)).sum()
 }
 
+/// The last CCW of a chain.
 pub(crate) fn last_of(links: &[Link]) -> Link
     requires { 1 ≤ length links.now }
     ensures { result ≡ last_of links.now }
@@ -62,6 +60,7 @@ pub(crate) fn last_of(links: &[Link]) -> Link
     links[links.len() - 1]
 }
 
+/// The command of a chain, which is that of its first CCW (chapter 15, "Command Code").
 pub(crate) fn command_code(links: &[Link]) -> u8
     requires { 1 ≤ length links.now }
     ensures { result ≡ (first_of links.now).ccw.command }

@@ -1,3 +1,6 @@
+//! The CCWs of one command, fetched from storage (Principles of Operation, chapter 15, "Channel-Command Word", "Data
+//! Chaining" and "Transfer in Channel"; which bits may be on, and the limits, are the profile's).
+
 ghost use Rattle.std.specs.Prelude.{◌≡◌, ◌<◌, ◌≤◌, ◌+◌, ◌-◌, ◌==◌, ◌%◌, not, length, [], ◌∷◌, false, MatchResult, IfOk, IfSome, OnOk, All};
 ghost use Rattle.arrayvec.specs.ArrayVec.{array_vec_len};
 ghost use Rattle.ccw_programs.specs.Links.{Tells, TellsKind, fetch_at, kind_of_fetch, is_transfer, is_allowed, chain, chain_within, Whole, Broken, Sound};
@@ -23,21 +26,24 @@ pub enum Fetch {
     Last(Ccw),
 }
 
+/// Whether a CCW is a transfer in channel.
 fn is_transfer(ccw: &Ccw) -> bool
     ensures { result ≡ is_transfer ccw.now }
 {
-    ccw.command % 16 == 8
+    ccw.command % 0x10 == 0x08
 }
 
+/// Whether a CCW that is no transfer may stand at this place of its chain.
 fn is_allowed(place: usize, ccw: &Ccw) -> bool
     ensures { result ≡ is_allowed place ccw.now }
 {
-    !(place == 0 && ccw.command % 16 == 0)
+    !(place == 0 && ccw.command % 0x10 == 0)
         && ccw.flags.reserved_off()
         && ccw.count != 0
         && place < 16
 }
 
+/// What a CCW is at this place, where a transfer may come next or not.
 fn kind_of_fetch(may_transfer: bool, place: usize, ccw: Ccw) -> Fetch
     ensures value { result ≡ kind_of_fetch may_transfer place ccw }
     ensures tells { TellsKind result place }
@@ -59,6 +65,7 @@ fn kind_of_fetch(may_transfer: bool, place: usize, ccw: Ccw) -> Fetch
     }
 }
 
+/// What is fetched from an address.
 fn fetch_at(area: &Area, may_transfer: bool, place: usize, at: u32) -> Fetch
     ensures value { result ≡ fetch_at area.now may_transfer place at }
     ensures tells { Tells result place at }
@@ -72,6 +79,7 @@ fn fetch_at(area: &Area, may_transfer: bool, place: usize, at: u32) -> Fetch
     }
 }
 
+/// The CCW of 8 bytes, in format 0.
 fn read_ccw(image: &[u8]) -> Ccw
     requires { length image.now ≡ 8 }
     ensures { result ≡ ccw_of image.now }

@@ -1,21 +1,23 @@
-//! Laws of the definitions.
+//! Laws of the definitions: of chains, of command steps, and of the device under a program.
 
 ghost use Rattle.ccw_programs.specs.Step.{DeviceStays, StepsCompose};
 ghost use Rattle.ccw_programs.specs.Walk.{ChainsAreWalks};
 
 use device_port::Device;
 
-/// Every chain that is fetched stands in storage, each CCW where the one before leads.
+/// Every chain that is fetched stands in storage, each CCW where the one before leads (Principles of Operation,
+/// chapter 15, "Data Chaining" and "Transfer in Channel").
 pub fn chains_are_walks()
     ensures { ChainsAreWalks }
 {}
 
-/// Steps compose, and a program has a length.
+/// Steps compose, so a program may go on in bursts of any sizes; a program has a length, at which it ends: at most
+/// 4,097 commands, as it may fetch 4,096 CCWs (profile), and at least one where it runs.
 pub fn steps_compose<D: Device>()
     ensures { StepsCompose D.meaning }
 {}
 
-/// Kind and geometry of a device stay over every program.
+/// Kind and geometry of a device stay over every program (profile).
 pub fn device_stays<D: Device>()
     ensures { DeviceStays D.meaning }
 {}

@@ -1,8 +1,12 @@
-ghost use Rattle.std.specs.Prelude.{◌≡◌, ◌≤◌, ◌<◌, ◌+◌, ◌%◌, ◌^◌, [], ◌∷◌, length, All};
+//! The length of a command and what comes behind it: the bytes that it moved, whether its length is shown as
+//! incorrect, and the next command (Principles of Operation, chapter 15, "Command Chaining", and chapter 16,
+//! "Incorrect Length").
+
+ghost use Rattle.std.specs.Prelude.{◌≡◌, ◌≤◌, ◌<◌, ◌+◌, ◌%◌, ◌^◌, length};
 ghost use Rattle.ccw_programs.specs.Links.{Sound};
 ghost use Rattle.ccw_programs.specs.Step.{moved, shows_length, sub_status, goes_on, next_address};
 
-use crate::ending::{last_of, total_count};
+use crate::ending::total_count;
 use crate::fetch::Link;
 use device_port::{Acted, Flow};
 use io_images::{SubStatus, UnitStatus};
@@ -15,94 +19,59 @@ pub(crate) fn moved(links: &[Link], acted: Acted) -> u32
     total_count(links).min(acted.want)
 }
 
-fn shows_length(flow: Flow, links: &[Link], want: u32, last: Link) -> bool
-    requires few { length links.now ≤ 16 }
-    requires some { 1 ≤ length links.now }
-    ensures { result ≡ shows_length flow links.now want last }
+/// Whether incorrect length is shown, where the program counts so many bytes from its first CCW on, and ended in
+/// another.
+#[inline(always)]
+fn shows_length(flow: Flow, first: &Link, counted: u32, want: u32, ended: &Link) -> bool
+    ensures { result ≡ shows_length flow first.now counted want ended.now }
 {
     match flow {
-        Flow::None => links[0].ccw.flags.chains_data(),
-        _ => {
-            want != total_count(links)
-                && (last.ccw.flags.chains_data() || !last.ccw.flags.suppresses_length())
+        Flow::None => first.ccw.flags.chains_data(),
+        Flow::Out | Flow::Input | Flow::Back => {
+            want != counted
+                && (ended.ccw.flags.chains_data() || !ended.ccw.flags.suppresses_length())
         }
     }
 }
 
-/// The subchannel status of a command that ended there.
-pub(crate) fn sub_status(flow: Flow, links: &[Link], acted: Acted, last: Link) -> SubStatus
-    requires few { length links.now ≤ 16 }
-    requires some { 1 ≤ length links.now }
-    ensures { result.0 ≡ sub_status flow links.now acted last }
+/// The subchannel status of such a command: an incorrect length is shown beside no other error.
+#[inline(always)]
+pub(crate) fn sub_status(
+    flow: Flow,
+    first: &Link,
+    counted: u32,
+    acted: Acted,
+    ended: &Link,
+) -> SubStatus
+    ensures { result.0 ≡ sub_status flow first.now counted acted ended.now }
 {
     if acted.unit.is_normal()
         && acted.sub.is_clear()
-        && shows_length(flow, links, acted.want, last)
+        && shows_length(flow, first, counted, acted.want, ended)
     {
-        SubStatus::new(0x40)
+        SubStatus::INCORRECT_LENGTH
     } else {
         acted.sub
     }
 }
 
-/// The same of a command of one CCW.
+/// Whether the program goes on to another command behind its last CCW.
 #[inline(always)]
-pub(crate) fn sub_status_one(flow: Flow, link: &Link, acted: Acted) -> SubStatus
-    ensures { result.0 ≡ sub_status flow (link.now ∷ []) acted link.now }
-{
-    if acted.unit.is_normal() && acted.sub.is_clear() && shows_length_one(flow, link, acted.want) {
-        SubStatus::new(0x40)
-    } else {
-        acted.sub
-    }
-}
-
-fn shows_length_one(flow: Flow, link: &Link, want: u32) -> bool
-    ensures { result ≡ shows_length flow (link.now ∷ []) want link.now }
-{
-    match flow {
-        Flow::None => link.ccw.flags.chains_data(),
-        _ => {
-            want != u32::from(link.ccw.count)
-                && (link.ccw.flags.chains_data() || !link.ccw.flags.suppresses_length())
-        }
-    }
-}
-
-/// Whether the program goes on to another command.
-pub(crate) fn goes_on(links: &[Link], unit: UnitStatus, sub: SubStatus) -> bool
-    requires { 1 ≤ length links.now }
-    ensures { result ≡ goes_on links.now unit.0 sub.0 }
-{
-    goes_on_behind(&last_of(links), unit, sub)
-}
-
-/// Whether the program goes on to another command behind this CCW.
-#[inline(always)]
-pub(crate) fn goes_on_behind(last: &Link, unit: UnitStatus, sub: SubStatus) -> bool
-    ensures { result ≡ goes_on (last.now ∷ []) unit.0 sub.0 }
+pub(crate) fn goes_on(last: &Link, unit: UnitStatus, sub: SubStatus) -> bool
+    ensures { result ≡ goes_on last.now unit.0 sub.0 }
 {
     last.ccw.flags.chains_command()
-        && (unit.bits() == 0x0C || unit.bits() == 0x4C)
+        && (unit == UnitStatus::NORMAL_END || unit == UnitStatus::MODIFIER_END)
         && sub.is_clear()
 }
 
-/// The address of the next command.
-pub(crate) fn next_address(links: &[Link], unit: UnitStatus) -> u32
-    requires some { 1 ≤ length links.now }
-    requires sound { All Sound links.now }
-    ensures { result ≡ next_address links.now unit.0 }
-{
-    address_behind(&last_of(links), unit)
-}
-
-/// The address of the next command behind this CCW.
+/// The address of the next command behind the last CCW, and behind one more with status modifier.
 #[inline(always)]
-pub(crate) fn address_behind(last: &Link, unit: UnitStatus) -> u32
+pub(crate) fn next_address(last: &Link, unit: UnitStatus) -> u32
     requires { Sound last.now }
-    ensures { result ≡ next_address (last.now ∷ []) unit.0 }
+    ensures { result ≡ next_address last.now unit.0 }
 {
-    if unit.bits() == 0x4C {
+    if unit == UnitStatus::MODIFIER_END {
         last.at + 16
     } else {
         last.at + 8

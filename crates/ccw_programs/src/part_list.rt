@@ -1,3 +1,5 @@
+//! The parts of the data of a command, in order.
+
 ghost use Rattle.std.specs.Prelude.{◌≡◌, ◌<◌, ◌≤◌, ◌++◌, ◌∷◌, [], length};
 
 use arrayvec::ArrayVec;

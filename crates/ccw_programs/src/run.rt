@@ -1,7 +1,10 @@
-ghost use Rattle.std.specs.Prelude.{◌≡◌, ◌≤◌, ◌<◌, [], ◌∷◌, length, min, sum, All, false};
+//! Command steps, and bursts of them (Principles of Operation, chapter 15, "Channel-Command Word" and "Command
+//! Chaining").
+
+ghost use Rattle.std.specs.Prelude.{◌≡◌, ◌≤◌, ◌<◌, [], ◌∷◌, length, min, sum, All, false, ◌↔◌};
 ghost use Rattle.io_area.specs.Storage.{SamePlace};
 ghost use Rattle.ccw_programs.specs.Links.{chain, Whole, Sound, is_indirect};
-ghost use Rattle.ccw_programs.specs.Step.{Program, program, step, after, length_of};
+ghost use Rattle.ccw_programs.specs.Step.{Program, program, step, after, length_of, is_running};
 
 use crate::areas::{data_area, data_areas, part_of};
 use crate::context::{Burst, Context, State};
@@ -108,7 +111,9 @@ fn command_on<D: Device>(
     }
 }
 
-/// Goes on with a program, by so many commands at most.
+/// Goes on with a program, by so many commands at most: it does as many, or as many as the program has left, and
+/// tells how many and where the program then stands (chapter 15, "Command Chaining"; that a program goes on in bursts
+/// is the profile's). Takes no memory.
 pub fn burst<D: Device>(context: &mut Context, device: &mut D, area: &mut Area, max: u32) -> Burst
     requires some { 1 ≤ max }
     requires running { context.old.state ≡ State.Running }
@@ -137,24 +142,38 @@ pub fn burst<D: Device>(context: &mut Context, device: &mut D, area: &mut Area, 
     }
 }
 
-/// Bursts of these sizes, one after another, until the sizes are used up or the program has ended.
+/// Bursts of these sizes, one after another, until the sizes are used up or the program has ended: as many commands
+/// as one burst of their sum does.
 pub fn bursts<D: Device>(
     context: &mut Context,
     device: &mut D,
     area: &mut Area,
     sizes: &[u32],
-) -> State
+) -> Burst
     requires sizes { All (λ size. 1 ≤ size) sizes.now }
     requires running { context.old.state ≡ State.Running }
-    ensures after { program context.new device.new area.new ≡ after D.meaning (sum sizes.now) (program context.old device.old area.old) }
-    ensures state { result ≡ context.new.state }
+    ensures after { program context.new device.new area.new ≡ after D.meaning result.commands (program context.old device.old area.old) }
+    ensures commands { result.commands ≡ min (sum sizes.now) (length_of D.meaning (program context.old device.old area.old)) }
+    ensures state { result.state ≡ context.new.state }
+    ensures ended { (is_running result.state ≡ false) ↔ (result.commands ≡ length_of D.meaning (program context.old device.old area.old)) }
 {
+    let _bound = context.fetched();
+    let mut commands = 0;
     for size in sizes {
         let done = burst(context, device, area, *size);
+        commands += done.commands;
         match done.state {
             State::Running => {}
-            State::Ended(_, _) => return done.state,
+            State::Ended(_, _) => {
+                return Burst {
+                    commands,
+                    state: done.state,
+                };
+            }
         }
     }
-    State::Running
+    Burst {
+        commands,
+        state: State::Running,
+    }
 }

@@ -1,3 +1,5 @@
+//! What the table of verdicts answers.
+
 use io_images::Code;
 
 /// What becomes of a request whose channel program has ended.

@@ -1,10 +1,12 @@
+//! The table of verdicts.
+
 ghost use Rattle.std.specs.Prelude.{◌≡◌};
 ghost use Rattle.recovery.specs.Verdict.{is_channel_error, is_disk, is_passing_error, is_success, verdict};
 
 use crate::answer::Verdict;
 use bitflags::Flags;
 use device_port::Kind;
-use io_images::{Code, Csw, UnitStatus};
+use io_images::{Code, Csw, SubStatus, UnitStatus};
 
 /// How often a request may be started again (profile).
 pub const MAX_RETRIES: u32 = 10;
@@ -14,6 +16,9 @@ const PASSING_SENSE: u16 = 0x3C00;
 
 /// Command reject and intervention required in sense byte 0, and all of sense byte 1.
 const LASTING_SENSE: u16 = 0xC0FF;
+
+/// Channel-data check, interface-control check, and both.
+const PASSING_CHECKS: [SubStatus; 3] = [SubStatus(0x08), SubStatus(0x02), SubStatus(0x0A)];
 
 /// What becomes of a request whose channel program has ended with this status and sense; `attempt` is
 /// the number of its starts so far (profile).
@@ -44,7 +49,8 @@ fn is_disk(kind: Kind) -> bool
 fn is_success(csw: &Csw) -> bool
     ensures { result ≡ is_success csw.now }
 {
-    matches!(csw.unit.bits(), 0x0C | 0x4C) && csw.sub.is_clear()
+    (csw.unit == UnitStatus::NORMAL_END || csw.unit == UnitStatus::MODIFIER_END)
+        && csw.sub.is_clear()
 }
 
 /// Whether the device shows an error that another try may get over.
@@ -62,5 +68,5 @@ fn is_passing_error(csw: &Csw, sense: u16) -> bool
 fn is_channel_error(csw: &Csw) -> bool
     ensures { result ≡ is_channel_error csw.now }
 {
-    csw.unit.is_normal() && matches!(csw.sub.bits(), 0x08 | 0x02 | 0x0A)
+    csw.unit.is_normal() && PASSING_CHECKS.contains(&csw.sub)
 }

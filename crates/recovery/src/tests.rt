@@ -1,3 +1,5 @@
+//! The table of verdicts.
+
 use crate::{Verdict, verdict};
 use device_port::Kind;
 use io_images::{Address, Code, Csw, SubStatus, UnitStatus};

@@ -1,3 +1,5 @@
+//! Why no request is made.
+
 use thiserror::Error;
 
 /// Why no request is made, the first reason in this order (profile).

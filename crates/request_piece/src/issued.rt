@@ -1,3 +1,5 @@
+//! A request as it was issued.
+
 ghost use Rattle.std.specs.Prelude.{◌≡◌};
 ghost use Rattle.std.specs.Arc.{arc_value};
 

@@ -1,3 +1,5 @@
+//! The fields of a request, and its storage.
+
 ghost use Rattle.std.specs.Prelude.{◌≡◌, IfOk};
 
 use io_area::Area;

@@ -1,3 +1,5 @@
+//! A request that has ended, and how a post writes its control blocks.
+
 ghost use Rattle.std.specs.Prelude.{◌≡◌, true};
 ghost use Rattle.io_images.specs.Written.{ecb_image};
 ghost use Rattle.io_area.specs.Storage.{SamePlace, bytes_at, lies_in, with_bytes};
@@ -78,7 +80,7 @@ impl Posted {
     pub fn csw(&self) -> Csw
         ensures { result ≡ self.now.csw }
     {
-        self.csw.copy()
+        self.csw
     }
 
     /// The first two sense bytes.
@@ -116,7 +118,7 @@ fn write_iob(area: &mut Area, at: u32, code: Code, csw: &Csw, sense: u16)
     iob.io_error = code.sets_io_error();
     iob.sense = sense;
     iob.completion = code.byte();
-    iob.csw = csw.copy();
+    iob.csw = *csw;
     iob.write(&mut image);
     area.put(at, &image);
 }

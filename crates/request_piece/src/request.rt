@@ -1,3 +1,5 @@
+//! A request that is made from its IOB.
+
 ghost use Rattle.std.specs.Prelude.{◌≡◌, true, false, IfErr, IfOk, IfSome, MatchOption};
 ghost use Rattle.std.specs.Arc.{arc_value};
 ghost use Rattle.io_area.specs.Storage.{bytes_at, lies_in};
@@ -122,6 +124,13 @@ impl Request {
     {
         let Request { issued, work } = self;
         (issued, work)
+    }
+
+    /// What is worked on.
+    pub(crate) fn piece(&self) -> &Piece
+        ensures { result.now ≡ self.now }
+    {
+        &self.work
     }
 
     pub fn name(&self) -> Name

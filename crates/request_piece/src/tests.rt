@@ -1,3 +1,5 @@
+//! Places of the control blocks, what a request says, and what a post writes.
+
 use crate::{Name, Posted, Request, RequestError, Scope};
 use io_area::Area;
 use io_images::{Address, Code, Csw, SubStatus, UnitStatus};
@@ -65,10 +67,11 @@ fn request_says_what_its_iob_says(rt: HostRuntime) -> Result<(), Fail> {
     assert_eq!(rt; (seek.extent, seek.bin, seek.cylinder), (1, 0, 2));
     assert_eq!(rt; (seek.head, seek.record), (3, 4));
     assert_eq!(rt; request.area().get(0x1000, 104), Some(fixture().as_slice()));
+    assert!(rt; Scope::Dcb(1).covers(&request) && Scope::Task(3).covers(&request));
+    assert!(rt; !Scope::Dcb(3).covers(&request) && !Scope::Task(1).covers(&request));
     let (issued, work) = request.into_parts();
-    assert_eq!(rt; (issued.iob, work.ecb), (0x1000, 0x1028));
-    assert!(rt; Scope::Dcb(1).covers(&issued) && Scope::Task(3).covers(&work));
-    assert!(rt; !Scope::Dcb(3).covers(&issued) && !Scope::Task(1).covers(&work));
+    assert_eq!(rt; (issued.name(), work.iob, work.ecb), (NAME, 0x1000, 0x1028));
+    assert!(rt; Scope::Dcb(1).covers_piece(&work) && !Scope::Task(1).covers_piece(&work));
     Ok(())
 }
 

@@ -1,11 +1,13 @@
 -- A subchannel: its states, and what its instructions do (Principles of Operation, chapter 14).
 use Rattle.std.specs.Prelude.{◌≡◌, ℕ, Bool, true, false, Option, Some, None, min}
+use Rattle.io_images.specs.Bits.{normal_end_status}
+use Rattle.io_images.specs.Images.{no_status}
 use Rattle.io_images.specs.declared.csw.Csw.{Csw}
 use Rattle.io_images.specs.declared.seek.Seek.{Seek}
 use Rattle.io_area.specs.Storage.{Storage}
 use Rattle.device_port.specs.Meaning.{Meaning, fits}
 use Rattle.ccw_programs.specs.declared.context.State.{State}
-use Rattle.ccw_programs.specs.declared.context.State.TheVariants.{Running as Goes, Ended}
+use Rattle.ccw_programs.specs.declared.context.State.TheVariants as state
 use Rattle.ccw_programs.specs.declared.context.Burst.{Burst}
 use Rattle.ccw_programs.specs.Place.{Place, start_place}
 use Rattle.ccw_programs.specs.Step.{Program, program, after, length_of}
@@ -65,12 +67,9 @@ is_pending (Pending csw sense) = true
 -- THE STATUS AFTER A HALT (profile): channel end and device end, with the CCW address and the residual count
 -- of the last command step done, or the start and 0 if there was none
 abbrev pub halted : Place → Csw
-halted place = record { address = place.address; unit = record { 0 = 12 }; sub = record { 0 = 0 }; residual = place.residual }
+halted place = record { address = place.address; unit = record { 0 = normal_end_status }; sub = record { 0 = 0 }; residual = place.residual }
 
--- an idle subchannel that is halted shows zeros (profile)
-abbrev pub no_status : Csw
-no_status = record { address = 0; unit = record { 0 = 0 }; sub = record { 0 = 0 }; residual = 0 }
-
+-- an idle subchannel that is halted shows the empty status (profile)
 abbrev pub halted_phase : Phase → Phase
 halted_phase Absent = Absent
 halted_phase Idle = Pending no_status 0
@@ -79,8 +78,8 @@ halted_phase (Pending csw sense) = Pending csw sense
 
 -- the phase of a program that stands there
 abbrev pub phase_of : Place → State → Phase
-phase_of place Goes = Running place
-phase_of place (Ended csw sense) = Pending csw sense
+phase_of place state.Running = Running place
+phase_of place (state.Ended csw sense) = Pending csw sense
 
 -- the device takes the seek, if there is a device
 abbrev pub Fits : {D : Type 0} → Meaning D → Option D → Seek → Type 0
@@ -106,13 +105,13 @@ module _ {D : Type 0} (meaning : Meaning D) where
     pub commands : b.commands ≡ min max (length_of meaning p)
     pub state : b.state ≡ (after meaning b.commands p).place.state
 
--- the program that goes on, if one does
-abbrev pub going : {D : Type 0} → Option D → Phase → Storage → Option (Program D)
-going None phase m = None
-going (Some d) Absent m = None
-going (Some d) Idle m = None
-going (Some d) (Running place) m = Some (program place d m)
-going (Some d) (Pending csw sense) m = None
+-- the program that is running, if one is
+abbrev pub running_program : {D : Type 0} → Option D → Phase → Storage → Option (Program D)
+running_program None phase m = None
+running_program (Some d) Absent m = None
+running_program (Some d) Idle m = None
+running_program (Some d) (Running place) m = Some (program place d m)
+running_program (Some d) (Pending csw sense) m = None
 
 -- `run` answers None where no program is in progress, and changes nothing
 abbrev pub RunsAs : {D : Type 0} → Meaning D → Channel D → Storage → ℕ → Option (Program D) → Option Burst → Channel D → Storage → Type 0

@@ -6,12 +6,12 @@
 ghost use Rattle.std.specs.Prelude.{◌≡◌, ◌≤◌, Some, None, MatchOption, min};
 ghost use Rattle.io_area.specs.Storage.{SamePlace};
 ghost use Rattle.ccw_programs.specs.Step.{program};
-ghost use Rattle.subchannel.specs.Subchannel.{Channel, Absent, Idle, Fits, started, ssch_code, hsch_code, tsch_code, halted_phase, no_status, going, RunsAs, status_of, tested_phase, is_pending};
+ghost use Rattle.subchannel.specs.Subchannel.{Channel, Absent, Idle, Fits, started, ssch_code, hsch_code, tsch_code, halted_phase, running_program, RunsAs, status_of, tested_phase, is_pending};
 
 use ccw_programs::{Burst, Context, State, burst};
 use device_port::Device;
 use io_area::Area;
-use io_images::{Address, Csw, Seek, SubStatus, UnitStatus};
+use io_images::{Address, Csw, Seek};
 use std::marker::Model;
 
 /// What a subchannel that has a device is doing.
@@ -35,11 +35,12 @@ impl<D: Device> Model for Subchannel<D> {
 
     ghost Value = { Channel D };
 
-    ghost use Rattle.subchannel.specs.Inside.{channel_of, IsGoing};
+    ghost use Rattle.std.specs.Prelude.{◌≤◌};
+    ghost use Rattle.subchannel.specs.Fields.{channel_of, IsRunning};
 
     ghost view = { λ s. channel_of s.isc s.device s.phase };
 
-    ghost invariant = { λ s. IsGoing s.phase };
+    ghost invariant = { λ s. (s.isc ≤ 7) × IsRunning s.phase };
 }
 
 impl<D: Device> Subchannel<D> {
@@ -67,9 +68,10 @@ impl<D: Device> Subchannel<D> {
         }
     }
 
-    /// The interruption subclass.
+    /// The interruption subclass (0 to 7).
     pub fn isc(&self) -> u8
-        ensures { result ≡ self.now.isc }
+        ensures is { result ≡ self.now.isc }
+        ensures few { result ≤ 7 }
     {
         self.isc
     }
@@ -116,7 +118,7 @@ impl<D: Device> Subchannel<D> {
         let Phase::Pending(csw, sense) = &self.phase else {
             return (1, None);
         };
-        let status = (csw.copy(), *sense);
+        let status = (*csw, *sense);
         self.phase = Phase::Idle;
         (0, Some(status))
     }
@@ -129,7 +131,7 @@ impl<D: Device> Subchannel<D> {
             return None;
         }
         match &self.phase {
-            Phase::Pending(csw, sense) => Some((csw.copy(), *sense)),
+            Phase::Pending(csw, sense) => Some((*csw, *sense)),
             Phase::Idle | Phase::Running(_) => None,
         }
     }
@@ -144,7 +146,7 @@ impl<D: Device> Subchannel<D> {
             return 3;
         }
         let status = match &self.phase {
-            Phase::Idle => empty_status(),
+            Phase::Idle => Csw::empty(),
             Phase::Running(context) => context.halted(),
             Phase::Pending(_, _) => return 1,
         };
@@ -156,7 +158,7 @@ impl<D: Device> Subchannel<D> {
     /// pending. Takes no memory.
     pub fn run(&mut self, area: &mut Area, max: u32) -> Option<Burst>
         requires { 1 ≤ max }
-        ensures runs { RunsAs D.meaning self.old area.old max (going self.old.device self.old.phase area.old) result self.new area.new }
+        ensures runs { RunsAs D.meaning self.old area.old max (running_program self.old.device self.old.phase area.old) result self.new area.new }
         ensures place { SamePlace area.old area.new }
     {
         let Some(device) = &mut self.device else {
@@ -178,17 +180,6 @@ impl<D: Device> Subchannel<D> {
         ensures { result ≡ is_pending self.now.phase }
     {
         self.device.is_some() && matches!(&self.phase, Phase::Pending(_, _))
-    }
-}
-
-fn empty_status() -> Csw
-    ensures { result ≡ no_status }
-{
-    Csw {
-        address: Address::new(0),
-        unit: UnitStatus::new(0),
-        sub: SubStatus::new(0),
-        residual: 0,
     }
 }
 

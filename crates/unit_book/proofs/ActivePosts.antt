@@ -12,20 +12,20 @@ use Rattle.request_piece.specs.Final.{posted_of}
 use Rattle.request_piece.specs.declared.piece.Name.{Name}
 use Rattle.request_piece.specs.declared.piece.Piece.{Piece}
 use Rattle.unit_book.specs.declared.active.Active.{Active}
-use Rattle.unit_book.specs.declared.active.Doing.{Doing}
-use Rattle.unit_book.specs.declared.active.Doing.TheVariants.{OnChannel, Again}
+use Rattle.unit_book.specs.declared.active.Standing.{Standing}
+use Rattle.unit_book.specs.declared.active.Standing.TheVariants.{OnChannel, AwaitsRestart}
 use Rattle.unit_book.specs.declared.dcb.Dcb.{Dcb}
 use Rattle.unit_book.specs.declared.entry.Entry.{Entry}
 use Rattle.unit_book.specs.declared.entry.Entry.TheVariants.{Post}
-use Rattle.unit_book.specs.Trace.{same, has_started, waiting, active, request_of, is_covered}
-use Rattle.unit_book.specs.Media.{attempts, stand, newest, current, area}
+use Rattle.unit_book.specs.Trace.{same, has_started, waiting, active, request_of}
+use Rattle.unit_book.specs.Media.{attempts, stand, newest, current, area, StillRunning, WasHalted, HasEnded, active_phase}
 use Rattle.unit_book.specs.Dcbs.{is_opened, extents_of, flag}
-use Rattle.unit_book.specs.Legal.{Legal, due, Free, verdict_of, ended_code, PostsActive, PostsAt, OfActive}
+use Rattle.unit_book.specs.Legal.{Legal, due, Free, PostsActive, PostsAs, WithVerdict, WhileCovered, AfterHalt, OfActive}
 use Rattle.unit_book.specs.Posts.{posted, posted_value}
-use Rattle.unit_book.specs.Picks.{doomed_by_post}
-use Rattle.unit_book.specs.Inside.{DoingTies, Ties, dcb_at, dcb_of, noted}
+use Rattle.unit_book.specs.Selected.{doomed_by_post}
+use Rattle.unit_book.specs.Fields.{StandingTies, Ties, dcb_at, dcb_of, noted}
 use Rattle.unit_book.proofs.Lists.{same-true, same-is, no_both, without, none_named, filter-all}
-use Rattle.unit_book.specs.Inside.{Each}
+use Rattle.unit_book.specs.Lists.{Each}
 use Rattle.unit_book.proofs.Facts.{Facts, facts, NewestIs, active-is, active-post, waiting-post, waits, WaitsAmong}
 use Rattle.unit_book.proofs.Same.{fits-free}
 
@@ -67,13 +67,18 @@ module _ {D : Type 0} (meaning : Meaning D) (mounted : D) where
     abbrev n : Name
     n = a.piece.value.name
 
-    tested-idle : (phase : Phase) (doing : Doing) → DoingTies meaning mounted H phase a doing → tested_phase phase ≡ Idle
-    tested-idle Absent doing d = absurd d
-    tested-idle Idle doing d = refl
-    tested-idle (Running place) OnChannel d =
-        absurd (subst (λ x. PostsAt meaning mounted csw sense code x (λ c s. ended_code (verdict_of meaning mounted n c s H) (is_covered (request_of n H) H))) d.1 p.as_ended)
-    tested-idle (Running place) (Again c s) d = absurd d
-    tested-idle (Pending c s) doing d = refl
+    -- what is posted does not run
+    posts-runs : PostsAs meaning mounted n csw sense code H → active_phase meaning mounted n H ≡ StillRunning → ⊥
+    posts-runs (WithVerdict e v) h = let k : HasEnded csw sense ≡ StillRunning = sym e ∙ h in absurd cc
+    posts-runs (WhileCovered e v c i) h = let k : HasEnded csw sense ≡ StillRunning = sym e ∙ h in absurd cc
+    posts-runs (AfterHalt e i) h = let k : WasHalted csw sense ≡ StillRunning = sym e ∙ h in absurd cc
+
+    tested-idle : (phase : Phase) (standing : Standing) → StandingTies meaning mounted H phase a standing → tested_phase phase ≡ Idle
+    tested-idle Absent standing d = absurd d
+    tested-idle Idle standing d = refl
+    tested-idle (Running place) OnChannel d = absurd (posts-runs p.as_ended d.1)
+    tested-idle (Running place) (AwaitsRestart c s) d = absurd d
+    tested-idle (Pending c s) standing d = refl
 
     -- what is handed out is the value that the trace says
     pub value-is : posted_value a.piece.value csw sense code a.piece.value.area ≡ posted_value (request_of n H) csw sense code (area meaning mounted (request_of n H) H)
@@ -96,7 +101,7 @@ module _ {D : Type 0} (meaning : Meaning D) (mounted : D) where
           queue = t.queue ∙ sym (queue-post n csw sense code H f t.activity.is);
           placed = t.placed;
           device = t.device;
-          activity = (active-post meaning mounted n csw sense code H f t.activity.is, tested-idle channel.phase a.doing t.activity.doing);
+          activity = (active-post meaning mounted n csw sense code H f t.activity.is, tested-idle channel.phase a.standing t.activity.standing);
           count = count ∙ t.count;
           dcbs = λ d. dcbs d ∙ ap (noted (is_error code && a.piece.value.related && eqb a.piece.value.dcb d)) (t.dcbs d)
               ∙ dcb-post n csw sense code H a.piece.value.related a.piece.value.dcb d (sym related) (sym dcb);

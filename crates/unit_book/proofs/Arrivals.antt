@@ -16,9 +16,9 @@ use Rattle.unit_book.specs.Media.{attempts}
 use Rattle.unit_book.specs.Dcbs.{extents_of, flag}
 use Rattle.unit_book.specs.Legal.{Fits, Legal, due}
 use Rattle.unit_book.specs.Posts.{posted}
-use Rattle.unit_book.specs.Inside.{Ties}
+use Rattle.unit_book.specs.Fields.{Ties}
 use Rattle.unit_book.proofs.Lists.{same-true, no_both}
-use Rattle.unit_book.proofs.Facts.{Each-push, facts, fresh, fits-arrive, waiting-arrive, active-is}
+use Rattle.unit_book.proofs.Facts.{Each-behind, facts, fresh, fits-arrive, waiting-arrive, active-is}
 use Rattle.unit_book.proofs.Same.{Silent, activity-same}
 
 module _ {D : Type 0} (meaning : Meaning D) (mounted : D) where
@@ -46,7 +46,7 @@ module _ {D : Type 0} (meaning : Meaning D) (mounted : D) where
       record {
         legal = (h, t.legal);
         queue = ap (λ q. q ++ r ∷ []) t.queue ∙ sym (waiting-arrive meaning mounted r H f new);
-        placed = Each-push Placed waiters r t.placed p;
+        placed = Each-behind Placed waiters r t.placed p;
         device = t.device;
         activity = activity-same meaning mounted H (Arrive r ∷ H) channel.phase o refl (λ n a. silent r n H new (f.0 n (active-is n H a).0)) t.activity;
         count = t.count;

@@ -17,21 +17,21 @@ use Rattle.request_piece.specs.declared.piece.Piece.{Piece}
 use Rattle.request_piece.specs.Scope.{covers}
 use Rattle.request_piece.specs.declared.scope.Scope.{Scope}
 use Rattle.unit_book.specs.declared.active.Active.{Active}
-use Rattle.unit_book.specs.declared.active.Doing.{Doing}
-use Rattle.unit_book.specs.declared.active.Doing.TheVariants.{OnChannel, Again}
+use Rattle.unit_book.specs.declared.active.Standing.{Standing}
+use Rattle.unit_book.specs.declared.active.Standing.TheVariants.{OnChannel, AwaitsRestart}
 use Rattle.unit_book.specs.declared.dcb.Dcb.{Dcb}
 use Rattle.unit_book.specs.declared.entry.Mode.{Mode}
 use Rattle.unit_book.specs.declared.entry.Entry.{Entry}
 use Rattle.unit_book.specs.declared.entry.Entry.TheVariants.{Purge, Post}
 use Rattle.unit_book.specs.Trace.{waiting, active, request_of, is_halt, is_halted}
 use Rattle.unit_book.specs.Dcbs.{doomed}
-use Rattle.unit_book.specs.Media.{area, current, stage, stage_by, Over}
+use Rattle.unit_book.specs.Media.{area, current, active_phase, active_phase_by, HasEnded}
 use Rattle.unit_book.specs.Legal.{due, Free, doomed_first, CanPurge, PostsActive, verdict_of}
 use Rattle.unit_book.specs.Dooms.{all_posted, after_dooms, purged}
 use Rattle.unit_book.specs.Posts.{posted, posted_since, posted_value}
-use Rattle.unit_book.specs.Book.{going_by}
+use Rattle.unit_book.specs.Book.{running_name_by}
 use Rattle.unit_book.specs.Controls.{active_of, after_purge, halted_by}
-use Rattle.unit_book.specs.Inside.{again_by, kept_by, dcb_at, DoingTies, Ties, after_cover, noted, pending_stage, pending_code}
+use Rattle.unit_book.specs.Fields.{awaits_by, kept_by, dcb_at, StandingTies, Ties, after_cover, noted, pending_phase, pending_code}
 use Rattle.unit_book.proofs.Lists.{without}
 use Rattle.unit_book.proofs.Dooms.{due-doomed, due-no_halt, doomed-purged}
 use Rattle.unit_book.proofs.Purges.{Swept, without_all, ties-dooms, since-is}
@@ -55,27 +55,27 @@ again-told true true s k = refl
 again-told true false s k = absurd cc
 again-told false g s k = absurd cc
 
-again-is : (d : Doing) → again_by d ≡ true → d ≡ Again (kept_by d).0 (kept_by d).1
+again-is : (d : Standing) → awaits_by d ≡ true → d ≡ AwaitsRestart (kept_by d).0 (kept_by d).1
 again-is OnChannel h = absurd cc
-again-is (Again csw sense) h = refl
+again-is (AwaitsRestart csw sense) h = refl
 
-pub kept-is : (d : Doing) (h s : Bool) → h && again_by d && s ≡ true → d ≡ Again (kept_by d).0 (kept_by d).1
-kept-is d h s k = again-is d (again-told h (again_by d) s k)
+pub kept-is : (d : Standing) (h s : Bool) → h && awaits_by d && s ≡ true → d ≡ AwaitsRestart (kept_by d).0 (kept_by d).1
+kept-is d h s k = again-is d (again-told h (awaits_by d) s k)
 
 module _ {D : Type 0} (meaning : Meaning D) (mounted : D) where
   -- a status that is kept here stands on no channel
   record Kept (H : List Entry) (phase : Phase) (a : Active) (csw : Csw) (sense : ℕ) : Type 0 where
     idle : phase ≡ Idle
-    ended : stage meaning mounted a.piece.value.name H ≡ Over csw sense
+    ended : active_phase meaning mounted a.piece.value.name H ≡ HasEnded csw sense
     retry : verdict_of meaning mounted a.piece.value.name csw sense H ≡ Retry
 
-  kept-by : (H : List Entry) (phase : Phase) (a : Active) (csw : Csw) (sense : ℕ) → DoingTies meaning mounted H phase a (Again csw sense) → Kept H phase a csw sense
+  kept-by : (H : List Entry) (phase : Phase) (a : Active) (csw : Csw) (sense : ℕ) → StandingTies meaning mounted H phase a (AwaitsRestart csw sense) → Kept H phase a csw sense
   kept-by H Absent a csw sense d = absurd d
   kept-by H Idle a csw sense d = record { idle = refl; ended = d.0; retry = d.1 }
   kept-by H (Running place) a csw sense d = absurd d
   kept-by H (Pending c s) a csw sense d = absurd d
 
-  over-unhalted : (b : Bool) (place : Place) (state : State) (csw : Csw) (sense : ℕ) → stage_by b place state ≡ Over csw sense → b ≡ false
+  over-unhalted : (b : Bool) (place : Place) (state : State) (csw : Csw) (sense : ℕ) → active_phase_by b place state ≡ HasEnded csw sense → b ≡ false
   over-unhalted true place state csw sense h = absurd cc
   over-unhalted false place state csw sense h = refl
 
@@ -84,8 +84,8 @@ module _ {D : Type 0} (meaning : Meaning D) (mounted : D) where
   purged-code kind csw sense starts false covered v c = rw (v, c) refl
 
   module _ (H : List Entry) (channel : Channel D) (a : Active) (waiters : List Piece) (table : List Dcb) (left : List PostedState) (scope : Scope) (mode : Mode) (csw : Csw) (sense : ℕ)
-      (t : Ties meaning mounted H channel (Some a) waiters table left) (doing : a.doing ≡ Again csw sense) (settled : due meaning mounted H ≡ Free) (can : CanPurge meaning mounted scope H)
-      (covered : is_halt mode && again_by a.doing && is_some (active_of scope H) ≡ true) where
+      (t : Ties meaning mounted H channel (Some a) waiters table left) (standing : a.standing ≡ AwaitsRestart csw sense) (settled : due meaning mounted H ≡ Free) (can : CanPurge meaning mounted scope H)
+      (covered : is_halt mode && awaits_by a.standing && is_some (active_of scope H) ≡ true) where
     abbrev n : Name
     n = a.piece.value.name
 
@@ -94,10 +94,10 @@ module _ {D : Type 0} (meaning : Meaning D) (mounted : D) where
     pending_channel = record channel { phase = Pending csw sense }
 
     abbrev pending_active : Active
-    pending_active = record a { doing = OnChannel }
+    pending_active = record a { standing = OnChannel }
 
     kept : Kept H channel.phase a csw sense
-    kept = kept-by H channel.phase a csw sense (subst (DoingTies meaning mounted H channel.phase a) doing t.activity.doing)
+    kept = kept-by H channel.phase a csw sense (subst (StandingTies meaning mounted H channel.phase a) standing t.activity.standing)
 
     unhalted : a.halted ≡ false
     unhalted = t.activity.halted ∙ over-unhalted (is_halted n H) (current meaning mounted H).place (current meaning mounted H).place.state csw sense kept.ended
@@ -115,7 +115,7 @@ module _ {D : Type 0} (meaning : Meaning D) (mounted : D) where
         starts = t.activity.starts;
         halted = t.activity.halted;
         covered = t.activity.covered;
-        doing = kept.ended ∙ ap (λ b. pending_stage b csw sense) (sym unhalted);
+        standing = kept.ended ∙ ap (λ b. pending_phase b csw sense) (sym unhalted);
       };
       count = t.count;
       dcbs = t.dcbs;
@@ -137,11 +137,11 @@ module _ {D : Type 0} (meaning : Meaning D) (mounted : D) where
     purge-ties = ties-purge meaning mounted H pending_channel waiters table left scope mode pending_active settled can (not-again (is_halt mode) (is_some (active_of scope H))) pending-ties
 
     -- nothing runs that it could halt
-    none-goes : is_some (going_by meaning mounted H (active H)) ≡ false
-    none-goes = let e = t.activity.is in let s = kept.ended in rw (e, s) refl
+    none-runs : is_some (running_name_by meaning mounted H (active H)) ≡ false
+    none-runs = let e = t.activity.is in let s = kept.ended in rw (e, s) refl
 
     due-is : due meaning mounted P ≡ doomed_first (doomed P)
-    due-is = halts-none meaning mounted scope mode H none-goes
+    due-is = halts-none meaning mounted scope mode H none-runs
 
     -- the dooms
     abbrev swept : List Piece
@@ -181,7 +181,7 @@ module _ {D : Type 0} (meaning : Meaning D) (mounted : D) where
 
     after-covered : after.covered ≡ true
     after-covered =
-        let e = and-ends (is_halt mode) (again_by a.doing) (is_some (active_of scope H)) covered in
+        let e = and-ends (is_halt mode) (awaits_by a.standing) (is_some (active_of scope H)) covered in
         let s = rw t.activity.is at e.1 in
         let k : covers scope a.piece.value ≡ true = covers-same meaning mounted H channel waiters table left scope mode channel.phase a t.activity ∙ some-covers (covers scope (request_of n H)) s in
         let h = e.0 in rw (k, h) refl

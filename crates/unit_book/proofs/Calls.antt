@@ -1,5 +1,5 @@
 -- What the calls of a book come to, one step of its ledger after another.
-use Rattle.std.proofs.Common.{◌≡◌, ◌≤◌, ◌+◌, ℕ, Bool, false, Result, Ok, Err, List, [], ◌∷◌, ◌++◌, append_assoc, length, refl, sym, ap, ◌∙◌, arith}
+use Rattle.std.proofs.Common.{◌≡◌, ◌≤◌, ◌+◌, ℕ, Bool, true, false, Result, Ok, Err, List, [], ◌∷◌, ◌++◌, append_assoc, length, refl, sym, ap, ◌∙◌, arith, subst}
 use Rattle.std.specs.Prelude.{OnOk, OnErr, drop}
 use Rattle.std.specs.declared.alloc.AllocError.{AllocError}
 use Rattle.io_images.specs.declared.csw.Csw.{Csw}
@@ -17,10 +17,10 @@ use Rattle.unit_book.specs.Trace.{request_of, waiting}
 use Rattle.unit_book.specs.Dcbs.{opened_count, doomed}
 use Rattle.unit_book.specs.Media.{area}
 use Rattle.unit_book.specs.Posts.{posted, posted_value, posted_since}
-use Rattle.unit_book.specs.Controls.{halted_by, after_halt}
+use Rattle.unit_book.specs.Controls.{PurgesBy, covers_awaiting, halted_by, after_halt}
 use Rattle.unit_book.specs.Dooms.{after_dooms}
 use Rattle.unit_book.specs.Book.{Book}
-use Rattle.unit_book.specs.Answers.{Adds, Posts, PostsOne, RunsBook}
+use Rattle.unit_book.specs.Answers.{Adds, Extends, ExtendsByPost, RunsBook}
 use Rattle.unit_book.specs.Legal.{Due, ToHalt, ToPost, Free, Settled, due, doomed_first}
 use Rattle.unit_book.proofs.Dooms.{settled-ran, settled-open, doomed-few, due-no_halt}
 use Rattle.unit_book.proofs.Purges.{since-post}
@@ -38,20 +38,20 @@ open-settled meaning old new input extents (Err x) s a b = let e = b in rw e s
 
 -- a post and what it dooms, as one step
 module _ {D : Type 0} (meaning : Meaning D) (old mid posting new : Book D) (n : Name) (csw : Csw) (sense : ℕ) (code : Code) where
-  pub post-then-sweep : mid ≡ record old { spare = mid.spare } → PostsOne meaning mid n csw sense code posting → Posts meaning posting (after_dooms posting.trace) posting.again new →
-      Posts meaning old (after_dooms (Post n csw sense code ∷ old.trace)) false new
+  pub post-then-sweep : mid ≡ record old { spare = mid.spare } → ExtendsByPost meaning mid n csw sense code posting → Extends meaning posting (after_dooms posting.trace) posting.awaits new →
+      Extends meaning old (after_dooms (Post n csw sense code ∷ old.trace)) false new
   post-then-sweep m p s =
       let v = posted_value (request_of n old.trace) csw sense code (area meaning old.mounted (request_of n old.trace) old.trace) in
       let since = since-post meaning old.mounted n csw sense code old.trace in
-      let q : posting ≡ record old { trace = Post n csw sense code ∷ old.trace; again = false; out = old.out ++ v ∷ []; spare = posting.spare } = rw m at p in
+      let q : posting ≡ record old { trace = Post n csw sense code ∷ old.trace; awaits = false; out = old.out ++ v ∷ []; spare = posting.spare } = rw m at p in
       let r = rw q at s in
       let G = Post n csw sense code ∷ old.trace in
       let out : old.out ++ v ∷ [] ++ posted_since meaning old.mounted G (after_dooms G) ≡ old.out ++ posted_since meaning old.mounted old.trace (after_dooms G)
       = append_assoc old.out (v ∷ []) (posted_since meaning old.mounted G (after_dooms G)) ∙ ap (λ x. old.out ++ x) (sym since) in
-      r ∙ ap (λ o. record old { trace = after_dooms G; again = false; out = o; spare = new.spare }) out
+      r ∙ ap (λ o. record old { trace = after_dooms G; awaits = false; out = o; spare = new.spare }) out
 
   -- there is room for what a post dooms
-  pub sweep-room : mid ≡ record old { spare = mid.spare } → PostsOne meaning mid n csw sense code posting → length (waiting old.trace) + 1 ≤ mid.spare → mid.spare ≤ posting.spare + 1 →
+  pub sweep-room : mid ≡ record old { spare = mid.spare } → ExtendsByPost meaning mid n csw sense code posting → length (waiting old.trace) + 1 ≤ mid.spare → mid.spare ≤ posting.spare + 1 →
       length (doomed posting.trace) ≤ posting.spare
   sweep-room m p r s =
       let t : posting.trace ≡ Post n csw sense code ∷ old.trace = ap (λ (b : Book D). b.trace) p ∙ ap (λ (b : Book D). Post n csw sense code ∷ b.trace) m in
@@ -60,13 +60,13 @@ module _ {D : Type 0} (meaning : Meaning D) (old mid posting new : Book D) (n : 
       omega (arith, r, s, few, same)
 
   -- only the dooms are due after a post
-  pub sweep-due : PostsOne meaning mid n csw sense code posting → due meaning posting.mounted posting.trace ≡ doomed_first (doomed posting.trace)
+  pub sweep-due : ExtendsByPost meaning mid n csw sense code posting → due meaning posting.mounted posting.trace ≡ doomed_first (doomed posting.trace)
   sweep-due p = rw p (due-no_halt meaning mid.mounted (Post n csw sense code ∷ mid.trace) (λ n a. refl))
 
 -- entries that post nothing, and what they doom, as one step
 module _ {D : Type 0} (meaning : Meaning D) where
   pub add-then-sweep : (old adding new : Book D) (G : List Entry) → posted meaning old.mounted G ≡ posted meaning old.mounted old.trace → adding ≡ record old { trace = G; spare = adding.spare } →
-      Posts meaning adding (after_dooms adding.trace) adding.again new → Posts meaning old (after_dooms G) old.again new
+      Extends meaning adding (after_dooms adding.trace) adding.awaits new → Extends meaning old (after_dooms G) old.awaits new
   add-then-sweep old adding new G p a s =
       let r = rw a at s in
       let out : posted_since meaning old.mounted G (after_dooms G) ≡ posted_since meaning old.mounted old.trace (after_dooms G) = ap (λ x. drop (length x) (posted meaning old.mounted (after_dooms G))) p in
@@ -83,3 +83,14 @@ module _ {D : Type 0} (meaning : Meaning D) where
     by_due (ToHalt n) = refl
     by_due (ToPost n) = refl
     by_due Free = refl
+
+  -- a purge of a book in which room was made
+  purge-by : (awaiting : Bool) (old mid new : Book D) (scope : Scope) (mode : Mode) → mid ≡ record old { spare = mid.spare } → PurgesBy meaning awaiting mid scope mode new → PurgesBy meaning awaiting old scope mode new
+  purge-by false old mid new scope mode m p = rw m at p
+  purge-by true old mid new scope mode m p = record { name = p.name; csw = p.csw; sense = p.sense; fits = rw m at p.fits; extends = rw m at p.extends }
+
+  pub purge-reserved : (old mid new : Book D) (scope : Scope) (mode : Mode) → mid ≡ record old { spare = mid.spare } → PurgesBy meaning (covers_awaiting mid scope mode) mid scope mode new →
+      PurgesBy meaning (covers_awaiting old scope mode) old scope mode new
+  purge-reserved old mid new scope mode m p =
+      let same : covers_awaiting mid scope mode ≡ covers_awaiting old scope mode = rw m refl in
+      subst (λ b. PurgesBy meaning b old scope mode new) same (purge-by (covers_awaiting mid scope mode) old mid new scope mode m p)

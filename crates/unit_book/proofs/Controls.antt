@@ -12,8 +12,8 @@ use Rattle.request_piece.specs.declared.scope.Scope.{Scope}
 use Rattle.request_piece.specs.declared.scope.Scope.TheVariants.{Dcb, Task}
 use Rattle.unit_queue.specs.declared.selection.Selection.TheVariants as selection
 use Rattle.unit_book.specs.declared.active.Active.{Active}
-use Rattle.unit_book.specs.declared.active.Doing.{Doing}
-use Rattle.unit_book.specs.declared.active.Doing.TheVariants.{OnChannel, Again}
+use Rattle.unit_book.specs.declared.active.Standing.{Standing}
+use Rattle.unit_book.specs.declared.active.Standing.TheVariants.{OnChannel, AwaitsRestart}
 use Rattle.unit_book.specs.declared.dcb.Dcb.{Dcb as Row}
 use Rattle.unit_book.specs.declared.entry.Mode.{Mode}
 use Rattle.unit_book.specs.declared.entry.Entry.{Entry}
@@ -23,9 +23,9 @@ use Rattle.unit_book.specs.Dcbs.{doomed, is_doomed, is_open, is_opened, is_close
 use Rattle.unit_book.specs.Media.{attempts, current}
 use Rattle.unit_book.specs.Legal.{Fits, Legal, Free, due, doomed_first, CanPurge}
 use Rattle.unit_book.specs.Posts.{posted}
-use Rattle.unit_book.specs.Picks.{picks, DoomedBy}
+use Rattle.unit_book.specs.Selected.{is_selected, DoomedBy}
 use Rattle.unit_book.specs.Controls.{active_of, covered_by}
-use Rattle.unit_book.specs.Inside.{again_by, ActiveTies, ActivityTies, DoingTies, Ties, after_cover}
+use Rattle.unit_book.specs.Fields.{awaits_by, ActiveTies, ActivityTies, StandingTies, Ties, after_cover}
 use Rattle.unit_book.proofs.Dooms.{none-pass, filter-agree, filter-never, due-doomed, due-no_halt, length-filter_le}
 use Rattle.unit_book.proofs.Same.{fits-free}
 
@@ -42,7 +42,7 @@ module _ {D : Type 0} (meaning : Meaning D) (mounted : D) where
   unfolding waiting arrivals flag
   doomed-purge scope mode H e =
       let G = Purge scope mode ∷ H in
-      filter-agree (is_doomed G) (picks (Some (selection.Scope scope))) (λ r. not (is_doomed H r))
+      filter-agree (is_doomed G) (is_selected (Some (selection.Scope scope))) (λ r. not (is_doomed H r))
       (λ r h. purged-by (covers scope r) (not (is_open r.dcb H)) (is_purged r H) (r.related && flag r.dcb H) h) (waiting H) (none-pass (is_doomed H) (waiting H) e)
 
   -- a Halted dooms nothing
@@ -63,7 +63,7 @@ module _ {D : Type 0} (meaning : Meaning D) (mounted : D) where
   unfolding waiting arrivals flag
   doomed-close d H e =
       let G = Close d ∷ H in
-      filter-agree (is_doomed G) (picks (Some (selection.Scope (Dcb d)))) (λ r. not (is_doomed H r))
+      filter-agree (is_doomed G) (is_selected (Some (selection.Scope (Dcb d)))) (λ r. not (is_doomed H r))
       (λ r h. closed-by (eqb d r.dcb) (is_opened r.dcb H) (is_closed r.dcb H) (is_purged r H) (r.related && flag r.dcb H) h) (waiting H) (none-pass (is_doomed H) (waiting H) e)
 
   -- A RESET DOOMS nothing
@@ -100,29 +100,29 @@ module _ {D : Type 0} (meaning : Meaning D) (mounted : D) where
     pub covers-same : (phase : Phase) (a : Active) → ActiveTies meaning mounted H phase a → covers scope a.piece.value ≡ covers scope (request_of a.piece.value.name H)
     covers-same phase a t = ap (covers scope) t.request ∙ covers-area scope (request_of a.piece.value.name H) (current meaning mounted H).area
 
-    uncovered : (phase : Phase) (a : Active) (doing : Doing) → ActiveTies meaning mounted H phase a → is_halt mode && again_by doing && is_some (covered_by scope H (Some a.piece.value.name)) ≡ false →
-        again_by doing ≡ true → covers scope a.piece.value && is_halt mode ≡ false
-    uncovered phase a doing t h e = by_bools (is_halt mode) (covers scope (request_of a.piece.value.name H)) (covers scope a.piece.value) (covers-same phase a t) (rw e at h) where
+    uncovered : (phase : Phase) (a : Active) (standing : Standing) → ActiveTies meaning mounted H phase a → is_halt mode && awaits_by standing && is_some (covered_by scope H (Some a.piece.value.name)) ≡ false →
+        awaits_by standing ≡ true → covers scope a.piece.value && is_halt mode ≡ false
+    uncovered phase a standing t h e = by_bools (is_halt mode) (covers scope (request_of a.piece.value.name H)) (covers scope a.piece.value) (covers-same phase a t) (rw e at h) where
       by_bools : (halts c d : Bool) → d ≡ c → halts && true && is_some (if c then Some a.piece.value.name else None) ≡ false → d && halts ≡ false
       by_bools true true d k l = absurd cc
       by_bools true false d k l = rw k refl
       by_bools false c true k l = refl
       by_bools false c false k l = refl
 
-    doing-purge : (phase : Phase) (a : Active) (doing : Doing) → ActiveTies meaning mounted H phase a → (again_by doing ≡ true → covers scope a.piece.value && is_halt mode ≡ false) →
-        DoingTies meaning mounted H phase a doing → DoingTies meaning mounted P phase (after_cover scope mode a) doing
+    standing-purge : (phase : Phase) (a : Active) (standing : Standing) → ActiveTies meaning mounted H phase a → (awaits_by standing ≡ true → covers scope a.piece.value && is_halt mode ≡ false) →
+        StandingTies meaning mounted H phase a standing → StandingTies meaning mounted P phase (after_cover scope mode a) standing
     unfolding attempts request_of
-    doing-purge Absent a doing t u d = absurd d
-    doing-purge Idle a OnChannel t u d = absurd d
-    doing-purge Idle a (Again csw sense) t u d =
+    standing-purge Absent a standing t u d = absurd d
+    standing-purge Idle a OnChannel t u d = absurd d
+    standing-purge Idle a (AwaitsRestart csw sense) t u d =
         let e = ap (λ b. b && is_halt mode) (sym (covers-same Idle a t)) ∙ u refl in
         (d.0, d.1, rw e d.2)
-    doing-purge (Running place) a OnChannel t u d = d
-    doing-purge (Running place) a (Again csw sense) t u d = absurd d
-    doing-purge (Pending csw sense) a OnChannel t u d = d
-    doing-purge (Pending csw sense) a (Again c s) t u d = absurd d
+    standing-purge (Running place) a OnChannel t u d = d
+    standing-purge (Running place) a (AwaitsRestart csw sense) t u d = absurd d
+    standing-purge (Pending csw sense) a OnChannel t u d = d
+    standing-purge (Pending csw sense) a (AwaitsRestart c s) t u d = absurd d
 
-    active-purge : (phase : Phase) (a : Active) → ActiveTies meaning mounted H phase a → (again_by a.doing ≡ true → covers scope a.piece.value && is_halt mode ≡ false) →
+    active-purge : (phase : Phase) (a : Active) → ActiveTies meaning mounted H phase a → (awaits_by a.standing ≡ true → covers scope a.piece.value && is_halt mode ≡ false) →
         ActiveTies meaning mounted P phase (after_cover scope mode a)
     unfolding attempts request_of active started
     active-purge phase a t u = record {
@@ -133,7 +133,7 @@ module _ {D : Type 0} (meaning : Meaning D) (mounted : D) where
       halted = t.halted;
       covered = ap (λ b. (covers scope a.piece.value && is_halt mode) || b) t.covered
           ∙ ap (λ b. (b && is_halt mode) || is_covered (request_of a.piece.value.name H) H) (covers-same phase a t);
-      doing = doing-purge phase a a.doing t u t.doing;
+      standing = standing-purge phase a a.standing t u t.standing;
     }
 
     fits-purge : due meaning mounted H ≡ Free → CanPurge meaning mounted scope H → Fits meaning mounted (Purge scope mode) H
@@ -157,11 +157,11 @@ module _ {D : Type 0} (meaning : Meaning D) (mounted : D) where
     unfolding active started
     ties-purge_none settled can t = with-activity None settled can t.activity None t
 
-    pub ties-purge : (a : Active) → due meaning mounted H ≡ Free → CanPurge meaning mounted scope H → is_halt mode && again_by a.doing && is_some (active_of scope H) ≡ false →
+    pub ties-purge : (a : Active) → due meaning mounted H ≡ Free → CanPurge meaning mounted scope H → is_halt mode && awaits_by a.standing && is_some (active_of scope H) ≡ false →
         Ties meaning mounted H channel (Some a) waiters table left → Ties meaning mounted P channel (Some (after_cover scope mode a)) waiters table left
     ties-purge a settled can h t =
         let h' = rw t.activity.is at h in
-        with-activity (Some (after_cover scope mode a)) settled can (active-purge channel.phase a t.activity (λ e. uncovered channel.phase a a.doing t.activity h' e)) (Some a) t
+        with-activity (Some (after_cover scope mode a)) settled can (active-purge channel.phase a t.activity (λ e. uncovered channel.phase a a.standing t.activity h' e)) (Some a) t
 
   -- at most what waited is doomed
   pub doomed-close_few : (d : ℕ) (H : List Entry) → length (doomed (Close d ∷ H)) ≤ length (waiting H)

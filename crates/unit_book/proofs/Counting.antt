@@ -11,7 +11,7 @@ use Rattle.request_piece.specs.declared.scope.Scope.{Scope}
 use Rattle.io_images.specs.declared.code.Code.TheVariants.{ExtentViolated}
 use Rattle.io_images.specs.declared.extent.Extent.{Extent}
 use Rattle.device_port.specs.Meaning.{Meaning}
-use Rattle.subchannel.specs.Subchannel.{no_status}
+use Rattle.io_images.specs.Images.{no_status}
 use Rattle.unit_book.specs.declared.answer.Starting.{Starting}
 use Rattle.unit_book.specs.declared.answer.Starting.TheVariants.{Busy, Idle, Started, Violated}
 use Rattle.unit_book.specs.declared.answer.Running.{Running}
@@ -66,7 +66,7 @@ module _ {D : Type 0} (meaning : Meaning D) where
   unfolding arrivals
   interrupts-keep old NothingPending new h = ap (λ (b : Book D). arrivals b.trace) h.1
   interrupts-keep old (TriedAgain n) new h = ap (λ (b : Book D). arrivals b.trace) h.2
-  interrupts-keep old (WasPosted n code) new h = ap (λ (b : Book D). arrivals b.trace) h.1.posts ∙ arrivals-after_dooms (Post n h.1.csw h.1.sense code ∷ old.trace)
+  interrupts-keep old (WasPosted n code) new h = ap (λ (b : Book D). arrivals b.trace) h.1.extends ∙ arrivals-after_dooms (Post n h.1.csw h.1.sense code ∷ old.trace)
 
   pub opens-keep : (old : Book D) (dcb : ℕ) (input : Bool) (extents : List Extent) (new : Book D) → OpensBook meaning old dcb input extents new → arrivals new.trace ≡ arrivals old.trace
   unfolding arrivals
@@ -87,7 +87,7 @@ module _ {D : Type 0} (meaning : Meaning D) where
   purges-keep-by : (awaiting : Bool) (old : Book D) (scope : Scope) (mode : Mode) (new : Book D) → PurgesBy meaning awaiting old scope mode new → arrivals new.trace ≡ arrivals old.trace
   unfolding arrivals
   purges-keep-by false old scope mode new h = ap (λ (b : Book D). arrivals b.trace) h ∙ arrivals-after_purge old.mounted scope mode old.trace
-  purges-keep-by true old scope mode new h = ap (λ (b : Book D). arrivals b.trace) h.posts ∙ arrivals-after_purge old.mounted scope mode old.trace
+  purges-keep-by true old scope mode new h = ap (λ (b : Book D). arrivals b.trace) h.extends ∙ arrivals-after_purge old.mounted scope mode old.trace
 
   pub purges-keep : (old : Book D) (scope : Scope) (mode : Mode) (answer : Purging) (new : Book D) → PurgesBook meaning old scope mode answer new → arrivals new.trace ≡ arrivals old.trace
   purges-keep old scope mode answer new h = purges-keep-by (covers_awaiting old scope mode) old scope mode new h.purges

@@ -2,6 +2,7 @@
 use Rattle.std.proofs.Common.{◌≡◌, ℕ, Bool, true, false, Option, Some, None, List, refl, sym, ap, ◌∙◌, subst}
 use Rattle.io_images.specs.declared.csw.Csw.{Csw}
 use Rattle.io_images.specs.declared.code.Code.{Code}
+use Rattle.io_images.specs.declared.code.Code.TheVariants.{Purged}
 use Rattle.device_port.specs.Meaning.{Meaning}
 use Rattle.device_port.specs.declared.kind.Kind.{Kind}
 use Rattle.subchannel.specs.Subchannel.{Channel, Phase, Absent, Idle, Running, Pending, status_of, tested_phase}
@@ -12,15 +13,15 @@ use Rattle.request_piece.specs.PostedState.{PostedState}
 use Rattle.request_piece.specs.declared.piece.Name.{Name}
 use Rattle.request_piece.specs.declared.piece.Piece.{Piece}
 use Rattle.unit_book.specs.declared.active.Active.{Active}
-use Rattle.unit_book.specs.declared.active.Doing.{Doing}
-use Rattle.unit_book.specs.declared.active.Doing.TheVariants.{OnChannel, Again}
+use Rattle.unit_book.specs.declared.active.Standing.{Standing}
+use Rattle.unit_book.specs.declared.active.Standing.TheVariants.{OnChannel, AwaitsRestart}
 use Rattle.unit_book.specs.declared.dcb.Dcb.{Dcb}
 use Rattle.unit_book.specs.declared.entry.Entry.{Entry}
 use Rattle.unit_book.specs.Trace.{active, request_of, is_covered}
-use Rattle.unit_book.specs.Media.{Goes, Over, goes, stage}
-use Rattle.unit_book.specs.Legal.{verdict_of, ended_code, PostsActive, PostsAt, StartsAgain}
+use Rattle.unit_book.specs.Media.{StillRunning, HasEnded, still_runs, active_phase}
+use Rattle.unit_book.specs.Legal.{verdict_of, PostsActive, PostsAs, WithVerdict, WhileCovered, AfterHalt, StartsAgain}
 use Rattle.unit_book.specs.Book.{pending_by}
-use Rattle.unit_book.specs.Inside.{DoingTies, Ties, again_by, pending_stage, pending_code}
+use Rattle.unit_book.specs.Fields.{StandingTies, Ties, awaits_by, pending_phase, pending_code, ended_code}
 
 module _ {D : Type 0} (meaning : Meaning D) (mounted : D) where
   module _ (H : List Entry) (channel : Channel D) (a : Active) (waiters : List Piece) (table : List Dcb) (left : List PostedState) (csw : Csw) (sense : ℕ)
@@ -28,46 +29,46 @@ module _ {D : Type 0} (meaning : Meaning D) (mounted : D) where
     abbrev n : Name
     n = a.piece.value.name
 
-    pending-stage : (phase : Phase) (doing : Doing) → DoingTies meaning mounted H phase a doing → status_of phase ≡ Some (csw, sense) →
-        (stage meaning mounted n H ≡ pending_stage a.halted csw sense) × (again_by doing ≡ false)
-    pending-stage Absent doing d h = absurd d
-    pending-stage Idle doing d h = absurd cc
-    pending-stage (Running place) doing d h = absurd cc
-    pending-stage (Pending c k) OnChannel d h =
+    pending-phase : (phase : Phase) (standing : Standing) → StandingTies meaning mounted H phase a standing → status_of phase ≡ Some (csw, sense) →
+        (active_phase meaning mounted n H ≡ pending_phase a.halted csw sense) × (awaits_by standing ≡ false)
+    pending-phase Absent standing d h = absurd d
+    pending-phase Idle standing d h = absurd cc
+    pending-phase (Running place) standing d h = absurd cc
+    pending-phase (Pending c k) OnChannel d h =
         let p : (c, k) ≡ (csw, sense) = cc in
-        (d ∙ ap (λ (x : Csw × ℕ). pending_stage a.halted x.0 x.1) p, refl)
-    pending-stage (Pending c k) (Again x y) d h = absurd d
+        (d ∙ ap (λ (x : Csw × ℕ). pending_phase a.halted x.0 x.1) p, refl)
+    pending-phase (Pending c k) (AwaitsRestart x y) d h = absurd d
 
-    stage-is : stage meaning mounted n H ≡ pending_stage a.halted csw sense
-    stage-is = (pending-stage channel.phase a.doing t.activity.doing pending).0
+    phase-is : active_phase meaning mounted n H ≡ pending_phase a.halted csw sense
+    phase-is = (pending-phase channel.phase a.standing t.activity.standing pending).0
 
     -- it does not await its restart
-    pub decides-not_again : again_by a.doing ≡ false
-    decides-not_again = (pending-stage channel.phase a.doing t.activity.doing pending).1
+    pub decides-not_again : awaits_by a.standing ≡ false
+    decides-not_again = (pending-phase channel.phase a.standing t.activity.standing pending).1
 
-    pending-stands : (halted : Bool) → goes (pending_stage halted csw sense) ≡ false
+    pending-stands : (halted : Bool) → still_runs (pending_phase halted csw sense) ≡ false
     pending-stands true = refl
     pending-stands false = refl
 
     -- its program does not run
-    pub decides-stands : goes (stage meaning mounted n H) ≡ false
-    decides-stands = ap goes stage-is ∙ pending-stands a.halted
-
-    posts-by : (kind : Kind) (starts : ℕ) (halted covered : Bool) (code : Code) → pending_code kind csw sense starts halted covered ≡ Some code →
-        PostsAt meaning mounted csw sense code (pending_stage halted csw sense) (λ c s. ended_code (verdict kind c s starts) covered)
-    posts-by kind starts true covered code h = (refl, refl, cc)
-    posts-by kind starts false covered code h = (refl, refl, h)
+    pub decides-stands : still_runs (active_phase meaning mounted n H) ≡ false
+    decides-stands = ap still_runs phase-is ∙ pending-stands a.halted
 
     -- it is posted
+    ended-as : (v : Verdict) (covered : Bool) (code : Code) → verdict_of meaning mounted n csw sense H ≡ v → is_covered (request_of n H) H ≡ covered → active_phase meaning mounted n H ≡ HasEnded csw sense →
+        ended_code v covered ≡ Some code → PostsAs meaning mounted n csw sense code H
+    ended-as (Final c) covered code v k e h = let i : c ≡ code = cc in WithVerdict e (v ∙ ap Final i)
+    ended-as Retry true code v k e h = let i : Purged ≡ code = cc in WhileCovered e v k (sym i)
+    ended-as Retry false code v k e h = absurd cc
+
+    posts-as : (halted : Bool) (code : Code) → a.halted ≡ halted → pending_code (meaning.kind mounted) csw sense a.starts halted a.covered ≡ Some code → PostsAs meaning mounted n csw sense code H
+    posts-as true code b h = let i : Purged ≡ code = cc in AfterHalt (phase-is ∙ ap (λ x. pending_phase x csw sense) b) (sym i)
+    posts-as false code b h =
+        ended-as (verdict (meaning.kind mounted) csw sense a.starts) a.covered code (ap (verdict (meaning.kind mounted) csw sense) (sym t.activity.starts)) (sym t.activity.covered)
+        (phase-is ∙ ap (λ x. pending_phase x csw sense) b) h
+
     pub decides-post : (code : Code) → pending_code (meaning.kind mounted) csw sense a.starts a.halted a.covered ≡ Some code → PostsActive meaning mounted n csw sense code H
-    decides-post code h = record {
-      active = t.activity.is;
-      as_ended =
-          subst (λ x. PostsAt meaning mounted csw sense code x (λ c s. ended_code (verdict_of meaning mounted n c s H) (is_covered (request_of n H) H))) (sym stage-is)
-          (subst (λ k. PostsAt meaning mounted csw sense code (pending_stage a.halted csw sense) (λ c s. ended_code (verdict (meaning.kind mounted) c s k) (is_covered (request_of n H) H))) t.activity.starts
-          (subst (λ k. PostsAt meaning mounted csw sense code (pending_stage a.halted csw sense) (λ c s. ended_code (verdict (meaning.kind mounted) c s a.starts) k)) t.activity.covered
-          (posts-by (meaning.kind mounted) a.starts a.halted a.covered code h)));
-    }
+    decides-post code h = record { active = t.activity.is; as_ended = posts-as a.halted code refl h }
 
     none-code : (v : Verdict) (covered : Bool) → ended_code v covered ≡ None → (v ≡ Retry) × (covered ≡ false)
     none-code (Final code) covered h = absurd cc
@@ -80,8 +81,8 @@ module _ {D : Type 0} (meaning : Meaning D) (mounted : D) where
     none-pending kind starts false covered h = let n = none-code (verdict kind csw sense starts) covered h in (refl, n.0, n.1)
 
     -- it is to be tried again
-    pub decides-ended : pending_code (meaning.kind mounted) csw sense a.starts a.halted a.covered ≡ None → stage meaning mounted n H ≡ Over csw sense
-    decides-ended h = let n = none-pending (meaning.kind mounted) a.starts a.halted a.covered h in stage-is ∙ ap (λ x. pending_stage x csw sense) n.0
+    pub decides-ended : pending_code (meaning.kind mounted) csw sense a.starts a.halted a.covered ≡ None → active_phase meaning mounted n H ≡ HasEnded csw sense
+    decides-ended h = let n = none-pending (meaning.kind mounted) a.starts a.halted a.covered h in phase-is ∙ ap (λ x. pending_phase x csw sense) n.0
 
     pub decides-again : pending_code (meaning.kind mounted) csw sense a.starts a.halted a.covered ≡ None → StartsAgain meaning mounted n H
     decides-again h =
@@ -97,23 +98,23 @@ module _ {D : Type 0} (meaning : Meaning D) (mounted : D) where
 
   -- AWAITING ITS RESTART: no entry
   module _ (H : List Entry) (channel : Channel D) (a : Active) (waiters : List Piece) (table : List Dcb) (left : List PostedState) (csw : Csw) (sense : ℕ)
-      (t : Ties meaning mounted H channel (Some a) waiters table left) (s : StartsAgain meaning mounted a.piece.value.name H) (e : stage meaning mounted a.piece.value.name H ≡ Over csw sense) where
-    await-idle : (phase : Phase) (doing : Doing) → DoingTies meaning mounted H phase a doing → tested_phase phase ≡ Idle
-    await-idle Absent doing d = absurd d
-    await-idle Idle doing d = refl
+      (t : Ties meaning mounted H channel (Some a) waiters table left) (s : StartsAgain meaning mounted a.piece.value.name H) (e : active_phase meaning mounted a.piece.value.name H ≡ HasEnded csw sense) where
+    await-idle : (phase : Phase) (standing : Standing) → StandingTies meaning mounted H phase a standing → tested_phase phase ≡ Idle
+    await-idle Absent standing d = absurd d
+    await-idle Idle standing d = refl
     await-idle (Running place) OnChannel d = absurd (clash (sym d.1 ∙ e)) where
-      clash : {c : Csw} {k : ℕ} → Goes ≡ Over c k → ⊥
+      clash : {c : Csw} {k : ℕ} → StillRunning ≡ HasEnded c k → ⊥
       clash q = cc
-    await-idle (Running place) (Again c k) d = absurd d
-    await-idle (Pending c k) doing d = refl
+    await-idle (Running place) (AwaitsRestart c k) d = absurd d
+    await-idle (Pending c k) standing d = refl
 
     abbrev pub awaiting : Active
-    awaiting = record a { doing = Again csw sense }
+    awaiting = record a { standing = AwaitsRestart csw sense }
 
-    awaits : DoingTies meaning mounted H Idle awaiting (Again csw sense)
+    awaits : StandingTies meaning mounted H Idle awaiting (AwaitsRestart csw sense)
     awaits =
         let n = a.piece.value.name in
-        let o : Over s.csw s.sense ≡ Over csw sense = sym s.ended ∙ e in
+        let o : HasEnded s.csw s.sense ≡ HasEnded csw sense = sym s.ended ∙ e in
         let c : s.csw ≡ csw = cc in
         let k : s.sense ≡ sense = cc in
         (e, ap (λ x. verdict_of meaning mounted n x sense H) (sym c) ∙ ap (λ x. verdict_of meaning mounted n s.csw x H) (sym k) ∙ s.retry, s.free)
@@ -131,7 +132,7 @@ module _ {D : Type 0} (meaning : Meaning D) (mounted : D) where
         starts = t.activity.starts;
         halted = t.activity.halted;
         covered = t.activity.covered;
-        doing = subst (λ x. DoingTies meaning mounted H x awaiting (Again csw sense)) (sym (await-idle channel.phase a.doing t.activity.doing)) awaits;
+        standing = subst (λ x. StandingTies meaning mounted H x awaiting (AwaitsRestart csw sense)) (sym (await-idle channel.phase a.standing t.activity.standing)) awaits;
       };
       count = t.count;
       dcbs = t.dcbs;
@@ -141,7 +142,7 @@ module _ {D : Type 0} (meaning : Meaning D) (mounted : D) where
   -- what `decide` tells
   module _ (H : List Entry) (channel : Channel D) (a : Active) (waiters : List Piece) (table : List Dcb) (left : List PostedState) (csw : Csw) (sense : ℕ)
       (t : Ties meaning mounted H channel (Some a) waiters table left) (pending : status_of channel.phase ≡ Some (csw, sense)) where
-    pub decided_pending : pending_by meaning mounted H (again_by a.doing) (active H) ≡ true
+    pub decided_pending : pending_by meaning mounted H (awaits_by a.standing) (active H) ≡ true
     decided_pending =
         let is = t.activity.is in
         let again_is = decides-not_again H channel a waiters table left csw sense t pending in
@@ -149,7 +150,7 @@ module _ {D : Type 0} (meaning : Meaning D) (mounted : D) where
 
     abbrev pub DecidedAs : Option Code → Type 0
     DecidedAs (Some code) = PostsActive meaning mounted a.piece.value.name csw sense code H
-    DecidedAs None = StartsAgain meaning mounted a.piece.value.name H × (stage meaning mounted a.piece.value.name H ≡ Over csw sense)
+    DecidedAs None = StartsAgain meaning mounted a.piece.value.name H × (active_phase meaning mounted a.piece.value.name H ≡ HasEnded csw sense)
 
     pub decided : (code : Option Code) → pending_code (meaning.kind mounted) csw sense a.starts a.halted a.covered ≡ code → DecidedAs code
     decided (Some code) h = decides-post H channel a waiters table left csw sense t pending code h

@@ -8,7 +8,7 @@ use Rattle.io_images.specs.declared.extent.Extent.{Extent}
 use Rattle.io_images.specs.declared.code.Code.{Code}
 use Rattle.io_images.specs.declared.code.Code.TheVariants.{Purged}
 use Rattle.device_port.specs.Meaning.{Meaning}
-use Rattle.subchannel.specs.Subchannel.{no_status}
+use Rattle.io_images.specs.Images.{no_status}
 use Rattle.request_piece.specs.declared.piece.Name.{Name}
 use Rattle.request_piece.specs.declared.piece.Piece.{Piece}
 use Rattle.unit_book.specs.declared.entry.Entry.{Entry}
@@ -17,7 +17,7 @@ use Rattle.unit_book.specs.Trace.{same, waiting, arrivals, active, started, requ
 use Rattle.unit_book.specs.Dcbs.{doomed, is_doomed, is_open, is_opened, is_closed, flag}
 use Rattle.unit_book.specs.Legal.{Free, due, due_by, doomed_first, is_to_halt, Fits, FitsBy, Legal}
 use Rattle.unit_book.specs.Dooms.{all_posted, after_dooms}
-use Rattle.unit_book.specs.Picks.{picks, doomed_by_post, DoomedBy}
+use Rattle.unit_book.specs.Selected.{is_selected, doomed_by_post, DoomedBy}
 use Rattle.unit_book.proofs.Lists.{filter-filter, all-kept, without, without-first, Apart, Apart-filter}
 use Rattle.unit_book.proofs.Facts.{facts, waiting-start, waiting-post, waiting-apart}
 
@@ -76,7 +76,7 @@ module _ {D : Type 0} (meaning : Meaning D) (mounted : D) where
 
   -- a post dooms the related requests of its DCB, if it is of a related request and has an error
   doomed-by : (q r : Piece) (code : Code) (shut purged f : Bool) → not (shut || purged || (r.related && f)) ≡ true →
-      (shut || purged || (r.related && (if is_error code && q.related && eqb q.dcb r.dcb then true else f))) ≡ picks (doomed_by_post q code) r
+      (shut || purged || (r.related && (if is_error code && q.related && eqb q.dcb r.dcb then true else f))) ≡ is_selected (doomed_by_post q code) r
   doomed-by q r code true purged f h = absurd cc
   doomed-by q r code false true f h = absurd cc
   doomed-by q r code false false f h =
@@ -104,7 +104,7 @@ module _ {D : Type 0} (meaning : Meaning D) (mounted : D) where
       let G = Post n csw sense code ∷ H in
       let all = all-kept (λ r. not (is_doomed H r)) (λ r. not (same n r.name)) (waiting H) (none-pass (is_doomed H) (waiting H) e) in
       let there = subst (λ ws. list_all (λ r. not (is_doomed H r)) ws ≡ true) (sym (waiting-post meaning mounted n csw sense code H)) all in
-      filter-agree (is_doomed G) (picks (doomed_by_post (request_of n H) code)) (λ r. not (is_doomed H r))
+      filter-agree (is_doomed G) (is_selected (doomed_by_post (request_of n H) code)) (λ r. not (is_doomed H r))
       (λ r h. doomed-by (request_of n H) r code (not (is_open r.dcb H)) (is_purged r H) (flag r.dcb H) h) (waiting G) there
 
   -- no Halted is due

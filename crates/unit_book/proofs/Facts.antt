@@ -12,7 +12,7 @@ use Rattle.io_images.specs.declared.code.Code.{Code}
 use Rattle.unit_book.specs.declared.entry.Entry.{Entry}
 use Rattle.unit_book.specs.declared.entry.Entry.TheVariants.{Opened, Arrive, Start, Ran, Halted, Purge, Close, Reset, Post}
 use Rattle.unit_book.specs.Trace.{same, arrivals, arrived_of, has_arrived, has_started, is_posted, waiting, started, active, request_of}
-use Rattle.unit_book.specs.Inside.{Each}
+use Rattle.unit_book.specs.Lists.{Each}
 use Rattle.unit_book.specs.Media.{Attempt, attempts}
 use Rattle.unit_book.specs.Dcbs.{doomed, is_doomed}
 use Rattle.unit_book.specs.Legal.{Due, ToHalt, ToPost, Free, due, due_by, doomed_first, is_to_halt, Fits, FitsBy, FitsFree, Legal, StartFits, First, Again, PostFits, OfActive, OfFirst}
@@ -43,9 +43,9 @@ Known H r = (request_of r.name H ≡ r) × (has_arrived r.name H ≡ true)
 abbrev pub Facts : List Entry → Type 0
 Facts H = ArrivedStart H × ArrivedPost H × Numbered H × One H × Newest H × Apart (arrivals H) × Each (Known H) (arrivals H)
 
-pub Each-push : (P : Piece → Type 0) (rs : List Piece) (r : Piece) → Each P rs → P r → Each P (rs ++ r ∷ [])
-Each-push P [] r h k = (k, tt)
-Each-push P (s ∷ rs) r h k = (h.0, Each-push P rs r h.1 k)
+pub Each-behind : {X : Type 0} (P : X → Type 0) (xs : List X) (x : X) → Each P xs → P x → Each P (xs ++ x ∷ [])
+Each-behind P [] x h k = (k, tt)
+Each-behind P (y ∷ xs) x h k = (h.0, Each-behind P xs x h.1 k)
 
 pub Each-weaker : (P Q : Piece → Type 0) → ((r : Piece) → P r → Q r) → (rs : List Piece) → Each P rs → Each Q rs
 Each-weaker P Q w [] h = tt
@@ -316,7 +316,7 @@ module _ {D : Type 0} (meaning : Meaning D) (mounted : D) where
     still q k = let s = other q.name k.1 in (rw s k.0, or_right (same r.name q.name) (has_arrived q.name H) k.1)
 
     known' : Each (Known (Arrive r ∷ H)) (arrivals H ++ r ∷ [])
-    known' = let s = same-refl r.name in Each-push (Known (Arrive r ∷ H)) (arrivals H) r (Each-weaker (Known H) (Known (Arrive r ∷ H)) still (arrivals H) f.6) (rw s refl, or_left (same r.name r.name) (has_arrived r.name H) s)
+    known' = let s = same-refl r.name in Each-behind (Known (Arrive r ∷ H)) (arrivals H) r (Each-weaker (Known H) (Known (Arrive r ∷ H)) still (arrivals H) f.6) (rw s refl, or_left (same r.name r.name) (has_arrived r.name H) s)
 
   -- a Start of a name that arrived, has no Post, and is active or nothing is
   facts-start : (n : Name) (H : List Entry) → Facts H → Known H (request_of n H) → (request_of n H).name ≡ n → is_posted n H ≡ false →

@@ -12,8 +12,8 @@ use Rattle.request_piece.specs.declared.piece.Piece.{Piece}
 use Rattle.request_piece.specs.Scope.{covers}
 use Rattle.request_piece.specs.declared.scope.Scope.{Scope}
 use Rattle.unit_book.specs.declared.active.Active.{Active}
-use Rattle.unit_book.specs.declared.active.Doing.{Doing}
-use Rattle.unit_book.specs.declared.active.Doing.TheVariants.{OnChannel, Again}
+use Rattle.unit_book.specs.declared.active.Standing.{Standing}
+use Rattle.unit_book.specs.declared.active.Standing.TheVariants.{OnChannel, AwaitsRestart}
 use Rattle.unit_book.specs.declared.dcb.Dcb.{Dcb as Row}
 use Rattle.unit_book.specs.declared.entry.Mode.{Mode}
 use Rattle.unit_book.specs.declared.entry.Mode.TheVariants.{Quiesce, Halt}
@@ -21,12 +21,12 @@ use Rattle.unit_book.specs.declared.entry.Entry.{Entry}
 use Rattle.unit_book.specs.declared.entry.Entry.TheVariants.{Opened, Arrive, Start, Ran, Halted, Purge, Close, Reset, Post}
 use Rattle.unit_book.specs.Trace.{waiting, arrivals, active, started, request_of}
 use Rattle.unit_book.specs.Dcbs.{doomed, is_open, is_opened, flag, extents_of}
-use Rattle.unit_book.specs.Media.{attempts, current, stage, goes, Stage}
+use Rattle.unit_book.specs.Media.{attempts, current, active_phase, still_runs, ActivePhase}
 use Rattle.unit_book.specs.Legal.{Fits, FitsBy, Legal, ToHalt, Free, due, due_by, doomed_first, is_to_halt}
 use Rattle.unit_book.specs.Posts.{posted}
-use Rattle.unit_book.specs.Book.{going_by}
+use Rattle.unit_book.specs.Book.{running_name_by}
 use Rattle.unit_book.specs.Controls.{active_of, covered_by, due_after}
-use Rattle.unit_book.specs.Inside.{DoingTies, Ties, dcb_at, dcb_of, shut, unflagged, pending_stage}
+use Rattle.unit_book.specs.Fields.{StandingTies, Ties, dcb_at, dcb_of, shut, unflagged, pending_phase}
 use Rattle.unit_book.proofs.Lists.{same-refl, no_both}
 use Rattle.unit_book.proofs.Dooms.{due-no_halt}
 use Rattle.unit_book.proofs.Same.{activity-same, fits-free}
@@ -37,34 +37,34 @@ module _ {D : Type 0} (meaning : Meaning D) (mounted : D) where
   quiesces scope H = due-no_halt meaning mounted (Purge scope Quiesce ∷ H) (λ n a. refl)
 
   -- none, if no program runs
-  pub halts-none : (scope : Scope) (mode : Mode) (H : List Entry) → is_some (going_by meaning mounted H (active H)) ≡ false → due meaning mounted (Purge scope mode ∷ H) ≡ due_after None (doomed (Purge scope mode ∷ H))
+  pub halts-none : (scope : Scope) (mode : Mode) (H : List Entry) → is_some (running_name_by meaning mounted H (active H)) ≡ false → due meaning mounted (Purge scope mode ∷ H) ≡ due_after None (doomed (Purge scope mode ∷ H))
   unfolding active started attempts request_of
   halts-none scope Quiesce H g = quiesces scope H
   halts-none scope Halt H g = due-no_halt meaning mounted (Purge scope Halt ∷ H) (λ n a. still n (rw a at g)) where
-    still : (n : Name) → is_some (if goes (stage meaning mounted n H) then Some n else None) ≡ false → is_to_halt meaning mounted (Purge scope Halt ∷ H) n ≡ false
-    still n h = by_bools (goes (stage meaning mounted n H)) (covers scope (request_of n H)) h where
+    still : (n : Name) → is_some (if still_runs (active_phase meaning mounted n H) then Some n else None) ≡ false → is_to_halt meaning mounted (Purge scope Halt ∷ H) n ≡ false
+    still n h = by_bools (still_runs (active_phase meaning mounted n H)) (covers scope (request_of n H)) h where
       by_bools : (b c : Bool) → is_some (if b then Some n else None) ≡ false → c && b ≡ false
       by_bools true c k = absurd cc
       by_bools false true k = refl
       by_bools false false k = refl
 
   -- the one that it covers, if its program runs
-  pub halts-active : (scope : Scope) (H : List Entry) → is_some (going_by meaning mounted H (active H)) ≡ true → due meaning mounted (Purge scope Halt ∷ H) ≡ due_after (active_of scope H) (doomed (Purge scope Halt ∷ H))
+  pub halts-active : (scope : Scope) (H : List Entry) → is_some (running_name_by meaning mounted H (active H)) ≡ true → due meaning mounted (Purge scope Halt ∷ H) ≡ due_after (active_of scope H) (doomed (Purge scope Halt ∷ H))
   unfolding due active started attempts request_of
   halts-active scope H g = by_active (active H) g where
     P : List Entry
     P = Purge scope Halt ∷ H
 
-    by_active : (o : Option Name) → is_some (going_by meaning mounted H o) ≡ true → due_by meaning mounted P o ≡ due_after (covered_by scope H o) (doomed P)
+    by_active : (o : Option Name) → is_some (running_name_by meaning mounted H o) ≡ true → due_by meaning mounted P o ≡ due_after (covered_by scope H o) (doomed P)
     by_active None h = absurd cc
-    by_active (Some n) h = by_bools (covers scope (request_of n H)) (goes (stage meaning mounted n H)) h where
+    by_active (Some n) h = by_bools (covers scope (request_of n H)) (still_runs (active_phase meaning mounted n H)) h where
       by_bools : (c b : Bool) → is_some (if b then Some n else None) ≡ true → (if c && b then ToHalt n else doomed_first (doomed P)) ≡ due_after (if c then Some n else None) (doomed P)
       by_bools true true k = refl
       by_bools false true k = refl
       by_bools c false k = absurd cc
 
   -- what is to be halted has a program that runs
-  to-halt : (H : List Entry) (n : Name) → is_to_halt meaning mounted H n ≡ true → goes (stage meaning mounted n H) ≡ true
+  to-halt : (H : List Entry) (n : Name) → is_to_halt meaning mounted H n ≡ true → still_runs (active_phase meaning mounted n H) ≡ true
   to-halt [] n h = absurd cc
   to-halt (Purge scope Quiesce ∷ H) n h = absurd cc
   to-halt (Purge scope Halt ∷ H) n h = (and_parts (covers scope (request_of n H)) _ h).1
@@ -81,14 +81,14 @@ module _ {D : Type 0} (meaning : Meaning D) (mounted : D) where
   no-halt-first [] n h = cc
   no-halt-first (r ∷ rs) n h = cc
 
-  pub halt-goes : (n : Name) (H : List Entry) → due meaning mounted H ≡ ToHalt n → goes (stage meaning mounted n H) ≡ true
+  pub halt-runs : (n : Name) (H : List Entry) → due meaning mounted H ≡ ToHalt n → still_runs (active_phase meaning mounted n H) ≡ true
   unfolding due
-  halt-goes n H h = by_active (active H) h where
-    by_active : (o : Option Name) → due_by meaning mounted H o ≡ ToHalt n → goes (stage meaning mounted n H) ≡ true
+  halt-runs n H h = by_active (active H) h where
+    by_active : (o : Option Name) → due_by meaning mounted H o ≡ ToHalt n → still_runs (active_phase meaning mounted n H) ≡ true
     by_active None e = absurd (no-halt-first (doomed H) n e)
     by_active (Some k) e =
         elim (cases_Bool (is_to_halt meaning mounted H k)) [
-          | inl b ↦ let e' = rw b at e in let q : k ≡ n = cc in subst (λ (x : Name). goes (stage meaning mounted x H) ≡ true) q (to-halt H k b)
+          | inl b ↦ let e' = rw b at e in let q : k ≡ n = cc in subst (λ (x : Name). still_runs (active_phase meaning mounted x H) ≡ true) q (to-halt H k b)
           | inr b ↦ absurd (no-halt-first (doomed H) n (rw b at e))
         ]
 
@@ -102,33 +102,33 @@ module _ {D : Type 0} (meaning : Meaning D) (mounted : D) where
     G = Halted n ∷ H
 
     -- where a program goes
-    record Going (phase : Phase) (doing : Doing) : Type 0 where
+    record Going (phase : Phase) (standing : Standing) : Type 0 where
       place : Place
       phase_is : phase ≡ Running place
       place_is : place ≡ (current meaning mounted H).place
-      doing_is : doing ≡ OnChannel
+      standing_is : standing ≡ OnChannel
 
-    not-over : (s : Stage) → goes s ≡ true → (b : Bool) (csw : Csw) (sense : ℕ) → s ≡ pending_stage b csw sense → ⊥
-    not-over s g true csw sense e = let k : goes s ≡ false = ap goes e in no_both (goes s) g k
-    not-over s g false csw sense e = let k : goes s ≡ false = ap goes e in no_both (goes s) g k
+    not-over : (s : ActivePhase) → still_runs s ≡ true → (b : Bool) (csw : Csw) (sense : ℕ) → s ≡ pending_phase b csw sense → ⊥
+    not-over s g true csw sense e = let k : still_runs s ≡ false = ap still_runs e in no_both (still_runs s) g k
+    not-over s g false csw sense e = let k : still_runs s ≡ false = ap still_runs e in no_both (still_runs s) g k
 
-    runs : (phase : Phase) (doing : Doing) → goes (stage meaning mounted n H) ≡ true → DoingTies meaning mounted H phase a doing → Going phase doing
-    runs Absent doing g k = absurd k
+    runs : (phase : Phase) (standing : Standing) → still_runs (active_phase meaning mounted n H) ≡ true → StandingTies meaning mounted H phase a standing → Going phase standing
+    runs Absent standing g k = absurd k
     runs Idle OnChannel g k = absurd k
-    runs Idle (Again csw sense) g k = absurd (not-over (stage meaning mounted n H) g false csw sense k.0)
-    runs (Running place) OnChannel g k = record { place = place; phase_is = refl; place_is = k.0; doing_is = refl }
-    runs (Running place) (Again csw sense) g k = absurd k
-    runs (Pending csw sense) OnChannel g k = absurd (not-over (stage meaning mounted n H) g a.halted csw sense k)
-    runs (Pending csw sense) (Again c s) g k = absurd k
+    runs Idle (AwaitsRestart csw sense) g k = absurd (not-over (active_phase meaning mounted n H) g false csw sense k.0)
+    runs (Running place) OnChannel g k = record { place = place; phase_is = refl; place_is = k.0; standing_is = refl }
+    runs (Running place) (AwaitsRestart csw sense) g k = absurd k
+    runs (Pending csw sense) OnChannel g k = absurd (not-over (active_phase meaning mounted n H) g a.halted csw sense k)
+    runs (Pending csw sense) (AwaitsRestart c s) g k = absurd k
 
     stopped : Active
     stopped = record a { halted = true }
 
-    doing-halt : (phase : Phase) (doing : Doing) → Going phase doing → DoingTies meaning mounted G (halted_phase phase) (record a { halted = true }) doing
+    standing-halt : (phase : Phase) (standing : Standing) → Going phase standing → StandingTies meaning mounted G (halted_phase phase) (record a { halted = true }) standing
     unfolding attempts
-    doing-halt phase doing k =
+    standing-halt phase standing k =
         let e = k.phase_is in
-        let i = k.doing_is in
+        let i = k.standing_is in
         let p = k.place_is in
         let s = same-refl n in
         rw (e, i, p, s) refl
@@ -150,7 +150,7 @@ module _ {D : Type 0} (meaning : Meaning D) (mounted : D) where
             starts = t.activity.starts;
             halted = rw s refl;
             covered = t.activity.covered;
-            doing = doing-halt channel.phase a.doing (runs channel.phase a.doing (halt-goes n H d) t.activity.doing);
+            standing = standing-halt channel.phase a.standing (runs channel.phase a.standing (halt-runs n H d) t.activity.standing);
           };
           count = t.count;
           dcbs = t.dcbs;

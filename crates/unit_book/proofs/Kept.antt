@@ -19,8 +19,8 @@ use Rattle.unit_book.specs.Legal.{Legal, due}
 use Rattle.unit_book.specs.Posts.{posted, posted_value}
 use Rattle.unit_book.specs.Book.{Book, given}
 use Rattle.unit_book.specs.Settle.{Steps, ByStart, ByRun, ByInterrupt, Settles, Stays, Then}
-use Rattle.unit_book.specs.Inside.{Each}
-use Rattle.unit_book.proofs.Facts.{facts}
+use Rattle.unit_book.specs.Lists.{Each}
+use Rattle.unit_book.proofs.Facts.{Each-behind, facts}
 use Rattle.unit_book.proofs.Lists.{same-refl}
 use Rattle.unit_book.proofs.Outs.{taken-all}
 use Rattle.unit_book.proofs.WorldBooks.{Keeps, Sound, keeps-same, keeps-start, keeps-run, keeps-interrupt}
@@ -90,10 +90,6 @@ Each-front P (x ∷ xs) ys h = (h.0, Each-front P xs ys h.1)
 Each-back : {X : Type 0} (P : X → Type 0) (xs ys : List X) → Each P (xs ++ ys) → Each P ys
 Each-back P [] ys h = h
 Each-back P (x ∷ xs) ys h = Each-back P xs ys h.1
-
-pub Each-behind : {X : Type 0} (P : X → Type 0) (xs : List X) (x : X) → Each P xs → P x → Each P (xs ++ x ∷ [])
-Each-behind P [] x h k = (k, tt)
-Each-behind P (y ∷ xs) x h k = (h.0, Each-behind P xs x h.1 k)
 
 -- the request of a name that arrived is one of the arrivals
 request-among : (P : Piece → Type 0) (n : Name) (H : List Entry) → has_arrived n H ≡ true → Each P (arrivals H) → P (request_of n H)

@@ -34,3 +34,4 @@ pub mod Worlds
 mod WorldRows
 pub mod Settling
 pub mod Kept
+pub mod Pending

@@ -22,7 +22,7 @@ use Rattle.unit_book.specs.Dcbs.{is_opened, is_closed, opened_count, extents_of,
 use Rattle.unit_book.specs.Media.{attempts, stand}
 use Rattle.unit_book.specs.Legal.{Due, ToHalt, ToPost, Free, due, Fits, FitsBy, Legal, StartFits, First, Again, PostFits, OfActive, OfFirst, OpenFits}
 use Rattle.unit_book.specs.Posts.{posted}
-use Rattle.unit_book.specs.Inside.{Ties, dcb_at, dcb_of}
+use Rattle.unit_book.specs.Fields.{Ties, dcb_at, dcb_of}
 use Rattle.unit_book.proofs.Lists.{same-true, no_both}
 use Rattle.unit_book.proofs.Facts.{facts, fits-arrive, fits-start, fresh, active-is, first-waits}
 use Rattle.unit_book.proofs.Dooms.{due-doomed}

@@ -10,7 +10,7 @@ use Rattle.unit_book.specs.declared.active.Active.{Active}
 use Rattle.unit_book.specs.declared.dcb.Dcb.{Dcb}
 use Rattle.unit_book.specs.declared.entry.Entry.{Entry}
 use Rattle.unit_book.specs.Posts.{posted}
-use Rattle.unit_book.specs.Inside.{Ties}
+use Rattle.unit_book.specs.Fields.{Ties}
 
 pub length-rest : {X : Type 0} (xs : List X) → length (drop 1 xs) ≤ length xs
 length-rest [] = omega arith

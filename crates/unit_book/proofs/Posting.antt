@@ -4,14 +4,14 @@ use Rattle.std.proofs.lemmas.List.{append-nil}
 use Rattle.std.specs.Prelude.{slice_get, drop}
 use Rattle.circular_buffer.specs.Buffer.{Buffer, buffer}
 use Rattle.io_images.specs.declared.code.Code.TheVariants.{Purged}
-use Rattle.subchannel.specs.Subchannel.{no_status}
+use Rattle.io_images.specs.Images.{no_status}
 use Rattle.request_piece.specs.PostedState.{PostedState}
 use Rattle.request_piece.specs.Places.{Placed}
 use Rattle.request_piece.specs.declared.piece.Piece.{Piece}
 use Rattle.unit_queue.specs.Queue.{Queue, queue}
 use Rattle.unit_book.specs.declared.entry.Entry.{Entry}
 use Rattle.unit_book.specs.declared.entry.Entry.TheVariants.{Post}
-use Rattle.unit_book.specs.Inside.{Each}
+use Rattle.unit_book.specs.Lists.{Each}
 use Rattle.unit_book.specs.Dooms.{all_posted, purged}
 use Rattle.unit_book.proofs.Purges.{all_posted-push}
 

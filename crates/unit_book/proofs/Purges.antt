@@ -9,7 +9,8 @@ use Rattle.io_images.specs.declared.csw.Csw.{Csw}
 use Rattle.io_images.specs.declared.code.Code.{Code}
 use Rattle.io_images.specs.declared.code.Code.TheVariants.{Purged}
 use Rattle.device_port.specs.Meaning.{Meaning}
-use Rattle.subchannel.specs.Subchannel.{Channel, no_status}
+use Rattle.io_images.specs.Images.{no_status}
+use Rattle.subchannel.specs.Subchannel.{Channel}
 use Rattle.request_piece.specs.PostedState.{PostedState}
 use Rattle.request_piece.specs.Places.{Placed}
 use Rattle.request_piece.specs.declared.piece.Name.{Name}
@@ -24,9 +25,9 @@ use Rattle.unit_book.specs.Media.{attempts, area}
 use Rattle.unit_book.specs.Legal.{Fits, FitsBy, Legal, due, doomed_first}
 use Rattle.unit_book.specs.Dooms.{all_posted, after_dooms, purged}
 use Rattle.unit_book.specs.Posts.{posted, posted_since, posted_value}
-use Rattle.unit_book.specs.Inside.{Ties}
+use Rattle.unit_book.specs.Fields.{Ties}
 use Rattle.unit_book.proofs.Lists.{same-not-sym, no_both, without, none_named, Apart, Apart-filter, all-kept, without-first}
-use Rattle.unit_book.specs.Inside.{Each}
+use Rattle.unit_book.specs.Lists.{Each}
 use Rattle.unit_book.proofs.Facts.{Each-filter, facts, waits, WaitsAmong, waiting-post, waiting-apart, active-post_waiting}
 use Rattle.unit_book.proofs.Dooms.{doomed-purged, due-no_halt}
 use Rattle.unit_book.proofs.Same.{activity-same}

@@ -5,7 +5,8 @@ use Rattle.std.proofs.lemmas.List.Elements.{filter-append}
 use Rattle.std.specs.List.{filter}
 use Rattle.io_images.specs.declared.code.Code.TheVariants.{Purged}
 use Rattle.device_port.specs.Meaning.{Meaning}
-use Rattle.subchannel.specs.Subchannel.{Channel, no_status}
+use Rattle.io_images.specs.Images.{no_status}
+use Rattle.subchannel.specs.Subchannel.{Channel}
 use Rattle.request_piece.specs.PostedState.{PostedState}
 use Rattle.request_piece.specs.Places.{Placed}
 use Rattle.request_piece.specs.declared.piece.Piece.{Piece}
@@ -18,9 +19,9 @@ use Rattle.unit_book.specs.Dcbs.{doomed, is_doomed, is_open, is_refused, flag}
 use Rattle.unit_book.specs.Legal.{Free, due, doomed_first, Fits}
 use Rattle.unit_book.specs.Dooms.{after_dooms, purged}
 use Rattle.unit_book.specs.Posts.{posted, posted_since}
-use Rattle.unit_book.specs.Inside.{Ties}
+use Rattle.unit_book.specs.Fields.{Ties}
 use Rattle.unit_book.proofs.Lists.{same-refl, without, none_named, filter-all}
-use Rattle.unit_book.specs.Inside.{Each}
+use Rattle.unit_book.specs.Lists.{Each}
 use Rattle.unit_book.proofs.Facts.{Facts, facts, fresh, fits-arrive, none-named, waits, WaitsAmong, Known, waiting-arrive}
 use Rattle.unit_book.proofs.Dooms.{filter-agree, due-no_halt, due-doomed}
 use Rattle.unit_book.proofs.Arrivals.{ties-arrive}

@@ -15,8 +15,8 @@ use Rattle.request_piece.specs.PostedState.{PostedState}
 use Rattle.request_piece.specs.declared.piece.Name.{Name}
 use Rattle.request_piece.specs.declared.piece.Piece.{Piece}
 use Rattle.unit_book.specs.declared.active.Active.{Active}
-use Rattle.unit_book.specs.declared.active.Doing.{Doing}
-use Rattle.unit_book.specs.declared.active.Doing.TheVariants.{OnChannel, Again}
+use Rattle.unit_book.specs.declared.active.Standing.{Standing}
+use Rattle.unit_book.specs.declared.active.Standing.TheVariants.{OnChannel, AwaitsRestart}
 use Rattle.unit_book.specs.declared.dcb.Dcb.{Dcb}
 use Rattle.unit_book.specs.declared.entry.Entry.{Entry}
 use Rattle.unit_book.specs.declared.entry.Entry.TheVariants.{Start}
@@ -26,7 +26,7 @@ use Rattle.unit_book.specs.Media.{current, device}
 use Rattle.unit_book.specs.Legal.{Legal, due, Free, StartsAgain}
 use Rattle.unit_book.specs.Legal.{Again as Restart}
 use Rattle.unit_book.specs.Posts.{posted}
-use Rattle.unit_book.specs.Inside.{DoingTies, Ties, again_by, dcb_at, mask_at}
+use Rattle.unit_book.specs.Fields.{StandingTies, Ties, awaits_by, dcb_at, mask_at}
 use Rattle.unit_book.proofs.Lists.{same-refl, without, filter-all}
 use Rattle.unit_book.proofs.Facts.{Facts, facts, NewestIs, active-is, active-start, waiting-start, waits}
 use Rattle.unit_book.proofs.Same.{fits-free}
@@ -53,21 +53,21 @@ module _ {D : Type 0} (meaning : Meaning D) (mounted : D) where
 
   -- the active request, started once more
   abbrev pub restarted : Active → Active
-  restarted a = record { piece = a.piece; starts = a.starts + 1; halted = false; covered = false; doing = OnChannel }
+  restarted a = record { piece = a.piece; starts = a.starts + 1; halted = false; covered = false; standing = OnChannel }
 
   module _ (H : List Entry) (channel : Channel D) (a : Active) (waiters : List Piece) (table : List Dcb) (left : List PostedState) (mask : ℕ)
       (settled : due meaning mounted H ≡ Free) (s : StartsAgain meaning mounted a.piece.value.name H) (t : Ties meaning mounted H channel (Some a) waiters table left)
-      (again : again_by a.doing ≡ true) where
+      (again : awaits_by a.standing ≡ true) where
     abbrev n : Name
     n = a.piece.value.name
 
-    is-idle : (phase : Phase) (doing : Doing) → DoingTies meaning mounted H phase a doing → again_by doing ≡ true → phase ≡ Idle
-    is-idle Absent doing d h = absurd d
-    is-idle Idle doing d h = refl
+    is-idle : (phase : Phase) (standing : Standing) → StandingTies meaning mounted H phase a standing → awaits_by standing ≡ true → phase ≡ Idle
+    is-idle Absent standing d h = absurd d
+    is-idle Idle standing d h = refl
     is-idle (Running place) OnChannel d h = absurd cc
-    is-idle (Running place) (Again csw sense) d h = absurd d
+    is-idle (Running place) (AwaitsRestart csw sense) d h = absurd d
     is-idle (Pending csw sense) OnChannel d h = absurd cc
-    is-idle (Pending csw sense) (Again c k) d h = absurd d
+    is-idle (Pending csw sense) (AwaitsRestart c k) d h = absurd d
 
     -- it was started at most ten times
     pub few-starts : a.starts ≤ 10
@@ -98,7 +98,7 @@ module _ {D : Type 0} (meaning : Meaning D) (mounted : D) where
         let c = current-start meaning mounted n H in
         let device_is : prefixed meaning channel.device r.seek mask ≡ Some (device meaning mounted G) = rw (t.device, m, seek_is) (ap Some (sym (device-start meaning mounted n H))) in
         let area_is : (current meaning mounted G).area ≡ (current meaning mounted H).area = ap (λ (p : Program D). p.area) c ∙ area-current meaning mounted n H w in
-        let idle = is-idle channel.phase a.doing t.activity.doing again in
+        let idle = is-idle channel.phase a.standing t.activity.standing again in
         let running : Channel D = record { device = prefixed meaning channel.device r.seek mask; isc = channel.isc; phase = Running (start_place r.start) } in
         let whole : Ties meaning mounted G running (Some (restarted a)) waiters table left = record {
           legal = (fits-free meaning mounted (Start n) H settled (Restart s), t.legal);
@@ -112,7 +112,7 @@ module _ {D : Type 0} (meaning : Meaning D) (mounted : D) where
             starts = let e = t.activity.starts in rw self (omega (arith, e));
             halted = rw self refl;
             covered = let e = w.4 in rw (e, self) refl;
-            doing = (ap start_place start_is ∙ sym (ap (λ (p : Program D). p.place) c), rw self (rw c refl));
+            standing = (ap start_place start_is ∙ sym (ap (λ (p : Program D). p.place) c), rw self (rw c refl));
           };
           count = t.count;
           dcbs = t.dcbs;
@@ -122,13 +122,13 @@ module _ {D : Type 0} (meaning : Meaning D) (mounted : D) where
 
   -- a request that awaits its restart may be started again
   pub awaits-told : (H : List Entry) (channel : Channel D) (a : Active) (waiters : List Piece) (table : List Dcb) (left : List PostedState) →
-      Ties meaning mounted H channel (Some a) waiters table left → again_by a.doing ≡ true → StartsAgain meaning mounted a.piece.value.name H
-  awaits-told H channel a waiters table left t again = by_doing channel.phase a.doing t.activity.doing again where
-    by_doing : (phase : Phase) (doing : Doing) → DoingTies meaning mounted H phase a doing → again_by doing ≡ true → StartsAgain meaning mounted a.piece.value.name H
-    by_doing Absent doing d h = absurd d
-    by_doing Idle OnChannel d h = absurd d
-    by_doing Idle (Again csw sense) d h = record { active = t.activity.is; csw = csw; sense = sense; ended = d.0; retry = d.1; free = d.2 }
-    by_doing (Running place) OnChannel d h = absurd cc
-    by_doing (Running place) (Again csw sense) d h = absurd d
-    by_doing (Pending csw sense) OnChannel d h = absurd cc
-    by_doing (Pending csw sense) (Again c k) d h = absurd d
+      Ties meaning mounted H channel (Some a) waiters table left → awaits_by a.standing ≡ true → StartsAgain meaning mounted a.piece.value.name H
+  awaits-told H channel a waiters table left t again = by_standing channel.phase a.standing t.activity.standing again where
+    by_standing : (phase : Phase) (standing : Standing) → StandingTies meaning mounted H phase a standing → awaits_by standing ≡ true → StartsAgain meaning mounted a.piece.value.name H
+    by_standing Absent standing d h = absurd d
+    by_standing Idle OnChannel d h = absurd d
+    by_standing Idle (AwaitsRestart csw sense) d h = record { active = t.activity.is; csw = csw; sense = sense; ended = d.0; retry = d.1; free = d.2 }
+    by_standing (Running place) OnChannel d h = absurd cc
+    by_standing (Running place) (AwaitsRestart csw sense) d h = absurd d
+    by_standing (Pending csw sense) OnChannel d h = absurd cc
+    by_standing (Pending csw sense) (AwaitsRestart c k) d h = absurd d

@@ -9,37 +9,37 @@ use Rattle.ccw_programs.specs.declared.context.State.TheVariants.{Running as Run
 use Rattle.ccw_programs.specs.declared.context.Burst.{Burst}
 use Rattle.ccw_programs.specs.Step.{Program, program, after, length_of, is_running}
 use Rattle.ccw_programs.proofs.StepLaws.{after-add, steps_within-running}
-use Rattle.subchannel.specs.Subchannel.{Channel, Phase, Absent, Idle, Running, Pending, phase_of, going, RunsAs, RunsFrom}
+use Rattle.subchannel.specs.Subchannel.{Channel, Phase, Absent, Idle, Running, Pending, phase_of, running_program, RunsAs, RunsFrom}
 use Rattle.request_piece.specs.PostedState.{PostedState}
 use Rattle.request_piece.specs.declared.piece.Piece.{Piece}
 use Rattle.request_piece.specs.declared.piece.Name.{Name}
 use Rattle.unit_book.specs.declared.active.Active.{Active}
-use Rattle.unit_book.specs.declared.active.Doing.{Doing}
-use Rattle.unit_book.specs.declared.active.Doing.TheVariants.{OnChannel, Again}
+use Rattle.unit_book.specs.declared.active.Standing.{Standing}
+use Rattle.unit_book.specs.declared.active.Standing.TheVariants.{OnChannel, AwaitsRestart}
 use Rattle.unit_book.specs.declared.dcb.Dcb.{Dcb}
 use Rattle.unit_book.specs.declared.entry.Entry.{Entry}
 use Rattle.unit_book.specs.declared.entry.Entry.TheVariants.{Ran}
 use Rattle.unit_book.specs.Trace.{same, waiting, arrivals, active, started, request_of, is_halted}
-use Rattle.unit_book.specs.Media.{attempts, stand, newest, current, stage, stage_by, goes, Goes, device, beginning}
+use Rattle.unit_book.specs.Media.{attempts, stand, newest, current, active_phase, active_phase_by, still_runs, StillRunning, device, beginning}
 use Rattle.unit_book.specs.Dcbs.{extents_of, flag}
 use Rattle.unit_book.specs.Legal.{Legal, due, Free}
 use Rattle.unit_book.specs.Posts.{posted}
-use Rattle.unit_book.specs.Inside.{DoingTies, Ties, with_area}
+use Rattle.unit_book.specs.Fields.{StandingTies, Ties, with_area}
 use Rattle.unit_book.proofs.Lists.{same-is}
 use Rattle.unit_book.proofs.Facts.{facts, NewestIs, newest-ran}
 use Rattle.unit_book.proofs.Same.{fits-free}
 use Rattle.unit_book.proofs.Places.{placed-moved}
 
 module _ {D : Type 0} (meaning : Meaning D) (mounted : D) where
-  goes-running : (b : Bool) (place : Place) (state : State) → stage_by b place state ≡ Goes → (b ≡ false) × (state ≡ Runs)
-  goes-running true place state h = absurd cc
-  goes-running false place Runs h = (refl, refl)
-  goes-running false place (Ended csw sense) h = absurd cc
+  runs-running : (b : Bool) (place : Place) (state : State) → active_phase_by b place state ≡ StillRunning → (b ≡ false) × (state ≡ Runs)
+  runs-running true place state h = absurd cc
+  runs-running false place Runs h = (refl, refl)
+  runs-running false place (Ended csw sense) h = absurd cc
 
-  goes-by : (b : Bool) (place : Place) (state : State) → b ≡ false → goes (stage_by b place state) ≡ is_running state
-  goes-by true place state h = absurd cc
-  goes-by false place Runs h = refl
-  goes-by false place (Ended csw sense) h = refl
+  runs-by : (b : Bool) (place : Place) (state : State) → b ≡ false → still_runs (active_phase_by b place state) ≡ is_running state
+  runs-by true place state h = absurd cc
+  runs-by false place Runs h = refl
+  runs-by false place (Ended csw sense) h = refl
 
   -- the device of a trace is that of its newest attempt
   pub device-current : (n : Name) (H : List Entry) → NewestIs n H → device meaning mounted H ≡ (current meaning mounted H).device
@@ -76,35 +76,35 @@ module _ {D : Type 0} (meaning : Meaning D) (mounted : D) where
     -- what a burst of the active request's program says of the trace
     pub record Told : Type 0 where
       pub active : active H ≡ Some n
-      pub going : goes (stage meaning mounted n H) ≡ true
+      pub running : still_runs (active_phase meaning mounted n H) ≡ true
       pub commands : b.commands ≡ min max (length_of meaning (current meaning mounted H))
-      pub ended : goes (stage meaning mounted n G) ≡ is_running b.state
+      pub ended : still_runs (active_phase meaning mounted n G) ≡ is_running b.state
       pub some : 1 ≤ b.commands
-      pub still : stage meaning mounted n H ≡ Goes
+      pub still : active_phase meaning mounted n H ≡ StillRunning
       pub unhalted : is_halted n H ≡ false
       pub newest : NewestIs n G
       pub channel_is : new ≡ ran channel.isc (current meaning mounted G)
       pub area_is : area ≡ (current meaning mounted G).area
 
-    told_going : (place : Place) (doing : Doing) → DoingTies meaning mounted H (Running place) a doing →
+    told_running : (place : Place) (standing : Standing) → StandingTies meaning mounted H (Running place) a standing →
         RunsFrom meaning (program place (device meaning mounted H) a.piece.value.area) channel.isc max b new area → Told
-    told_going place (Again csw sense) d r = absurd d
-    told_going place OnChannel d r =
+    told_running place (AwaitsRestart csw sense) d r = absurd d
+    told_running place OnChannel d r =
         let w : NewestIs n H = (facts meaning mounted H t.legal).4 n t.activity.is in
         let same_device = device-current n H w in
         let same_area : a.piece.value.area ≡ (current meaning mounted H).area = ap (λ (r : Piece). r.area) t.activity.request in
         let p : program place (device meaning mounted H) a.piece.value.area ≡ current meaning mounted H = rw (d.0, same_device, same_area) refl in
         let c : current meaning mounted G ≡ after meaning b.commands (current meaning mounted H) = current-ran n b.commands H w in
-        let g = goes-running (is_halted n H) (current meaning mounted H).place (current meaning mounted H).place.state d.1 in
+        let g = runs-running (is_halted n H) (current meaning mounted H).place (current meaning mounted H).place.state d.1 in
         let s : b.state ≡ (current meaning mounted G).place.state = rw p at r.state ∙ rw (← c) refl in
         let j_is : b.commands ≡ min max (length_of meaning (current meaning mounted H)) = rw p at r.commands in
-        let going : is_running (current meaning mounted H).place.state ≡ true = let e = g.1 in rw e refl in
-        let long = steps_within-running meaning 4096 (current meaning mounted H) going in
+        let running : is_running (current meaning mounted H).place.state ≡ true = let e = g.1 in rw e refl in
+        let long = steps_within-running meaning 4096 (current meaning mounted H) running in
         record {
           active = t.activity.is;
-          going = ap goes d.1;
+          running = ap still_runs d.1;
           commands = j_is;
-          ended = goes-by (is_halted n G) (current meaning mounted G).place (current meaning mounted G).place.state g.0 ∙ ap is_running (sym s);
+          ended = runs-by (is_halted n G) (current meaning mounted G).place (current meaning mounted G).place.state g.0 ∙ ap is_running (sym s);
           some = omega (arith, j_is, long, asked);
           still = d.1;
           unhalted = g.0;
@@ -113,44 +113,44 @@ module _ {D : Type 0} (meaning : Meaning D) (mounted : D) where
           area_is = rw p at r.area ∙ rw (← c) refl;
         }
 
-    told_by : (phase : Phase) → DoingTies meaning mounted H phase a a.doing → RunsAs meaning channel a.piece.value.area max (going (Some (device meaning mounted H)) phase a.piece.value.area) (Some b) new area → Told
+    told_by : (phase : Phase) → StandingTies meaning mounted H phase a a.standing → RunsAs meaning channel a.piece.value.area max (running_program (Some (device meaning mounted H)) phase a.piece.value.area) (Some b) new area → Told
     told_by Absent d r = absurd r
     told_by Idle d r = absurd r
-    told_by (Running place) d r = told_going place a.doing d r
+    told_by (Running place) d r = told_running place a.standing d r
     told_by (Pending csw sense) d r = absurd r
 
     abbrev pub RunsOne : Type 0
-    RunsOne = RunsAs meaning channel a.piece.value.area max (going channel.device channel.phase a.piece.value.area) (Some b) new area
+    RunsOne = RunsAs meaning channel a.piece.value.area max (running_program channel.device channel.phase a.piece.value.area) (Some b) new area
 
-    with-device : RunsOne → RunsAs meaning channel a.piece.value.area max (going (Some (device meaning mounted H)) channel.phase a.piece.value.area) (Some b) new area
-    with-device r = subst (λ x. RunsAs meaning channel a.piece.value.area max (going x channel.phase a.piece.value.area) (Some b) new area) t.device r
+    with-device : RunsOne → RunsAs meaning channel a.piece.value.area max (running_program (Some (device meaning mounted H)) channel.phase a.piece.value.area) (Some b) new area
+    with-device r = subst (λ x. RunsAs meaning channel a.piece.value.area max (running_program x channel.phase a.piece.value.area) (Some b) new area) t.device r
 
     pub told : RunsOne → Told
-    told r = told_by channel.phase t.activity.doing (with-device r)
+    told r = told_by channel.phase t.activity.standing (with-device r)
 
-    doing-ran : (q : Program D) (state : State) → q.place.state ≡ state → q ≡ current meaning mounted G → is_halted n H ≡ false →
-        DoingTies meaning mounted G (phase_of q.place state) (with_area a area) OnChannel
-    doing-ran q Runs e c h = (ap (λ (p : Program D). p.place) c, rw (h, ← c, e) refl)
-    doing-ran q (Ended csw sense) e c h = let k : a.halted ≡ false = t.activity.halted ∙ h in rw (h, ← c, e, k) refl
+    standing-ran : (q : Program D) (state : State) → q.place.state ≡ state → q ≡ current meaning mounted G → is_halted n H ≡ false →
+        StandingTies meaning mounted G (phase_of q.place state) (with_area a area) OnChannel
+    standing-ran q Runs e c h = (ap (λ (p : Program D). p.place) c, rw (h, ← c, e) refl)
+    standing-ran q (Ended csw sense) e c h = let k : a.halted ≡ false = t.activity.halted ∙ h in rw (h, ← c, e, k) refl
 
-    on-channel : (phase : Phase) (doing : Doing) → DoingTies meaning mounted H phase a doing → RunsAs meaning channel a.piece.value.area max (going (Some (device meaning mounted H)) phase a.piece.value.area) (Some b) new area → doing ≡ OnChannel
-    on-channel Absent doing d r = absurd r
-    on-channel Idle doing d r = absurd r
+    on-channel : (phase : Phase) (standing : Standing) → StandingTies meaning mounted H phase a standing → RunsAs meaning channel a.piece.value.area max (running_program (Some (device meaning mounted H)) phase a.piece.value.area) (Some b) new area → standing ≡ OnChannel
+    on-channel Absent standing d r = absurd r
+    on-channel Idle standing d r = absurd r
     on-channel (Running place) OnChannel d r = refl
-    on-channel (Running place) (Again csw sense) d r = absurd d
-    on-channel (Pending csw sense) doing d r = absurd r
+    on-channel (Running place) (AwaitsRestart csw sense) d r = absurd d
+    on-channel (Pending csw sense) standing d r = absurd r
 
     pub ties-ran : RunsOne → SamePlace a.piece.value.area area →
         Ties meaning mounted G new (Some (with_area a area)) waiters table left
     unfolding Legal waiting arrivals active started request_of attempts extents_of flag posted
     ties-ran r place =
         let k = told r in
-        let i = on-channel channel.phase a.doing t.activity.doing (with-device r) in
-        let dr = doing-ran (current meaning mounted G) (current meaning mounted G).place.state refl refl k.unhalted in
+        let i = on-channel channel.phase a.standing t.activity.standing (with-device r) in
+        let dr = standing-ran (current meaning mounted G) (current meaning mounted G).place.state refl refl k.unhalted in
         let phase_is : new.phase ≡ phase_of (current meaning mounted G).place (current meaning mounted G).place.state = ap (λ (x : Channel D). x.phase) k.channel_is in
         let f : Piece → Storage → Piece = λ p m. record p { area = m } in
         record {
-          legal = (fits-free meaning mounted (Ran n b.commands) H settled (record { active = k.active; goes = k.still; some = k.some; left = omega (arith, k.commands) }), t.legal);
+          legal = (fits-free meaning mounted (Ran n b.commands) H settled (record { active = k.active; running = k.still; some = k.some; left = omega (arith, k.commands) }), t.legal);
           queue = t.queue;
           placed = t.placed;
           device = ap (λ (x : Channel D). x.device) k.channel_is ∙ ap Some (sym (device-current n G k.newest));
@@ -161,8 +161,8 @@ module _ {D : Type 0} (meaning : Meaning D) (mounted : D) where
             starts = t.activity.starts;
             halted = t.activity.halted;
             covered = t.activity.covered;
-            doing = subst (λ x. DoingTies meaning mounted G x (with_area a area) a.doing) (sym phase_is)
-                (subst (λ x. DoingTies meaning mounted G (phase_of (current meaning mounted G).place (current meaning mounted G).place.state) (with_area a area) x) (sym i) dr);
+            standing = subst (λ x. StandingTies meaning mounted G x (with_area a area) a.standing) (sym phase_is)
+                (subst (λ x. StandingTies meaning mounted G (phase_of (current meaning mounted G).place (current meaning mounted G).place.state) (with_area a area) x) (sym i) dr);
           };
           count = t.count;
           dcbs = t.dcbs;

@@ -7,15 +7,15 @@ use Rattle.request_piece.specs.PostedState.{PostedState}
 use Rattle.request_piece.specs.declared.piece.Name.{Name}
 use Rattle.request_piece.specs.declared.piece.Piece.{Piece}
 use Rattle.unit_book.specs.declared.active.Active.{Active}
-use Rattle.unit_book.specs.declared.active.Doing.{Doing}
-use Rattle.unit_book.specs.declared.active.Doing.TheVariants.{OnChannel, Again}
+use Rattle.unit_book.specs.declared.active.Standing.{Standing}
+use Rattle.unit_book.specs.declared.active.Standing.TheVariants.{OnChannel, AwaitsRestart}
 use Rattle.unit_book.specs.declared.dcb.Dcb.{Dcb}
 use Rattle.unit_book.specs.declared.entry.Entry.{Entry}
 use Rattle.unit_book.specs.Trace.{waiting, active, request_of, starts_of, is_halted, is_covered}
-use Rattle.unit_book.specs.Media.{attempts, newest, current, Stage, stage, stage_by}
+use Rattle.unit_book.specs.Media.{attempts, newest, current, ActivePhase, active_phase, active_phase_by}
 use Rattle.unit_book.specs.Legal.{Fits, FitsBy, FitsFree, due, Free}
 use Rattle.unit_book.specs.Book.{active_count}
-use Rattle.unit_book.specs.Inside.{held_count, ActiveTies, ActivityTies, DoingTies, Ties}
+use Rattle.unit_book.specs.Fields.{active_field_count, ActiveTies, ActivityTies, StandingTies, Ties}
 
 module _ {D : Type 0} (meaning : Meaning D) (mounted : D) where
   -- the later trace says of this name what the earlier one does
@@ -30,24 +30,24 @@ module _ {D : Type 0} (meaning : Meaning D) (mounted : D) where
   current-same : (H G : List Entry) → attempts G ≡ attempts H → current meaning mounted G ≡ current meaning mounted H
   current-same H G e = ap (newest meaning mounted) e
 
-  pub stage-same : (H G : List Entry) (n : Name) → attempts G ≡ attempts H → is_halted n G ≡ is_halted n H → stage meaning mounted n G ≡ stage meaning mounted n H
-  stage-same H G n e h =
-      let s : Bool → Program D → Stage = λ b p. stage_by b p.place p.place.state in
+  pub phase-same : (H G : List Entry) (n : Name) → attempts G ≡ attempts H → is_halted n G ≡ is_halted n H → active_phase meaning mounted n G ≡ active_phase meaning mounted n H
+  phase-same H G n e h =
+      let s : Bool → Program D → ActivePhase = λ b p. active_phase_by b p.place p.place.state in
       ap (λ b. s b (current meaning mounted G)) h ∙ ap (λ p. s (is_halted n H) p) (current-same H G e)
 
-  doing-same : (H G : List Entry) (phase : Phase) (a : Active) (doing : Doing) → Silent H G a.piece.value.name →
-      DoingTies meaning mounted H phase a doing → DoingTies meaning mounted G phase a doing
-  doing-same H G Absent a doing s t = t
-  doing-same H G Idle a OnChannel s t = t
-  doing-same H G Idle a (Again csw sense) s t =
-      (stage-same H G a.piece.value.name s.attempts s.halted ∙ t.0, rw s.starts t.1, s.covered ∙ t.2)
-  doing-same H G (Running place) a OnChannel s t = (
+  standing-same : (H G : List Entry) (phase : Phase) (a : Active) (standing : Standing) → Silent H G a.piece.value.name →
+      StandingTies meaning mounted H phase a standing → StandingTies meaning mounted G phase a standing
+  standing-same H G Absent a standing s t = t
+  standing-same H G Idle a OnChannel s t = t
+  standing-same H G Idle a (AwaitsRestart csw sense) s t =
+      (phase-same H G a.piece.value.name s.attempts s.halted ∙ t.0, rw s.starts t.1, s.covered ∙ t.2)
+  standing-same H G (Running place) a OnChannel s t = (
     t.0 ∙ ap (λ (p : Program D). p.place) (sym (current-same H G s.attempts)),
-    stage-same H G a.piece.value.name s.attempts s.halted ∙ t.1,
+    phase-same H G a.piece.value.name s.attempts s.halted ∙ t.1,
   )
-  doing-same H G (Running place) a (Again csw sense) s t = t
-  doing-same H G (Pending csw sense) a OnChannel s t = stage-same H G a.piece.value.name s.attempts s.halted ∙ t
-  doing-same H G (Pending csw sense) a (Again c d) s t = t
+  standing-same H G (Running place) a (AwaitsRestart csw sense) s t = t
+  standing-same H G (Pending csw sense) a OnChannel s t = phase-same H G a.piece.value.name s.attempts s.halted ∙ t
+  standing-same H G (Pending csw sense) a (AwaitsRestart c d) s t = t
 
   active-same : (H G : List Entry) (phase : Phase) (a : Active) → Silent H G a.piece.value.name →
       ActiveTies meaning mounted H phase a → ActiveTies meaning mounted G phase a
@@ -61,7 +61,7 @@ module _ {D : Type 0} (meaning : Meaning D) (mounted : D) where
         starts = t.starts ∙ sym s.starts;
         halted = t.halted ∙ sym s.halted;
         covered = t.covered ∙ sym s.covered;
-        doing = doing-same H G phase a a.doing s t.doing;
+        standing = standing-same H G phase a a.standing s t.standing;
       }
 
   pub activity-same : (H G : List Entry) (phase : Phase) (o : Option Active) → active G ≡ active H →
@@ -70,14 +70,14 @@ module _ {D : Type 0} (meaning : Meaning D) (mounted : D) where
   activity-same H G phase (Some a) e s t = active-same H G phase a (s a.piece.value.name t.is) t
 
   -- as many are active
-  pub count-same : (H : List Entry) (phase : Phase) (o : Option Active) → ActivityTies meaning mounted H phase o → active_count (active H) ≡ held_count o
+  pub count-same : (H : List Entry) (phase : Phase) (o : Option Active) → ActivityTies meaning mounted H phase o → active_count (active H) ≡ active_field_count o
   count-same H phase None t = rw t.0 refl
   count-same H phase (Some a) t = let e = t.is in rw e refl
 
   -- there is room in the queue
   pub room-of : (H : List Entry) (channel : Channel D) (o : Option Active) (waiters : List Piece) (table : List Dcb) (left : List PostedState) (capacity : ℕ) →
       Ties meaning mounted H channel o waiters table left → length (waiting H) + active_count (active H) + length left < capacity →
-      length waiters + held_count o + length left < capacity
+      length waiters + active_field_count o + length left < capacity
   room-of H channel o waiters table left capacity t h =
       let a = count-same H channel.phase o t.activity in
       let q = ap length t.queue in omega (arith, a, q, h)

@@ -10,7 +10,7 @@ use Rattle.io_images.specs.declared.code.Code.TheVariants.{ExtentViolated, Purge
 use Rattle.device_port.specs.Meaning.{Meaning}
 use Rattle.ccw_programs.specs.Step.{Program, after, length_of, is_running}
 use Rattle.ccw_programs.proofs.StepLaws.{step-ended, step-later, length-ends, length-few}
-use Rattle.subchannel.specs.Subchannel.{no_status}
+use Rattle.io_images.specs.Images.{no_status}
 use Rattle.request_piece.specs.declared.piece.Name.{Name}
 use Rattle.request_piece.specs.declared.piece.Piece.{Piece}
 use Rattle.unit_book.specs.declared.answer.Starting.{Starting}
@@ -25,7 +25,7 @@ use Rattle.unit_book.specs.Trace.{same, arrivals, has_started, is_posted, waitin
 use Rattle.ccw_programs.specs.Place.{Place}
 use Rattle.ccw_programs.specs.declared.context.State.{State}
 use Rattle.ccw_programs.specs.declared.context.State.TheVariants.{Running, Ended}
-use Rattle.unit_book.specs.Media.{Attempt, attempts, newest, beginning, stand, current, stage, stage_by, goes}
+use Rattle.unit_book.specs.Media.{Attempt, attempts, newest, beginning, stand, current, active_phase, active_phase_by, still_runs}
 use Rattle.unit_book.specs.Dcbs.{doomed}
 use Rattle.unit_book.specs.Dooms.{all_posted, after_dooms}
 use Rattle.unit_book.specs.Legal.{Legal, FailsCheck, StartsAgain, StartsFirst}
@@ -99,7 +99,7 @@ module _ {D : Type 0} (meaning : Meaning D) where
       let e = h.2 in
       served-by old new old.trace (ap (λ (b : Book D). b.trace) e) (adds-none old.trace) (ap (λ (b : Book D). b.mounted) e) (ap (λ (b : Book D). b.isc) e) (ap (λ (b : Book D). b.capacity) e)
   interrupts-served old new (WasPosted n code) h =
-      let e = h.1.posts in
+      let e = h.1.extends in
       served-by old new (after_dooms (Post n h.1.csw h.1.sense code ∷ old.trace)) (ap (λ (b : Book D). b.trace) e) (adds-post n h.1.csw h.1.sense code old.trace)
       (ap (λ (b : Book D). b.mounted) e) (ap (λ (b : Book D). b.isc) e) (ap (λ (b : Book D). b.capacity) e)
 
@@ -162,18 +162,18 @@ not-or_right true b h = absurd cc
 not-or_right false true h = absurd cc
 not-or_right false false h = refl
 
-first-unposted : (r : Piece) (H : List Entry) → slice_get (waiting H) 0 ≡ Some r → is_posted r.name H ≡ false
+pub first-unposted : (r : Piece) (H : List Entry) → slice_get (waiting H) 0 ≡ Some r → is_posted r.name H ≡ false
 unfolding waiting
 first-unposted r H e =
     let p = λ (q : Piece). not (has_started q.name H || is_posted q.name H) in
     not-or_right (has_started r.name H) (is_posted r.name H) (first-passes p (waiting H) r (all-filter p (arrivals H)) e)
 
-still-none : (n : Name) (csw : Csw) (sense : ℕ) (code : Code) (H : List Entry) → active H ≡ None → active (Post n csw sense code ∷ H) ≡ None
+pub still-none : (n : Name) (csw : Csw) (sense : ℕ) (code : Code) (H : List Entry) → active H ≡ None → active (Post n csw sense code ∷ H) ≡ None
 unfolding active started
 still-none n csw sense code H h =
     find-still_none (λ k. not (is_posted k H)) (λ k. not (same n k || is_posted k H)) (λ k e. rw (not-or_right (same n k) (is_posted k H) e) refl) (started H) h
 
-posts-none : (rs : List Piece) (H : List Entry) → active H ≡ None → active (all_posted rs H) ≡ None
+pub posts-none : (rs : List Piece) (H : List Entry) → active H ≡ None → active (all_posted rs H) ≡ None
 posts-none [] H h = h
 posts-none (r ∷ rs) H h = posts-none rs (Post r.name no_status 0 Purged ∷ H) (still-none r.name no_status 0 Purged H h)
 
@@ -214,8 +214,8 @@ module _ {D : Type 0} (meaning : Meaning D) (mounted : D) where
     by_attempts (a ∷ rest) h = fetched-few a.commands (beginning meaning mounted (stand meaning mounted rest) a) (omega arith) h
 
   -- as many commands as a program is long end it
-  runs-out : (n : Name) (j : ℕ) (H : List Entry) → NewestIs n H → goes (stage meaning mounted n H) ≡ true → j ≡ min 4294967295 (length_of meaning (current meaning mounted H)) →
-      goes (stage meaning mounted n (Ran n j ∷ H)) ≡ false
+  runs-out : (n : Name) (j : ℕ) (H : List Entry) → NewestIs n H → still_runs (active_phase meaning mounted n H) ≡ true → j ≡ min 4294967295 (length_of meaning (current meaning mounted H)) →
+      still_runs (active_phase meaning mounted n (Ran n j ∷ H)) ≡ false
   runs-out n j H w h e =
       let p = current meaning mounted H in
       let few = length-few meaning 4097 p in
@@ -225,12 +225,12 @@ module _ {D : Type 0} (meaning : Meaning D) (mounted : D) where
       let c = current-ran meaning mounted n j H w in
       let x : is_running (current meaning mounted (Ran n j ∷ H)).place.state ≡ false = rw (c, k) ends in
       over-by (is_halted n H) (current meaning mounted (Ran n j ∷ H)).place (current meaning mounted (Ran n j ∷ H)).place.state x where
-        stands-by : (b : Bool) (place : Place) (state : State) → goes (stage_by b place state) ≡ true → (b ≡ false) × (is_running state ≡ true)
+        stands-by : (b : Bool) (place : Place) (state : State) → still_runs (active_phase_by b place state) ≡ true → (b ≡ false) × (is_running state ≡ true)
         stands-by true place state h = absurd cc
         stands-by false place Running h = (refl, refl)
         stands-by false place (Ended csw sense) h = absurd cc
 
-        over-by : (b : Bool) (place : Place) (state : State) → is_running state ≡ false → goes (stage_by b place state) ≡ false
+        over-by : (b : Bool) (place : Place) (state : State) → is_running state ≡ false → still_runs (active_phase_by b place state) ≡ false
         over-by true place state h = refl
         over-by false place Running h = absurd cc
         over-by false place (Ended csw sense) h = refl
@@ -240,8 +240,8 @@ module _ {D : Type 0} (meaning : Meaning D) (mounted : D) where
 -- after the start a request was posted, or one is on the channel
 data Begun {D : Type 0} (old mid : Book D) : Type 0 where
   Posted : active mid.trace ≡ None → unposted mid.trace < unposted old.trace → Begun old mid
-  OnChannel : (n : Name) → active mid.trace ≡ Some n → mid.again ≡ false → unposted mid.trace ≤ unposted old.trace →
-      (starts_of n mid.trace ≤ 10 → 11 - starts_of n mid.trace < starts_left old.trace old.again (active old.trace)) → Begun old mid
+  OnChannel : (n : Name) → active mid.trace ≡ Some n → mid.awaits ≡ false → unposted mid.trace ≤ unposted old.trace →
+      (starts_of n mid.trace ≤ 10 → 11 - starts_of n mid.trace < starts_left old.trace old.awaits (active old.trace)) → Begun old mid
 
 some-is : {o p : Name} → Some o ≡ Some p → o ≡ p
 some-is k = cc
@@ -250,11 +250,11 @@ none-is : {o : Name} → None ≡ Some o → ⊥
 none-is k = cc
 
 module _ {D : Type 0} (meaning : Meaning D) where
-  still-busy : (old : Book D) (o : Option Name) → active old.trace ≡ o → is_some o ≡ true → old.again ≡ false → Begun old old
+  still-busy : (old : Book D) (o : Option Name) → active old.trace ≡ o → is_some o ≡ true → old.awaits ≡ false → Begun old old
   still-busy old None e h a = absurd cc
   still-busy old (Some n) e h a = OnChannel n e a (omega arith) (λ few. rw (e, a) (omega arith))
 
-  first-begun : (old mid : Book D) (n : Name) → StartsFirst meaning old.mounted n old.trace → mid.trace ≡ Start n ∷ old.trace → mid.again ≡ false → Begun old mid
+  first-begun : (old mid : Book D) (n : Name) → StartsFirst meaning old.mounted n old.trace → mid.trace ≡ Start n ∷ old.trace → mid.awaits ≡ false → Begun old mid
   first-begun old mid n s e a =
       let H = old.trace in
       let none = s.none in
@@ -266,7 +266,7 @@ module _ {D : Type 0} (meaning : Meaning D) where
       let zero_active = ap active_count none in
       OnChannel n (rw e is) a (rw e (omega (arith, fewer, left, one, zero_active))) (λ few. rw none (omega arith))
 
-  again-begun : (old mid : Book D) (n : Name) → old.again ≡ true → StartsAgain meaning old.mounted n old.trace → mid.trace ≡ Start n ∷ old.trace → mid.again ≡ false → Begun old mid
+  again-begun : (old mid : Book D) (n : Name) → old.awaits ≡ true → StartsAgain meaning old.mounted n old.trace → mid.trace ≡ Start n ∷ old.trace → mid.awaits ≡ false → Begun old mid
   again-begun old mid n o s e a =
       let H = old.trace in
       let act = s.active in
@@ -295,8 +295,8 @@ module _ {D : Type 0} (meaning : Meaning D) where
   begins old mid Idle k h = absurd (k refl)
   begins old mid (Started n) k h = by_start h.0 where
     by_start : MayStart meaning old n → Begun old mid
-    by_start (MayFirst s) = first-begun old mid n s (ap (λ (b : Book D). b.trace) h.1) (ap (λ (b : Book D). b.again) h.1)
-    by_start (MayAgain o s) = again-begun old mid n o s (ap (λ (b : Book D). b.trace) h.1) (ap (λ (b : Book D). b.again) h.1)
+    by_start (MayFirst s) = first-begun old mid n s (ap (λ (b : Book D). b.trace) h.1) (ap (λ (b : Book D). b.awaits) h.1)
+    by_start (MayAgain o s) = again-begun old mid n o s (ap (λ (b : Book D). b.trace) h.1) (ap (λ (b : Book D). b.awaits) h.1)
   begins old mid (Violated n) k h = violated-begun old mid n h.0 (ap (λ (b : Book D). b.trace) h.1)
 
   -- after the run the status of the request is pending
@@ -306,32 +306,32 @@ module _ {D : Type 0} (meaning : Meaning D) where
     left : unposted ran.trace ≡ unposted mid.trace
     starts : starts_of n ran.trace ≡ starts_of n mid.trace
 
-  pends : (n : Name) (mid ran : Book D) (answer : RunAnswer) → active mid.trace ≡ Some n → mid.again ≡ false → Legal meaning ran.mounted ran.trace → RunsBook meaning mid 4294967295 answer ran → IsPending n mid ran
+  pends : (n : Name) (mid ran : Book D) (answer : RunAnswer) → active mid.trace ≡ Some n → mid.awaits ≡ false → Legal meaning ran.mounted ran.trace → RunsBook meaning mid 4294967295 answer ran → IsPending n mid ran
   unfolding Legal waiting arrivals active started
   pends n mid ran NothingRuns a g l h =
       let e = h.1 in
-      let quiet : goes (stage meaning mid.mounted n mid.trace) ≡ false = none-goes (goes (stage meaning mid.mounted n mid.trace)) (rw a at h.0) in
+      let quiet : still_runs (active_phase meaning mid.mounted n mid.trace) ≡ false = none-runs (still_runs (active_phase meaning mid.mounted n mid.trace)) (rw a at h.0) in
       rw e (record { is = a; pending = rw (a, g, quiet) refl; left = refl; starts = refl }) where
-        none-goes : (b : Bool) → (if b then Some n else None) ≡ None → b ≡ false
-        none-goes true k = absurd cc
-        none-goes false k = refl
+        none-runs : (b : Bool) → (if b then Some n else None) ≡ None → b ≡ false
+        none-runs true k = absurd cc
+        none-runs false k = refl
   pends n mid ran (RanSome commands pending) a g l h =
       let e = h.adds in
-      let t = some-goes (goes (stage meaning mid.mounted n mid.trace)) h.name (rw a at h.going) in
+      let t = some-runs (still_runs (active_phase meaning mid.mounted n mid.trace)) h.name (rw a at h.running) in
       let now : ran.trace ≡ Ran n commands ∷ mid.trace = ap (λ (b : Book D). b.trace) e ∙ ap (λ x. Ran x commands ∷ mid.trace) t.1 in
       let still : ran.mounted ≡ mid.mounted = ap (λ (b : Book D). b.mounted) e in
-      let same_again : ran.again ≡ mid.again = ap (λ (b : Book D). b.again) e in
+      let same_again : ran.awaits ≡ mid.awaits = ap (λ (b : Book D). b.awaits) e in
       let legal : Legal meaning mid.mounted (Ran n commands ∷ mid.trace) = rw (still, now) at l in
       let w = (facts meaning mid.mounted mid.trace legal.1).4 n a in
       let out = runs-out meaning mid.mounted n commands mid.trace w t.0 h.count in
       record { is = rw now a; pending = rw (now, still, same_again, a, g, out) refl; left = rw now refl; starts = rw now refl } where
-        some-goes : (b : Bool) (m : Name) → (if b then Some n else None) ≡ Some m → (b ≡ true) × (m ≡ n)
-        some-goes true m k = (refl, sym (some-is k))
-        some-goes false m k = absurd (none-is k)
+        some-runs : (b : Bool) (m : Name) → (if b then Some n else None) ≡ Some m → (b ≡ true) × (m ≡ n)
+        some-runs true m k = (refl, sym (some-is k))
+        some-runs false m k = absurd (none-is k)
 
   run-none : (mid ran : Book D) (answer : RunAnswer) → active mid.trace ≡ None → RunsBook meaning mid 4294967295 answer ran → ran ≡ mid
   run-none mid ran NothingRuns a h = h.1
-  run-none mid ran (RanSome commands pending) a h = absurd (none-is (rw a at h.going))
+  run-none mid ran (RanSome commands pending) a h = absurd (none-is (rw a at h.running))
 
   interrupt-none : (ran new : Book D) (answer : Interruption) → active ran.trace ≡ None → InterruptsBook meaning ran answer new → new ≡ ran
   interrupt-none ran new NothingPending a h = h.1
@@ -357,13 +357,13 @@ module _ {D : Type 0} (meaning : Meaning D) where
       let H = ran.trace in
       let x = h.1 in
       let G = Post m x.csw x.sense code ∷ H in
-      let e : new.trace ≡ after_dooms G = ap (λ (b : Book D). b.trace) x.posts in
+      let e : new.trace ≡ after_dooms G = ap (λ (b : Book D). b.trace) x.extends in
       let none = posts-none (doomed G) G (active-post meaning ran.mounted m x.csw x.sense code H (facts meaning ran.mounted H l) x.fits.active) in
       let first = post-fewer meaning ran.mounted m x.csw x.sense code H in
       let more = posts-fewer meaning ran.mounted (doomed G) G in
       let one = ap active_count a in
       let zero_active = ap active_count none in
-      let twelve : starts_left (after_dooms G) new.again (active (after_dooms G)) ≡ 12 = rw none refl in
+      let twelve : starts_left (after_dooms G) new.awaits (active (after_dooms G)) ≡ 12 = rw none refl in
       rw e (omega (arith, first, more, one, zero_active, twelve))
 
   -- AN ATTEMPT BRINGS A BOOK NEARER
@@ -374,10 +374,10 @@ module _ {D : Type 0} (meaning : Meaning D) where
     by_begun (Posted none fewer) =
         let e = run-none mid ran running none r in
         let f = interrupt-none ran new ending (rw e none) i ∙ e in
-        let twelve : starts_left mid.trace mid.again (active mid.trace) ≡ 12 = rw none refl in
+        let twelve : starts_left mid.trace mid.awaits (active mid.trace) ≡ 12 = rw none refl in
         rw f (omega (arith, fewer, twelve))
     by_begun (OnChannel n is a left few) =
         let p = pends n mid ran running is a l r in
         let s = p.starts in
-        let d = ends n ran new ending (starts_left old.trace old.again (active old.trace)) p.is p.pending l (rw s few) i in
+        let d = ends n ran new ending (starts_left old.trace old.awaits (active old.trace)) p.is p.pending l (rw s few) i in
         omega (arith, d, p.left, left)

@@ -13,7 +13,7 @@ use Rattle.request_piece.specs.Places.{Placed}
 use Rattle.request_piece.specs.declared.piece.Name.{Name}
 use Rattle.request_piece.specs.declared.piece.Piece.{Piece}
 use Rattle.unit_book.specs.declared.active.Active.{Active}
-use Rattle.unit_book.specs.declared.active.Doing.TheVariants.{OnChannel}
+use Rattle.unit_book.specs.declared.active.Standing.TheVariants.{OnChannel}
 use Rattle.unit_book.specs.declared.dcb.Dcb.{Dcb}
 use Rattle.unit_book.specs.declared.entry.Entry.{Entry}
 use Rattle.unit_book.specs.declared.entry.Entry.TheVariants.{Opened, Arrive, Start, Ran, Halted, Purge, Close, Reset, Post}
@@ -23,7 +23,8 @@ use Rattle.unit_book.specs.Dcbs.{is_opened, extents_of, flag, mask_of}
 use Rattle.unit_book.specs.Media.{Attempt, attempts, lengthened, stand, newest, current, device, area}
 use Rattle.unit_book.specs.Legal.{Legal, due, Free, First, StartsFirst, passes}
 use Rattle.unit_book.specs.Posts.{posted}
-use Rattle.unit_book.specs.Inside.{Each, ActivityTies, Ties, dcb_at, dcb_of, mask_at, extents_at}
+use Rattle.unit_book.specs.Lists.{Each}
+use Rattle.unit_book.specs.Fields.{ActivityTies, Ties, dcb_at, dcb_of, mask_at, extents_at}
 use Rattle.unit_book.proofs.Lists.{same-true, same-refl, same-is, no_both, without, without-first, Apart}
 use Rattle.unit_book.proofs.Facts.{facts, active-start, waiting-start, waiting-apart, first-waits, fits-start}
 use Rattle.unit_book.proofs.Same.{fits-free}
@@ -145,14 +146,14 @@ module _ {D : Type 0} (meaning : Meaning D) (mounted : D) where
   placed-first (q ∷ rs) r h s = let e : q ≡ r = cc in subst Placed e h.0
 
   -- what is tied where nothing is active
-  pub none-held : (H : List Entry) (phase : Phase) (o : Option Active) → active H ≡ None → ActivityTies meaning mounted H phase o → (phase ≡ Idle) × (o ≡ None)
-  none-held H phase None n t = (t.1, refl)
-  none-held H phase (Some a) n t = absurd (clash (sym n ∙ t.is)) where
+  pub none-in_field : (H : List Entry) (phase : Phase) (o : Option Active) → active H ≡ None → ActivityTies meaning mounted H phase o → (phase ≡ Idle) × (o ≡ None)
+  none-in_field H phase None n t = (t.1, refl)
+  none-in_field H phase (Some a) n t = absurd (clash (sym n ∙ t.is)) where
     clash : {m : Name} → None ≡ Some m → ⊥
     clash k = cc
 
   abbrev pub held_first : Box Piece → Active
-  held_first b = record { piece = b; starts = 1; halted = false; covered = false; doing = OnChannel }
+  held_first b = record { piece = b; starts = 1; halted = false; covered = false; standing = OnChannel }
 
   -- nothing is first in an empty queue
   pub no-first : {X : Type 0} (xs : List X) → slice_get xs 0 ≡ None → xs ≡ []
@@ -186,7 +187,7 @@ module _ {D : Type 0} (meaning : Meaning D) (mounted : D) where
         let m : mask ≡ mask_of r.dcb H = mask_is ∙ ap mask_at (t.dcbs r.dcb) ∙ mask-is r.dcb H in
         let issued : area meaning mounted r H ≡ r.area = as-issued r H t.legal w.unstarted in
         let device_is : prefixed meaning channel.device r.seek mask ≡ Some (device meaning mounted G) = rw (t.device, m) (ap Some (sym (rw e at (device-start n H)))) in
-        let idle = (none-held H channel.phase o s.none t.activity).0 in
+        let idle = (none-in_field H channel.phase o s.none t.activity).0 in
         let c : current meaning mounted G ≡ begun r.start (meaning.prefix (device meaning mounted H) r.seek (mask_of r.dcb H)) (area meaning mounted r H) = rw e at (current-start n H) in
         let area_is : (current meaning mounted G).area ≡ r.area = ap (λ (p : Program D). p.area) c ∙ issued in
         let none = no-starts n H w.unstarted in
@@ -203,7 +204,7 @@ module _ {D : Type 0} (meaning : Meaning D) (mounted : D) where
             starts = rw self (rw none refl);
             halted = rw self refl;
             covered = rw e (rw self refl);
-            doing = (sym (ap (λ (p : Program D). p.place) c), rw self (rw c refl));
+            standing = (sym (ap (λ (p : Program D). p.place) c), rw self (rw c refl));
           };
           count = t.count;
           dcbs = t.dcbs;

@@ -17,7 +17,7 @@ use Rattle.unit_book.specs.Trace.{waiting, request_of}
 use Rattle.unit_book.specs.Media.{attempts, area}
 use Rattle.unit_book.specs.Legal.{Fits, Legal}
 use Rattle.unit_book.specs.Posts.{posted, posted_value}
-use Rattle.unit_book.specs.Inside.{Ties, dcb_at, noted}
+use Rattle.unit_book.specs.Fields.{Ties, dcb_at, noted}
 use Rattle.unit_book.proofs.Lists.{without, without-first, Apart}
 use Rattle.unit_book.proofs.Facts.{facts, waits-at, waiting-post, waiting-apart, active-post_waiting}
 use Rattle.unit_book.proofs.Same.{activity-same}

@@ -4,7 +4,7 @@ use Rattle.io_images.specs.declared.code.Code.TheVariants.{Ended, PermanentError
 use Rattle.io_images.specs.declared.extent.Extent.{Extent}
 use Rattle.io_images.specs.declared.seek.Seek.{Seek}
 use Rattle.device_port.specs.declared.kind.Kind.TheVariants.{Disk, Tape, Printer}
-use Rattle.subchannel.specs.Subchannel.{no_status}
+use Rattle.io_images.specs.Images.{no_status}
 use Rattle.recovery.specs.declared.answer.Verdict.TheVariants.{Retry, Final}
 use Rattle.request_piece.specs.declared.piece.Name.{Name}
 use Rattle.request_piece.specs.declared.piece.Piece.{Piece}
@@ -17,7 +17,7 @@ use Rattle.unit_book.specs.Trace.{arrivals, arrived_of, waiting, started, active
 use Rattle.unit_book.specs.Extents.{takes_extents, passes_check}
 use Rattle.unit_book.specs.Dcbs.{dcb_state, extents_of, mask_of, flag, is_refused, doomed}
 use Rattle.unit_book.specs.Dooms.{after_dooms}
-use Rattle.unit_book.specs.Legal.{ended_code}
+use Rattle.unit_book.specs.Fields.{ended_code}
 use Rattle.unit_book.specs.Laws.{first_starts, waits, is_active}
 
 -- request k of task 0

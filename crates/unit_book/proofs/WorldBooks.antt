@@ -10,7 +10,7 @@ use Rattle.ccw_programs.specs.declared.context.State.{State}
 use Rattle.ccw_programs.specs.declared.context.State.TheVariants.{Running as Runs, Ended}
 use Rattle.ccw_programs.specs.Step.{length_of, is_running}
 use Rattle.ccw_programs.proofs.StepLaws.{steps_within-running}
-use Rattle.subchannel.specs.Subchannel.{no_status}
+use Rattle.io_images.specs.Images.{no_status}
 use Rattle.request_piece.specs.PostedState.{PostedState}
 use Rattle.request_piece.specs.declared.piece.Name.{Name}
 use Rattle.request_piece.specs.declared.piece.Piece.{Piece}
@@ -28,22 +28,22 @@ use Rattle.unit_book.specs.declared.entry.Entry.{Entry}
 use Rattle.unit_book.specs.declared.entry.Entry.TheVariants.{Opened, Arrive, Start, Ran, Close, Reset, Post}
 use Rattle.unit_book.specs.Trace.{arrivals, arrived_of, active}
 use Rattle.unit_book.specs.Dcbs.{is_open}
-use Rattle.unit_book.specs.Media.{Goes, goes, stage, stage_by, current}
+use Rattle.unit_book.specs.Media.{StillRunning, still_runs, active_phase, active_phase_by, current}
 use Rattle.unit_book.specs.Legal.{Free, due, Legal, StartFits, First, Again, OfActive, OfFirst, RanFits, CanPurge}
 use Rattle.unit_book.specs.Posts.{posted}
 use Rattle.unit_book.specs.Dooms.{after_dooms}
-use Rattle.unit_book.specs.Book.{Book, going_by}
-use Rattle.unit_book.specs.Answers.{Adds, Posts, OpensBook, MayStart, MayFirst, MayAgain, StartsBook, RunsBook, RunsOn, InterruptsBook}
+use Rattle.unit_book.specs.Book.{Book, running_name_by}
+use Rattle.unit_book.specs.Answers.{Adds, Extends, OpensBook, MayStart, MayFirst, MayAgain, StartsBook, RunsBook, RunsOn, InterruptsBook}
 use Rattle.unit_book.specs.Controls.{PurgesBy, PurgesBook, ClosesBy, ClosesBook, covers_awaiting, after_purge}
 use Rattle.unit_book.proofs.Purges.{since-is}
 use Rattle.unit_book.proofs.WorldTraces.{Grows, grows-not, grows-open, grows-arrive, grows-start, grows-ran, grows-post, grows-close, grows-reset, grows-purge, grows-purged}
 
 -- one command is left at least, where a program runs
-goes-running : (b : Bool) (place : Place) (state : State) → goes (stage_by b place state) ≡ true →
-    (stage_by b place state ≡ Goes) × (is_running state ≡ true)
-goes-running true place state h = absurd cc
-goes-running false place Runs h = (refl, refl)
-goes-running false place (Ended csw sense) h = absurd cc
+runs-running : (b : Bool) (place : Place) (state : State) → still_runs (active_phase_by b place state) ≡ true →
+    (active_phase_by b place state ≡ StillRunning) × (is_running state ≡ true)
+runs-running true place state h = absurd cc
+runs-running false place Runs h = (refl, refl)
+runs-running false place (Ended csw sense) h = absurd cc
 
 module _ {D : Type 0} (meaning : Meaning D) where
   -- A CALL KEEPS A BOOK: the trace stays legal and nothing is due; these requests arrived; what was posted is out
@@ -61,7 +61,7 @@ module _ {D : Type 0} (meaning : Meaning D) where
   abbrev pub Sound : Book D → Type 0
   Sound b = Legal meaning b.mounted b.trace × (due meaning b.mounted b.trace ≡ Free)
 
-  keeps-posts : (old new : Book D) (H : List Entry) (again : Bool) (more : List Piece) → Posts meaning old H again new →
+  keeps-posts : (old new : Book D) (H : List Entry) (again : Bool) (more : List Piece) → Extends meaning old H again new →
       Grows meaning old.mounted old.trace H more → Keeps old more new
   keeps-posts old new H again more p g =
       let t : new.trace ≡ H = ap (λ (b : Book D). b.trace) p in
@@ -78,7 +78,7 @@ module _ {D : Type 0} (meaning : Meaning D) where
       }
 
   -- a call that posts nothing
-  keeps-adds : (old new : Book D) (H : List Entry) (again : Bool) → new ≡ record old { trace = H; again = again; spare = new.spare } →
+  keeps-adds : (old new : Book D) (H : List Entry) (again : Bool) → new ≡ record old { trace = H; awaits = again; spare = new.spare } →
       Grows meaning old.mounted old.trace H [] →
       posted meaning old.mounted H ≡ posted meaning old.mounted old.trace → Keeps old [] new
   keeps-adds old new H again p g q =
@@ -94,23 +94,23 @@ module _ {D : Type 0} (meaning : Meaning D) where
         out = ap (λ (b : Book D). b.out) p ∙ sym (append-nil old.out);
       }
 
-  pub keeps-again : (old new : Book D) (again : Bool) → Sound old → new ≡ record old { again = again; spare = new.spare } → Keeps old [] new
+  pub keeps-again : (old new : Book D) (again : Bool) → Sound old → new ≡ record old { awaits = again; spare = new.spare } → Keeps old [] new
   keeps-again old new again s p = keeps-adds old new old.trace again p (grows-not meaning old.mounted old.trace s.0 s.1) refl
 
   -- nothing changes
   pub keeps-same : (old new : Book D) → Sound old → new ≡ old → Keeps old [] new
-  keeps-same old new s p = keeps-again old new old.again s (p ∙ ap (λ n. record old { spare = n }) (sym (ap (λ (b : Book D). b.spare) p)))
+  keeps-same old new s p = keeps-again old new old.awaits s (p ∙ ap (λ n. record old { spare = n }) (sym (ap (λ (b : Book D). b.spare) p)))
 
   pub keeps-arrive : (old new : Book D) (r : Piece) → Sound old → r.name.seq ≡ arrived_of r.name.task old.trace + 1 →
-      Posts meaning old (after_dooms (Arrive r ∷ old.trace)) old.again new → Keeps old (r ∷ []) new
+      Extends meaning old (after_dooms (Arrive r ∷ old.trace)) old.awaits new → Keeps old (r ∷ []) new
   keeps-arrive old new r s n p =
-      keeps-posts old new (after_dooms (Arrive r ∷ old.trace)) old.again (r ∷ []) p (grows-arrive meaning old.mounted r old.trace s.0 s.1 n)
+      keeps-posts old new (after_dooms (Arrive r ∷ old.trace)) old.awaits (r ∷ []) p (grows-arrive meaning old.mounted r old.trace s.0 s.1 n)
 
   pub keeps-open : (old new : Book D) (dcb : ℕ) (input : Bool) (extents : List Extent) → Sound old → OpensBook meaning old dcb input extents new →
       Keeps old [] new
   unfolding posted
   keeps-open old new dcb input extents s h =
-      keeps-adds old new (Opened dcb input extents ∷ old.trace) old.again h.adds
+      keeps-adds old new (Opened dcb input extents ∷ old.trace) old.awaits h.adds
       (grows-open meaning old.mounted dcb input extents old.trace s.0 s.1 h.fits) refl
 
   start-fits : (old : Book D) (n : Name) → MayStart meaning old n → StartFits meaning old.mounted n old.trace
@@ -129,14 +129,14 @@ module _ {D : Type 0} (meaning : Meaning D) where
       (grows-post meaning old.mounted n no_status 0 ExtentViolated old.trace s.0 s.1 f)
 
   -- a program that is to run is that of the active request, and goes
-  going-is : (mounted : D) (H : List Entry) (n : Name) → going_by meaning mounted H (active H) ≡ Some n →
-      (active H ≡ Some n) × (goes (stage meaning mounted n H) ≡ true)
-  going-is mounted H n h = by_active (active H) h where
-    by_active : (o : Option Name) → going_by meaning mounted H o ≡ Some n → (o ≡ Some n) × (goes (stage meaning mounted n H) ≡ true)
+  pub running-is : (mounted : D) (H : List Entry) (n : Name) → running_name_by meaning mounted H (active H) ≡ Some n →
+      (active H ≡ Some n) × (still_runs (active_phase meaning mounted n H) ≡ true)
+  running-is mounted H n h = by_active (active H) h where
+    by_active : (o : Option Name) → running_name_by meaning mounted H o ≡ Some n → (o ≡ Some n) × (still_runs (active_phase meaning mounted n H) ≡ true)
     by_active None e = absurd cc
     by_active (Some m) e =
-        elim (cases_Bool (goes (stage meaning mounted m H))) [
-          | inl b ↦ let e' = rw b at e in let q : m ≡ n = cc in (ap Some q, subst (λ (x : Name). goes (stage meaning mounted x H) ≡ true) q b)
+        elim (cases_Bool (still_runs (active_phase meaning mounted m H))) [
+          | inl b ↦ let e' = rw b at e in let q : m ≡ n = cc in (ap Some q, subst (λ (x : Name). still_runs (active_phase meaning mounted x H) ≡ true) q b)
           | inr b ↦ let e' = rw b at e in absurd cc
         ]
 
@@ -144,23 +144,23 @@ module _ {D : Type 0} (meaning : Meaning D) where
       RanFits meaning old.mounted h.name commands old.trace
   ran-fits old new max commands pending m h =
       let p = current meaning old.mounted old.trace in
-      let a = going-is old.mounted old.trace h.name h.going in
-      let g = goes-running _ p.place p.place.state a.1 in
+      let a = running-is old.mounted old.trace h.name h.running in
+      let g = runs-running _ p.place p.place.state a.1 in
       let n : length_of meaning p ≡ suc _ = steps_within-running meaning 4096 p g.1 in
-      record { active = a.0; goes = g.0; some = omega (arith, m, n, h.count); left = omega (arith, h.count) }
+      record { active = a.0; running = g.0; some = omega (arith, m, n, h.count); left = omega (arith, h.count) }
 
   pub keeps-run : (old new : Book D) (max : ℕ) (answer : Running) → Sound old → 1 ≤ max → RunsBook meaning old max answer new → Keeps old [] new
   unfolding posted
   keeps-run old new max NothingRuns s m h = keeps-same old new s h.1
   keeps-run old new max (RanSome commands pending) s m h =
-      keeps-adds old new (Ran h.name commands ∷ old.trace) old.again h.adds
+      keeps-adds old new (Ran h.name commands ∷ old.trace) old.awaits h.adds
       (grows-ran meaning old.mounted h.name commands old.trace s.0 s.1 (ran-fits old new max commands pending m h)) refl
 
   pub keeps-interrupt : (old new : Book D) (answer : Interruption) → Sound old → InterruptsBook meaning old answer new → Keeps old [] new
   keeps-interrupt old new NothingPending s h = keeps-same old new s h.1
   keeps-interrupt old new (TriedAgain n) s h = keeps-again old new true s h.2
   keeps-interrupt old new (WasPosted n code) s h =
-      keeps-posts old new (after_dooms (Post n h.1.csw h.1.sense code ∷ old.trace)) false [] h.1.posts
+      keeps-posts old new (after_dooms (Post n h.1.csw h.1.sense code ∷ old.trace)) false [] h.1.extends
       (grows-post meaning old.mounted n h.1.csw h.1.sense code old.trace s.0 s.1 (OfActive h.1.fits))
 
   pub keeps-purge : (old new : Book D) (scope : Scope) (mode : Mode) (answer : Purging) → Sound old → CanPurge meaning old.mounted scope old.trace →
@@ -173,16 +173,16 @@ module _ {D : Type 0} (meaning : Meaning D) where
     grows = grows-purge meaning old.mounted scope mode old.trace s.0 s.1 can
 
     by_test : (b : Bool) → PurgesBy meaning b old scope mode new → Keeps old [] new
-    by_test false p = keeps-posts old new after old.again [] p grows
+    by_test false p = keeps-posts old new after old.awaits [] p grows
     by_test true p =
-        keeps-posts old new (Post p.name p.csw p.sense Purged ∷ after) false [] p.posts
+        keeps-posts old new (Post p.name p.csw p.sense Purged ∷ after) false [] p.extends
         (grows-purged meaning old.mounted p.name p.csw p.sense old.trace after grows p.fits)
 
   pub keeps-close : (old new : Book D) (dcb : ℕ) (answer : Closing) → Sound old → ClosesBook meaning old dcb answer new → Keeps old [] new
   keeps-close old new dcb answer s h =
       elim (cases_Bool (is_open dcb old.trace)) [
         | inl o ↦
-            keeps-posts old new (after_dooms (Close dcb ∷ old.trace)) old.again [] (subst (λ b. ClosesBy meaning b old dcb new) o h.closes)
+            keeps-posts old new (after_dooms (Close dcb ∷ old.trace)) old.awaits [] (subst (λ b. ClosesBy meaning b old dcb new) o h.closes)
             (grows-close meaning old.mounted dcb old.trace s.0 s.1 o)
         | inr o ↦ keeps-same old new s (subst (λ b. ClosesBy meaning b old dcb new) o h.closes)
       ]
@@ -190,4 +190,4 @@ module _ {D : Type 0} (meaning : Meaning D) where
   pub keeps-reset : (old new : Book D) (dcb : ℕ) → Sound old → is_open dcb old.trace ≡ true → Adds old (Reset dcb) new → Keeps old [] new
   unfolding posted
   keeps-reset old new dcb s o h =
-      keeps-adds old new (Reset dcb ∷ old.trace) old.again h (grows-reset meaning old.mounted dcb old.trace s.0 s.1 o) refl
+      keeps-adds old new (Reset dcb ∷ old.trace) old.awaits h (grows-reset meaning old.mounted dcb old.trace s.0 s.1 o) refl

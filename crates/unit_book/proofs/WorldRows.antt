@@ -8,7 +8,7 @@ use Rattle.device_port.specs.declared.kind.Kind.TheVariants.{Printer}
 use Rattle.device_port.specs.declared.kind.Flow.TheVariants.{None as NoFlow}
 use Rattle.ccw_programs.specs.Links.{chain_within}
 use Rattle.ccw_programs.specs.Step.{step, after, steps_within}
-use Rattle.subchannel.specs.Subchannel.{no_status}
+use Rattle.io_images.specs.Images.{no_status}
 use Rattle.request_piece.specs.PostedState.{PostedState}
 use Rattle.request_piece.specs.declared.piece.Name.{Name}
 use Rattle.request_piece.specs.declared.piece.Piece.{Piece}
@@ -23,7 +23,7 @@ use Rattle.unit_book.specs.declared.entry.Entry.TheVariants.{Opened, Arrive, Sta
 use Rattle.unit_book.specs.Trace.{no_request, arrivals, waiting, started, active, request_of}
 use Rattle.unit_book.specs.Dcbs.{extents_of, flag}
 use Rattle.unit_book.specs.Media.{attempts, stand, newest}
-use Rattle.unit_book.specs.Legal.{Legal, due}
+use Rattle.unit_book.specs.Legal.{Legal, WithVerdict, due}
 use Rattle.unit_book.specs.Posts.{posted, posted_value}
 use Rattle.unit_book.specs.Book.{opening}
 use Rattle.unit_book.specs.Answers.{MayFirst}
@@ -177,10 +177,10 @@ request_is_posted =
     let w3 : Reaches quiet began (taken running [] ready)
     = Go w2 (Start (Started (n 1)) (MayFirst (record { none = refl; request = r 1; first = refl; name = refl; passes = refl }), refl) refl) in
     let w4 : Reaches quiet began (taken ended [] ready)
-    = Go w3 (Run 5 (RanSome 1 true) (omega arith) (record { name = n 1; going = refl; count = refl; adds = refl; pending_is = refl }) refl) in
+    = Go w3 (Run 5 (RanSome 1 true) (omega arith) (record { name = n 1; running = refl; count = refl; adds = refl; pending_is = refl }) refl) in
     let w5 : Reaches quiet began posted_world
     = Go w4 (Interrupt (WasPosted (n 1) Ended)
-    (refl, record { csw = normal_end; sense = 0; fits = record { active = refl; as_ended = (refl, refl, refl) }; posts = refl }) refl) in
+    (refl, record { csw = normal_end; sense = 0; fits = record { active = refl; as_ended = WithVerdict refl refl }; extends = refl }) refl) in
     let w6 : Reaches quiet began (delivered (value normal_end Ended) posted_world)
     = Go w5 (Deliver (record { value = value normal_end Ended; first = refl; room = omega arith; is = refl })) in
     Go w6 (Collect 0 (record { value = value normal_end Ended; first = refl; is = refl }))

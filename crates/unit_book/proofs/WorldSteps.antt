@@ -14,8 +14,8 @@ use Rattle.unit_book.specs.Legal.{Legal, Settled}
 use Rattle.unit_book.specs.Posts.{posted}
 use Rattle.unit_book.specs.Book.{Book}
 use Rattle.unit_book.specs.World.{World, requests_of, values_of, InBook, Accepts, Takes, Delivers, Collects, Step, Accept, Take, Open, Start, Run, Interrupt, Purge, Close, Reset, Deliver, Collect, Reaches, Stay, Go, IsOpening}
-use Rattle.unit_book.specs.Inside.{Each}
-use Rattle.unit_book.proofs.Facts.{Each-push}
+use Rattle.unit_book.specs.Lists.{Each}
+use Rattle.unit_book.proofs.Facts.{Each-behind}
 use Rattle.unit_book.proofs.WorldTraces.{opened-only}
 use Rattle.unit_book.proofs.WorldBooks.{Keeps, Sound, keeps-arrive, keeps-open, keeps-start, keeps-run, keeps-interrupt, keeps-purge, keeps-close, keeps-reset}
 
@@ -148,7 +148,7 @@ module _ {D : Type 0} (meaning : Meaning D) where
         let e = sent-is task in
         let u : new.unit ≡ old.unit = ap (λ (w : World D). w.unit) s.is in
         rw (u, e) (elim (cases_Bool (eqb r.name.task task)) [
-          | inl t ↦ rw t (Each-push (λ q. q.unit ≡ old.unit) (old.sent task) r (k.for_unit task) s.of_unit)
+          | inl t ↦ rw t (Each-behind (λ q. q.unit ≡ old.unit) (old.sent task) r (k.for_unit task) s.of_unit)
           | inr t ↦ rw t (k.for_unit task)
         ])
 

@@ -9,7 +9,7 @@ use Rattle.unit_book.specs.declared.entry.Entry.{Entry}
 use Rattle.unit_book.specs.declared.entry.Entry.TheVariants.{Opened, Arrive, Start, Ran, Halted, Purge, Close, Reset, Post}
 use Rattle.unit_book.specs.Trace.{same, arrivals, has_arrived, is_posted, waiting, active}
 use Rattle.unit_book.specs.Legal.{Legal}
-use Rattle.unit_book.specs.Inside.{Each}
+use Rattle.unit_book.specs.Lists.{Each}
 use Rattle.unit_book.specs.Laws.{times}
 use Rattle.unit_book.specs.World.{World, IsOpening, IsFinished, Reaches, requests_of}
 use Rattle.unit_book.specs.WorldLaws.{posts_of, KeepsRequests, WorldLaws}

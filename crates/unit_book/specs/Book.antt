@@ -5,7 +5,7 @@ use Rattle.request_piece.specs.PostedState.{PostedState}
 use Rattle.request_piece.specs.declared.piece.Name.{Name}
 use Rattle.unit_book.specs.declared.entry.Entry.{Entry}
 use Rattle.unit_book.specs.Trace.{waiting, active}
-use Rattle.unit_book.specs.Media.{goes, stage}
+use Rattle.unit_book.specs.Media.{still_runs, active_phase}
 use Rattle.unit_book.specs.Posts.{posted}
 
 -- the device as it was mounted, the interruption subclass, how many requests there may be, the trace (newest
@@ -16,21 +16,21 @@ pub record Book (D : Type 0) : Type 0 where
   pub isc : ℕ
   pub capacity : ℕ
   pub trace : List Entry
-  pub again : Bool
+  pub awaits : Bool
   pub out : List PostedState
   pub spare : ℕ
 
 -- the book of a device that was just mounted
 abbrev pub opening : {D : Type 0} → D → ℕ → ℕ → Book D
-opening device isc capacity = record { mounted = device; isc = isc; capacity = capacity; trace = []; again = false; out = []; spare = 0 }
+opening device isc capacity = record { mounted = device; isc = isc; capacity = capacity; trace = []; awaits = false; out = []; spare = 0 }
 
 abbrev pub active_count : Option Name → ℕ
 active_count None = 0
 active_count (Some n) = 1
 
 -- the requests that the book holds: waiting, active, or posted and not yet taken
-abbrev pub held : {D : Type 0} → Book D → ℕ
-held b = length (waiting b.trace) + active_count (active b.trace) + length b.out
+abbrev pub occupancy : {D : Type 0} → Book D → ℕ
+occupancy b = length (waiting b.trace) + active_count (active b.trace) + length b.out
 
 module _ {D : Type 0} (meaning : Meaning D) where
   -- the posted values that were taken
@@ -43,17 +43,17 @@ module _ {D : Type 0} (meaning : Meaning D) where
     pub is : given b ≡ before ++ value ∷ []
 
   -- the active request, if its program runs
-  abbrev pub going_by : D → List Entry → Option Name → Option Name
-  going_by mounted H None = None
-  going_by mounted H (Some n) = if goes (stage meaning mounted n H) then Some n else None
+  abbrev pub running_name_by : D → List Entry → Option Name → Option Name
+  running_name_by mounted H None = None
+  running_name_by mounted H (Some n) = if still_runs (active_phase meaning mounted n H) then Some n else None
 
-  abbrev pub going : Book D → Option Name
-  going b = going_by b.mounted b.trace (active b.trace)
+  abbrev pub running_name : Book D → Option Name
+  running_name b = running_name_by b.mounted b.trace (active b.trace)
 
   -- a status is pending: the active request has ended or was halted, and does not await its restart
   abbrev pub pending_by : D → List Entry → Bool → Option Name → Bool
-  pending_by mounted H again None = false
-  pending_by mounted H again (Some n) = not again && not (goes (stage meaning mounted n H))
+  pending_by mounted H awaits None = false
+  pending_by mounted H awaits (Some n) = not awaits && not (still_runs (active_phase meaning mounted n H))
 
   abbrev pub is_pending : Book D → Bool
-  is_pending b = pending_by b.mounted b.trace b.again (active b.trace)
+  is_pending b = pending_by b.mounted b.trace b.awaits (active b.trace)

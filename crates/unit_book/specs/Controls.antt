@@ -10,7 +10,7 @@ use Rattle.request_piece.specs.Scope.{covers}
 use Rattle.request_piece.specs.declared.scope.Scope.{Scope}
 use Rattle.request_piece.specs.declared.scope.Scope.TheVariants.{Dcb}
 use Rattle.unit_book.specs.declared.answer.Closing.{Closing}
-use Rattle.unit_book.specs.declared.answer.Closing.TheVariants.{Closing as StillClosing, Closed}
+use Rattle.unit_book.specs.declared.answer.Closing.TheVariants as closing_answer
 use Rattle.unit_book.specs.declared.answer.DcbError.{DcbError}
 use Rattle.unit_book.specs.declared.answer.DcbError.TheVariants.{NoSuchDcb, NoMemory}
 use Rattle.unit_book.specs.declared.answer.Purging.{Purging}
@@ -22,8 +22,8 @@ use Rattle.unit_book.specs.Trace.{is_halt, active, request_of}
 use Rattle.unit_book.specs.Dcbs.{is_opened, is_open}
 use Rattle.unit_book.specs.Legal.{Due, ToHalt, ToPost, Free, due, doomed_first, PostsActive}
 use Rattle.unit_book.specs.Dooms.{after_dooms}
-use Rattle.unit_book.specs.Book.{Book}
-use Rattle.unit_book.specs.Answers.{Posts}
+use Rattle.unit_book.specs.Book.{Book, running_name}
+use Rattle.unit_book.specs.Answers.{Extends}
 
 -- THE ACTIVE REQUEST, if it is of the scope
 abbrev pub covered_by : Scope → List Entry → Option Name → Option Name
@@ -39,8 +39,8 @@ purging None = Quiet
 purging (Some n) = Active n
 
 abbrev pub closing : Option Name → Closing
-closing None = Closed
-closing (Some n) = StillClosing n
+closing None = closing_answer.Closed
+closing (Some n) = closing_answer.Closing n
 
 -- the trace with the Halted that is due, if one is
 abbrev pub halted_by : Due → List Entry → List Entry
@@ -55,7 +55,7 @@ due_after (Some n) rs = ToHalt n
 
 -- a purge with Halt covers the active request, which awaits its restart
 abbrev pub covers_awaiting : {D : Type 0} → Book D → Scope → Mode → Bool
-covers_awaiting b scope mode = is_halt mode && b.again && is_some (active_of scope b.trace)
+covers_awaiting b scope mode = is_halt mode && b.awaits && is_some (active_of scope b.trace)
 
 -- when a purge or a close is refused, the first reason in this order
 abbrev pub DcbRefused : {D : Type 0} → Book D → ℕ → DcbError → Type 0
@@ -75,16 +75,20 @@ module _ {D : Type 0} (meaning : Meaning D) where
   abbrev pub after_purge : D → Scope → Mode → List Entry → List Entry
   after_purge mounted scope mode H = after_dooms (after_halt mounted (Purge scope mode ∷ H))
 
+  -- a purge with Halt covers the active request, whose program runs: it is halted, and its status is pending
+  abbrev pub halts_program : Book D → Scope → Mode → Bool
+  halts_program b scope mode = is_halt mode && is_some (covered_by scope b.trace (running_name meaning b))
+
   -- the active request awaited its restart and is purged behind those that waited
   pub record PurgesAwaiting (old : Book D) (scope : Scope) (mode : Mode) (new : Book D) : Type 0 where
     pub name : Name
     pub csw : Csw
     pub sense : ℕ
     pub fits : PostsActive meaning old.mounted name csw sense Purged (after_purge old.mounted scope mode old.trace)
-    pub posts : Posts meaning old (Post name csw sense Purged ∷ after_purge old.mounted scope mode old.trace) false new
+    pub extends : Extends meaning old (Post name csw sense Purged ∷ after_purge old.mounted scope mode old.trace) false new
 
   abbrev pub PurgesBy : Bool → Book D → Scope → Mode → Book D → Type 0
-  PurgesBy false old scope mode new = Posts meaning old (after_purge old.mounted scope mode old.trace) old.again new
+  PurgesBy false old scope mode new = Extends meaning old (after_purge old.mounted scope mode old.trace) old.awaits new
   PurgesBy true old scope mode new = PurgesAwaiting old scope mode new
 
   -- a purge
@@ -94,7 +98,7 @@ module _ {D : Type 0} (meaning : Meaning D) where
 
   -- a close; of a DCB that was closed before it changes nothing
   abbrev pub ClosesBy : Bool → Book D → ℕ → Book D → Type 0
-  ClosesBy true old dcb new = Posts meaning old (after_dooms (Close dcb ∷ old.trace)) old.again new
+  ClosesBy true old dcb new = Extends meaning old (after_dooms (Close dcb ∷ old.trace)) old.awaits new
   ClosesBy false old dcb new = new ≡ old
 
   pub record ClosesBook (old : Book D) (dcb : ℕ) (answer : Closing) (new : Book D) : Type 0 where

@@ -4,6 +4,7 @@ use Rattle.std.specs.Prelude.{ℕ, ◌==◌, Bool, true, false, not, ◌&&◌, �
 use Rattle.std.specs.List.{filter, list_any}
 use Rattle.io_images.specs.declared.extent.Extent.{Extent}
 use Rattle.io_images.specs.Codes.{is_error}
+use Rattle.io_images.specs.FileMask.{input_mask, output_mask}
 use Rattle.request_piece.specs.declared.piece.Name.{Name}
 use Rattle.request_piece.specs.declared.piece.Piece.{Piece}
 use Rattle.unit_book.specs.declared.dcb.DcbState.{DcbState}
@@ -33,9 +34,9 @@ extents_of d [] = []
 extents_of d (Opened c input extents ∷ H) = if c == d then extents else extents_of d H
 extents_of d (_ ∷ H) = extents_of d H
 
--- the file mask of a DCB: X'58' for input, X'18' for output (profile)
+-- the file mask of a DCB (profile)
 abbrev pub mask_of : ℕ → List Entry → ℕ
-mask_of d H = if list_any (opens_for_input d) H then 0x58 else 0x18
+mask_of d H = if list_any (opens_for_input d) H then input_mask else output_mask
 
 -- the request with this name, if there is one, is of this DCB
 abbrev pub is_of : ℕ → List Entry → Option Name → Bool

@@ -1,7 +1,7 @@
 -- THE DOOMS: the posts of what is doomed, in order, as purged, with CSW and sense of zeros (profile).
 use Rattle.std.specs.Prelude.{List, [], ◌∷◌}
 use Rattle.io_images.specs.declared.code.Code.TheVariants.{Purged}
-use Rattle.subchannel.specs.Subchannel.{no_status}
+use Rattle.io_images.specs.Images.{no_status}
 use Rattle.request_piece.specs.PostedState.{PostedState}
 use Rattle.request_piece.specs.declared.piece.Piece.{Piece}
 use Rattle.unit_book.specs.declared.entry.Entry.{Entry}

@@ -6,7 +6,7 @@ use Rattle.io_images.specs.declared.code.Code.{Code}
 use Rattle.io_images.specs.declared.code.Code.TheVariants.{ExtentViolated, Purged}
 use Rattle.device_port.specs.Meaning.{Meaning}
 use Rattle.ccw_programs.specs.Step.{length_of}
-use Rattle.subchannel.specs.Subchannel.{no_status}
+use Rattle.io_images.specs.Images.{no_status}
 use Rattle.recovery.specs.declared.answer.Verdict.{Verdict}
 use Rattle.recovery.specs.declared.answer.Verdict.TheVariants.{Retry, Final}
 use Rattle.recovery.specs.Verdict.{verdict}
@@ -21,7 +21,7 @@ use Rattle.unit_book.specs.declared.entry.Entry.TheVariants.{Opened, Arrive, Sta
 use Rattle.unit_book.specs.Trace.{waiting, active, request_of, arrived_of, starts_of, is_covered}
 use Rattle.unit_book.specs.Extents.{takes_extents, passes_check}
 use Rattle.unit_book.specs.Dcbs.{is_opened, is_open, opened_count, extents_of, doomed}
-use Rattle.unit_book.specs.Media.{Stage, Goes, Stopped, Over, goes, current, stage}
+use Rattle.unit_book.specs.Media.{StillRunning, WasHalted, HasEnded, still_runs, current, active_phase}
 
 -- WHAT IS DUE: the Halted of a name, the post of a doomed name, or nothing, so that the next entry is free
 pub data Due : Type 0 where
@@ -33,16 +33,10 @@ abbrev pub doomed_first : List Piece → Due
 doomed_first [] = Free
 doomed_first (r ∷ rs) = ToPost r.name
 
--- the code of a request that has ended, if it is posted: one that would be tried again is posted only if it
--- is covered
-abbrev pub ended_code : Verdict → Bool → Option Code
-ended_code (Final code) covered = Some code
-ended_code Retry covered = if covered then Some Purged else None
-
 module _ {D : Type 0} (meaning : Meaning D) (mounted : D) where
   -- the newest entry is a purge with Halt that covers the active request, whose program runs
   abbrev pub is_to_halt : List Entry → Name → Bool
-  is_to_halt (Purge scope Halt ∷ H) n = covers scope (request_of n H) && goes (stage meaning mounted n (Purge scope Halt ∷ H))
+  is_to_halt (Purge scope Halt ∷ H) n = covers scope (request_of n H) && still_runs (active_phase meaning mounted n (Purge scope Halt ∷ H))
   is_to_halt _ n = false
 
   abbrev pub due_by : List Entry → Option Name → Due
@@ -73,7 +67,7 @@ module _ {D : Type 0} (meaning : Meaning D) (mounted : D) where
     pub active : active H ≡ Some n
     pub csw : Csw
     pub sense : ℕ
-    pub ended : stage meaning mounted n H ≡ Over csw sense
+    pub ended : active_phase meaning mounted n H ≡ HasEnded csw sense
     pub retry : verdict_of n csw sense H ≡ Retry
     pub free : is_covered (request_of n H) H ≡ false
 
@@ -84,20 +78,22 @@ module _ {D : Type 0} (meaning : Meaning D) (mounted : D) where
   -- n is active, its program runs and has at least so many commands left
   pub record RanFits (n : Name) (j : ℕ) (H : List Entry) : Type 0 where
     pub active : active H ≡ Some n
-    pub goes : stage meaning mounted n H ≡ Goes
+    pub running : active_phase meaning mounted n H ≡ StillRunning
     pub some : 1 ≤ j
     pub left : j ≤ length_of meaning (current meaning mounted H)
 
-  -- CSW, sense and code are those of a halted request, purged, or those of one that has ended
-  abbrev pub PostsAt : Csw → ℕ → Code → Stage → (Csw → ℕ → Option Code) → Type 0
-  PostsAt csw sense code Goes ended = ⊥
-  PostsAt csw sense code (Stopped c s) ended = (csw ≡ c) × (sense ≡ s) × (code ≡ Purged)
-  PostsAt csw sense code (Over c s) ended = (csw ≡ c) × (sense ≡ s) × (ended c s ≡ Some code)
+  -- WHAT BECAME of the active request n, by which it is posted with this CSW, sense and code: it has ended and the verdict
+  -- is final; it has ended and would be tried again, but is covered, or was halted, and so is purged
+  pub data PostsAs (n : Name) (csw : Csw) (sense : ℕ) (code : Code) (H : List Entry) : Type 0 where
+    WithVerdict : active_phase meaning mounted n H ≡ HasEnded csw sense → verdict_of n csw sense H ≡ Final code → PostsAs n csw sense code H
+    WhileCovered : active_phase meaning mounted n H ≡ HasEnded csw sense → verdict_of n csw sense H ≡ Retry → is_covered (request_of n H) H ≡ true →
+        code ≡ Purged → PostsAs n csw sense code H
+    AfterHalt : active_phase meaning mounted n H ≡ WasHalted csw sense → code ≡ Purged → PostsAs n csw sense code H
 
   -- THE POST of the active request
   pub record PostsActive (n : Name) (csw : Csw) (sense : ℕ) (code : Code) (H : List Entry) : Type 0 where
     pub active : active H ≡ Some n
-    pub as_ended : PostsAt csw sense code (stage meaning mounted n H) (λ c s. ended_code (verdict_of n c s H) (is_covered (request_of n H) H))
+    pub as_ended : PostsAs n csw sense code H
 
   -- THE POST of the first that waits, where nothing is active and it fails the extent check
   pub record FailsCheck (n : Name) (H : List Entry) : Type 0 where

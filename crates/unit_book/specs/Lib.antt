@@ -5,10 +5,11 @@ pub mod Media
 pub mod Legal
 pub mod Posts
 pub mod Dooms
-pub mod Picks
+pub mod Selected
 pub mod Book
 pub mod Answers
-pub mod Inside
+pub mod Lists
+pub mod Fields
 pub mod Laws
 pub mod Controls
 pub mod World

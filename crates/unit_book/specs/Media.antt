@@ -42,21 +42,21 @@ pub record Stand (D : Type 0) : Type 0 where
   pub device : D
   pub area : Piece → Storage
 
--- where the active request is: its program runs, was halted, or has ended, the last two with CSW and sense
-pub data Stage : Type 0 where
-  Goes : Stage
-  Stopped : Csw → ℕ → Stage
-  Over : Csw → ℕ → Stage
+-- THE PHASE of the active request: its program is running, was halted, or has ended, the last two with CSW and sense
+pub data ActivePhase : Type 0 where
+  StillRunning : ActivePhase
+  WasHalted : Csw → ℕ → ActivePhase
+  HasEnded : Csw → ℕ → ActivePhase
 
-abbrev pub stage_by : Bool → Place → State → Stage
-stage_by true place state = Stopped (halted place) 0
-stage_by false place Running = Goes
-stage_by false place (Ended csw sense) = Over csw sense
+abbrev pub active_phase_by : Bool → Place → State → ActivePhase
+active_phase_by true place state = WasHalted (halted place) 0
+active_phase_by false place Running = StillRunning
+active_phase_by false place (Ended csw sense) = HasEnded csw sense
 
-abbrev pub goes : Stage → Bool
-goes Goes = true
-goes (Stopped csw sense) = false
-goes (Over csw sense) = false
+abbrev pub still_runs : ActivePhase → Bool
+still_runs StillRunning = true
+still_runs (WasHalted csw sense) = false
+still_runs (HasEnded csw sense) = false
 
 module _ {D : Type 0} (meaning : Meaning D) (mounted : D) where
   -- the program of an attempt before its first command: the prefix, then IOBSTART, on the device and the
@@ -93,5 +93,5 @@ module _ {D : Type 0} (meaning : Meaning D) (mounted : D) where
   current H = newest (attempts H)
 
   -- PHASE AND STATUS of the active request. The status after a halt is what HALT SUBCHANNEL stores
-  abbrev pub stage : Name → List Entry → Stage
-  stage n H = stage_by (is_halted n H) (current H).place (current H).place.state
+  abbrev pub active_phase : Name → List Entry → ActivePhase
+  active_phase n H = active_phase_by (is_halted n H) (current H).place (current H).place.state

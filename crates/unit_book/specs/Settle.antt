@@ -46,11 +46,11 @@ unposted H = length (waiting H) + active_count (active H)
 
 -- the starts that the active request may have before its post: at most ten more where it awaits one
 abbrev pub starts_left : List Entry → Bool → Option Name → ℕ
-starts_left H again None = 12
-starts_left H again (Some n) = if again then 11 - starts_of n H else 12
+starts_left H awaits None = 12
+starts_left H awaits (Some n) = if awaits then 11 - starts_of n H else 12
 
 abbrev pub distance : {D : Type 0} → Book D → ℕ
-distance b = 13 * unposted b.trace + starts_left b.trace b.again (active b.trace)
+distance b = 13 * unposted b.trace + starts_left b.trace b.awaits (active b.trace)
 
 -- nothing waits and nothing is active
 pub record IsIdle (H : List Entry) : Type 0 where

@@ -18,8 +18,8 @@ use Rattle.unit_book.specs.Trace.{is_opening, waiting, active}
 use Rattle.unit_book.specs.Dcbs.{is_open}
 use Rattle.unit_book.specs.Legal.{Legal, CanPurge}
 use Rattle.unit_book.specs.Dooms.{after_dooms}
-use Rattle.unit_book.specs.Book.{Book, held}
-use Rattle.unit_book.specs.Answers.{Adds, Posts, OpensBook, StartsBook, RunsBook, InterruptsBook}
+use Rattle.unit_book.specs.Book.{Book, occupancy}
+use Rattle.unit_book.specs.Answers.{Adds, Extends, OpensBook, StartsBook, RunsBook, InterruptsBook}
 use Rattle.unit_book.specs.Controls.{PurgesBook, ClosesBook}
 
 -- the requests of a task, in order
@@ -87,8 +87,8 @@ module _ {D : Type 0} (meaning : Meaning D) where
   pub record Takes (old new : World D) : Type 0 where
     pub request : Piece
     pub first : slice_get old.flight 0 ≡ Some request
-    pub room : held old.book < old.book.capacity
-    pub arrives : Posts meaning old.book (after_dooms (Arrive request ∷ old.book.trace)) old.book.again new.book
+    pub room : occupancy old.book < old.book.capacity
+    pub arrives : Extends meaning old.book (after_dooms (Arrive request ∷ old.book.trace)) old.book.awaits new.book
     pub is : new ≡ record old { flight = drop 1 old.flight; book = new.book }
 
   -- A STEP of the world: a request is accepted or taken, the book does a call, a posted value is delivered or collected.

@@ -8,7 +8,7 @@ use Rattle.unit_book.specs.declared.entry.Entry.{Entry}
 use Rattle.unit_book.specs.Trace.{posts, arrivals, has_started}
 use Rattle.unit_book.specs.Legal.{Legal, Settled}
 use Rattle.unit_book.specs.Posts.{posted}
-use Rattle.unit_book.specs.Inside.{Each}
+use Rattle.unit_book.specs.Lists.{Each}
 use Rattle.unit_book.specs.Laws.{first_starts, PostsLast, OnePlace, StartsInOrder, NoDoomedStarts, FewStarts}
 use Rattle.unit_book.specs.World.{World, IsOpening, IsFinished, Reaches, requests_of, values_of}
 

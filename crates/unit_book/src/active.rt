@@ -2,11 +2,10 @@
 
 ghost use Rattle.std.specs.Prelude.{◌≡◌, ◌+◌, ◌<◌, ◌≤◌, false, true};
 ghost use Rattle.io_area.specs.Storage.{SamePlace};
-ghost use Rattle.subchannel.specs.Subchannel.{RunsAs, going};
-ghost use Rattle.unit_book.specs.Inside.{after_cover, again_by, kept_by, pending_code, with_area};
+ghost use Rattle.subchannel.specs.Subchannel.{RunsAs, running_program};
+ghost use Rattle.unit_book.specs.Fields.{after_cover, awaits_by, kept_by, pending_code, with_area};
 
 use crate::entry::Mode;
-use crate::ledger::empty_status;
 use ccw_programs::Burst;
 use device_port::{Device, Kind};
 use io_images::{Code, Csw};
@@ -16,9 +15,9 @@ use subchannel::Subchannel;
 
 /// Whether the active request is on the channel, or awaits its restart with the status of its last attempt.
 #[derive(Clone, Copy, PartialEq, Eq, Debug)]
-pub(crate) enum Doing {
+pub(crate) enum Standing {
     OnChannel,
-    Again(Csw, u16),
+    AwaitsRestart(Csw, u16),
 }
 
 /// The active request: how often it was started, and what happened since its last start.
@@ -28,7 +27,7 @@ pub(crate) struct Active {
     pub starts: u32,
     pub halted: bool,
     pub covered: bool,
-    pub doing: Doing,
+    pub standing: Standing,
 }
 
 impl Active {
@@ -41,61 +40,61 @@ impl Active {
 
     /// A request that was started once.
     pub fn first(piece: Box<Piece>) -> Self
-        ensures { result ≡ record { piece = piece; starts = 1; halted = false; covered = false; doing = Doing.OnChannel } }
+        ensures { result ≡ record { piece = piece; starts = 1; halted = false; covered = false; standing = Standing.OnChannel } }
     {
         Active {
             piece,
             starts: 1,
             halted: false,
             covered: false,
-            doing: Doing::OnChannel,
+            standing: Standing::OnChannel,
         }
     }
 
     /// The request, started once more.
     pub fn restarted(self) -> Self
         requires { self.starts ≤ 10 }
-        ensures { result ≡ record { piece = self.piece; starts = self.starts + 1; halted = false; covered = false; doing = Doing.OnChannel } }
+        ensures { result ≡ record { piece = self.piece; starts = self.starts + 1; halted = false; covered = false; standing = Standing.OnChannel } }
     {
         Active {
             piece: self.piece,
             starts: self.starts + 1,
             halted: false,
             covered: false,
-            doing: Doing::OnChannel,
+            standing: Standing::OnChannel,
         }
     }
 
     /// The request, which awaits its restart.
     pub fn awaiting(self, csw: Csw, sense: u16) -> Self
-        ensures { result ≡ record self { doing = Doing.Again csw sense } }
+        ensures { result ≡ record self { standing = Standing.AwaitsRestart csw sense } }
     {
         Active {
             piece: self.piece,
             starts: self.starts,
             halted: self.halted,
             covered: self.covered,
-            doing: Doing::Again(csw, sense),
+            standing: Standing::AwaitsRestart(csw, sense),
         }
     }
 
     /// Whether the request awaits its restart.
     pub fn awaits(&self) -> bool
-        ensures { result ≡ again_by self.now.doing }
+        ensures { result ≡ awaits_by self.now.standing }
     {
-        match self.doing {
-            Doing::OnChannel => false,
-            Doing::Again(_, _) => true,
+        match self.standing {
+            Standing::OnChannel => false,
+            Standing::AwaitsRestart(_, _) => true,
         }
     }
 
     /// The status of the last attempt of a request that awaits its restart.
     pub fn kept_status(&self) -> (Csw, u16)
-        ensures { result ≡ kept_by self.now.doing }
+        ensures { result ≡ kept_by self.now.standing }
     {
-        match self.doing {
-            Doing::OnChannel => (empty_status(), 0),
-            Doing::Again(csw, sense) => (csw, sense),
+        match self.standing {
+            Standing::OnChannel => (Csw::empty(), 0),
+            Standing::AwaitsRestart(csw, sense) => (csw, sense),
         }
     }
 
@@ -103,18 +102,18 @@ impl Active {
     pub fn purged(self, scope: Scope, mode: Mode) -> Self
         ensures { result ≡ after_cover scope mode self }
     {
-        let covers = mode == Mode::Halt && scope.covers(&self.piece);
+        let covers = mode == Mode::Halt && scope.covers_piece(&self.piece);
         Active {
             piece: self.piece,
             starts: self.starts,
             halted: self.halted,
             covered: covers || self.covered,
-            doing: self.doing,
+            standing: self.standing,
         }
     }
 
     /// The request, whose program was halted.
-    pub fn stopped(self) -> Self
+    pub fn once_halted(self) -> Self
         ensures { result ≡ record self { halted = true } }
     {
         Active {
@@ -122,7 +121,7 @@ impl Active {
             starts: self.starts,
             halted: true,
             covered: self.covered,
-            doing: self.doing,
+            standing: self.standing,
         }
     }
 
@@ -143,7 +142,7 @@ impl Active {
     /// Runs the program of the request, by so many commands at most.
     pub fn run<D: Device>(&mut self, channel: &mut Subchannel<D>, max: u32) -> Option<Burst>
         requires { 1 ≤ max }
-        ensures ran { RunsAs D.meaning channel.old self.old.piece.value.area max (going channel.old.device channel.old.phase self.old.piece.value.area) result channel.new self.new.piece.value.area }
+        ensures ran { RunsAs D.meaning channel.old self.old.piece.value.area max (running_program channel.old.device channel.old.phase self.old.piece.value.area) result channel.new self.new.piece.value.area }
         ensures same { self.new ≡ with_area self.old self.new.piece.value.area }
         ensures place { SamePlace self.old.piece.value.area self.new.piece.value.area }
     {

@@ -4,9 +4,9 @@ mod controls;
 mod readers;
 mod settle;
 
-ghost use Rattle.std.specs.Prelude.{◌≡◌, ◌≢◌, ◌≤◌, ◌<◌, ◌+◌, ◌∷◌, ◌++◌, [], IfOk, IfErr, OnOk, OnErr, IfSome, IsSome, length, slice_get, drop, true};
-ghost use Rattle.unit_book.specs.Answers.{ArriveRefused, InterruptsBook, OpenRefused, OpensBook, Posts, RunsBook, StartsBook};
-ghost use Rattle.unit_book.specs.Book.{IsLastGiven, given, going, held, is_pending, opening};
+ghost use Rattle.std.specs.Prelude.{◌≡◌, ◌≢◌, ◌≤◌, ◌<◌, ◌+◌, ◌∷◌, ◌++◌, [], IfOk, IfErr, OnOk, OnErr, IfSome, IsSome, length, slice_get, drop, true, false, None};
+ghost use Rattle.unit_book.specs.Answers.{ArriveRefused, InterruptsBook, OpenRefused, OpensBook, Extends, RunsBook, StartsBook, pending_after};
+ghost use Rattle.unit_book.specs.Book.{IsLastGiven, given, running_name, occupancy, is_pending, opening};
 ghost use Rattle.unit_book.specs.Dooms.{after_dooms};
 ghost use Rattle.unit_book.specs.Legal.{Legal, Settled};
 ghost use Rattle.unit_book.specs.Posts.{posted};
@@ -60,12 +60,15 @@ impl<D: Device> UnitBook<D> {
     }
 
     /// What holds of every book: its trace is legal and nothing is due, the posted values are those that
-    /// were taken and those that are out, and it holds no more requests than it may.
+    /// were taken and those that are out, it holds no more requests than it may, its interruption subclass is
+    /// 0 to 7, and no program runs where the active request awaits its restart.
     pub fn holds(&self)
         ensures legal { Legal D.meaning self.now.mounted self.now.trace }
         ensures settled { Settled D.meaning self.now.mounted self.now.trace }
         ensures given { given D.meaning self.now ++ self.now.out ≡ posted D.meaning self.now.mounted self.now.trace }
-        ensures held { held self.now ≤ self.now.capacity }
+        ensures occupancy { occupancy self.now ≤ self.now.capacity }
+        ensures isc { self.now.isc ≤ 7 }
+        ensures awaits { self.now.awaits ≡ true → running_name D.meaning self.now ≡ None }
     {
         self.ledger.holds();
     }
@@ -86,12 +89,14 @@ impl<D: Device> UnitBook<D> {
     /// where there is no memory, which cannot be where `reserve` has made room.
     pub fn arrive(&mut self, request: Request) -> Result<(), (ArriveError, Request)>
         requires { request.name.seq ≡ arrived_of request.name.task self.old.trace + 1 }
-        ensures ok { OnOk result (Posts D.meaning self.old (after_dooms (Entry.Arrive request ∷ self.old.trace)) self.old.again self.new) }
-        ensures room { OnOk result (held self.old < self.old.capacity) }
+        ensures ok { OnOk result (Extends D.meaning self.old (after_dooms (Entry.Arrive request ∷ self.old.trace)) self.old.awaits self.new) }
+        ensures room { OnOk result (occupancy self.old < self.old.capacity) }
         ensures refused { IfErr result (λ e. ArriveRefused self.old e.0) }
         ensures given_back { IfErr result (λ e. e.1 ≡ request) }
         ensures err { OnErr result (self.new ≡ self.old) }
+        ensures pending { is_pending D.meaning self.new ≡ is_pending D.meaning self.old }
     {
+        self.ledger.holds();
         if !self.ledger.has_room() {
             return Err((ArriveError::Held, request));
         }
@@ -116,6 +121,7 @@ impl<D: Device> UnitBook<D> {
         ensures refused { IfErr result (OpenRefused D.meaning self.old extents.now) }
         ensures err { OnErr result (self.new ≡ record self.old { spare = self.new.spare }) }
         ensures kept { OnErr result (self.old.spare ≤ self.new.spare) }
+        ensures pending { is_pending D.meaning self.new ≡ is_pending D.meaning self.old }
     {
         if self.ledger.dcb_count() >= MOST_DCBS {
             return Err(OpenError::TooManyDcbs);
@@ -137,9 +143,10 @@ impl<D: Device> UnitBook<D> {
     pub fn start(&mut self) -> Result<Starting, AllocError>
         ensures ok { IfOk result (λ answer. StartsBook D.meaning self.old answer self.new) }
         ensures err { OnErr result (self.new ≡ self.old) }
-        ensures busy { OnErr result (IsSome (active self.old.trace) → self.old.again ≡ true) }
+        ensures busy { OnErr result (IsSome (active self.old.trace) → self.old.awaits ≡ true) }
         ensures idle { OnErr result (active self.old.trace ≡ None → waiting self.old.trace ≢ []) }
         ensures full { OnErr result (self.old.spare < length (waiting self.old.trace) + 1) }
+        ensures pending { is_pending D.meaning self.new ≡ is_pending D.meaning self.old }
     {
         match self.ledger.next_start() {
             Next::Busy => Ok(Starting::Busy),
@@ -168,10 +175,12 @@ impl<D: Device> UnitBook<D> {
         requires { 1 ≤ max }
         ensures ok { IfOk result (λ answer. RunsBook D.meaning self.old max answer self.new) }
         ensures err { OnErr result (self.new ≡ self.old) }
-        ensures runs { OnErr result (IsSome (going D.meaning self.old)) }
+        ensures runs { OnErr result (IsSome (running_name D.meaning self.old)) }
         ensures full { OnErr result (self.old.spare < 1) }
+        ensures pending { IfOk result (λ answer. is_pending D.meaning self.new ≡ pending_after (is_pending D.meaning self.old) answer) }
     {
-        if !self.ledger.goes() {
+        self.ledger.holds();
+        if !self.ledger.is_running() {
             return Ok(Running::Quiet);
         }
         self.ledger.reserve(1)?;
@@ -185,7 +194,9 @@ impl<D: Device> UnitBook<D> {
         ensures err { OnErr result (self.new ≡ self.old) }
         ensures pending { OnErr result (is_pending D.meaning self.old ≡ true) }
         ensures full { OnErr result (self.old.spare < length (waiting self.old.trace) + 1) }
+        ensures taken { OnOk result (is_pending D.meaning self.new ≡ false) }
     {
+        self.ledger.holds();
         let Some(decision) = self.ledger.decide() else {
             return Ok(Interruption::Quiet);
         };
@@ -210,7 +221,7 @@ impl<D: Device> UnitBook<D> {
         ensures first { result ≡ slice_get self.old.out 0 }
         ensures book { self.new ≡ record self.old { out = drop 1 self.old.out } }
         ensures given { IfSome result (λ value. given D.meaning self.new ≡ given D.meaning self.old ++ value ∷ []) }
-        ensures room { IfSome result (λ value. held self.new < self.new.capacity) }
+        ensures room { IfSome result (λ value. occupancy self.new < self.new.capacity) }
     {
         self.ledger.holds();
         self.ledger.take_out()
@@ -219,7 +230,7 @@ impl<D: Device> UnitBook<D> {
     /// Puts the value that was taken out last back in front. Takes no memory.
     pub fn return_out(&mut self, value: Posted)
         requires last { IsLastGiven D.meaning self.old value }
-        requires room { held self.old < self.old.capacity }
+        requires room { occupancy self.old < self.old.capacity }
         ensures { self.new ≡ record self.old { out = value ∷ self.old.out } }
     {
         self.ledger.return_out(value);

@@ -3,10 +3,10 @@
 ghost use Rattle.std.specs.Prelude.{◌≡◌, ◌+◌, ◌==◌, ◌&&◌, ℕ, [], ◌∷◌, ◌++◌, length, OnOk, OnErr, true, false};
 ghost use Rattle.std.specs.Option.{option_copied};
 ghost use Rattle.io_images.specs.Codes.{is_error};
-ghost use Rattle.unit_book.specs.Inside.{dcb_at, mask_at, extents_at, noted, shut, unflagged};
+ghost use Rattle.unit_book.specs.Fields.{dcb_at, mask_at, extents_at, noted, shut, unflagged};
 
 use crate::extents::Extents;
-use io_images::{Code, Extent};
+use io_images::{Code, Extent, FileMask};
 use request_piece::Piece;
 use std::alloc::{AllocError, Global};
 use std::marker::Model;
@@ -84,8 +84,8 @@ impl DcbTable {
         ensures { result ≡ mask_at (dcb_at self.now dcb) }
     {
         match self.get(dcb) {
-            Some(row) if row.input => 0x58,
-            _ => 0x18,
+            Some(row) if row.input => FileMask::INPUT.0,
+            Some(_) | None => FileMask::OUTPUT.0,
         }
     }
 

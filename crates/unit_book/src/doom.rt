@@ -1,7 +1,7 @@
 //! The requests that a post leaves to be purged.
 
 ghost use Rattle.std.specs.Prelude.{◌≡◌};
-ghost use Rattle.unit_book.specs.Picks.{doomed_by_post};
+ghost use Rattle.unit_book.specs.Selected.{doomed_by_post};
 
 use io_images::Code;
 use request_piece::Piece;

@@ -5,12 +5,12 @@ mod posts;
 mod programs;
 mod readers;
 
-ghost use Rattle.std.specs.Prelude.{◌≡◌, ◌≤◌, ◌<◌, ◌+◌, ◌-◌, false, ◌∷◌, ◌++◌, [], reverse, length, vec_len, vec_capacity, IfOk, IfErr, OnOk, OnErr};
+ghost use Rattle.std.specs.Prelude.{◌≡◌, ◌≤◌, ◌<◌, ◌+◌, ◌-◌, true, false, None, ◌∷◌, ◌++◌, [], reverse, length, vec_len, vec_capacity, IfOk, IfErr, OnOk, OnErr};
 ghost use Rattle.circular_buffer.specs.Buffer.{buffer};
 ghost use Rattle.request_piece.specs.Places.{Placed};
-ghost use Rattle.unit_book.specs.Book.{Book, held, given, opening};
+ghost use Rattle.unit_book.specs.Book.{Book, running_name, occupancy, given, opening};
 ghost use Rattle.unit_book.specs.Legal.{Fits, Legal, Settled, OpenFits};
-ghost use Rattle.unit_book.specs.Answers.{Adds, Posts};
+ghost use Rattle.unit_book.specs.Answers.{Adds, Extends};
 ghost use Rattle.unit_book.specs.Dcbs.{is_refused, opened_count};
 ghost use Rattle.unit_book.specs.Dooms.{after_dooms};
 ghost use Rattle.unit_book.specs.Posts.{posted};
@@ -24,7 +24,6 @@ use crate::extents::Extents;
 use circular_buffer::HeapCircularBuffer;
 use device_port::Device;
 use io_images::Extent;
-pub(crate) use posts::empty_status;
 use request_piece::{Issued, Piece, Posted};
 use std::alloc::{AllocError, AllocFailed, Global};
 use std::marker::Model;
@@ -51,9 +50,9 @@ impl<D: Device> Model for Ledger<D> {
 
     ghost Value = { Book D };
 
-    ghost use Rattle.unit_book.specs.Inside.{again_of, Ties, Rooms};
+    ghost use Rattle.unit_book.specs.Fields.{awaits_of, Ties, Rooms};
 
-    ghost view = { λ a. record { mounted = a.mounted; isc = a.channel.isc; capacity = a.out.capacity; trace = reverse a.trace.items; again = again_of a.active; out = a.out.items; spare = vec_capacity a.trace - vec_len a.trace } };
+    ghost view = { λ a. record { mounted = a.mounted; isc = a.channel.isc; capacity = a.out.capacity; trace = reverse a.trace.items; awaits = awaits_of a.active; out = a.out.items; spare = vec_capacity a.trace - vec_len a.trace } };
 
     ghost invariant = { λ a. Ties D.meaning a.mounted (reverse a.trace.items) a.channel a.active a.waiting.pieces a.dcbs a.out.items × Rooms a.active a.waiting a.swept a.out };
 }
@@ -64,7 +63,9 @@ fn write(trace: &mut Vec<Entry>, entry: Entry)
     ensures items { reverse trace.new.items ≡ entry ∷ reverse trace.old.items }
     ensures spare { vec_capacity trace.old - vec_len trace.old ≤ vec_capacity trace.new - vec_len trace.new + 1 }
 {
-    let _ = trace.push(entry);
+    if trace.push(entry).is_err() {
+        unreachable!();
+    }
 }
 
 /// Adds a posted value where there is room.
@@ -72,7 +73,19 @@ fn hand_out(out: &mut HeapCircularBuffer<Posted>, posted: Posted)
     requires { length out.old.items < out.old.capacity }
     ensures { out.new ≡ buffer (out.old.items ++ posted ∷ []) out.old.capacity }
 {
-    let _ = out.push_back(posted);
+    if out.push_back(posted).is_some() {
+        unreachable!();
+    }
+}
+
+/// Puts a posted value back in front where there is room.
+fn hand_back(out: &mut HeapCircularBuffer<Posted>, posted: Posted)
+    requires { length out.old.items < out.old.capacity }
+    ensures { out.new ≡ buffer (posted ∷ out.old.items) out.old.capacity }
+{
+    if out.push_front(posted).is_some() {
+        unreachable!();
+    }
 }
 
 impl<D: Device> Ledger<D> {
@@ -101,9 +114,11 @@ impl<D: Device> Ledger<D> {
     pub fn holds(&self)
         ensures legal { Legal D.meaning self.now.mounted self.now.trace }
         ensures given { given D.meaning self.now ++ self.now.out ≡ posted D.meaning self.now.mounted self.now.trace }
-        ensures held { held self.now ≤ self.now.capacity }
+        ensures occupancy { occupancy self.now ≤ self.now.capacity }
+        ensures isc { self.now.isc ≤ 7 }
+        ensures awaits { self.now.awaits ≡ true → running_name D.meaning self.now ≡ None }
     {
-        let _ = &self.trace;
+        let _isc = self.channel.isc();
     }
 
     /// Makes room for so many entries.
@@ -133,13 +148,13 @@ impl<D: Device> Ledger<D> {
     /// A request arrives that is not doomed.
     pub fn arrive(&mut self, issued: Issued, piece: Box<Piece>)
         requires spare { 1 ≤ self.old.spare }
-        requires room { held self.old < self.old.capacity }
+        requires room { occupancy self.old < self.old.capacity }
         requires settled { Settled D.meaning self.old.mounted self.old.trace }
         requires same { piece.value ≡ issued }
         requires placed { Placed issued }
         requires fits { Fits D.meaning self.old.mounted (Entry.Arrive issued) self.old.trace }
         requires accepted { is_refused issued self.old.trace ≡ false }
-        ensures book { Posts D.meaning self.old (after_dooms (Entry.Arrive issued ∷ self.old.trace)) self.old.again self.new }
+        ensures book { Extends D.meaning self.old (after_dooms (Entry.Arrive issued ∷ self.old.trace)) self.old.awaits self.new }
         ensures settled { Settled D.meaning self.new.mounted self.new.trace }
     {
         write(&mut self.trace, Entry::Arrive(issued));

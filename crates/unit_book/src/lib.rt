@@ -22,5 +22,5 @@ pub use answer::{
 pub use book::UnitBook;
 pub use dcb::DcbState;
 pub use entry::{Entry, Mode};
-pub use request_piece::Issued;
 pub use extents::Extents;
+pub use request_piece::Issued;

@@ -1,3 +1,5 @@
+//! The queue of the requests that wait.
+
 ghost use Rattle.std.specs.Prelude.{◌≡◌, ◌==◌, ◌+◌, ◌<◌, ◌≤◌, ◌↔◌, [], ◌∷◌, ◌++◌, drop, false, filter, length, not, option_map, slice_get, IfOk, IsSome, box_value};
 ghost use Rattle.std.specs.Option.{option_copied};
 ghost use Rattle.unit_queue.specs.Selection.{selects};
@@ -72,7 +74,9 @@ impl WaitQueue {
         requires { length self.old.pieces < self.old.capacity }
         ensures { self.new ≡ queue (self.old.pieces ++ piece.value ∷ []) self.old.capacity }
     {
-        self.ring.push_back(piece);
+        if self.ring.push_back(piece).is_some() {
+            unreachable!();
+        }
     }
 
     /// The first request.

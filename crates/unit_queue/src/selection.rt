@@ -1,3 +1,5 @@
+//! Which of them a sweep takes out.
+
 ghost use Rattle.std.specs.Prelude.{◌≡◌};
 ghost use Rattle.unit_queue.specs.Selection.{selects};
 
@@ -18,7 +20,7 @@ impl Selection {
         ensures { result ≡ selects self.now piece.now }
     {
         match self {
-            Selection::Scope(scope) => scope.covers(piece),
+            Selection::Scope(scope) => scope.covers_piece(piece),
             Selection::Related(dcb) => piece.related && *dcb == piece.dcb,
         }
     }

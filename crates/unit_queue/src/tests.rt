@@ -1,3 +1,5 @@
+//! Both orders of the ring, through pushes, pops and sweeps.
+
 use crate::{Selection, WaitQueue};
 use io_area::Area;
 use io_images::{Address, Seek};

@@ -1,8 +1,9 @@
 //! Purges, closes and resets.
 
-ghost use Rattle.std.specs.Prelude.{◌≡◌, ◌≤◌, ◌<◌, ◌+◌, true, length, IfOk, IfErr, OnOk, OnErr};
+ghost use Rattle.std.specs.Prelude.{◌≡◌, ◌≤◌, ◌<◌, ◌+◌, ◌||◌, true, length, IfOk, IfErr, OnOk, OnErr};
 ghost use Rattle.unit_book.specs.Answers.{Adds};
-ghost use Rattle.unit_book.specs.Controls.{ClosesBook, ClosesBy, DcbRefused, PurgesBook, PurgesBy, ResetRefused, closing, covers_awaiting, purging};
+ghost use Rattle.unit_book.specs.Book.{is_pending};
+ghost use Rattle.unit_book.specs.Controls.{ClosesBook, ClosesBy, DcbRefused, PurgesBook, PurgesBy, ResetRefused, closing, covers_awaiting, halts_program, purging};
 ghost use Rattle.unit_book.specs.Dcbs.{is_opened, is_open};
 ghost use Rattle.unit_book.specs.Legal.{CanPurge};
 ghost use Rattle.unit_book.specs.Trace.{waiting};
@@ -47,6 +48,7 @@ impl<D: Device> UnitBook<D> {
         ensures refused { IfErr result (DcbRefused self.old dcb) }
         ensures err { OnErr result (self.new ≡ self.old) }
         ensures full { IfErr result (λ e. e ≡ DcbError.NoMemory → self.old.spare < length (waiting self.old.trace) + 2) }
+        ensures pending { OnOk result (is_pending D.meaning self.new ≡ (is_pending D.meaning self.old || halts_program D.meaning self.old (Scope.Dcb dcb) mode)) }
     {
         if self.ledger.dcb_state(dcb) == DcbState::Unknown {
             return Err(DcbError::NoSuchDcb);
@@ -60,6 +62,7 @@ impl<D: Device> UnitBook<D> {
         ensures ok { IfOk result (λ answer. PurgesBook D.meaning self.old (Scope.Task task) mode answer self.new) }
         ensures err { OnErr result (self.new ≡ self.old) }
         ensures full { OnErr result (self.old.spare < length (waiting self.old.trace) + 2) }
+        ensures pending { OnOk result (is_pending D.meaning self.new ≡ (is_pending D.meaning self.old || halts_program D.meaning self.old (Scope.Task task) mode)) }
     {
         self.purge_scope(Scope::Task(task), mode)
     }
@@ -70,7 +73,9 @@ impl<D: Device> UnitBook<D> {
         ensures ok { IfOk result (λ answer. PurgesBook D.meaning self.old scope mode answer self.new) }
         ensures err { OnErr result (self.new ≡ self.old) }
         ensures full { OnErr result (self.old.spare < length (waiting self.old.trace) + 2) }
+        ensures pending { OnOk result (is_pending D.meaning self.new ≡ (is_pending D.meaning self.old || halts_program D.meaning self.old scope mode)) }
     {
+        self.ledger.holds();
         self.ledger.reserve_posts(2)?;
         self.purge_in_room(scope, mode);
         Ok(purging(self.ledger.active_of(scope)))
@@ -98,6 +103,7 @@ impl<D: Device> UnitBook<D> {
         ensures full { IfErr result (λ e. e ≡ DcbError.NoMemory → self.old.spare < length (waiting self.old.trace) + 1) }
         ensures still_open { IfErr result (λ e. e ≡ DcbError.NoMemory → is_open dcb self.old.trace ≡ true) }
         ensures err { OnErr result (self.new ≡ self.old) }
+        ensures pending { is_pending D.meaning self.new ≡ is_pending D.meaning self.old }
     {
         let state = self.ledger.dcb_state(dcb);
         if state == DcbState::Unknown {
@@ -115,7 +121,9 @@ impl<D: Device> UnitBook<D> {
         ensures ok { OnOk result (ClosesBy D.meaning true self.old dcb self.new) }
         ensures err { OnErr result (self.new ≡ self.old) }
         ensures full { OnErr result (self.old.spare < length (waiting self.old.trace) + 1) }
+        ensures pending { is_pending D.meaning self.new ≡ is_pending D.meaning self.old }
     {
+        self.ledger.holds();
         self.ledger.reserve_posts(1)?;
         self.ledger.close(dcb);
         self.ledger.sweep(Some(Selection::Scope(Scope::Dcb(dcb))));
@@ -130,6 +138,7 @@ impl<D: Device> UnitBook<D> {
         ensures refused { IfErr result (ResetRefused self.old dcb) }
         ensures full { IfErr result (λ e. e ≡ DcbError.NoMemory → self.old.spare < 1) }
         ensures err { OnErr result (self.new ≡ self.old) }
+        ensures pending { is_pending D.meaning self.new ≡ is_pending D.meaning self.old }
     {
         if self.ledger.dcb_state(dcb) != DcbState::Open {
             return Err(DcbError::NoSuchDcb);

@@ -1,7 +1,7 @@
 //! What a book tells. No reader takes memory.
 
-ghost use Rattle.std.specs.Prelude.{◌≡◌, ◌<◌, IsTrue, ◌↔◌, reverse, length};
-ghost use Rattle.unit_book.specs.Book.{held, is_pending};
+ghost use Rattle.std.specs.Prelude.{◌≡◌, ◌≤◌, ◌<◌, IsTrue, ◌↔◌, reverse, length};
+ghost use Rattle.unit_book.specs.Book.{occupancy, is_pending};
 ghost use Rattle.unit_book.specs.Dcbs.{dcb_state, flag};
 ghost use Rattle.unit_book.specs.Media.{device};
 ghost use Rattle.unit_book.specs.Trace.{waiting};
@@ -33,9 +33,10 @@ impl<D: Device> UnitBook<D> {
         self.ledger.mounted()
     }
 
-    /// The interruption subclass of the subchannel.
+    /// The interruption subclass of the subchannel (0 to 7).
     pub fn isc(&self) -> u8
-        ensures { result ≡ self.now.isc }
+        ensures is { result ≡ self.now.isc }
+        ensures few { result ≤ 7 }
     {
         self.ledger.isc()
     }
@@ -63,7 +64,7 @@ impl<D: Device> UnitBook<D> {
 
     /// Whether the book may hold another request.
     pub fn has_room(&self) -> bool
-        ensures { IsTrue result ↔ (held self.now < self.now.capacity) }
+        ensures { IsTrue result ↔ (occupancy self.now < self.now.capacity) }
     {
         self.ledger.has_room()
     }

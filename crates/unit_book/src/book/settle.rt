@@ -1,7 +1,7 @@
 //! Settling a book.
 
-ghost use Rattle.std.specs.Prelude.{◌≡◌, [], IfOk, OnOk};
-ghost use Rattle.unit_book.specs.Settle.{AddsService, Attempts, Settles};
+ghost use Rattle.std.specs.Prelude.{◌≡◌, ◌<◌, ◌+◌, [], length, IfOk, OnOk, OnErr};
+ghost use Rattle.unit_book.specs.Settle.{AddsService, Attempts, IsIdle, Settles};
 ghost use Rattle.unit_book.specs.Trace.{active, waiting};
 
 use crate::answer::Starting;
@@ -10,8 +10,8 @@ use device_port::Device;
 use std::alloc::AllocError;
 
 impl<D: Device> UnitBook<D> {
-    /// Starts, runs and interrupts until nothing waits and nothing is active. Where there is no memory the
-    /// steps that were made so far stand.
+    /// Starts, runs and interrupts until nothing waits and nothing is active. Where there is no memory for
+    /// the entries of the next step, the steps that were made so far stand.
     pub fn settle(&mut self) -> Result<(), AllocError>
         ensures steps { Settles D.meaning self.old self.new }
         ensures adds { AddsService self.old.trace self.new.trace }
@@ -20,6 +20,8 @@ impl<D: Device> UnitBook<D> {
         ensures capacity { self.new.capacity ≡ self.old.capacity }
         ensures waiting { OnOk result (waiting self.new.trace ≡ []) }
         ensures active { OnOk result (active self.new.trace ≡ None) }
+        ensures left { OnErr result (IsIdle self.new.trace → ⊥) }
+        ensures full { OnErr result (self.new.spare < length (waiting self.new.trace) + 1) }
     {
         while self.attempt()? {}
         Ok(())
@@ -30,6 +32,8 @@ impl<D: Device> UnitBook<D> {
     fn attempt(&mut self) -> Result<bool, AllocError>
         ensures steps { Settles D.meaning self.old self.new }
         ensures ok { IfOk result (λ more. Attempts self.old more self.new) }
+        ensures left { OnErr result (IsIdle self.new.trace → ⊥) }
+        ensures full { OnErr result (self.new.spare < length (waiting self.new.trace) + 1) }
     {
         if matches!(self.start()?, Starting::Idle) {
             return Ok(false);

@@ -5,7 +5,7 @@ ghost use Rattle.unit_book.specs.Answers.{Adds};
 ghost use Rattle.unit_book.specs.Controls.{active_of, after_halt, covers_awaiting, due_after, PurgesAwaiting};
 ghost use Rattle.unit_book.specs.Dcbs.{doomed, is_open};
 ghost use Rattle.unit_book.specs.Legal.{CanPurge, Settled, ToHalt, due, doomed_first};
-ghost use Rattle.unit_book.specs.Picks.{DoomedBy};
+ghost use Rattle.unit_book.specs.Selected.{DoomedBy};
 ghost use Rattle.unit_book.specs.Trace.{waiting};
 
 use crate::entry::{Entry, Mode};
@@ -22,14 +22,14 @@ impl<D: Device> Ledger<D> {
         ensures { result ≡ active_of scope self.now.trace }
     {
         match &self.active {
-            Some(active) if scope.covers(&active.piece) => Some(active.name()),
-            _ => None,
+            Some(active) if scope.covers_piece(&active.piece) => Some(active.name()),
+            Some(_) | None => None,
         }
     }
 
     /// Whether the active request awaits its restart.
     pub fn awaits(&self) -> bool
-        ensures { result ≡ self.now.again }
+        ensures { result ≡ self.now.awaits }
     {
         match &self.active {
             Some(active) => active.awaits(),
@@ -58,7 +58,7 @@ impl<D: Device> Ledger<D> {
     fn running_of(&self, scope: Scope) -> Option<Name>
         ensures { due D.meaning self.now.mounted (Entry.Purge scope Mode.Halt ∷ self.now.trace) ≡ due_after result (doomed (Entry.Purge scope Mode.Halt ∷ self.now.trace)) }
     {
-        if !self.goes() {
+        if !self.is_running() {
             return None;
         }
         self.active_of(scope)
@@ -87,11 +87,11 @@ impl<D: Device> Ledger<D> {
         ensures spare { self.old.spare ≤ self.new.spare + 1 }
     {
         let Some(active) = self.active.take() else {
-            return;
+            unreachable!();
         };
         self.channel.hsch();
         write(&mut self.trace, Entry::Halted(name));
-        self.active = Some(active.stopped());
+        self.active = Some(active.once_halted());
     }
 
     /// Adds a purge that covers nothing that awaits its restart, and the halt that it asks for.
@@ -124,7 +124,7 @@ impl<D: Device> Ledger<D> {
         ensures settled { Settled D.meaning self.new.mounted self.new.trace }
     {
         let Some(active) = self.active.take() else {
-            return;
+            unreachable!();
         };
         write(&mut self.trace, Entry::Purge(scope, mode));
         self.waiting
@@ -133,7 +133,8 @@ impl<D: Device> Ledger<D> {
         let (csw, sense) = active.kept_status();
         let name = active.name();
         let code = Code::Purged;
-        write(&mut self.trace, Entry::Post(name, csw.copy(), sense, code));
+        let shown = csw;
+        write(&mut self.trace, Entry::Post(name, shown, sense, code));
         hand_out(&mut self.out, posted_from(active.piece, csw, sense, code));
     }
 

@@ -3,39 +3,27 @@
 ghost use Rattle.std.specs.Prelude.{◌≡◌, ◌≤◌, ◌<◌, ◌+◌, ◌-◌, ◌∷◌, ◌++◌, [], true, length, map, reverse, vec_len, vec_capacity, slice_get, drop, IfSome};
 ghost use Rattle.circular_buffer.specs.Buffer.{buffer};
 ghost use Rattle.request_piece.specs.Places.{Placed};
-ghost use Rattle.unit_book.specs.Inside.{Each};
-ghost use Rattle.subchannel.specs.Subchannel.{no_status};
-ghost use Rattle.unit_book.specs.Book.{held, given, IsLastGiven};
+ghost use Rattle.unit_book.specs.Lists.{Each};
+ghost use Rattle.io_images.specs.Images.{no_status};
+ghost use Rattle.unit_book.specs.Book.{occupancy, given, IsLastGiven};
 ghost use Rattle.unit_book.specs.Legal.{Fits, Settled, due, doomed_first, PostsActive, StartsAgain, FailsCheck};
-ghost use Rattle.unit_book.specs.Media.{Over, stage};
-ghost use Rattle.unit_book.specs.Picks.{DoomedBy};
+ghost use Rattle.unit_book.specs.Media.{HasEnded, active_phase};
+ghost use Rattle.unit_book.specs.Selected.{DoomedBy};
 ghost use Rattle.unit_book.specs.Dcbs.{doomed, is_refused};
 ghost use Rattle.unit_book.specs.Dooms.{all_posted, after_dooms, purged};
 ghost use Rattle.unit_book.specs.Posts.{posted_value};
 ghost use Rattle.unit_queue.specs.Queue.{queue};
-ghost use Rattle.unit_book.specs.Answers.{PostsOne, Posts, Decided};
+ghost use Rattle.unit_book.specs.Answers.{ExtendsByPost, Extends, Decided};
 
 use crate::decision::Decision;
 use crate::doom::doomed_by_post;
 use crate::entry::Entry;
-use crate::ledger::{Ledger, hand_out, write};
+use crate::ledger::{Ledger, hand_back, hand_out, write};
 use circular_buffer::HeapCircularBuffer;
 use device_port::Device;
-use io_images::{Address, Code, Csw, SubStatus, UnitStatus};
+use io_images::{Code, Csw};
 use request_piece::{Issued, Name, Piece, Posted};
 use unit_queue::{Selection, WaitQueue};
-
-/// The status of a request that was never started.
-pub(crate) fn empty_status() -> Csw
-    ensures { result ≡ no_status }
-{
-    Csw {
-        address: Address::new(0),
-        unit: UnitStatus::new(0),
-        sub: SubStatus::new(0),
-        residual: 0,
-    }
-}
 
 /// The value that a post hands out.
 pub(super) fn posted_from(piece: Box<Piece>, csw: Csw, sense: u16, code: Code) -> Posted
@@ -54,9 +42,9 @@ fn post_purged(piece: Box<Piece>, trace: &mut Vec<Entry>, out: &mut HeapCircular
     ensures spare { vec_capacity trace.old - vec_len trace.old ≤ vec_capacity trace.new - vec_len trace.new + 1 }
     ensures out { out.new ≡ buffer (out.old.items ++ purged piece.value ∷ []) out.old.capacity }
 {
-    let entry = Entry::Post(piece.name, empty_status(), 0, Code::Purged);
+    let entry = Entry::Post(piece.name, Csw::empty(), 0, Code::Purged);
     write(trace, entry);
-    hand_out(out, posted_from(piece, empty_status(), 0, Code::Purged));
+    hand_out(out, posted_from(piece, Csw::empty(), 0, Code::Purged));
 }
 
 /// Posts all requests of a queue as purged, in order.
@@ -84,7 +72,7 @@ impl<D: Device> Ledger<D> {
         requires spare { length (doomed self.old.trace) ≤ self.old.spare }
         requires doomed { DoomedBy doom self.old.trace }
         requires due { due D.meaning self.old.mounted self.old.trace ≡ doomed_first (doomed self.old.trace) }
-        ensures book { Posts D.meaning self.old (after_dooms self.old.trace) self.old.again self.new }
+        ensures book { Extends D.meaning self.old (after_dooms self.old.trace) self.old.awaits self.new }
         ensures settled { Settled D.meaning self.new.mounted self.new.trace }
     {
         let Some(selection) = doom else {
@@ -114,15 +102,16 @@ impl<D: Device> Ledger<D> {
         requires spare { 1 ≤ self.old.spare }
         requires settled { Settled D.meaning self.old.mounted self.old.trace }
         requires fits { PostsActive D.meaning self.old.mounted name csw sense code self.old.trace }
-        ensures book { PostsOne D.meaning self.old name csw sense code self.new }
+        ensures book { ExtendsByPost D.meaning self.old name csw sense code self.new }
         ensures spare { self.old.spare ≤ self.new.spare + 1 }
         ensures dooms { DoomedBy result self.new.trace }
     {
         let Some(active) = self.active.take() else {
-            return None;
+            unreachable!();
         };
         self.channel.tsch();
-        write(&mut self.trace, Entry::Post(name, csw.copy(), sense, code));
+        let shown = csw;
+        write(&mut self.trace, Entry::Post(name, shown, sense, code));
         let piece = active.piece;
         let doom = doomed_by_post(&piece, code);
         self.dcbs.note_post(&piece, code);
@@ -133,13 +122,14 @@ impl<D: Device> Ledger<D> {
     /// The active request awaits its restart.
     pub fn await_restart(&mut self, name: Name, csw: Csw, sense: u16)
         requires fits { StartsAgain D.meaning self.old.mounted name self.old.trace }
-        requires ended { stage D.meaning self.old.mounted name self.old.trace ≡ Over csw sense }
-        ensures { self.new ≡ record self.old { again = true } }
+        requires ended { active_phase D.meaning self.old.mounted name self.old.trace ≡ HasEnded csw sense }
+        ensures { self.new ≡ record self.old { awaits = true } }
     {
-        if let Some(active) = self.active.take() {
-            self.channel.tsch();
-            self.active = Some(active.awaiting(csw, sense));
-        }
+        let Some(active) = self.active.take() else {
+            unreachable!();
+        };
+        self.channel.tsch();
+        self.active = Some(active.awaiting(csw, sense));
     }
 
     /// Posts the request that waits first and fails the extent check.
@@ -147,31 +137,31 @@ impl<D: Device> Ledger<D> {
         requires spare { 1 ≤ self.old.spare }
         requires settled { Settled D.meaning self.old.mounted self.old.trace }
         requires fits { FailsCheck D.meaning self.old.mounted name self.old.trace }
-        ensures book { PostsOne D.meaning self.old name no_status 0 Code.ExtentViolated self.new }
+        ensures book { ExtendsByPost D.meaning self.old name no_status 0 Code.ExtentViolated self.new }
         ensures spare { self.old.spare ≤ self.new.spare + 1 }
         ensures dooms { DoomedBy result self.new.trace }
     {
         let code = Code::ExtentViolated;
         let Some(piece) = self.waiting.pop() else {
-            return None;
+            unreachable!();
         };
-        write(&mut self.trace, Entry::Post(name, empty_status(), 0, code));
+        write(&mut self.trace, Entry::Post(name, Csw::empty(), 0, code));
         let doom = doomed_by_post(&piece, code);
         self.dcbs.note_post(&piece, code);
-        hand_out(&mut self.out, posted_from(piece, empty_status(), 0, code));
+        hand_out(&mut self.out, posted_from(piece, Csw::empty(), 0, code));
         doom
     }
 
     /// A request arrives that is doomed: it is posted as purged at once.
     pub fn refuse(&mut self, issued: Issued, piece: Box<Piece>)
         requires spare { 2 ≤ self.old.spare }
-        requires room { held self.old < self.old.capacity }
+        requires room { occupancy self.old < self.old.capacity }
         requires settled { Settled D.meaning self.old.mounted self.old.trace }
         requires same { piece.value ≡ issued }
         requires placed { Placed issued }
         requires fits { Fits D.meaning self.old.mounted (Entry.Arrive issued) self.old.trace }
         requires refused { is_refused issued self.old.trace ≡ true }
-        ensures book { Posts D.meaning self.old (after_dooms (Entry.Arrive issued ∷ self.old.trace)) self.old.again self.new }
+        ensures book { Extends D.meaning self.old (after_dooms (Entry.Arrive issued ∷ self.old.trace)) self.old.awaits self.new }
         ensures settled { Settled D.meaning self.new.mounted self.new.trace }
     {
         write(&mut self.trace, Entry::Arrive(issued));
@@ -190,9 +180,9 @@ impl<D: Device> Ledger<D> {
     /// Puts the value that was taken last back in front.
     pub fn return_out(&mut self, value: Posted)
         requires last { IsLastGiven D.meaning self.old value }
-        requires room { held self.old < self.old.capacity }
+        requires room { occupancy self.old < self.old.capacity }
         ensures { self.new ≡ record self.old { out = value ∷ self.old.out } }
     {
-        let _ = self.out.push_front(value);
+        hand_back(&mut self.out, value);
     }
 }

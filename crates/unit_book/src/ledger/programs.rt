@@ -7,7 +7,7 @@ ghost use Rattle.unit_book.specs.Legal.{Settled, StartsFirst, StartsAgain};
 ghost use Rattle.unit_book.specs.Answers.{IsNext, RunsBook, StartsOne};
 ghost use Rattle.unit_book.specs.Trace.{active};
 
-use crate::active::{Active, Doing};
+use crate::active::{Active, Standing};
 use crate::answer::Running;
 use crate::decision::Next;
 use crate::entry::Entry;
@@ -42,9 +42,9 @@ impl<D: Device> Ledger<D> {
         ensures { IsNext D.meaning self.now result }
     {
         match &self.active {
-            Some(active) => match active.doing {
-                Doing::OnChannel => Next::Busy,
-                Doing::Again(_, _) => Next::Again(active.name()),
+            Some(active) => match active.standing {
+                Standing::OnChannel => Next::Busy,
+                Standing::AwaitsRestart(_, _) => Next::Again(active.name()),
             },
             None => self.first_of_queue(),
         }
@@ -76,7 +76,7 @@ impl<D: Device> Ledger<D> {
         ensures spare { self.old.spare ≤ self.new.spare + 1 }
     {
         let Some(piece) = self.waiting.pop() else {
-            return;
+            unreachable!();
         };
         let mask = self.dcbs.mask(piece.dcb);
         launch(&mut self.channel, &piece, mask);
@@ -88,13 +88,13 @@ impl<D: Device> Ledger<D> {
     pub fn start_again(&mut self, name: Name)
         requires spare { 1 ≤ self.old.spare }
         requires settled { Settled D.meaning self.old.mounted self.old.trace }
-        requires awaits { self.old.again ≡ true }
+        requires awaits { self.old.awaits ≡ true }
         requires fits { StartsAgain D.meaning self.old.mounted name self.old.trace }
         ensures book { StartsOne self.old name self.new }
         ensures spare { self.old.spare ≤ self.new.spare + 1 }
     {
         let Some(active) = self.active.take() else {
-            return;
+            unreachable!();
         };
         let mask = self.dcbs.mask(active.piece.dcb);
         launch(&mut self.channel, &active.piece, mask);

@@ -2,13 +2,13 @@
 
 ghost use Rattle.std.specs.Prelude.{◌≡◌, ◌≤◌, ◌<◌, IsTrue, ◌↔◌, reverse, length, is_some, false};
 ghost use Rattle.request_piece.specs.declared.piece.Piece.{Piece};
-ghost use Rattle.unit_book.specs.Book.{going, held, is_pending};
+ghost use Rattle.unit_book.specs.Book.{running_name, occupancy, is_pending};
 ghost use Rattle.unit_book.specs.Dcbs.{dcb_state, flag, is_refused, opened_count};
 ghost use Rattle.unit_book.specs.Extents.{takes_extents};
 ghost use Rattle.unit_book.specs.Media.{device};
 ghost use Rattle.unit_book.specs.Trace.{waiting};
 
-use crate::active::Doing;
+use crate::active::Standing;
 use crate::dcb::DcbState;
 use crate::entry::Entry;
 use crate::extents::takes_extents;
@@ -39,9 +39,10 @@ impl<D: Device> Ledger<D> {
         &self.mounted
     }
 
-    /// The interruption subclass.
+    /// The interruption subclass (0 to 7).
     pub fn isc(&self) -> u8
-        ensures { result ≡ self.now.isc }
+        ensures is { result ≡ self.now.isc }
+        ensures few { result ≤ 7 }
     {
         self.channel.isc()
     }
@@ -54,13 +55,13 @@ impl<D: Device> Ledger<D> {
     }
 
     /// Whether a program runs.
-    pub fn goes(&self) -> bool
-        ensures { result ≡ is_some (going D.meaning self.now) }
+    pub fn is_running(&self) -> bool
+        ensures { result ≡ is_some (running_name D.meaning self.now) }
     {
         match &self.active {
-            Some(active) => match active.doing {
-                Doing::OnChannel => !self.channel.pending(),
-                Doing::Again(_, _) => false,
+            Some(active) => match active.standing {
+                Standing::OnChannel => !self.channel.pending(),
+                Standing::AwaitsRestart(_, _) => false,
             },
             None => false,
         }
@@ -82,14 +83,14 @@ impl<D: Device> Ledger<D> {
 
     /// Whether there is room for another request.
     pub fn has_room(&self) -> bool
-        ensures room { IsTrue result ↔ (held self.now < self.now.capacity) }
-        ensures full { result ≡ false → held self.now ≡ self.now.capacity }
+        ensures room { IsTrue result ↔ (occupancy self.now < self.now.capacity) }
+        ensures full { result ≡ false → occupancy self.now ≡ self.now.capacity }
     {
         let capacity = self.out.capacity();
-        let held = self.waiting.len() + self.out.len();
+        let occupied = self.waiting.len() + self.out.len();
         match &self.active {
-            Some(_) => held + 1 < capacity,
-            None => held < capacity,
+            Some(_) => occupied + 1 < capacity,
+            None => occupied < capacity,
         }
     }
 
@@ -126,7 +127,7 @@ impl<D: Device> Ledger<D> {
         }
         match &self.active {
             Some(active) if active.piece.dcb == dcb => DcbState::Closing,
-            _ => DcbState::Closed,
+            Some(_) | None => DcbState::Closed,
         }
     }
 

@@ -1,6 +1,8 @@
 use Rattle.std.proofs.Common.{subst}
 use Rattle.unit_book.specs.Answers.{DecidedCode}
 use Rattle.unit_book.proofs.Calls.{post-then-sweep, sweep-room, sweep-due}
+use Rattle.unit_book.specs.declared.answer.Interruption.TheVariants.{Ended as WasPosted}
+use Rattle.unit_book.proofs.Pending.{pending-interrupt}
 use Rattle.unit_book.proofs.book.UnitBook.interrupt.Goals as goal
 
 pub sweep-requires-clause-spare : goal.sweep-requires-clause-spare
@@ -27,6 +29,19 @@ returns-in_ok-reserve_posts-in-Some-code-clause-ok g c =
         csw = d.csw;
         sense = d.sense;
         fits = fits;
-        posts = post-then-sweep m old c.reserve_posts.new.self c.post-doom.new.self c.sweep.new.self d.name d.csw d.sense c.in-Some-code.code c.reserve_posts.ensures.book c.post-doom.ensures.book c.sweep.ensures.book;
+        extends = post-then-sweep m old c.reserve_posts.new.self c.post-doom.new.self c.sweep.new.self d.name d.csw d.sense c.in-Some-code.code c.reserve_posts.ensures.book c.post-doom.ensures.book c.sweep.ensures.book;
       },
     )
+
+pub returns-in_ok-reserve_posts-in-Some-code-clause-taken : goal.returns-in_ok-reserve_posts-in-Some-code-clause-taken
+returns-in_ok-reserve_posts-in-Some-code-clause-taken g c =
+    pending-interrupt g.D.Device.meaning c.args.self.now c.sweep.new.self (WasPosted c.in-Some.decision.name c.in-Some-code.code) (rw (← c.self.view_is) c.holds.ensures.legal)
+    (returns-in_ok-reserve_posts-in-Some-code-clause-ok g c)
+
+pub post-doom-requires-clause-fits : goal.post-doom-requires-clause-fits
+post-doom-requires-clause-fits g c =
+    let m = g.D.Device.meaning in
+    let d = c.in-Some.decision in
+    let told = c.in-Some.ensures in
+    let r = c.in_ok-reserve_posts-in-Some-code.ensures.book in
+    rw r (subst (DecidedCode m c.self.inside.ledger d.name d.csw d.sense) c.in-Some-code.is told.1)

@@ -26,14 +26,14 @@ invariant_of-self g c =
     let q = c.push.ensures in (
       rw (e, q, c.requires.same) t,
       record {
-        held = rw (q, c.requires.same) (omega (arith, length-append i.waiting.pieces (c.args.issued ∷ []), r));
+        occupancy = rw (q, c.requires.same) (omega (arith, length-append i.waiting.pieces (c.args.issued ∷ []), r));
         waiting_room = rw q c.self.invariant.1.waiting_room;
         swept_is = c.self.invariant.1.swept_is;
       },
     )
 
-pub returns-clause-book : goal.returns-clause-book
-returns-clause-book g c =
+pub returns : goal.returns
+returns g c =
     let m = g.D.Device.meaning in
     let i = c.self.inside in
     let fits = rw (← c.self.view_is) at c.requires.fits in
@@ -43,15 +43,4 @@ returns-clause-book g c =
     let same = dooms-none (Arrive c.args.issued ∷ reverse i.trace.items) k.0 in
     let since = since-arrive m i.mounted c.args.issued (reverse i.trace.items) in
     let w = c.write.ensures.items in
-    rw (← c.self.view_is) (rw (w, same, since, append-nil i.out.items) refl)
-
-pub returns-clause-settled : goal.returns-clause-settled
-returns-clause-settled g c =
-    let m = g.D.Device.meaning in
-    let i = c.self.inside in
-    let fits = rw (← c.self.view_is) at c.requires.fits in
-    let settled = rw (← c.self.view_is) at c.requires.settled in
-    let accepted = rw (← c.self.view_is) at c.requires.accepted in
-    let k = settled-arrive m i.mounted c.args.issued (reverse i.trace.items) (facts m i.mounted (reverse i.trace.items) c.self.invariant.0.legal) fits settled accepted in
-    let w = c.write.ensures.items in
-    rw w k.1
+    record { book = rw (← c.self.view_is) (rw (w, same, since, append-nil i.out.items) refl); settled = rw w k.1 }

@@ -1,7 +1,7 @@
 use Rattle.std.proofs.Common.{◌≡◌, Some, Option, reverse, sym, subst, ◌∙◌}
 use Rattle.subchannel.specs.Subchannel.{status_of}
 use Rattle.unit_book.specs.declared.active.Active.{Active}
-use Rattle.unit_book.specs.Inside.{Ties}
+use Rattle.unit_book.specs.Fields.{Ties}
 use Rattle.unit_book.proofs.Decisions.{decided, decided_pending}
 use Rattle.unit_book.proofs.ledger.Ledger.decide.Goals as goal
 

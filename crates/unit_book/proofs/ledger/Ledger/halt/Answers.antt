@@ -1,14 +1,14 @@
 use Rattle.std.proofs.Common.{◌≡◌, Some, None, Option, reverse, sym, subst, ◌∙◌}
 use Rattle.request_piece.specs.declared.piece.Name.{Name}
 use Rattle.unit_book.specs.declared.active.Active.{Active}
-use Rattle.unit_book.specs.Inside.{ActivityTies, Ties, Rooms}
+use Rattle.unit_book.specs.Fields.{ActivityTies, Ties, Rooms}
 use Rattle.unit_book.specs.Legal.{ToHalt, due}
 use Rattle.unit_book.proofs.Halts.{ties-halt}
 use Rattle.unit_book.proofs.TraceLaws.{halt-active}
 use Rattle.unit_book.proofs.ledger.Ledger.halt.Goals as goal
 
-pub invariant_of-self-2 : goal.invariant_of-self-2
-invariant_of-self-2 g c =
+pub invariant_of-self : goal.invariant_of-self
+invariant_of-self g c =
     let m = g.D.Device.meaning in
     let i = c.self.inside in
     let a = c.in-Some.active in
@@ -21,12 +21,12 @@ invariant_of-self-2 g c =
     let k = ties-halt m i.mounted (reverse i.trace.items) i.channel a i.waiting.pieces i.dcbs i.out.items d' t in
     let w = c.write.ensures.items in
     let h = c.hsch.ensures.state in
-    let v = c.stopped.ensures in
+    let v = c.once_halted.ensures in
     let room = subst (λ (x : Option Active). Rooms x i.waiting i.swept i.out) o c.self.invariant.1 in
-    (rw (w, h, v, n) k, record { held = room.held; waiting_room = room.waiting_room; swept_is = room.swept_is })
+    (rw (w, h, v, n) k, record { occupancy = room.occupancy; waiting_room = room.waiting_room; swept_is = room.swept_is })
 
-pub returns-in_default-clause-book : goal.returns-in_default-clause-book
-returns-in_default-clause-book g c =
+pub unreachable-requires : goal.unreachable-requires
+unreachable-requires g c =
     let m = g.D.Device.meaning in
     let i = c.self.inside in
     let d = rw (← c.self.view_is) at c.requires.due in

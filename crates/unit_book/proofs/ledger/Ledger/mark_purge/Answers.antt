@@ -1,6 +1,6 @@
 use Rattle.std.proofs.Common.{◌≡◌, Some, None, Option, reverse, sym, subst, ◌∙◌}
 use Rattle.unit_book.specs.declared.active.Active.{Active}
-use Rattle.unit_book.specs.Inside.{Ties, Rooms}
+use Rattle.unit_book.specs.Fields.{Ties, Rooms}
 use Rattle.unit_book.proofs.Controls.{ties-purge, ties-purge_none}
 use Rattle.unit_book.proofs.ledger.Ledger.mark_purge.Goals as goal
 
@@ -19,7 +19,7 @@ invariant_of-self-in-Some-2 g c =
     let w = c.write.ensures.items in
     let v = c.purged.ensures in
     let room = subst (λ (x : Option Active). Rooms x i.waiting i.swept i.out) o c.self.invariant.1 in
-    (rw (w, v) k, record { held = room.held; waiting_room = room.waiting_room; swept_is = room.swept_is })
+    (rw (w, v) k, record { occupancy = room.occupancy; waiting_room = room.waiting_room; swept_is = room.swept_is })
 
 pub invariant_of-self-in_default : goal.invariant_of-self-in_default
 invariant_of-self-in_default g c =
@@ -33,4 +33,4 @@ invariant_of-self-in_default g c =
     let w = c.write.ensures.items in
     let z = c.take.ensures.after in
     let room = subst (λ (x : Option Active). Rooms x i.waiting i.swept i.out) o c.self.invariant.1 in
-    (rw (w, z) k, record { held = rw z room.held; waiting_room = room.waiting_room; swept_is = room.swept_is })
+    (rw (w, z) k, record { occupancy = rw z room.occupancy; waiting_room = room.waiting_room; swept_is = room.swept_is })

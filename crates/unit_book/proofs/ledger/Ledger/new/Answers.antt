@@ -9,4 +9,4 @@ invariant_of-result g c =
     let channel_is = c.new-in-Ok.ensures in
     let dcbs_is = c.new-in-Ok-2.ensures in
     let trace_is = ap reverse c.new-in-Ok-3.ensures.items in
-    (rw (p, trace_is, channel_is, dcbs_is) (ties-new m c.args.device c.args.isc), rw p (record { held = omega arith; waiting_room = refl; swept_is = refl }))
+    (rw (p, trace_is, channel_is, dcbs_is) (ties-new m c.args.device c.args.isc), rw p (record { occupancy = omega arith; waiting_room = refl; swept_is = refl }))

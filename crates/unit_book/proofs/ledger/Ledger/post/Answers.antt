@@ -1,14 +1,14 @@
 use Rattle.std.proofs.Common.{◌≡◌, ◌∷◌, [], Some, Option, reverse, arith, refl, sym, subst, ◌∙◌, length-append}
 use Rattle.request_piece.specs.declared.piece.Name.{Name}
 use Rattle.unit_book.specs.declared.active.Active.{Active}
-use Rattle.unit_book.specs.Inside.{Ties, Rooms}
+use Rattle.unit_book.specs.Fields.{Ties, Rooms}
 use Rattle.unit_book.specs.Legal.{PostsActive}
 use Rattle.unit_book.proofs.ActivePosts.{ties-post, value-is, doom-is}
 use Rattle.unit_book.proofs.Dooms.{doomed-post, due-doomed}
 use Rattle.unit_book.proofs.ledger.Ledger.post.Goals as goal
 
-pub invariant_of-self-2 : goal.invariant_of-self-2
-invariant_of-self-2 g c =
+pub invariant_of-self : goal.invariant_of-self
+invariant_of-self g c =
     let m = g.D.Device.meaning in
     let i = c.self.inside in
     let a = c.in-Some.active in
@@ -23,15 +23,14 @@ invariant_of-self-2 g c =
     let noted = rw piece_is at c.note_post.ensures.dcbs in
     let k = ties-post m i.mounted (reverse i.trace.items) i.channel a i.waiting.pieces i.dcbs c.note_post.new.self i.out.items c.args.csw c.args.sense c.args.code settled t p noted c.note_post.ensures.count in
     let w = c.write.ensures.items in
-    let y = c.copy.ensures in
     let q = c.hand_out.ensures in
     let v = c.posted_from.ensures in
     let h = c.tsch.ensures.state in
     let z = c.take.ensures.after in
     let room = subst (λ (x : Option Active). Rooms x i.waiting i.swept i.out) o c.self.invariant.1 in (
-      rw (w, y, q, v, h, z, n) k,
+      rw (w, q, v, h, z, n) k,
       record {
-        held = rw (z, q) (omega (arith, length-append i.out.items (c.posted_from.result ∷ []), room.held));
+        occupancy = rw (z, q) (omega (arith, length-append i.out.items (c.posted_from.result ∷ []), room.occupancy));
         waiting_room = rw q room.waiting_room;
         swept_is = rw q room.swept_is;
       },
@@ -51,12 +50,11 @@ returns-clause-book g c =
     let p = subst (λ (x : Name). PostsActive m i.mounted x c.args.csw c.args.sense c.args.code (reverse i.trace.items)) n fits in
     let e = value-is m i.mounted (reverse i.trace.items) i.channel a i.waiting.pieces i.dcbs i.dcbs i.out.items c.args.csw c.args.sense c.args.code settled t p in
     let w = c.write.ensures.items in
-    let y = c.copy.ensures in
     let q = c.hand_out.ensures in
     let v = c.posted_from.ensures in
     let h = c.tsch.ensures.state in
     let z = c.take.ensures.after in
-    rw (← c.self.view_is) (rw (w, y, q, v, h, z, e, ← n) refl)
+    rw (← c.self.view_is) (rw (w, q, v, h, z, e, ← n) refl)
 
 pub returns-clause-dooms : goal.returns-clause-dooms
 returns-clause-dooms g c =
@@ -72,7 +70,6 @@ returns-clause-dooms g c =
     let e = doom-is m i.mounted (reverse i.trace.items) i.channel a i.waiting.pieces i.dcbs i.out.items c.args.code t in
     let d = doomed-post m i.mounted c.args.name c.args.csw c.args.sense c.args.code (reverse i.trace.items) (due-doomed m i.mounted (reverse i.trace.items) settled) in
     let w = c.write.ensures.items in
-    let y = c.copy.ensures in
     let piece_is = c.deref.ensures in
     let doom_is = c.doomed_by_post-doom.ensures in
-    rw (w, y, doom_is, piece_is, e, n) d
+    rw (w, doom_is, piece_is, e, n) d

@@ -1,22 +1,22 @@
 use Rattle.std.proofs.Common.{◌≡◌, ◌∷◌, [], Some, List, length, reverse, arith, refl, sym, ap, subst, ◌∙◌, length-append}
 use Rattle.std.specs.Prelude.{slice_get}
 use Rattle.io_images.specs.declared.code.Code.TheVariants.{ExtentViolated}
-use Rattle.subchannel.specs.Subchannel.{no_status}
+use Rattle.io_images.specs.Images.{no_status}
 use Rattle.request_piece.specs.declared.piece.Name.{Name}
 use Rattle.request_piece.specs.declared.piece.Piece.{Piece}
 use Rattle.std.specs.Prelude.{option_map, box_value}
 use Rattle.unit_book.specs.declared.entry.Entry.TheVariants.{Post}
 use Rattle.unit_book.specs.Legal.{FailsCheck, OfFirst}
-use Rattle.unit_book.specs.Picks.{doomed_by_post}
+use Rattle.unit_book.specs.Selected.{doomed_by_post}
 use Rattle.unit_book.proofs.Dooms.{doomed-post, due-doomed}
 use Rattle.unit_book.proofs.Facts.{facts, first-waits}
 use Rattle.unit_book.proofs.Same.{fits-free}
-use Rattle.unit_book.proofs.Starts.{first-rest, none-held}
+use Rattle.unit_book.proofs.Starts.{first-rest, none-in_field}
 use Rattle.unit_book.proofs.WaitingPosts.{ties-first_post, waiting-value}
 use Rattle.unit_book.proofs.ledger.Ledger.post_violated.Goals as goal
 
-pub invariant_of-self-2 : goal.invariant_of-self-2
-invariant_of-self-2 g c =
+pub invariant_of-self : goal.invariant_of-self
+invariant_of-self g c =
     let m = g.D.Device.meaning in
     let i = c.self.inside in
     let b = c.in-Some.piece.value in
@@ -32,15 +32,15 @@ invariant_of-self-2 g c =
     let noted = rw piece_is at c.note_post.ensures.dcbs in
     let k = ties-first_post m i.mounted b no_status 0 ExtentViolated (reverse i.trace.items) i.channel i.active i.waiting.pieces i.dcbs c.note_post.new.self i.out.items t fits (s.first ∙ ap Some (sym e)) noted c.note_post.ensures.count in
     let w = c.write.ensures.items in
-    let y = c.empty_status.ensures in
-    let x = c.empty_status-2.ensures in
+    let y = c.empty.ensures in
+    let x = c.empty-2.ensures in
     let q = c.hand_out.ensures in
     let v = c.posted_from.ensures in
     let h = c.pop.ensures.rest in
     let count = ap length (first-rest m i.mounted s.request i.waiting.pieces (ap (λ (x : List Piece). slice_get x 0) t.queue ∙ s.first)) in (
       rw (w, y, h, q, v, x, ← n) k,
       record {
-        held = rw (h, q) (omega (arith, length-append i.out.items (c.posted_from.result ∷ []), c.self.invariant.1.held, count));
+        occupancy = rw (h, q) (omega (arith, length-append i.out.items (c.posted_from.result ∷ []), c.self.invariant.1.occupancy, count));
         waiting_room = rw (h, q) c.self.invariant.1.waiting_room;
         swept_is = rw q c.self.invariant.1.swept_is;
       },
@@ -57,10 +57,10 @@ returns-clause-book g c =
     let e : b ≡ s.request = cc in
     let n : b.name ≡ c.args.name = ap (λ (x : Piece). x.name) e ∙ s.name in
     let k = waiting-value m i.mounted b no_status 0 ExtentViolated (reverse i.trace.items) i.channel i.active i.waiting.pieces i.dcbs i.dcbs i.out.items t 0 (s.first ∙ ap Some (sym e)) in
-    let none = (none-held m i.mounted (reverse i.trace.items) i.channel.phase i.active s.none t.activity).1 in
+    let none = (none-in_field m i.mounted (reverse i.trace.items) i.channel.phase i.active s.none t.activity).1 in
     let w = c.write.ensures.items in
-    let y = c.empty_status.ensures in
-    let x = c.empty_status-2.ensures in
+    let y = c.empty.ensures in
+    let x = c.empty-2.ensures in
     let q = c.hand_out.ensures in
     let v = c.posted_from.ensures in
     rw (← c.self.view_is) (rw (w, y, q, v, x, k, ← n, none) refl)
@@ -79,6 +79,6 @@ returns-clause-dooms g c =
     let k = (first-waits m i.mounted b (reverse i.trace.items) (facts m i.mounted (reverse i.trace.items) t.legal) (s.first ∙ ap Some (sym e))).known.0 in
     let d = doomed-post m i.mounted b.name no_status 0 ExtentViolated (reverse i.trace.items) (due-doomed m i.mounted (reverse i.trace.items) settled) in
     let w = c.write.ensures.items in
-    let y = c.empty_status.ensures in
+    let y = c.empty.ensures in
     let doom_is = c.doomed_by_post-doom.ensures ∙ ap (λ (x : Piece). doomed_by_post x ExtentViolated) (c.deref.ensures ∙ sym k) in
     rw (w, y, doom_is, ← n) d

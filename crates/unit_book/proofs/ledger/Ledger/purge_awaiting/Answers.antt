@@ -7,7 +7,7 @@ use Rattle.request_piece.specs.Places.{Placed}
 use Rattle.request_piece.specs.Scope.{covers}
 use Rattle.unit_book.specs.declared.active.Active.{Active}
 use Rattle.unit_book.specs.Controls.{active_of}
-use Rattle.unit_book.specs.Inside.{Ties, Rooms, kept_by}
+use Rattle.unit_book.specs.Fields.{Ties, Rooms, kept_by}
 use Rattle.unit_book.specs.Dooms.{purged}
 use Rattle.unit_book.specs.Legal.{PostsActive}
 use Rattle.unit_book.specs.Posts.{posted_value}
@@ -33,7 +33,7 @@ post_all-requires-clause-room g c =
     let p = covers c.args.scope in
     let room = c.self.invariant.1 in
     let sw = c.sweep.ensures.swept ∙ ap (λ (x : Queue). queue (x.pieces ++ filter p i.waiting.pieces) x.capacity) room.swept_is in
-    rw sw (omega (arith, room.held, length-filters p i.waiting.pieces))
+    rw sw (omega (arith, room.occupancy, length-filters p i.waiting.pieces))
 
 pub post_all-requires-clause-placed : goal.post_all-requires-clause-placed
 post_all-requires-clause-placed g c =
@@ -63,10 +63,10 @@ hand_out-requires g c =
     let sw = c.sweep.ensures.swept ∙ ap (λ (x : Queue). queue (x.pieces ++ filter p i.waiting.pieces) x.capacity) room.swept_is in
     let items_is = ap (λ (x : Queue). x.pieces) sw in
     let out_is = rw items_is at c.post_all.ensures.out in
-    rw out_is (omega (arith, room.held, length-filters p i.waiting.pieces, length-append i.out.items (map purged (filter p i.waiting.pieces)), length-map (filter p i.waiting.pieces)))
+    rw out_is (omega (arith, room.occupancy, length-filters p i.waiting.pieces, length-append i.out.items (map purged (filter p i.waiting.pieces)), length-map (filter p i.waiting.pieces)))
 
-pub invariant_of-self-2 : goal.invariant_of-self-2
-invariant_of-self-2 g c =
+pub invariant_of-self : goal.invariant_of-self
+invariant_of-self g c =
     let m = g.D.Device.meaning in
     let i = c.self.inside in
     let a = c.in-Some.active in
@@ -78,8 +78,8 @@ invariant_of-self-2 g c =
     let o : i.active ≡ Some a = sym c.take.ensures.value ∙ c.in-Some.is in
     let t = subst (λ (x : Option Active). Ties m i.mounted H i.channel x i.waiting.pieces i.dcbs i.out.items) o c.self.invariant.0 in
     let covered' = rw o at covered in
-    let doing = kept-is a.doing (is_halt c.args.mode) (is_some (active_of c.args.scope H)) covered' in
-    let k = ties-awaiting m i.mounted H i.channel a i.waiting.pieces i.dcbs i.out.items c.args.scope c.args.mode (kept_by a.doing).0 (kept_by a.doing).1 t doing settled can covered' in
+    let standing = kept-is a.standing (is_halt c.args.mode) (is_some (active_of c.args.scope H)) covered' in
+    let k = ties-awaiting m i.mounted H i.channel a i.waiting.pieces i.dcbs i.out.items c.args.scope c.args.mode (kept_by a.standing).0 (kept_by a.standing).1 t standing settled can covered' in
     let room = subst (λ (x : Option Active). Rooms x i.waiting i.swept i.out) o c.self.invariant.1 in
     let sw = c.sweep.ensures.swept ∙ ap (λ (x : Queue). queue (x.pieces ++ filter p i.waiting.pieces) x.capacity) room.swept_is in
     let items_is = ap (λ (x : Queue). x.pieces) sw in
@@ -88,22 +88,21 @@ invariant_of-self-2 g c =
     let kept = c.sweep.ensures.kept in
     let w = c.write.ensures.items in
     let w2 = c.write-2.ensures.items in
-    let y = c.copy.ensures in
-    let st = c.kept_status-csw.ensures in
+    let st = c.kept_status-sense.ensures in
     let nm = c.name-name.ensures in
     let q = c.hand_out.ensures in
     let v = c.posted_from.ensures in
     let z = c.take.ensures.after in (
-      rw (w2, trace_is, w, kept, q, out_is, v, y, st, nm, z) k,
+      rw (w2, trace_is, w, kept, q, out_is, v, st, nm, z) k,
       record {
-        held = rw (z, kept, q, out_is) (omega (arith, room.held, length-filters p i.waiting.pieces, length-append i.out.items (map purged (filter p i.waiting.pieces)), length-map (filter p i.waiting.pieces), length-append (i.out.items ++ map purged (filter p i.waiting.pieces)) (c.posted_from.result ∷ [])));
+        occupancy = rw (z, kept, q, out_is) (omega (arith, room.occupancy, length-filters p i.waiting.pieces, length-append i.out.items (map purged (filter p i.waiting.pieces)), length-map (filter p i.waiting.pieces), length-append (i.out.items ++ map purged (filter p i.waiting.pieces)) (c.posted_from.result ∷ [])));
         waiting_room = rw (kept, q, out_is) room.waiting_room;
         swept_is = c.post_all.ensures.swept ∙ ap (λ (x : Queue). queue [] x.capacity) sw ∙ rw (q, out_is) refl;
       },
     )
 
-pub returns-clause-book : goal.returns-clause-book
-returns-clause-book g c =
+pub returns : goal.returns
+returns g c =
     let m = g.D.Device.meaning in
     let i = c.self.inside in
     let a = c.in-Some.active in
@@ -115,12 +114,13 @@ returns-clause-book g c =
     let o : i.active ≡ Some a = sym c.take.ensures.value ∙ c.in-Some.is in
     let t = subst (λ (x : Option Active). Ties m i.mounted H i.channel x i.waiting.pieces i.dcbs i.out.items) o c.self.invariant.0 in
     let covered' = rw o at covered in
-    let doing = kept-is a.doing (is_halt c.args.mode) (is_some (active_of c.args.scope H)) covered' in
-    let csw = (kept_by a.doing).0 in
-    let sense = (kept_by a.doing).1 in
-    let fits = fits-purged m i.mounted H i.channel a i.waiting.pieces i.dcbs i.out.items c.args.scope c.args.mode csw sense t doing settled can covered' in
-    let since = since-awaiting m i.mounted H i.channel a i.waiting.pieces i.dcbs i.out.items c.args.scope c.args.mode csw sense t doing settled can covered' in
-    let after = after-is m i.mounted H i.channel a i.waiting.pieces i.dcbs i.out.items c.args.scope c.args.mode csw sense t doing settled can covered' in
+    let standing = kept-is a.standing (is_halt c.args.mode) (is_some (active_of c.args.scope H)) covered' in
+    let csw = (kept_by a.standing).0 in
+    let sense = (kept_by a.standing).1 in
+    let fits = fits-purged m i.mounted H i.channel a i.waiting.pieces i.dcbs i.out.items c.args.scope c.args.mode csw sense t standing settled can covered' in
+    let since = since-awaiting m i.mounted H i.channel a i.waiting.pieces i.dcbs i.out.items c.args.scope c.args.mode csw sense t standing settled can covered' in
+    let after = after-is m i.mounted H i.channel a i.waiting.pieces i.dcbs i.out.items c.args.scope c.args.mode csw sense t standing settled can covered' in
+    let k = settled-awaiting m i.mounted H i.channel a i.waiting.pieces i.dcbs i.out.items c.args.scope c.args.mode csw sense t standing settled can covered' in
     let room = c.self.invariant.1 in
     let sw = c.sweep.ensures.swept ∙ ap (λ (x : Queue). queue (x.pieces ++ filter p i.waiting.pieces) x.capacity) room.swept_is in
     let items_is = ap (λ (x : Queue). x.pieces) sw in
@@ -128,43 +128,19 @@ returns-clause-book g c =
     let out_is = rw items_is at c.post_all.ensures.out in
     let w = c.write.ensures.items in
     let w2 = c.write-2.ensures.items in
-    let y = c.copy.ensures in
-    let st = c.kept_status-csw.ensures in
+    let st = c.kept_status-sense.ensures in
     let nm = c.name-name.ensures in
     let q = c.hand_out.ensures in
     let v = c.posted_from.ensures in
     let z = c.take.ensures.after in
     let joined = append_assoc i.out.items (map purged (filter p i.waiting.pieces)) (posted_value a.piece.value csw sense Purged a.piece.value.area ∷ []) in
-    rw (← c.self.view_is) (record {
-      name = a.piece.value.name;
-      csw = csw;
-      sense = sense;
-      fits = subst (PostsActive m i.mounted a.piece.value.name csw sense Purged) (sym after) fits;
-      posts = rw after (rw since (rw (w2, trace_is, w, q, out_is, v, y, st, nm, z, joined) refl));
-    })
-
-pub returns-clause-settled : goal.returns-clause-settled
-returns-clause-settled g c =
-    let m = g.D.Device.meaning in
-    let i = c.self.inside in
-    let a = c.in-Some.active in
-    let H = reverse i.trace.items in
-    let p = covers c.args.scope in
-    let settled = rw (← c.self.view_is) at c.requires.settled in
-    let can = rw (← c.self.view_is) at c.requires.can in
-    let covered = rw (← c.self.view_is) at c.requires.covered in
-    let o : i.active ≡ Some a = sym c.take.ensures.value ∙ c.in-Some.is in
-    let t = subst (λ (x : Option Active). Ties m i.mounted H i.channel x i.waiting.pieces i.dcbs i.out.items) o c.self.invariant.0 in
-    let covered' = rw o at covered in
-    let doing = kept-is a.doing (is_halt c.args.mode) (is_some (active_of c.args.scope H)) covered' in
-    let k = settled-awaiting m i.mounted H i.channel a i.waiting.pieces i.dcbs i.out.items c.args.scope c.args.mode (kept_by a.doing).0 (kept_by a.doing).1 t doing settled can covered' in
-    let room = c.self.invariant.1 in
-    let sw = c.sweep.ensures.swept ∙ ap (λ (x : Queue). queue (x.pieces ++ filter p i.waiting.pieces) x.capacity) room.swept_is in
-    let items_is = ap (λ (x : Queue). x.pieces) sw in
-    let trace_is = rw items_is at c.post_all.ensures.trace in
-    let w = c.write.ensures.items in
-    let w2 = c.write-2.ensures.items in
-    let y = c.copy.ensures in
-    let st = c.kept_status-csw.ensures in
-    let nm = c.name-name.ensures in
-    rw (w2, trace_is, w, y, st, nm) k
+    record {
+      book = rw (← c.self.view_is) (record {
+        name = a.piece.value.name;
+        csw = csw;
+        sense = sense;
+        fits = subst (PostsActive m i.mounted a.piece.value.name csw sense Purged) (sym after) fits;
+        extends = rw after (rw since (rw (w2, trace_is, w, q, out_is, v, st, nm, z, joined) refl));
+      });
+      settled = rw (w2, trace_is, w, st, nm) k;
+    }

@@ -11,19 +11,19 @@ invariant_of-self g c =
     let fits = rw (← c.self.view_is) at c.requires.fits in
     let settled = rw (← c.self.view_is) at c.requires.settled in
     let refused = rw (← c.self.view_is) at c.requires.refused in
-    let held = rw (← c.self.view_is) at c.requires.room in
+    let room = rw (← c.self.view_is) at c.requires.room in
     let t = c.self.invariant.0 in
     let k = ties-refused m i.mounted c.args.issued (reverse i.trace.items) i.channel i.active i.waiting.pieces i.dcbs i.out.items fits c.requires.placed settled refused t in
-    let r = room-of m i.mounted (reverse i.trace.items) i.channel i.active i.waiting.pieces i.dcbs i.out.items i.out.capacity t held in
+    let r = room-of m i.mounted (reverse i.trace.items) i.channel i.active i.waiting.pieces i.dcbs i.out.items i.out.capacity t room in
     let w = c.write.ensures.items in
     let p = c.post_purged.ensures.trace in
     let q = c.post_purged.ensures.out in
     let same = c.requires.same in
     let room = c.self.invariant.1 in
-    (rw (p, w, q, same) k, rw (q, same) (record { held = omega (arith, length-append i.out.items (purged c.args.issued ∷ []), r); waiting_room = room.waiting_room; swept_is = room.swept_is }))
+    (rw (p, w, q, same) k, rw (q, same) (record { occupancy = omega (arith, length-append i.out.items (purged c.args.issued ∷ []), r); waiting_room = room.waiting_room; swept_is = room.swept_is }))
 
-pub returns-clause-book : goal.returns-clause-book
-returns-clause-book g c =
+pub returns : goal.returns
+returns g c =
     let m = g.D.Device.meaning in
     let i = c.self.inside in
     let fits = rw (← c.self.view_is) at c.requires.fits in
@@ -32,21 +32,9 @@ returns-clause-book g c =
     let t = c.self.invariant.0 in
     let after = after-refusal m i.mounted c.args.issued (reverse i.trace.items) i.channel i.active i.waiting.pieces i.dcbs i.out.items fits c.requires.placed settled refused t in
     let since = since-refused m i.mounted c.args.issued (reverse i.trace.items) i.channel i.active i.waiting.pieces i.dcbs i.out.items fits c.requires.placed settled refused t in
+    let k = settled-refused m i.mounted c.args.issued (reverse i.trace.items) i.channel i.active i.waiting.pieces i.dcbs i.out.items fits c.requires.placed settled refused t in
     let w = c.write.ensures.items in
     let p = c.post_purged.ensures.trace in
     let q = c.post_purged.ensures.out in
     let same = c.requires.same in
-    rw (← c.self.view_is) (rw (p, w, q, same, ← after, since) refl)
-
-pub returns-clause-settled : goal.returns-clause-settled
-returns-clause-settled g c =
-    let m = g.D.Device.meaning in
-    let i = c.self.inside in
-    let fits = rw (← c.self.view_is) at c.requires.fits in
-    let settled = rw (← c.self.view_is) at c.requires.settled in
-    let refused = rw (← c.self.view_is) at c.requires.refused in
-    let k = settled-refused m i.mounted c.args.issued (reverse i.trace.items) i.channel i.active i.waiting.pieces i.dcbs i.out.items fits c.requires.placed settled refused c.self.invariant.0 in
-    let w = c.write.ensures.items in
-    let p = c.post_purged.ensures.trace in
-    let same = c.requires.same in
-    rw (p, w, same) k
+    record { book = rw (← c.self.view_is) (rw (p, w, q, same, ← after, since) refl); settled = rw (p, w, same) k }

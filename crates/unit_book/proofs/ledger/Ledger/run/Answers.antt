@@ -1,8 +1,8 @@
 use Rattle.std.proofs.Common.{◌≡◌, Some, Option, not, reverse, refl, sym, ap, subst, ◌∙◌}
 use Rattle.ccw_programs.specs.declared.context.Burst.{Burst}
-use Rattle.subchannel.specs.Subchannel.{Channel, RunsAs, going}
+use Rattle.subchannel.specs.Subchannel.{Channel, RunsAs, running_program}
 use Rattle.unit_book.specs.declared.active.Active.{Active}
-use Rattle.unit_book.specs.Inside.{Ties, Rooms, with_area}
+use Rattle.unit_book.specs.Fields.{Ties, Rooms, with_area}
 use Rattle.unit_book.proofs.Runs.{ties-ran, told, quiet-same}
 use Rattle.unit_book.proofs.ledger.Ledger.run.Goals as goal
 
@@ -12,7 +12,7 @@ invariant_of-self-in_default-run g c =
     let i = c.self.inside in
     let a = c.in-Some.active in
     let o : i.active ≡ Some a = sym c.take.ensures.value ∙ c.in-Some.is in
-    let e = quiet-same m i.mounted i.channel c.run.new.channel a.piece.value.area c.run.new.self.piece.value.area c.args.max (going i.channel.device i.channel.phase a.piece.value.area) c.in_default-run.ensures.ran in
+    let e = quiet-same m i.mounted i.channel c.run.new.channel a.piece.value.area c.run.new.self.piece.value.area c.args.max (running_program i.channel.device i.channel.phase a.piece.value.area) c.in_default-run.ensures.ran in
     let s : c.run.new.self ≡ a = c.run.ensures.same ∙ ap (with_area a) e.1 in
     let h = e.0 in
     rw (s, h, ← o) c.self.invariant
@@ -25,14 +25,14 @@ invariant_of-self-2 g c =
     let settled = rw (← c.self.view_is) at c.requires.settled in
     let o : i.active ≡ Some a = sym c.take.ensures.value ∙ c.in-Some.is in
     let t = subst (λ (x : Option Active). Ties m i.mounted (reverse i.trace.items) i.channel x i.waiting.pieces i.dcbs i.out.items) o c.self.invariant.0 in
-    let r = subst (λ (x : Option Burst). RunsAs m i.channel a.piece.value.area c.args.max (going i.channel.device i.channel.phase a.piece.value.area) x c.run.new.channel c.run.new.self.piece.value.area) c.in-Some-run.is c.run.ensures.ran in
+    let r = subst (λ (x : Option Burst). RunsAs m i.channel a.piece.value.area c.args.max (running_program i.channel.device i.channel.phase a.piece.value.area) x c.run.new.channel c.run.new.self.piece.value.area) c.in-Some-run.is c.run.ensures.ran in
     let k = ties-ran m i.mounted (reverse i.trace.items) i.channel c.run.new.channel a i.waiting.pieces i.dcbs i.out.items c.args.max c.in-Some-run.burst c.run.new.self.piece.value.area settled c.requires.some t r c.run.ensures.place in
     let e = c.write.ensures.items in
     let s = c.run.ensures.same in
     let room = subst (λ (x : Option Active). Rooms x i.waiting i.swept i.out) o c.self.invariant.1 in
     let n = c.name.ensures ∙ ap (λ (x : Active). x.piece.value.name) s in
     let whole = subst (λ (x : Active). Ties m i.mounted (reverse c.write.new.trace.items) c.run.new.channel (Some x) i.waiting.pieces i.dcbs i.out.items) (sym s) (rw (e, n) k) in
-    (whole, record { held = room.held; waiting_room = room.waiting_room; swept_is = room.swept_is })
+    (whole, record { occupancy = room.occupancy; waiting_room = room.waiting_room; swept_is = room.swept_is })
 
 pub returns : goal.returns
 returns g c =
@@ -42,17 +42,17 @@ returns g c =
     let settled = rw (← c.self.view_is) at c.requires.settled in
     let o : i.active ≡ Some a = sym c.take.ensures.value ∙ c.in-Some.is in
     let t = subst (λ (x : Option Active). Ties m i.mounted (reverse i.trace.items) i.channel x i.waiting.pieces i.dcbs i.out.items) o c.self.invariant.0 in
-    let r = subst (λ (x : Option Burst). RunsAs m i.channel a.piece.value.area c.args.max (going i.channel.device i.channel.phase a.piece.value.area) x c.run.new.channel c.run.new.self.piece.value.area) c.in-Some-run.is c.run.ensures.ran in
+    let r = subst (λ (x : Option Burst). RunsAs m i.channel a.piece.value.area c.args.max (running_program i.channel.device i.channel.phase a.piece.value.area) x c.run.new.channel c.run.new.self.piece.value.area) c.in-Some-run.is c.run.ensures.ran in
     let k = told m i.mounted (reverse i.trace.items) i.channel c.run.new.channel a i.waiting.pieces i.dcbs i.out.items c.args.max c.in-Some-run.burst c.run.new.self.piece.value.area settled c.requires.some t r in
     let e = c.write.ensures.items in
     let s = c.run.ensures.same in
     let n = c.name.ensures ∙ ap (λ (x : Active). x.piece.value.name) s in
     let isc_is = ap (λ (x : Channel g.row.D.Denot). x.isc) k.channel_is in
     let active_is = k.active in
-    let goes_on = k.going in
+    let runs_on = k.running in
     rw (← c.self.view_is) (record {
       name = a.piece.value.name;
-      going = rw active_is (rw goes_on refl);
+      running = rw active_is (rw runs_on refl);
       count = k.commands;
       adds = rw (e, n, s, o, isc_is) refl;
       pending_is = c.has_ended-pending.ensures ∙ ap not (sym (rw (e, n) k.ended));

@@ -3,7 +3,7 @@ use Rattle.request_piece.specs.declared.piece.Name.{Name}
 use Rattle.request_piece.specs.declared.piece.Piece.{Piece}
 use Rattle.subchannel.specs.Subchannel.{started as ssch_started}
 use Rattle.unit_book.specs.declared.active.Active.{Active}
-use Rattle.unit_book.specs.Inside.{Ties, Rooms, again_by, again_of}
+use Rattle.unit_book.specs.Fields.{Ties, Rooms, awaits_by, awaits_of}
 use Rattle.unit_book.specs.Legal.{StartsAgain}
 use Rattle.unit_book.proofs.Restarts.{ties-restart, restart-fits, few-starts}
 use Rattle.unit_book.proofs.ledger.Ledger.start_again.Goals as goal
@@ -16,7 +16,7 @@ launch-requires g c =
     let settled = rw (← c.self.view_is) at c.requires.settled in
     let fits = rw (← c.self.view_is) at c.requires.fits in
     let o : i.active ≡ Some a = sym c.take.ensures.value ∙ c.in-Some.is in
-    let again : again_by a.doing ≡ true = ap again_of (sym o) ∙ (rw (← c.self.view_is) at c.requires.awaits) in
+    let again : awaits_by a.standing ≡ true = ap awaits_of (sym o) ∙ (rw (← c.self.view_is) at c.requires.awaits) in
     let t = subst (λ (x : Option Active). Ties m i.mounted (reverse i.trace.items) i.channel x i.waiting.pieces i.dcbs i.out.items) o c.self.invariant.0 in
     let s : Some a.piece.value.name ≡ Some c.args.name = sym t.activity.is ∙ fits.active in
     let n : c.args.name ≡ a.piece.value.name = cc in
@@ -32,22 +32,22 @@ restarted-requires g c =
     let settled = rw (← c.self.view_is) at c.requires.settled in
     let fits = rw (← c.self.view_is) at c.requires.fits in
     let o : i.active ≡ Some a = sym c.take.ensures.value ∙ c.in-Some.is in
-    let again : again_by a.doing ≡ true = ap again_of (sym o) ∙ (rw (← c.self.view_is) at c.requires.awaits) in
+    let again : awaits_by a.standing ≡ true = ap awaits_of (sym o) ∙ (rw (← c.self.view_is) at c.requires.awaits) in
     let t = subst (λ (x : Option Active). Ties m i.mounted (reverse i.trace.items) i.channel x i.waiting.pieces i.dcbs i.out.items) o c.self.invariant.0 in
     let s : Some a.piece.value.name ≡ Some c.args.name = sym t.activity.is ∙ fits.active in
     let n : c.args.name ≡ a.piece.value.name = cc in
     let p = subst (λ (x : Name). StartsAgain m i.mounted x (reverse i.trace.items)) n fits in
     omega (arith, few-starts m i.mounted (reverse i.trace.items) i.channel a i.waiting.pieces i.dcbs i.out.items c.mask-mask.result settled p t again)
 
-pub invariant_of-self-2 : goal.invariant_of-self-2
-invariant_of-self-2 g c =
+pub invariant_of-self : goal.invariant_of-self
+invariant_of-self g c =
     let m = g.D.Device.meaning in
     let i = c.self.inside in
     let a = c.in-Some.active in
     let settled = rw (← c.self.view_is) at c.requires.settled in
     let fits = rw (← c.self.view_is) at c.requires.fits in
     let o : i.active ≡ Some a = sym c.take.ensures.value ∙ c.in-Some.is in
-    let again : again_by a.doing ≡ true = ap again_of (sym o) ∙ (rw (← c.self.view_is) at c.requires.awaits) in
+    let again : awaits_by a.standing ≡ true = ap awaits_of (sym o) ∙ (rw (← c.self.view_is) at c.requires.awaits) in
     let t = subst (λ (x : Option Active). Ties m i.mounted (reverse i.trace.items) i.channel x i.waiting.pieces i.dcbs i.out.items) o c.self.invariant.0 in
     let s : Some a.piece.value.name ≡ Some c.args.name = sym t.activity.is ∙ fits.active in
     let n : c.args.name ≡ a.piece.value.name = cc in
@@ -59,4 +59,4 @@ invariant_of-self-2 g c =
     let l = c.launch.ensures ∙ ap (λ (x : Piece). ssch_started m i.channel x.start x.seek c.mask-mask.result i.channel.phase) c.deref-2.ensures in
     let v = c.restarted.ensures in
     let room = subst (λ (x : Option Active). Rooms x i.waiting i.swept i.out) o c.self.invariant.1 in
-    (rw (w, l, v, n) k, record { held = room.held; waiting_room = room.waiting_room; swept_is = room.swept_is })
+    (rw (w, l, v, n) k, record { occupancy = room.occupancy; waiting_room = room.waiting_room; swept_is = room.swept_is })

@@ -5,10 +5,10 @@ use Rattle.request_piece.specs.declared.piece.Piece.{Piece}
 use Rattle.subchannel.specs.Subchannel.{started as ssch_started}
 use Rattle.std.specs.Prelude.{option_map, box_value}
 use Rattle.unit_book.specs.declared.active.Active.{Active}
-use Rattle.unit_book.specs.Inside.{Rooms}
+use Rattle.unit_book.specs.Fields.{Rooms}
 use Rattle.unit_book.specs.Legal.{StartsFirst}
 use Rattle.unit_book.proofs.Seeks.{first-fits, fits-device}
-use Rattle.unit_book.proofs.Starts.{ties-start, none-held, first-rest}
+use Rattle.unit_book.proofs.Starts.{ties-start, none-in_field, first-rest}
 use Rattle.unit_book.proofs.ledger.Ledger.start_first.Goals as goal
 
 pub launch-requires : goal.launch-requires
@@ -27,8 +27,8 @@ launch-requires g c =
     let device_is = t.device in
     rw (piece_is, device_is) k
 
-pub invariant_of-self-2 : goal.invariant_of-self-2
-invariant_of-self-2 g c =
+pub invariant_of-self : goal.invariant_of-self
+invariant_of-self g c =
     let m = g.D.Device.meaning in
     let i = c.self.inside in
     let settled = rw (← c.self.view_is) at c.requires.settled in
@@ -46,12 +46,12 @@ invariant_of-self-2 g c =
     let q = c.pop.ensures.rest in
     let l = c.launch.ensures ∙ ap (λ (x : Piece). ssch_started m i.channel x.start x.seek c.mask-mask.result i.channel.phase) c.deref-2.ensures in
     let v = c.first.ensures in
-    let y = (none-held m i.mounted (reverse i.trace.items) i.channel.phase i.active s.none t.activity).1 in
+    let y = (none-in_field m i.mounted (reverse i.trace.items) i.channel.phase i.active s.none t.activity).1 in
     let room = subst (λ (x : Option Active). Rooms x i.waiting i.swept i.out) y c.self.invariant.1 in
     let count = ap length (first-rest m i.mounted s.request i.waiting.pieces (ap (λ (x : List Piece). slice_get x 0) t.queue ∙ s.first)) in (
       rw (w, q, l, v, ← n) k,
       record {
-        held = rw q (omega (arith, room.held, count));
+        occupancy = rw q (omega (arith, room.occupancy, count));
         waiting_room = rw q room.waiting_room;
         swept_is = room.swept_is;
       },

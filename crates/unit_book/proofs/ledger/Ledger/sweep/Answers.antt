@@ -9,12 +9,12 @@ use Rattle.request_piece.specs.PostedState.{PostedState}
 use Rattle.request_piece.specs.Places.{Placed}
 use Rattle.request_piece.specs.declared.piece.Piece.{Piece}
 use Rattle.unit_book.specs.declared.entry.Entry.{Entry}
-use Rattle.unit_book.specs.Picks.{DoomedBy}
+use Rattle.unit_book.specs.Selected.{DoomedBy}
 use Rattle.unit_book.specs.Trace.{waiting}
 use Rattle.unit_book.specs.Dcbs.{doomed}
 use Rattle.unit_book.specs.Dooms.{all_posted, after_dooms, purged}
 use Rattle.unit_book.specs.Legal.{due, doomed_first}
-use Rattle.unit_book.specs.Inside.{Ties}
+use Rattle.unit_book.specs.Fields.{Ties}
 use Rattle.unit_book.specs.Posts.{posted}
 use Rattle.unit_book.proofs.Facts.{Each-filter}
 use Rattle.unit_book.proofs.Dooms.{filter-never}
@@ -52,7 +52,7 @@ post_all-requires g c =
     let count = ap length e in
     record {
       spare = rw sw (omega (arith, spare, count));
-      room = rw sw (omega (arith, room.held, few));
+      room = rw sw (omega (arith, room.occupancy, few));
       placed = rw sw (Each-filter Placed p i.waiting.pieces t.placed);
     }
 
@@ -74,7 +74,7 @@ invariant_of-self g c =
     let ties = subst (λ (x : List Piece). Ties m i.mounted (all_posted (filter p i.waiting.pieces) (reverse i.trace.items)) i.channel i.active x i.dcbs (i.out.items ++ map purged (filter p i.waiting.pieces))) left_is k.0.ties in (
       rw (trace_is, kept, out_is) ties,
       record {
-        held = rw (kept, out_is) (omega (arith, room.held, length-filters p i.waiting.pieces, length-append i.out.items (map purged (filter p i.waiting.pieces)), length-map (filter p i.waiting.pieces)));
+        occupancy = rw (kept, out_is) (omega (arith, room.occupancy, length-filters p i.waiting.pieces, length-append i.out.items (map purged (filter p i.waiting.pieces)), length-map (filter p i.waiting.pieces)));
         waiting_room = rw (kept, out_is) room.waiting_room;
         swept_is = c.post_all.ensures.swept ∙ ap (λ (x : Queue). queue [] x.capacity) sw ∙ ap (λ (x : Buffer PostedState). queue [] x.capacity) (sym out_is);
       },

@@ -10,7 +10,7 @@ invariant_of-self g c =
     let t = ties-taken m i.mounted (reverse i.trace.items) i.channel i.active i.waiting.pieces i.dcbs i.out.items c.self.invariant.0 in
     let e = c.pop_front.ensures.items in
     let room = c.self.invariant.1 in
-    (rw e t, rw e (record { held = omega (arith, room.held, length-rest i.out.items); waiting_room = room.waiting_room; swept_is = room.swept_is }))
+    (rw e t, rw e (record { occupancy = omega (arith, room.occupancy, length-rest i.out.items); waiting_room = room.waiting_room; swept_is = room.swept_is }))
 
 pub returns-clause-given : goal.returns-clause-given
 returns-clause-given g c =

@@ -1,17 +1,20 @@
 -- WHAT THE FIELDS OF A BOOK SAY: they are those of its trace.
-use Rattle.std.specs.Prelude.{◌≡◌, ◌≤◌, ℕ, ◌+◌, ◌-◌, ◌==◌, Bool, true, false, ◌||◌, ◌&&◌, if◌then◌else◌, Option, Some, None, List, [], ◌∷◌, ◌++◌, length, slice_get}
+use Rattle.std.specs.Prelude.{◌≡◌, ◌≤◌, ℕ, ◌+◌, ◌-◌, ◌==◌, Bool, true, false, ◌||◌, ◌&&◌, if◌then◌else◌, Option, Some, None, List, [], ◌++◌, length, slice_get}
 use Rattle.std.specs.List.{list_any}
 use Rattle.circular_buffer.specs.Buffer.{Buffer}
 use Rattle.std.specs.Box.{with_value}
 use Rattle.io_area.specs.Storage.{Storage}
+use Rattle.io_images.specs.FileMask.{input_mask, output_mask}
 use Rattle.io_images.specs.declared.csw.Csw.{Csw}
 use Rattle.io_images.specs.declared.extent.Extent.{Extent}
 use Rattle.io_images.specs.declared.code.Code.{Code}
 use Rattle.io_images.specs.declared.code.Code.TheVariants.{Purged}
 use Rattle.device_port.specs.Meaning.{Meaning}
 use Rattle.device_port.specs.declared.kind.Kind.{Kind}
-use Rattle.subchannel.specs.Subchannel.{Channel, no_status, Phase, Absent, Idle, Running, Pending}
-use Rattle.recovery.specs.declared.answer.Verdict.TheVariants.{Retry}
+use Rattle.io_images.specs.Images.{no_status}
+use Rattle.subchannel.specs.Subchannel.{Channel, Phase, Absent, Idle, Running, Pending}
+use Rattle.recovery.specs.declared.answer.Verdict.{Verdict}
+use Rattle.recovery.specs.declared.answer.Verdict.TheVariants.{Retry, Final}
 use Rattle.recovery.specs.Verdict.{verdict}
 use Rattle.request_piece.specs.PostedState.{PostedState}
 use Rattle.request_piece.specs.Places.{Placed}
@@ -20,40 +23,36 @@ use Rattle.request_piece.specs.Scope.{covers}
 use Rattle.request_piece.specs.declared.scope.Scope.{Scope}
 use Rattle.unit_queue.specs.Queue.{Queue, queue}
 use Rattle.unit_book.specs.declared.active.Active.{Active}
-use Rattle.unit_book.specs.declared.active.Doing.{Doing}
-use Rattle.unit_book.specs.declared.active.Doing.TheVariants.{OnChannel, Again}
+use Rattle.unit_book.specs.declared.active.Standing.{Standing}
+use Rattle.unit_book.specs.declared.active.Standing.TheVariants.{OnChannel, AwaitsRestart}
 use Rattle.unit_book.specs.declared.dcb.Dcb.{Dcb}
 use Rattle.unit_book.specs.declared.entry.Entry.{Entry}
 use Rattle.unit_book.specs.declared.entry.Mode.{Mode}
+use Rattle.unit_book.specs.Lists.{Each}
 use Rattle.unit_book.specs.Trace.{waiting, active, request_of, starts_of, is_halt, is_halted, is_covered, opens_for_input}
-use Rattle.unit_book.specs.Media.{Stage, Goes, Stopped, Over, current, stage, device}
+use Rattle.unit_book.specs.Media.{ActivePhase, StillRunning, WasHalted, HasEnded, current, active_phase, device}
 use Rattle.unit_book.specs.Dcbs.{is_opened, is_closed, extents_of, flag, opened_count}
-use Rattle.unit_book.specs.Legal.{Legal, verdict_of, ended_code}
+use Rattle.unit_book.specs.Legal.{Legal, verdict_of}
 use Rattle.unit_book.specs.Posts.{posted}
-
--- each of a list has the property
-abbrev pub Each : {X : Type 0} → (X → Type 0) → List X → Type 0
-Each P [] = Unit {0}
-Each P (x ∷ xs) = P x × Each P xs
 
 -- THE ACTIVE REQUEST
 
-abbrev pub again_by : Doing → Bool
-again_by OnChannel = false
-again_by (Again csw sense) = true
+abbrev pub awaits_by : Standing → Bool
+awaits_by OnChannel = false
+awaits_by (AwaitsRestart csw sense) = true
 
 -- the status that is kept of an attempt that is to be tried again
-abbrev pub kept_by : Doing → Csw × ℕ
+abbrev pub kept_by : Standing → Csw × ℕ
 kept_by OnChannel = (no_status, 0)
-kept_by (Again csw sense) = (csw, sense)
+kept_by (AwaitsRestart csw sense) = (csw, sense)
 
-abbrev pub again_of : Option Active → Bool
-again_of None = false
-again_of (Some a) = again_by a.doing
+abbrev pub awaits_of : Option Active → Bool
+awaits_of None = false
+awaits_of (Some a) = awaits_by a.standing
 
-abbrev pub held_count : Option Active → ℕ
-held_count None = 0
-held_count (Some a) = 1
+abbrev pub active_field_count : Option Active → ℕ
+active_field_count None = 0
+active_field_count (Some a) = 1
 
 -- the active request with its storage as it is now
 abbrev pub with_area : Active → Storage → Active
@@ -63,10 +62,16 @@ with_area a m = record a { piece = with_value a.piece (record a.piece.value { ar
 abbrev pub after_cover : Scope → Mode → Active → Active
 after_cover scope mode a = record a { covered = (covers scope a.piece.value && is_halt mode) || a.covered }
 
--- the stage of a request whose status is pending
-abbrev pub pending_stage : Bool → Csw → ℕ → Stage
-pending_stage true csw sense = Stopped csw sense
-pending_stage false csw sense = Over csw sense
+-- the phase of a request whose status is pending
+abbrev pub pending_phase : Bool → Csw → ℕ → ActivePhase
+pending_phase true csw sense = WasHalted csw sense
+pending_phase false csw sense = HasEnded csw sense
+
+-- the code of a request that has ended, if it is posted: one that would be tried again is posted only if it
+-- is covered
+abbrev pub ended_code : Verdict → Bool → Option Code
+ended_code (Final code) covered = Some code
+ended_code Retry covered = if covered then Some Purged else None
 
 -- the code of a request whose status is pending, if it is posted
 abbrev pub pending_code : Kind → Csw → ℕ → ℕ → Bool → Bool → Option Code
@@ -87,8 +92,8 @@ dcb_of d H =
 
 -- the file mask
 abbrev pub mask_at : Option Dcb → ℕ
-mask_at None = 0x18
-mask_at (Some c) = if c.input then 0x58 else 0x18
+mask_at None = output_mask
+mask_at (Some c) = if c.input then input_mask else output_mask
 
 -- the extents
 abbrev pub extents_at : Option Dcb → List Extent
@@ -114,19 +119,19 @@ unflagged here (Some c) = Some (record { input = c.input; extents = c.extents; c
 
 module _ {D : Type 0} (meaning : Meaning D) (mounted : D) where
   -- what the subchannel does is what the trace says of the active request
-  abbrev pub DoingTies : List Entry → Phase → Active → Doing → Type 0
-  DoingTies H Absent a doing = ⊥
-  DoingTies H Idle a OnChannel = ⊥
-  DoingTies H Idle a (Again csw sense) =
-      (stage meaning mounted a.piece.value.name H ≡ Over csw sense)
+  abbrev pub StandingTies : List Entry → Phase → Active → Standing → Type 0
+  StandingTies H Absent a standing = ⊥
+  StandingTies H Idle a OnChannel = ⊥
+  StandingTies H Idle a (AwaitsRestart csw sense) =
+      (active_phase meaning mounted a.piece.value.name H ≡ HasEnded csw sense)
       × (verdict_of meaning mounted a.piece.value.name csw sense H ≡ Retry)
       × (is_covered (request_of a.piece.value.name H) H ≡ false)
-  DoingTies H (Running place) a OnChannel =
-      (place ≡ (current meaning mounted H).place) × (stage meaning mounted a.piece.value.name H ≡ Goes)
-  DoingTies H (Running place) a (Again csw sense) = ⊥
-  DoingTies H (Pending csw sense) a OnChannel =
-      stage meaning mounted a.piece.value.name H ≡ pending_stage a.halted csw sense
-  DoingTies H (Pending csw sense) a (Again c s) = ⊥
+  StandingTies H (Running place) a OnChannel =
+      (place ≡ (current meaning mounted H).place) × (active_phase meaning mounted a.piece.value.name H ≡ StillRunning)
+  StandingTies H (Running place) a (AwaitsRestart csw sense) = ⊥
+  StandingTies H (Pending csw sense) a OnChannel =
+      active_phase meaning mounted a.piece.value.name H ≡ pending_phase a.halted csw sense
+  StandingTies H (Pending csw sense) a (AwaitsRestart c s) = ⊥
 
   -- the active request: all but its storage is as it arrived
   pub record ActiveTies (H : List Entry) (phase : Phase) (a : Active) : Type 0 where
@@ -136,7 +141,7 @@ module _ {D : Type 0} (meaning : Meaning D) (mounted : D) where
     pub starts : a.starts ≡ starts_of a.piece.value.name H
     pub halted : a.halted ≡ is_halted a.piece.value.name H
     pub covered : a.covered ≡ is_covered (request_of a.piece.value.name H) H
-    pub doing : DoingTies H phase a a.doing
+    pub standing : StandingTies H phase a a.standing
 
   abbrev pub ActivityTies : List Entry → Phase → Option Active → Type 0
   ActivityTies H phase None = (active H ≡ None) × (phase ≡ Idle)
@@ -154,6 +159,6 @@ module _ {D : Type 0} (meaning : Meaning D) (mounted : D) where
 
 -- the room that the book was made with
 pub record Rooms (busy : Option Active) (waiters swept : Queue) (outs : Buffer PostedState) : Type 0 where
-  pub held : length waiters.pieces + held_count busy + length outs.items ≤ outs.capacity
+  pub occupancy : length waiters.pieces + active_field_count busy + length outs.items ≤ outs.capacity
   pub waiting_room : waiters.capacity ≡ outs.capacity
   pub swept_is : swept ≡ queue [] outs.capacity

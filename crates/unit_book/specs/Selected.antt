@@ -12,14 +12,14 @@ use Rattle.unit_book.specs.Trace.{waiting}
 use Rattle.unit_book.specs.Dcbs.{doomed}
 
 -- the request is one of the selection, if there is one
-abbrev pub picks : Option Selection → Piece → Bool
-picks None r = false
-picks (Some selection) r = selects selection r
+abbrev pub is_selected : Option Selection → Piece → Bool
+is_selected None r = false
+is_selected (Some selection) r = selects selection r
 
 -- the post of a related request with an error dooms the related requests of its DCB
 abbrev pub doomed_by_post : Piece → Code → Option Selection
 doomed_by_post r code = if is_error code && r.related then Some (Related r.dcb) else None
 
--- the doomed requests are those that are picked
+-- the doomed requests are those that are selected
 abbrev pub DoomedBy : Option Selection → List Entry → Type 0
-DoomedBy selection H = doomed H ≡ filter (picks selection) (waiting H)
+DoomedBy selection H = doomed H ≡ filter (is_selected selection) (waiting H)
