@@ -1,5 +1,5 @@
-//! Runs of whole scripts, as tables of scripts with what they print. Expected values are those of the profile's worked
-//! rows, whose names the rows bear.
+//! Runs of whole scripts. A table is one text: `==` stands between two runs, and `--` between a script and what it
+//! prints; a script begins with its name. Expected values are those of the profile's worked rows and tables.
 
 use crate::run::run_script;
 use controls::CONTROLS;
@@ -18,13 +18,6 @@ mod disks;
 mod programs;
 mod tapes_and_printers;
 
-/// The name of a run, the parts of its script, and those of what it prints.
-type Row = (
-    &'static str,
-    &'static [&'static str],
-    &'static [&'static str],
-);
-
 /// One task, and a disk of one track with R1, whose data are C1C2C3C4.
 const DISK: &str = "tasks 1\ndisk 0 0 1 1 40\nrec 0 0 0 1 - C1C2C3C4\n";
 /// DCB 1, for output.
@@ -34,13 +27,6 @@ const IOB: &str =
     "area 0 001000 4200000000001028 0000000000000000 0000103000000001 0000000000000000 0000000000000001 0000000000000000 ";
 /// From X'1030': search of the ID at X'1050', and back until it is found.
 const SEARCH: &str = "3100105040000005 0800103000000000 ";
-/// From X'1048': nothing, the ID of R1, and a buffer of zeros.
-const BEHIND: &str = "0000000000000000 0000000001000000 0000000000000000 0000000000000000";
-
-/// Reads the data of the record, from X'1040'.
-const READ: &str = "0600106000000004 ";
-
-const EXCP: &str = "\nexcp 0 0 1 001000 0 001060 4\n";
 
 /// The parts of a text, joined.
 fn joined(alloc: Global, parts: &[&str]) -> Result<Vec<u8>, AllocError> {
@@ -59,31 +45,35 @@ fn printed(alloc: Global, text: &[u8]) -> Result<Vec<u8>, Fault> {
     Ok(output)
 }
 
-/// Asserts that each run prints its lines: one that ends in a fault, for want of memory too, fails.
-fn expect_rows<R: Abort + AllocGlobal>(rt: &R, rows: &[Row]) -> Result<(), Fail> {
-    for (name, script, lines) in rows {
-        let text = joined(rt.alloc(), script)?;
-        let wanted = joined(rt.alloc(), lines)?;
-        assert_eq!(rt; printed(rt.alloc(), &text), Ok(wanted), "{name}");
+/// Asserts that each run of a table, of so many, prints what the table says: one that ends in a fault, for want of
+/// memory too, fails.
+fn expect_runs<R: Abort + AllocGlobal>(rt: &R, table: &str, count: usize) -> Result<(), Fail> {
+    let mut runs: usize = 0;
+    for run in table.split("==\n") {
+        let (script, wanted) = run.split_once("--\n").ok_or("no output")?;
+        let output = printed(rt.alloc(), script.as_bytes())?;
+        assert_eq!(rt; output.as_slice(), wanted.as_bytes(), "{script}");
+        runs = runs.saturating_add(1);
     }
+    assert_eq!(rt; runs, count);
     Ok(())
 }
 
 #[test]
 fn worked_programs(rt: HostRuntime) -> Result<(), Fail> {
-    expect_rows(&rt, &WORKED)?;
-    expect_rows(&rt, &FURTHER)
+    expect_runs(&rt, WORKED, 16)?;
+    expect_runs(&rt, FURTHER, 18)
 }
 
 #[test]
 fn disks_tapes_and_printers(rt: HostRuntime) -> Result<(), Fail> {
-    expect_rows(&rt, &DISKS)?;
-    expect_rows(&rt, &TAPES_AND_PRINTERS)
+    expect_runs(&rt, DISKS, 12)?;
+    expect_runs(&rt, TAPES_AND_PRINTERS, 10)
 }
 
 #[test]
 fn related_and_purged(rt: HostRuntime) -> Result<(), Fail> {
-    expect_rows(&rt, &CONTROLS)
+    expect_runs(&rt, CONTROLS, 12)
 }
 
 /// Reads by a list of two words on an area of 4,100 bytes: the first word leads to the last two bytes of a block of

@@ -84,7 +84,10 @@ fn reads_one_record_without_memory(rt: HostRuntime) -> Result<(), Fail> {
     let mut area = Area::new(rt.alloc(), 0x1000, &IMAGE)?;
     let mut channel = Subchannel::new(disk(rt.alloc(), &[])?, 0);
     let seek = Seek::default();
-    assert!(rt; channel.device().is_some_and(|disk| disk.fits(&seek)));
+    if !channel.device().is_some_and(|disk| disk.fits(&seek)) {
+        assert!(rt; false, "the seek address is within the disk");
+        return Ok(());
+    }
     assert_eq!(rt; channel.ssch(Address::new(0x1030), &seek, 0x18), 0);
     assert!(rt; channel.run(&mut area, WHOLE_PROGRAM).is_some());
     let (code, status) = channel.tsch();
