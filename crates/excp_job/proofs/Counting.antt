@@ -29,6 +29,5 @@ counts-arrive issued r H len c next = λ task lt.
     ]
 
 -- nothing has arrived at first
-pub counts-opening : (issued : List ℕ) → issued ≡ replicate 64 0 → Counts issued []
-unfolding arrivals
-counts-opening issued e = λ task lt. rw e (get_or-replicate 64 task 0 0 lt)
+pub counts-opening : (issued : List ℕ) (H : List Entry) → arrivals H ≡ [] → issued ≡ replicate 64 0 → Counts issued H
+counts-opening issued H none e = λ task lt. rw (e, none) (get_or-replicate 64 task 0 0 lt)

@@ -1,3 +1,2 @@
+-- How many requests arrived at a unit.
 pub mod Counts
-pub mod Devices
-pub mod Reading

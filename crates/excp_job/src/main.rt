@@ -3,19 +3,13 @@
 #![tactic(auto)]
 
 mod arguments;
-mod device;
-mod fault;
-mod lines;
 mod output;
-mod reading;
 mod run;
-mod script;
 mod station;
-mod words;
 
 use arguments::Workers;
 use clap::error::ErrorKind;
-use fault::Fault;
+use job_script::Fault;
 use run::run_script;
 use std::alloc::AllocError;
 use std::env;

@@ -2,115 +2,107 @@
 
 ghost use Rattle.std.specs.Prelude.{◌<◌};
 
-use crate::fault::Fault;
 use io_images::{Address, Code, Csw};
+use job_script::Fault;
 use request_piece::{Name, Posted};
 use std::alloc::{AllocError, Global};
+use std::collections::HashMap;
 use std::io;
 use std::io::{BufWriter, Write};
 
 /// Which bytes of the area of a request are shown when it is posted.
-#[derive(Clone, Copy, Debug)]
+#[derive(Clone, Copy)]
 pub struct Show {
-    pub unit: u16,
-    pub name: Name,
     pub at: u32,
     pub len: usize,
 }
 
-/// What is printed of a post; its shown bytes stand beside those of the others.
-#[derive(Clone, Copy, Debug)]
+/// The task, the unit and the number of a request.
+type Key = (u16, u16, u32);
+
+/// What is printed of a post.
+#[derive(Drop)]
 struct Line {
-    unit: u16,
-    name: Name,
+    key: Key,
     code: Code,
     csw: Csw,
     sense: u16,
-    from: usize,
-    len: usize,
-}
-
-/// What is printed of the posts so far.
-#[derive(Drop)]
-pub struct Lines {
-    lines: Vec<Line>,
     shown: Vec<u8>,
 }
 
-impl Lines {
+/// What the requests show that are on their way, and what is printed of those that were posted.
+#[derive(Drop)]
+pub struct Posts {
+    alloc: Global,
+    shows: HashMap<Key, Show>,
+    lines: Vec<Line>,
+}
+
+impl Posts {
+    /// Nothing was issued or posted.
     pub fn new(alloc: Global) -> Self {
-        Lines {
+        Posts {
+            alloc,
+            shows: HashMap::new(alloc),
             lines: Vec::new(alloc),
-            shown: Vec::new(alloc),
         }
     }
 
-    /// Adds the posts, each with its shown bytes, and takes both away.
-    pub fn add(&mut self, posts: &mut Vec<Posted>, shows: &mut Vec<Show>) -> Result<(), AllocError> {
-        posts.sort_unstable_by_key(|posted| {
-            let name = posted.name();
-            (name.task, posted.unit(), name.seq)
-        });
-        shows.sort_unstable_by_key(|show| (show.name.task, show.unit, show.name.seq));
-        for (posted, show) in posts.iter().zip(shows.iter()) {
-            self.add_one(posted, show)?;
-        }
-        posts.clear();
-        shows.clear();
+    /// The request with this name is issued to the unit, and shows these bytes when it is posted.
+    pub fn expect(&mut self, unit: u16, name: Name, show: Show) -> Result<(), AllocError> {
+        self.shows.insert(key(unit, name), show)?;
         Ok(())
     }
 
-    fn add_one(&mut self, posted: &Posted, show: &Show) -> Result<(), AllocError> {
-        let from = self.shown.len();
-        if let Some(bytes) = posted.area().get(show.at, show.len) {
-            self.shown.extend_from_slice(bytes)?;
+    /// A request was posted: its line has the bytes that it shows.
+    pub fn add(&mut self, posted: &Posted) -> Result<(), AllocError> {
+        let key = key(posted.unit(), posted.name());
+        let mut shown = Vec::new(self.alloc);
+        if let Some(show) = self.shows.remove(&key) {
+            let bytes = posted.area().get(show.at, show.len);
+            shown.extend_from_slice(bytes.unwrap_or(&[]))?;
         }
-        let len = self.shown.len().saturating_sub(from);
         self.lines.push(Line {
-            unit: posted.unit(),
-            name: posted.name(),
+            key,
             code: posted.code(),
             csw: posted.csw(),
             sense: posted.sense(),
-            from,
-            len,
+            shown,
         })?;
         Ok(())
     }
-}
 
-/// Writes the posts by task, unit and number, each with its shown bytes, and then how many there are.
-pub fn write_posts<W: Write + Drop>(
-    alloc: Global,
-    writer: W,
-    lines: &mut Lines,
-) -> Result<(), Fault> {
-    lines
-        .lines
-        .sort_unstable_by_key(|line| (line.name.task, line.unit, line.name.seq));
-    let Ok(mut out) = BufWriter::new(alloc, writer) else {
-        return Err(Fault::NoMemory);
-    };
-    match write_lines(&mut out, lines) {
-        Ok(()) => Ok(()),
-        Err(_) => Err(Fault::NotWritten),
+    /// Writes the posts by task, unit and number, each with its shown bytes, and then how many there are.
+    pub fn write<W: Write + Drop>(mut self, writer: W) -> Result<(), Fault> {
+        self.lines.sort_unstable_by_key(|line| line.key);
+        let Ok(mut out) = BufWriter::new(self.alloc, writer) else {
+            return Err(Fault::NoMemory);
+        };
+        match write_lines(&mut out, &self.lines) {
+            Ok(()) => Ok(()),
+            Err(_) => Err(Fault::NotWritten),
+        }
     }
 }
 
-fn write_lines<W: Write>(out: &mut W, lines: &Lines) -> io::Result<()> {
-    for line in &lines.lines {
-        let end = line.from.saturating_add(line.len);
-        write_line(out, line, lines.shown.get(line.from..end).unwrap_or(&[]))?;
+fn key(unit: u16, name: Name) -> Key {
+    (name.task, unit, name.seq)
+}
+
+fn write_lines<W: Write>(out: &mut W, lines: &[Line]) -> io::Result<()> {
+    for line in lines {
+        write_line(out, line)?;
     }
-    writeln!(out, "end {}", lines.lines.len())?;
+    writeln!(out, "end {}", lines.len())?;
     out.flush()
 }
 
-fn write_line<W: Write>(out: &mut W, line: &Line, shown: &[u8]) -> io::Result<()> {
+fn write_line<W: Write>(out: &mut W, line: &Line) -> io::Result<()> {
+    let (task, unit, number) = line.key;
     out.write_all(b"post ")?;
-    write_decimal(out, u32::from(line.name.task))?;
-    write_decimal(out, u32::from(line.unit))?;
-    write_decimal(out, line.name.seq)?;
+    write_decimal(out, u32::from(task))?;
+    write_decimal(out, u32::from(unit))?;
+    write_decimal(out, number)?;
     let [a, b] = digits(line.code.byte());
     let [c, d, e, f, g, h] = digits_of_address(line.csw.address);
     let [i, j] = digits(line.csw.unit.bits());
@@ -120,7 +112,7 @@ fn write_line<W: Write>(out: &mut W, line: &Line, shown: &[u8]) -> io::Result<()
     out.write_all(&[
         a, b, b' ', c, d, e, f, g, h, b' ', i, j, k, l, b' ', m, n, o, p, b' ', q, r, s, t, b' ',
     ])?;
-    write_bytes(out, shown)?;
+    write_bytes(out, &line.shown)?;
     out.write_all(b"\n")
 }
 

@@ -1,21 +1,22 @@
 //! A unit of a run: its book, beside how many requests of each task arrived in it.
 
-ghost use Rattle.std.specs.Prelude.{◌≡◌, ◌≤◌, ◌<◌, ◌∷◌, [], IfErr, IfOk, OnErr, OnOk, drop, length, replicate, slice_get};
+ghost use Rattle.std.specs.Prelude.{◌≡◌, ◌≤◌, ◌<◌, ◌↔◌, IsTrue, ◌∷◌, [], IfErr, IfOk, OnErr, OnOk, drop, length, replicate, slice_get};
 ghost use Rattle.excp_job.specs.Counts.{IsNext};
-ghost use Rattle.excp_job.specs.Devices.{unit_device};
-ghost use Rattle.unit_book.specs.Answers.{Adds, ArriveRefused, OpenRefused, OpensBook, Posts};
+ghost use Rattle.unit_device.specs.Devices.{unit_device};
+ghost use Rattle.unit_book.specs.Answers.{Adds, ArriveRefused, Posts};
+ghost use Rattle.job_script.specs.Books.{IsFresh};
+ghost use Rattle.unit_book.specs.Book.{held};
 ghost use Rattle.unit_book.specs.Controls.{ClosesBook, DcbRefused, PurgesBook, ResetRefused};
 ghost use Rattle.unit_book.specs.Dooms.{after_dooms};
 ghost use Rattle.unit_book.specs.Settle.{Settles};
 ghost use Rattle.unit_book.specs.Trace.{active, arrived_of, waiting};
 
-use crate::device::UnitDevice;
-use crate::fault::{Fault, FaultName};
-use io_images::Extent;
+use job_script::FaultName;
 use request_piece::{Name, Posted, Request, Scope};
-use std::alloc::{AllocError, Global};
+use std::alloc::AllocError;
 use std::marker::Model;
-use unit_book::{ArriveError, Closing, DcbError, Entry, Mode, OpenError, Purging, UnitBook};
+use unit_book::{ArriveError, Closing, DcbError, Entry, Mode, Purging, UnitBook};
+use unit_device::UnitDevice;
 
 /// The book of a unit, and the number of the last request of each task.
 #[derive(Drop)]
@@ -25,38 +26,36 @@ pub struct Station {
 }
 
 impl Model for Station {
+    ghost use Rattle.std.specs.Prelude.{◌≤◌};
     ghost use Rattle.unit_book.specs.Book.{Book};
-    ghost use Rattle.excp_job.specs.declared.device.UnitDevice.{UnitDevice as DeviceState};
+    ghost use Rattle.unit_device.specs.declared.device.UnitDevice.{UnitDevice as DeviceState};
     ghost use Rattle.excp_job.specs.Counts.{Counts};
 
     ghost Value = { Book DeviceState };
 
     ghost view = { λ s. s.book };
 
-    ghost invariant = { λ s. Counts s.issued s.book.trace };
+    ghost invariant = { (λ s. Counts s.issued s.book.trace × (1 ≤ s.book.capacity)) };
 }
 
 impl Station {
-    /// A unit whose book holds up to `capacity` requests.
-    pub fn new(alloc: Global, device: UnitDevice, isc: u8, capacity: usize) -> Result<Self, Fault>
-        requires isc { isc ≤ 7 }
-        requires some { 1 ≤ capacity }
-        requires few { capacity ≤ 65536 }
+    /// A unit with this book, in which nothing has happened but openings of DCBs.
+    pub fn new(book: UnitBook<UnitDevice>) -> Self
+        requires { IsFresh book }
+        ensures { result ≡ book }
     {
-        let book = UnitBook::new(alloc, device, isc, capacity)?;
         let issued = none_issued();
-        Ok(Station { book, issued })
+        Station { book, issued }
     }
 
-    /// Opens a DCB.
-    pub fn open(&mut self, input: bool, extents: &[Extent]) -> Result<u16, OpenError>
-        ensures ok { IfOk result (λ dcb. OpensBook unit_device self.old dcb input extents.now self.new) }
-        ensures refused { IfErr result (OpenRefused unit_device self.old extents.now) }
+    /// Whether the book may hold another request.
+    pub fn has_room(&self) -> bool
+        ensures { IsTrue result ↔ (held self.now < self.now.capacity) }
     {
-        self.book.open(input, extents)
+        self.book.has_room()
     }
 
-    /// The name of the next request of a task, and none after the last number.
+    /// The name of the next request of a task. No request can be made after the last number.
     pub fn next_name(&self, task: u16) -> Result<Name, FaultName>
         ensures next { IfOk result (λ name. IsNext name self.now.trace) }
         ensures task { IfOk result (λ name. name.task ≡ task) }
@@ -64,7 +63,7 @@ impl Station {
     {
         let at = usize::from(task);
         if at >= 64 || self.issued[at] == u32::MAX {
-            return Err(FaultName::Name);
+            return Err(FaultName::Request);
         }
         Ok(Name {
             task,
@@ -123,6 +122,7 @@ impl Station {
         ensures steps { Settles unit_device self.old self.new }
         ensures waiting { OnOk result (waiting self.new.trace ≡ []) }
         ensures active { OnOk result (active self.new.trace ≡ None) }
+        ensures some { 1 ≤ self.new.capacity }
     {
         self.book.settle()
     }

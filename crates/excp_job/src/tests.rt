@@ -1,16 +1,21 @@
-//! Runs of whole scripts: channel programs on a disk, faults and retries, extents, and broken scripts. Expected
-//! values are those of the profile's worked rows.
+//! Runs of whole scripts. A table is one text: `==` stands between two runs, and `--` between a script and what it
+//! prints; a script begins with its name. Expected values are those of the profile's worked rows and tables.
 
-use crate::fault::{Fault, FaultName};
 use crate::run::run_script;
-use std::alloc::AllocError;
+use controls::CONTROLS;
+use disks::DISKS;
+use job_script::Fault;
+use programs::{FURTHER, WORKED};
+use std::alloc::{AllocError, Global};
+use std::io;
+use std::io::Write;
 use std::process::Abort;
 use std::test::Fail;
+use tapes_and_printers::TAPES_AND_PRINTERS;
 
 mod controls;
 mod disks;
 mod programs;
-mod scripts;
 mod tapes_and_printers;
 
 /// One task, and a disk of one track with R1, whose data are C1C2C3C4.
@@ -22,17 +27,10 @@ const IOB: &str =
     "area 0 001000 4200000000001028 0000000000000000 0000103000000001 0000000000000000 0000000000000001 0000000000000000 ";
 /// From X'1030': search of the ID at X'1050', and back until it is found.
 const SEARCH: &str = "3100105040000005 0800103000000000 ";
-/// From X'1048': nothing, the ID of R1, and a buffer of zeros.
-const BEHIND: &str = "0000000000000000 0000000001000000 0000000000000000 0000000000000000";
 
-/// Reads the data of the record, from X'1040'.
-const READ: &str = "0600106000000004 ";
-
-const EXCP: &str = "\nexcp 0 0 1 001000 0 001060 4\n";
-
-/// The parts of a script, joined.
-fn joined<R: AllocGlobal>(rt: &R, parts: &[&str]) -> Result<Vec<u8>, AllocError> {
-    let mut text = Vec::new(rt.alloc());
+/// The parts of a text, joined.
+fn joined(alloc: Global, parts: &[&str]) -> Result<Vec<u8>, AllocError> {
+    let mut text = Vec::new(alloc);
     for part in parts {
         text.extend_from_slice(part.as_bytes())?;
     }
@@ -40,39 +38,96 @@ fn joined<R: AllocGlobal>(rt: &R, parts: &[&str]) -> Result<Vec<u8>, AllocError>
 }
 
 /// What a run prints, or its fault.
-fn printed<R: AllocGlobal>(rt: &R, text: &[u8]) -> Result<Vec<u8>, Fault> {
-    let mut output = Vec::new(rt.alloc());
+fn printed(alloc: Global, text: &[u8]) -> Result<Vec<u8>, Fault> {
+    let mut output = Vec::new(alloc);
     let mut reader = text;
-    run_script(rt.alloc(), &mut reader, &mut output, 1, 1)?;
+    run_script(alloc, &mut reader, &mut output, 1, 1)?;
     Ok(output)
 }
 
-/// Asserts that the run of these parts prints these lines.
-fn expect_lines<R: Abort + AllocGlobal>(
-    rt: &R,
-    parts: &[&str],
-    lines: &[&str],
-) -> Result<(), Fail> {
-    let text = joined(rt, parts)?;
-    let wanted = joined(rt, lines)?;
-    match printed(rt, &text) {
-        Ok(output) => assert_eq!(rt; output, wanted),
-        Err(fault) => assert_eq!(rt; fault, Fault::NoMemory),
+/// Asserts that each run of a table, of so many, prints what the table says: one that ends in a fault, for want of
+/// memory too, fails.
+fn expect_runs<R: Abort + AllocGlobal>(rt: &R, table: &str, count: usize) -> Result<(), Fail> {
+    let mut runs: usize = 0;
+    for run in table.split("==\n") {
+        let (script, wanted) = run.split_once("--\n").ok_or("no output")?;
+        let output = printed(rt.alloc(), script.as_bytes())?;
+        assert_eq!(rt; output.as_slice(), wanted.as_bytes(), "{script}");
+        runs = runs.saturating_add(1);
+    }
+    assert_eq!(rt; runs, count);
+    Ok(())
+}
+
+#[test]
+fn worked_programs(rt: HostRuntime) -> Result<(), Fail> {
+    expect_runs(&rt, WORKED, 16)?;
+    expect_runs(&rt, FURTHER, 18)
+}
+
+#[test]
+fn disks_tapes_and_printers(rt: HostRuntime) -> Result<(), Fail> {
+    expect_runs(&rt, DISKS, 12)?;
+    expect_runs(&rt, TAPES_AND_PRINTERS, 10)
+}
+
+#[test]
+fn related_and_purged(rt: HostRuntime) -> Result<(), Fail> {
+    expect_runs(&rt, CONTROLS, 12)
+}
+
+/// Reads by a list of two words on an area of 4,100 bytes: the first word leads to the last two bytes of a block of
+/// 2,048, and the second to another block, or to none.
+const OVER_BLOCKS: [(&str, &str); 3] = [
+    (
+        "000017FE00002000 ",
+        "post 0 0 1 7F 001048 0C00 0000 0000 C1C20000\npost 0 0 2 7F 001048 0C00 0000 0000 C3C40000\nend 2\n",
+    ),
+    (
+        "000017FE00001804 ",
+        "post 0 0 1 41 001048 0020 0000 0000 00000000\npost 0 0 2 41 001048 0020 0000 0000 00000000\nend 2\n",
+    ),
+    (
+        "0000106000000000 ",
+        "post 0 0 1 7F 001048 0C00 0000 0000 00000000\npost 0 0 2 7F 001048 0C00 0000 0000 00000000\nend 2\n",
+    ),
+];
+
+#[test]
+fn words_over_two_blocks(rt: HostRuntime) -> Result<(), Fail> {
+    let read = "0600105804000004 0000000000000000 0000000001000000 ";
+    // 4,100 bytes in all: 96 stand there, and 4,004 follow
+    let zeros = vec![in rt.alloc(); b'0'; 8_008]?;
+    let excps = "\nexcp 0 0 1 001000 0 0017FE 4\nexcp 0 0 1 001000 0 002000 4\n";
+    for (words, posts) in OVER_BLOCKS {
+        let mut text = joined(rt.alloc(), &[DISK, OUTPUT, IOB, SEARCH, read, words])?;
+        text.extend_from_slice(&zeros)?;
+        text.extend_from_slice(excps.as_bytes())?;
+        let wanted = joined(rt.alloc(), &[posts])?;
+        assert_eq!(rt; printed(rt.alloc(), &text), Ok(wanted), "{words}");
     }
     Ok(())
 }
 
-/// Asserts that the run of these parts ends with this fault and prints nothing.
-fn expect_fault<R: Abort + AllocGlobal>(
-    rt: &R,
-    parts: &[&str],
-    line: usize,
-    name: FaultName,
-) -> Result<(), Fail> {
-    let text = joined(rt, parts)?;
-    match printed(rt, &text) {
-        Ok(_) => assert!(rt; false, "no fault at line {line}"),
-        Err(fault) => assert_eq!(rt; fault, Fault::Line { line, name }),
+/// A writer that takes no byte.
+#[derive(Drop)]
+struct Full;
+
+impl Write for Full {
+    fn write(&mut self, _buf: &[u8]) -> io::Result<usize> {
+        Err(io::Error::from(io::ErrorKind::Other))
     }
+
+    fn flush(&mut self) -> io::Result<()> {
+        Err(io::Error::from(io::ErrorKind::Other))
+    }
+}
+
+#[test]
+fn output_is_not_written(rt: HostRuntime) -> Result<(), Fail> {
+    let text = joined(rt.alloc(), &["tasks 1\ndisk 0 0 1 1 40\n"])?;
+    let mut reader = text.as_slice();
+    let done = run_script(rt.alloc(), &mut reader, Full, 1, 1);
+    assert_eq!(rt; done, Err(Fault::NotWritten));
     Ok(())
 }

@@ -1,6 +1,7 @@
 //! Requests: what a program issues, as its IOB says, and what is posted back.
 #![tactic(auto)]
 
+mod check;
 mod error;
 mod issued;
 mod piece;

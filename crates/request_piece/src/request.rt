@@ -201,10 +201,11 @@ fn piece_of(name: Name, unit: u16, dcb: u16, iob: u32, image: &Iob, area: Area) 
 
 /// The IOB at a place of the area, where it, its ECB and its channel program have their places and it
 /// names the DCB.
-fn read_iob(dcb: u16, iob: u32, area: &Area) -> Result<Iob, RequestError>
+pub(crate) fn read_iob(dcb: u16, iob: u32, area: &Area) -> Result<Iob, RequestError>
     ensures iob { IfOk result (λ i. i ≡ iob_at area.now iob) }
     ensures ok { IfOk result (λ i. NoFault dcb iob area.now) }
     ensures refused { IfErr result (RequestFault dcb iob area.now) }
+    ensures memory { ¬ (result ≡ Err RequestError.NoMemory) }
 {
     if iob % 4 != 0 {
         return Err(RequestError::IobPlace);

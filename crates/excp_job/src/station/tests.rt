@@ -1,13 +1,15 @@
 //! Calls of a book over a disk: programs resumed a command at a time, purges, closes and resets.
 
-ghost use Rattle.std.specs.Prelude.{◌≤◌, IfSome};
+ghost use Rattle.std.specs.Prelude.{◌≤◌, IfOk, IfSome};
 ghost use Rattle.excp_job.specs.Counts.{IsNext};
+ghost use Rattle.job_script.specs.Books.{IsFresh};
 
 use super::*;
 use ckd_disk::{Disk, Geometry, InitialRecord};
 use device_port::Fault as DeviceFault;
 use io_area::Area;
-use io_images::{Code, SubStatus, UnitStatus};
+use io_images::{Code, Extent, SubStatus, UnitStatus};
+use std::alloc::Global;
 use std::process::Abort;
 use std::test::Fail;
 use unit_book::{Interruption, Running, Starting};
@@ -60,23 +62,41 @@ fn disk(alloc: Global, faults: &[DeviceFault]) -> Result<Disk, AllocError> {
     Disk::mount(alloc, geometry, &records, faults).map_err(|_| AllocError)
 }
 
+/// The book of the disk, for so many requests, with these faults.
+fn book(
+    alloc: Global,
+    capacity: usize,
+    faults: &[DeviceFault],
+) -> Result<UnitBook<UnitDevice>, AllocError>
+    requires some { 1 ≤ capacity }
+    requires few { capacity ≤ 65536 }
+    ensures { IfOk result IsFresh }
+{
+    let device = UnitDevice::Disk(disk(alloc, faults)?);
+    UnitBook::new(alloc, device, 0, capacity).map_err(|_| AllocError)
+}
+
+/// Opens a DCB on the one track of the disk.
+fn open(book: &mut UnitBook<UnitDevice>) -> Result<(), AllocError>
+    requires { IsFresh book.old }
+    ensures { IsFresh book.new }
+{
+    let track = Extent::read(&[0x18, 0, 0, 0, 0, 0, 0, 0, 0, 0, 0, 0, 0, 0, 0, 1]);
+    match book.open(false, &[track]) {
+        Ok(_) => Ok(()),
+        Err(_) => Err(AllocError),
+    }
+}
+
 /// A station for so many requests, whose DCBs 1 and 2 are open on the one track of the disk, with these faults.
 fn station(alloc: Global, capacity: usize, faults: &[DeviceFault]) -> Result<Station, AllocError>
     requires some { 1 ≤ capacity }
     requires few { capacity ≤ 65536 }
 {
-    let disk = disk(alloc, faults)?;
-    let Ok(mut station) = Station::new(alloc, UnitDevice::Disk(disk), 0, capacity) else {
-        return Err(AllocError);
-    };
-    let image = [0x18, 0, 0, 0, 0, 0, 0, 0, 0, 0, 0, 0, 0, 0, 0, 1];
-    let extents = [Extent::read(&image)];
-    for _ in 0..2 {
-        if station.open(false, &extents).is_err() {
-            return Err(AllocError);
-        }
-    }
-    Ok(station)
+    let mut book = book(alloc, capacity, faults)?;
+    open(&mut book)?;
+    open(&mut book)?;
+    Ok(Station::new(book))
 }
 
 /// The next request of a task for a DCB, unrelated.

@@ -4,6 +4,7 @@ use super::*;
 use device_port::Device;
 use io_images::{Address, Seek};
 use subchannel::Subchannel;
+use unit_book::OpenError;
 
 #[test]
 fn a_command_at_a_time(rt: HostRuntime) -> Result<(), Fail> {
@@ -67,12 +68,12 @@ fn full_book(rt: HostRuntime) -> Result<(), Fail> {
 /// Two tracks for one, a cylinder that is not there, and none.
 #[test]
 fn extents_are_checked(rt: HostRuntime) -> Result<(), Fail> {
-    let mut station = station(rt.alloc(), 1, &[])?;
+    let mut book = book(rt.alloc(), 1, &[])?;
     let two = Extent::read(&[0x18, 0, 0, 0, 0, 0, 0, 0, 0, 0, 0, 0, 0, 0, 0, 2]);
     let beyond = Extent::read(&[0x18, 0, 0, 0, 0, 0, 0, 0, 0, 0, 0, 1, 0, 0, 0, 1]);
-    assert_eq!(rt; station.open(false, &[two]), Err(OpenError::BadExtent));
-    assert_eq!(rt; station.open(false, &[beyond]), Err(OpenError::BadExtent));
-    assert_eq!(rt; station.open(false, &[]), Err(OpenError::BadExtent));
+    assert_eq!(rt; book.open(false, &[two]), Err(OpenError::BadExtent));
+    assert_eq!(rt; book.open(false, &[beyond]), Err(OpenError::BadExtent));
+    assert_eq!(rt; book.open(false, &[]), Err(OpenError::BadExtent));
     Ok(())
 }
 
@@ -84,6 +85,7 @@ fn reads_one_record_without_memory(rt: HostRuntime) -> Result<(), Fail> {
     let mut channel = Subchannel::new(disk(rt.alloc(), &[])?, 0);
     let seek = Seek::default();
     if !channel.device().is_some_and(|disk| disk.fits(&seek)) {
+        assert!(rt; false, "the seek address is within the disk");
         return Ok(());
     }
     assert_eq!(rt; channel.ssch(Address::new(0x1030), &seek, 0x18), 0);

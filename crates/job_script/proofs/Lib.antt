@@ -1,0 +1,2 @@
+-- Bytes that are read one piece after another.
+pub mod Consuming

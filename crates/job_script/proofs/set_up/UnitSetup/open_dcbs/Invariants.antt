@@ -1,0 +1,5 @@
+use Rattle.job_script.specs.Books.{IsFresh}
+use Rattle.job_script.proofs.set_up.UnitSetup.open_dcbs.Given as goal
+
+abbrev pub invariant-loop-opening : goal.invariant-loop-opening
+invariant-loop-opening l = IsFresh l.book

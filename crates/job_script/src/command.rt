@@ -1,0 +1,65 @@
+//! What the tasks of a script do.
+
+ghost use Rattle.std.specs.Prelude.{◌≡◌, IfOk};
+
+use crate::fault::LineFault;
+use io_area::Area;
+use request_piece::{Name, Request};
+use std::alloc::Global;
+use std::sync::Arc;
+use unit_book::Mode;
+
+/// A DCB of a unit, by the numbers of both.
+#[derive(Clone, Copy)]
+pub struct DcbName {
+    pub unit: u16,
+    pub number: u16,
+}
+
+/// An EXCP on a copy of an area, and the bytes of the posted area that are shown.
+#[derive(Drop)]
+pub struct Excp {
+    pub dcb: DcbName,
+    /// The address of the IOB.
+    pub iob: u32,
+    pub area: Arc<Area, Global>,
+    /// The address of the bytes that are shown.
+    pub show: u32,
+    /// How many bytes are shown.
+    pub len: u64,
+}
+
+impl Excp {
+    /// A request with this name, on a copy of the area. It is refused as by `Request::over`.
+    pub fn request(&self, alloc: Global, name: Name) -> Result<Request, LineFault>
+        ensures { IfOk result (λ request. request.name ≡ name) }
+    {
+        let unit = self.dcb.unit;
+        let dcb = self.dcb.number;
+        Ok(Request::over(alloc, name, unit, dcb, self.iob, &self.area)?)
+    }
+}
+
+/// What a task does.
+#[derive(Drop)]
+pub enum Action {
+    Excp(Excp),
+    /// Purges the requests of a DCB.
+    Purge(DcbName, Mode),
+    /// Purges the requests of the task with this number, on all units.
+    PurgeTask(u16, Mode),
+    /// Closes a DCB.
+    Close(DcbName),
+    /// Clears the error flag of a DCB.
+    Reset(DcbName),
+    /// Goes on when all requests of the task were posted.
+    Wait,
+}
+
+/// A command, its line, and the task that gives it.
+#[derive(Drop)]
+pub struct Command {
+    pub line: usize,
+    pub task: u16,
+    pub action: Action,
+}

@@ -1,0 +1,137 @@
+//! What ends a run: the faults of a script, with their names, texts and exit statuses.
+
+use request_piece::RequestError;
+use std::alloc::{AllocError, AllocFailed};
+use std::fmt;
+use thiserror::Error;
+use unit_book::DcbError;
+
+/// The name of a fault of a script's line.
+#[derive(Clone, Copy, PartialEq, Eq, Debug)]
+pub enum FaultName {
+    /// The first word is unknown, the number of words wrong, or a byte no printable ASCII character.
+    Words,
+    /// A word is not of its form, or a number outside its range.
+    Number,
+    /// A set-up line stands behind a command, a line twice, or a number out of sequence.
+    Order,
+    /// A task, unit, area or DCB is not declared.
+    Name,
+    /// A record for a unit that is no disk, or a block or a mark for one that is no tape.
+    Kind,
+    /// An area is misaligned, too long or past the top of storage.
+    Area,
+    /// A unit's geometry, medium or fault script is none that can be mounted.
+    Medium,
+    /// A DCB's extents are none that can be opened, or there are too many DCBs.
+    Extent,
+    /// A request cannot be made of an area, or what is to be shown does not lie in it.
+    Request,
+}
+
+impl fmt::Display for FaultName {
+    fn fmt<W: fmt::Write>(&self, f: &mut fmt::Formatter<W>) -> fmt::Result {
+        let name = match self {
+            FaultName::Words => "Words",
+            FaultName::Number => "Number",
+            FaultName::Order => "Order",
+            FaultName::Name => "Name",
+            FaultName::Kind => "Kind",
+            FaultName::Area => "Area",
+            FaultName::Medium => "Medium",
+            FaultName::Extent => "Extent",
+            FaultName::Request => "Request",
+        };
+        f.write_str(name)
+    }
+}
+
+/// Why a line of a script is not taken, or its command not done.
+#[derive(Clone, Copy, PartialEq, Eq, Debug)]
+pub enum LineFault {
+    Named(FaultName),
+    NoMemory,
+}
+
+impl LineFault {
+    /// The fault of the line with this number.
+    pub fn at(self, line: usize) -> Fault {
+        match self {
+            LineFault::Named(name) => Fault::Line { line, name },
+            LineFault::NoMemory => Fault::NoMemory,
+        }
+    }
+}
+
+impl From<FaultName> for LineFault {
+    fn from(name: FaultName) -> Self {
+        LineFault::Named(name)
+    }
+}
+
+impl From<AllocError> for LineFault {
+    fn from(_error: AllocError) -> Self {
+        LineFault::NoMemory
+    }
+}
+
+impl<T: Drop> From<AllocFailed<T>> for LineFault {
+    fn from(_error: AllocFailed<T>) -> Self {
+        LineFault::NoMemory
+    }
+}
+
+impl From<RequestError> for LineFault {
+    fn from(error: RequestError) -> Self {
+        match error {
+            RequestError::NoMemory => LineFault::NoMemory,
+            _ => LineFault::Named(FaultName::Request),
+        }
+    }
+}
+
+impl From<DcbError> for LineFault {
+    fn from(error: DcbError) -> Self {
+        match error {
+            DcbError::NoSuchDcb => LineFault::Named(FaultName::Name),
+            DcbError::NoMemory => LineFault::NoMemory,
+        }
+    }
+}
+
+/// Why a run of a script ended before its end.
+#[derive(Clone, Copy, PartialEq, Eq, Debug, Error)]
+pub enum Fault {
+    #[error("line {line}: {name}")]
+    Line { line: usize, name: FaultName },
+    #[error("script too long")]
+    TooLong,
+    #[error("script unreadable")]
+    Unreadable,
+    #[error("output not written")]
+    NotWritten,
+    #[error("out of memory")]
+    NoMemory,
+}
+
+impl Fault {
+    /// The exit status of the program: 3 for want of memory, else 1.
+    pub fn status(self) -> u8 {
+        match self {
+            Fault::NoMemory => 3,
+            _ => 1,
+        }
+    }
+}
+
+impl From<AllocError> for Fault {
+    fn from(_error: AllocError) -> Self {
+        Fault::NoMemory
+    }
+}
+
+impl<T: Drop> From<AllocFailed<T>> for Fault {
+    fn from(_error: AllocFailed<T>) -> Self {
+        Fault::NoMemory
+    }
+}

@@ -1,0 +1,131 @@
+//! A line of a script as its words say, before it is compared with what other lines say: the faults of its words and
+//! of their forms.
+
+mod areas;
+mod commands;
+mod units;
+
+use crate::command::{Command, DcbName, Excp};
+use crate::fault::{FaultName, LineFault};
+use crate::set_up::{Opening, UnitSetup};
+use crate::words::Words;
+use areas::{area, opening, tasks};
+use ckd_disk::InitialRecord;
+use commands::{close, excp, purge, purge_task, reset, wait};
+use device_port::Fault as DeviceFault;
+use io_area::Area;
+use std::alloc::Global;
+use std::sync::Arc;
+use tape_unit::InitialItem;
+use units::{block, disk, fault, mark, printer, record, tape};
+
+/// A line that declares something; the number in front is that of the unit.
+#[derive(Drop)]
+pub enum SetUpLine {
+    Tasks(u16),
+    Unit(u16, UnitSetup),
+    Record(u16, InitialRecord),
+    Item(u16, InitialItem),
+    Fault(u16, DeviceFault),
+    Opening(u16, Opening),
+    Area(AreaLine),
+}
+
+/// A line that declares an area: its number, the address of its first byte, and its bytes.
+#[derive(Drop)]
+pub struct AreaLine {
+    pub number: u64,
+    pub base: u32,
+    pub bytes: Vec<u8>,
+}
+
+/// An EXCP, which names its area by number.
+#[derive(Clone, Copy)]
+pub struct ExcpLine {
+    pub line: usize,
+    pub task: u16,
+    pub dcb: DcbName,
+    pub iob: u32,
+    pub area: u64,
+    pub show: u32,
+    pub len: u64,
+}
+
+impl ExcpLine {
+    /// The EXCP on a copy of this area.
+    pub fn over(self, area: Arc<Area, Global>) -> Excp {
+        Excp {
+            dcb: self.dcb,
+            iob: self.iob,
+            area,
+            show: self.show,
+            len: self.len,
+        }
+    }
+}
+
+/// What a line says.
+#[derive(Drop)]
+pub enum Line {
+    /// It is empty, or its first word begins with `#`.
+    Nothing,
+    SetUp(SetUpLine),
+    Excp(ExcpLine),
+    /// A command that is no EXCP.
+    Command(Command),
+}
+
+impl Line {
+    /// Reads the line with this number.
+    pub fn read(alloc: Global, number: usize, bytes: &[u8]) -> Result<Line, LineFault> {
+        let mut words = Words::of(bytes);
+        let count = words.count();
+        let Some(kind) = words.next_word() else {
+            return Ok(Line::Nothing);
+        };
+        if let [b'#', ..] = kind {
+            return Ok(Line::Nothing);
+        }
+        if !bytes.iter().all(|byte| is_printable(*byte)) {
+            return Err(LineFault::Named(FaultName::Words));
+        }
+        match (kind, count) {
+            (b"excp", 8) => Ok(Line::Excp(excp(number, &mut words)?)),
+            (b"purge", 5) => Ok(Line::Command(purge(number, &mut words)?)),
+            (b"purgetask", 4) => Ok(Line::Command(purge_task(number, &mut words)?)),
+            (b"close", 4) => Ok(Line::Command(close(number, &mut words)?)),
+            (b"reset", 4) => Ok(Line::Command(reset(number, &mut words)?)),
+            (b"wait", 2) => Ok(Line::Command(wait(number, &mut words)?)),
+            _ => Ok(Line::SetUp(SetUpLine::read(alloc, number, kind, count, &mut words)?)),
+        }
+    }
+}
+
+impl SetUpLine {
+    /// Reads the words behind the first one of so many.
+    fn read(
+        alloc: Global,
+        number: usize,
+        kind: &[u8],
+        count: usize,
+        words: &mut Words<'_>,
+    ) -> Result<SetUpLine, LineFault> {
+        match (kind, count) {
+            (b"tasks", 2) => tasks(words),
+            (b"disk", 6) => disk(alloc, number, words),
+            (b"tape", 4) => tape(alloc, number, words),
+            (b"printer", 5) => printer(alloc, number, words),
+            (b"rec", 7) => record(alloc, words),
+            (b"block", 3) => block(alloc, words),
+            (b"mark", 2) => mark(words),
+            (b"fault", 6) => fault(words),
+            (b"open", 3..) => opening(alloc, number, words, count - 3),
+            (b"area", 3..) => area(alloc, words, count - 3),
+            _ => Err(LineFault::Named(FaultName::Words)),
+        }
+    }
+}
+
+fn is_printable(byte: u8) -> bool {
+    byte >= b' ' && byte <= b'~'
+}

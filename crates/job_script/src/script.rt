@@ -1,0 +1,83 @@
+//! A script: its set-up and its commands, as its lines say, and the first fault of its lines.
+
+ghost use Rattle.std.specs.Prelude.{Contains, vec_len};
+ghost use Rattle.job_script.specs.Commands.{NamesUnits};
+ghost use Rattle.job_script.specs.declared.command.Command.{Command as OneCommand};
+
+use crate::command::{Action, Command};
+use crate::fault::{Fault, FaultName, LineFault};
+use crate::line::{ExcpLine, Line};
+use crate::set_up::SetUp;
+use std::alloc::Global;
+
+/// What a script says. The units that its commands name are declared.
+#[derive(Drop)]
+pub struct Script {
+    pub set_up: SetUp,
+    pub commands: Vec<Command>,
+    ghost declared: { (command : OneCommand) → Contains commands.items command → NamesUnits (vec_len set_up.units) command },
+}
+
+impl Script {
+    /// Reads the lines of a script, first to last; the first fault ends it. A script without tasks or units has a fault
+    /// at line 0.
+    pub fn parse(alloc: Global, text: &[u8]) -> Result<Self, Fault> {
+        let mut script = Script {
+            set_up: SetUp::new(alloc),
+            commands: Vec::new(alloc),
+        };
+        for (bytes, number) in text.split(|byte| *byte == b'\n').zip(1..) {
+            if let Err(fault) = script.read_line(alloc, number, bytes) {
+                return Err(fault.at(number));
+            }
+        }
+        if script.set_up.tasks == 0 || script.set_up.units.is_empty() {
+            return Err(LineFault::Named(FaultName::Order).at(0));
+        }
+        Ok(script)
+    }
+
+    /// Adds what the line with this number says.
+    fn read_line(&mut self, alloc: Global, number: usize, bytes: &[u8]) -> Result<(), LineFault> {
+        match Line::read(alloc, number, bytes)? {
+            Line::Nothing => Ok(()),
+            Line::SetUp(line) => {
+                if !self.commands.is_empty() {
+                    return Err(LineFault::Named(FaultName::Order));
+                }
+                self.set_up.add(alloc, line)
+            }
+            Line::Excp(excp) => {
+                let command = self.excp(excp)?;
+                self.add_command(command)
+            }
+            Line::Command(command) => self.add_command(command),
+        }
+    }
+
+    /// The command of an EXCP, with its area.
+    fn excp(&self, line: ExcpLine) -> Result<Command, LineFault> {
+        Ok(Command {
+            line: line.line,
+            task: line.task,
+            action: Action::Excp(line.over(self.set_up.area(line.area)?)),
+        })
+    }
+
+    /// Adds a command, where all that it names is declared.
+    fn add_command(&mut self, command: Command) -> Result<(), LineFault> {
+        if !self.set_up.declares(&command) {
+            return Err(LineFault::Named(FaultName::Name));
+        }
+        self.commands.push(command)?;
+        Ok(())
+    }
+
+    /// How many requests the script issues.
+    pub fn requests(&self) -> usize {
+        self.commands
+            .iter()
+            .filter(|command| matches!(command.action, Action::Excp(_)))
+            .count()
+    }
+}

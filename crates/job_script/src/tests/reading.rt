@@ -1,0 +1,121 @@
+//! Scripts that are too long, cut, replaced, or unreadable, and what a script without fault says.
+
+use super::*;
+
+/// Every kind of line is taken, and stands where it belongs.
+#[test]
+fn every_kind_of_line(rt: HostRuntime) -> Result<(), Fail> {
+    let text = joined(
+        rt.alloc(),
+        &[
+            "# a comment\n\n",
+            DISK,
+            "tape 1 7 40\nblock 1 C1C2C3\nmark 1\nprinter 2 3 10 2\nfault 1 3 0E 00 0800\nopen 1 in\nopen 1 out\n",
+            AREA,
+            EXCP,
+            "purge 0 0 1 quiesce\npurge 0 1 2 halt\npurgetask 0 0 halt\nclose 0 1 1\nreset 0 0 1\nwait 0\n",
+        ],
+    )?;
+    let script = checked(rt.alloc(), &text)?;
+    let set_up = &script.set_up;
+    assert_eq!(rt; set_up.tasks, 1);
+    assert_eq!(rt; set_up.areas.len(), 1);
+    assert_eq!(rt; set_up.units.len(), 3);
+    assert_eq!(rt; set_up.units[0].openings.len(), 1);
+    assert_eq!(rt; set_up.units[1].openings.len(), 2);
+    assert_eq!(rt; set_up.units[1].faults.len(), 1);
+    assert_eq!(rt; set_up.units[1].isc, 7);
+    assert_eq!(rt; script.requests(), 1);
+    assert_eq!(rt; script.commands.len(), 7);
+    for (command, line) in script.commands.iter().zip(15..) {
+        assert_eq!(rt; command.line, line);
+        assert_eq!(rt; command.task, 0);
+    }
+    match &script.commands[0].action {
+        Action::Excp(excp) => {
+            assert_eq!(rt; excp.dcb.unit, 0);
+            assert_eq!(rt; excp.dcb.number, 1);
+            assert_eq!(rt; excp.iob, 0x1000);
+            assert_eq!(rt; excp.show, 0x1060);
+            assert_eq!(rt; excp.len, 4);
+            assert_eq!(rt; excp.area.len(), 104);
+        }
+        _ => assert!(rt; false, "the first command is an EXCP"),
+    }
+    Ok(())
+}
+
+/// A script cut after each byte, and with each byte replaced, is taken or has a fault of its lines.
+#[test]
+fn cut_and_replaced(rt: HostRuntime) -> Result<(), Fail> {
+    let mut text = joined(rt.alloc(), &[DISK, AREA, EXCP])?;
+    for cut in 0..text.len() {
+        if let Err(fault) = checked(rt.alloc(), &text[..cut]) {
+            assert_eq!(rt; fault.status(), 1);
+        }
+    }
+    for place in 0..text.len() {
+        let kept = text[place];
+        for byte in [b'0', b'F', b' ', 0xFF] {
+            text[place] = byte;
+            if let Err(fault) = checked(rt.alloc(), &text) {
+                assert_eq!(rt; fault.status(), 1);
+            }
+        }
+        text[place] = kept;
+    }
+    Ok(())
+}
+
+/// Asserts that a text is too long for a script, and that so many bytes of it were not read.
+fn expect_too_long<R: Abort + AllocGlobal>(rt: &R, text: &[u8], left: usize) {
+    let mut reader = text;
+    match read_script(rt.alloc(), &mut reader) {
+        Ok(_) => assert!(rt; false, "no fault"),
+        Err(fault) => assert_eq!(rt; fault, Fault::TooLong),
+    }
+    assert_eq!(rt; reader.len(), left);
+}
+
+/// A script of the most bytes is read whole; of one byte more it is too long, and what is behind that is not read.
+#[test]
+fn long_scripts(rt: HostRuntime) -> Result<(), Fail> {
+    let mut text = vec![in rt.alloc(); b'#'; LIMIT]?;
+    let mut reader = text.as_slice();
+    assert_eq!(rt; read_script(rt.alloc(), &mut reader)?.len(), LIMIT);
+    text.push(b'#')?;
+    expect_too_long(&rt, &text, 0);
+    text.extend_from_slice(b"12345678")?;
+    expect_too_long(&rt, &text, 8);
+    Ok(())
+}
+
+/// A reader that fails behind its bytes.
+#[derive(Drop)]
+struct Broken<'a> {
+    bytes: &'a [u8],
+}
+
+impl Read for Broken<'_> {
+    fn read(&mut self, buf: &mut [u8]) -> io::Result<usize> {
+        if self.bytes.is_empty() {
+            return Err(io::Error::from(io::ErrorKind::Other));
+        }
+        self.bytes.read(buf)
+    }
+}
+
+#[test]
+fn unreadable(rt: HostRuntime) -> Result<(), Fail> {
+    let text = joined(rt.alloc(), &[DISK])?;
+    for count in 0..text.len() {
+        let mut reader = Broken {
+            bytes: &text[..count],
+        };
+        match read_script(rt.alloc(), &mut reader) {
+            Ok(_) => assert!(rt; false, "no fault"),
+            Err(fault) => assert_eq!(rt; fault, Fault::Unreadable),
+        }
+    }
+    Ok(())
+}

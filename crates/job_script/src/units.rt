@@ -1,0 +1,120 @@
+//! The books of the units that a script declares: the units are mounted, their DCBs opened, and the requests tried.
+
+ghost use Rattle.std.specs.Prelude.{◌≡◌, ◌≤◌, All, IfOk, vec_len};
+ghost use Rattle.job_script.specs.Books.{IsFresh};
+
+use crate::command::{Action, Excp};
+use crate::fault::{Fault, FaultName, LineFault};
+use crate::script::Script;
+use crate::set_up::{Medium, UnitSetup};
+use ckd_disk::Disk;
+use device_port::MountError;
+use line_printer::Printer;
+use request_piece::Request;
+use std::alloc::Global;
+use tape_unit::Tape;
+use unit_book::{OpenError, UnitBook};
+use unit_device::UnitDevice;
+
+impl Script {
+    /// The books of the units, in the order of their numbers, each for up to `capacity` requests at a time (1 to
+    /// 65,536), with the DCBs of the script open. The first of these faults ends it: of a medium, in the order of
+    /// units; of extents, in the order of lines; of a request, in the order of lines.
+    pub fn books(&self, alloc: Global, capacity: usize) -> Result<Vec<UnitBook<UnitDevice>>, Fault>
+        requires some { 1 ≤ capacity }
+        requires few { capacity ≤ 65536 }
+        ensures count { IfOk result (λ books. vec_len books ≡ vec_len self.now.set_up.units) }
+        ensures fresh { IfOk result (λ books. All IsFresh books.items) }
+    {
+        let mut books = Vec::new(alloc);
+        let mut first = None;
+        for unit in &self.set_up.units {
+            let mut book = unit.book(alloc, capacity)?;
+            if let Err(fault) = unit.open_dcbs(&mut book) {
+                first = Some(earlier(first, fault));
+            }
+            books.push(book)?;
+        }
+        if let Some((line, fault)) = first {
+            return Err(fault.at(line));
+        }
+        self.try_requests()?;
+        Ok(books)
+    }
+
+    /// Tries each request in the order of their lines.
+    fn try_requests(&self) -> Result<(), Fault> {
+        for command in &self.commands {
+            if let Action::Excp(excp) = &command.action {
+                if let Err(fault) = excp.check() {
+                    return Err(fault.at(command.line));
+                }
+            }
+        }
+        Ok(())
+    }
+}
+
+impl UnitSetup {
+    /// The book of the unit as mounted.
+    fn book(&self, alloc: Global, capacity: usize) -> Result<UnitBook<UnitDevice>, Fault>
+        requires some { 1 ≤ capacity }
+        requires few { capacity ≤ 65536 }
+        ensures { IfOk result IsFresh }
+    {
+        match self.mounted(alloc) {
+            Ok(device) => Ok(UnitBook::new(alloc, device, self.isc, capacity)?),
+            Err(MountError::NoMemory) => Err(Fault::NoMemory),
+            Err(_) => Err(LineFault::Named(FaultName::Medium).at(self.line)),
+        }
+    }
+
+    /// Its device, just mounted, with the faults that it is to meet.
+    fn mounted(&self, alloc: Global) -> Result<UnitDevice, MountError> {
+        match &self.medium {
+            Medium::Disk(geometry, records) => {
+                Disk::mount(alloc, *geometry, records, &self.faults).map(UnitDevice::Disk)
+            }
+            Medium::Tape(bytes, items) => {
+                Tape::mount(alloc, items, *bytes, &self.faults).map(UnitDevice::Tape)
+            }
+            Medium::Printer { lines, pages } => {
+                Printer::mount(alloc, *lines, *pages, &self.faults).map(UnitDevice::Printer)
+            }
+        }
+    }
+
+    /// Opens its DCBs, up to the first fault, which is told with its line.
+    fn open_dcbs(&self, book: &mut UnitBook<UnitDevice>) -> Result<(), (usize, LineFault)>
+        requires { IsFresh book.old }
+        ensures { IsFresh book.new }
+    {
+        for opening in &self.openings {
+            match book.open(opening.input, &opening.extents) {
+                Ok(_) => {}
+                Err(OpenError::NoMemory) => return Err((opening.line, LineFault::NoMemory)),
+                Err(_) => return Err((opening.line, LineFault::Named(FaultName::Extent))),
+            }
+        }
+        Ok(())
+    }
+}
+
+/// The fault of the earlier line, each with its line.
+fn earlier(found: Option<(usize, LineFault)>, other: (usize, LineFault)) -> (usize, LineFault) {
+    match found {
+        Some(found) if found.0 < other.0 => found,
+        _ => other,
+    }
+}
+
+impl Excp {
+    /// A request can be made of its area, in which the bytes that are shown lie.
+    fn check(&self) -> Result<(), LineFault> {
+        Request::check(self.dcb.number, self.iob, &self.area)?;
+        match self.area.get(self.show, self.len as usize) {
+            Some(_) => Ok(()),
+            None => Err(LineFault::Named(FaultName::Request)),
+        }
+    }
+}
