@@ -8,6 +8,7 @@ pub mod Dooms
 pub mod Selected
 pub mod Book
 pub mod Answers
+pub mod Refusals
 pub mod Lists
 pub mod Fields
 pub mod Laws

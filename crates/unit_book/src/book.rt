@@ -10,6 +10,7 @@ ghost use Rattle.unit_book.specs.Book.{IsLastGiven, given, running_name, occupan
 ghost use Rattle.unit_book.specs.Dooms.{after_dooms};
 ghost use Rattle.unit_book.specs.Legal.{Legal, Settled};
 ghost use Rattle.unit_book.specs.Posts.{posted};
+ghost use Rattle.unit_book.specs.Refusals.{InterruptLacks, RunLacks, StartLacks};
 ghost use Rattle.unit_book.specs.Trace.{active, arrived_of, waiting};
 
 use crate::answer::{ArriveError, Interruption, OpenError, Running, Starting};
@@ -143,9 +144,7 @@ impl<D: Device> UnitBook<D> {
     pub fn start(&mut self) -> Result<Starting, AllocError>
         ensures ok { IfOk result (λ answer. StartsBook D.meaning self.old answer self.new) }
         ensures err { OnErr result (self.new ≡ self.old) }
-        ensures busy { OnErr result (IsSome (active self.old.trace) → self.old.awaits ≡ true) }
-        ensures idle { OnErr result (active self.old.trace ≡ None → waiting self.old.trace ≢ []) }
-        ensures full { OnErr result (self.old.spare < length (waiting self.old.trace) + 1) }
+        ensures full { OnErr result (StartLacks D.meaning self.old) }
         ensures pending { is_pending D.meaning self.new ≡ is_pending D.meaning self.old }
     {
         match self.ledger.next_start() {
@@ -175,8 +174,7 @@ impl<D: Device> UnitBook<D> {
         requires { 1 ≤ max }
         ensures ok { IfOk result (λ answer. RunsBook D.meaning self.old max answer self.new) }
         ensures err { OnErr result (self.new ≡ self.old) }
-        ensures runs { OnErr result (IsSome (running_name D.meaning self.old)) }
-        ensures full { OnErr result (self.old.spare < 1) }
+        ensures full { OnErr result (RunLacks D.meaning self.old) }
         ensures pending { IfOk result (λ answer. is_pending D.meaning self.new ≡ pending_after (is_pending D.meaning self.old) answer) }
     {
         self.ledger.holds();
@@ -192,8 +190,8 @@ impl<D: Device> UnitBook<D> {
     pub fn interrupt(&mut self) -> Result<Interruption, AllocError>
         ensures ok { IfOk result (λ answer. InterruptsBook D.meaning self.old answer self.new) }
         ensures err { OnErr result (self.new ≡ self.old) }
+        ensures full { OnErr result (InterruptLacks D.meaning self.old) }
         ensures pending { OnErr result (is_pending D.meaning self.old ≡ true) }
-        ensures full { OnErr result (self.old.spare < length (waiting self.old.trace) + 1) }
         ensures taken { OnOk result (is_pending D.meaning self.new ≡ false) }
     {
         self.ledger.holds();

@@ -6,6 +6,7 @@ ghost use Rattle.unit_book.specs.Book.{is_pending};
 ghost use Rattle.unit_book.specs.Controls.{ClosesBook, ClosesBy, DcbRefused, PurgesBook, PurgesBy, ResetRefused, closing, covers_awaiting, halts_program, purging};
 ghost use Rattle.unit_book.specs.Dcbs.{is_opened, is_open};
 ghost use Rattle.unit_book.specs.Legal.{CanPurge};
+ghost use Rattle.unit_book.specs.Refusals.{CloseLacks, PurgeLacks, ResetLacks};
 ghost use Rattle.unit_book.specs.Trace.{waiting};
 
 use crate::answer::{Closing, DcbError, Purging};
@@ -47,7 +48,7 @@ impl<D: Device> UnitBook<D> {
         ensures ok { IfOk result (λ answer. PurgesBook D.meaning self.old (Scope.Dcb dcb) mode answer self.new) }
         ensures refused { IfErr result (DcbRefused self.old dcb) }
         ensures err { OnErr result (self.new ≡ self.old) }
-        ensures full { IfErr result (λ e. e ≡ DcbError.NoMemory → self.old.spare < length (waiting self.old.trace) + 2) }
+        ensures full { IfErr result (λ e. e ≡ DcbError.NoMemory → PurgeLacks self.old) }
         ensures pending { OnOk result (is_pending D.meaning self.new ≡ (is_pending D.meaning self.old || halts_program D.meaning self.old (Scope.Dcb dcb) mode)) }
     {
         if self.ledger.dcb_state(dcb) == DcbState::Unknown {
@@ -61,7 +62,7 @@ impl<D: Device> UnitBook<D> {
     pub fn purge_task(&mut self, task: u16, mode: Mode) -> Result<Purging, AllocError>
         ensures ok { IfOk result (λ answer. PurgesBook D.meaning self.old (Scope.Task task) mode answer self.new) }
         ensures err { OnErr result (self.new ≡ self.old) }
-        ensures full { OnErr result (self.old.spare < length (waiting self.old.trace) + 2) }
+        ensures full { OnErr result (PurgeLacks self.old) }
         ensures pending { OnOk result (is_pending D.meaning self.new ≡ (is_pending D.meaning self.old || halts_program D.meaning self.old (Scope.Task task) mode)) }
     {
         self.purge_scope(Scope::Task(task), mode)
@@ -72,7 +73,7 @@ impl<D: Device> UnitBook<D> {
         requires { CanPurge D.meaning self.old.mounted scope self.old.trace }
         ensures ok { IfOk result (λ answer. PurgesBook D.meaning self.old scope mode answer self.new) }
         ensures err { OnErr result (self.new ≡ self.old) }
-        ensures full { OnErr result (self.old.spare < length (waiting self.old.trace) + 2) }
+        ensures full { OnErr result (PurgeLacks self.old) }
         ensures pending { OnOk result (is_pending D.meaning self.new ≡ (is_pending D.meaning self.old || halts_program D.meaning self.old scope mode)) }
     {
         self.ledger.holds();
@@ -100,8 +101,7 @@ impl<D: Device> UnitBook<D> {
     pub fn close(&mut self, dcb: u16) -> Result<Closing, DcbError>
         ensures ok { IfOk result (λ answer. ClosesBook D.meaning self.old dcb answer self.new) }
         ensures refused { IfErr result (DcbRefused self.old dcb) }
-        ensures full { IfErr result (λ e. e ≡ DcbError.NoMemory → self.old.spare < length (waiting self.old.trace) + 1) }
-        ensures still_open { IfErr result (λ e. e ≡ DcbError.NoMemory → is_open dcb self.old.trace ≡ true) }
+        ensures full { IfErr result (λ e. e ≡ DcbError.NoMemory → CloseLacks self.old dcb) }
         ensures err { OnErr result (self.new ≡ self.old) }
         ensures pending { is_pending D.meaning self.new ≡ is_pending D.meaning self.old }
     {
@@ -120,7 +120,7 @@ impl<D: Device> UnitBook<D> {
         requires { is_open dcb self.old.trace ≡ true }
         ensures ok { OnOk result (ClosesBy D.meaning true self.old dcb self.new) }
         ensures err { OnErr result (self.new ≡ self.old) }
-        ensures full { OnErr result (self.old.spare < length (waiting self.old.trace) + 1) }
+        ensures full { OnErr result (CloseLacks self.old dcb) }
         ensures pending { is_pending D.meaning self.new ≡ is_pending D.meaning self.old }
     {
         self.ledger.holds();
@@ -136,7 +136,7 @@ impl<D: Device> UnitBook<D> {
         ensures ok { OnOk result (Adds self.old (Entry.Reset dcb) self.new) }
         ensures opened { OnOk result (is_open dcb self.old.trace ≡ true) }
         ensures refused { IfErr result (ResetRefused self.old dcb) }
-        ensures full { IfErr result (λ e. e ≡ DcbError.NoMemory → self.old.spare < 1) }
+        ensures full { IfErr result (λ e. e ≡ DcbError.NoMemory → ResetLacks self.old) }
         ensures err { OnErr result (self.new ≡ self.old) }
         ensures pending { is_pending D.meaning self.new ≡ is_pending D.meaning self.old }
     {

@@ -1,6 +1,7 @@
 //! Settling a book.
 
 ghost use Rattle.std.specs.Prelude.{◌≡◌, ◌<◌, ◌+◌, [], length, IfOk, OnOk, OnErr};
+ghost use Rattle.unit_book.specs.Refusals.{SettleLacks};
 ghost use Rattle.unit_book.specs.Settle.{AddsService, Attempts, IsIdle, Settles};
 ghost use Rattle.unit_book.specs.Trace.{active, waiting};
 
@@ -20,8 +21,7 @@ impl<D: Device> UnitBook<D> {
         ensures capacity { self.new.capacity ≡ self.old.capacity }
         ensures waiting { OnOk result (waiting self.new.trace ≡ []) }
         ensures active { OnOk result (active self.new.trace ≡ None) }
-        ensures left { OnErr result (IsIdle self.new.trace → ⊥) }
-        ensures full { OnErr result (self.new.spare < length (waiting self.new.trace) + 1) }
+        ensures full { OnErr result (SettleLacks D.meaning self.new) }
     {
         while self.attempt()? {}
         Ok(())
@@ -32,8 +32,7 @@ impl<D: Device> UnitBook<D> {
     fn attempt(&mut self) -> Result<bool, AllocError>
         ensures steps { Settles D.meaning self.old self.new }
         ensures ok { IfOk result (λ more. Attempts self.old more self.new) }
-        ensures left { OnErr result (IsIdle self.new.trace → ⊥) }
-        ensures full { OnErr result (self.new.spare < length (waiting self.new.trace) + 1) }
+        ensures full { OnErr result (SettleLacks D.meaning self.new) }
     {
         if matches!(self.start()?, Starting::Idle) {
             return Ok(false);

@@ -1,5 +1,6 @@
-use Rattle.std.proofs.Common.{subst}
+use Rattle.std.proofs.Common.{rules, subst}
 use Rattle.unit_book.specs.Answers.{DecidedCode}
+use Rattle.unit_book.specs.Refusals.{InterruptLacks}
 use Rattle.unit_book.proofs.Calls.{post-then-sweep, sweep-room, sweep-due}
 use Rattle.unit_book.specs.declared.answer.Interruption.TheVariants.{Ended as WasPosted}
 use Rattle.unit_book.proofs.Pending.{pending-interrupt}
@@ -45,3 +46,16 @@ post-doom-requires-clause-fits g c =
     let told = c.in-Some.ensures in
     let r = c.in_ok-reserve_posts-in-Some-code.ensures.book in
     rw r (subst (DecidedCode m c.self.inside.ledger d.name d.csw d.sense) c.in-Some-code.is told.1)
+
+pub returns-in_err-reserve_posts-in-Some-code-clause-full : goal.returns-in_err-reserve_posts-in-Some-code-clause-full
+returns-in_err-reserve_posts-in-Some-code-clause-full g c =
+    let d = c.in-Some.decision in
+    let lacks : InterruptLacks g.D.Device.meaning c.args.self.now = rw (← c.self.view_is) (record {
+      name = d.name;
+      csw = d.csw;
+      sense = d.sense;
+      code = c.in-Some-code.code;
+      fits = subst (DecidedCode g.D.Device.meaning c.self.inside.ledger d.name d.csw d.sense) c.in-Some-code.is c.in-Some.ensures.1;
+      room = c.in_err-reserve_posts-in-Some-code.ensures.full;
+    }) in
+    search rules
