@@ -51,11 +51,11 @@ module _ {D : Type 0} (meaning : Meaning D) where
   interrupts-room : (old : Book D) (answer : Interruption) (new : Book D) → InterruptsBook meaning old answer new → new.capacity ≡ old.capacity
   interrupts-room old NothingPending new h = room old new _ h.1 refl
   interrupts-room old (TriedAgain n) new h = room old new _ h.2 refl
-  interrupts-room old (WasPosted n code) new h = room old new _ h.1.posts refl
+  interrupts-room old (WasPosted n code) new h = room old new _ h.1.extends refl
 
   purges-room : (awaiting : Bool) (old : Book D) (scope : Scope) (mode : Mode) (new : Book D) → PurgesBy meaning awaiting old scope mode new → new.capacity ≡ old.capacity
   purges-room false old scope mode new h = room old new _ h refl
-  purges-room true old scope mode new h = room old new _ h.posts refl
+  purges-room true old scope mode new h = room old new _ h.extends refl
 
   closes-room : (was_open : Bool) (old : Book D) (dcb : ℕ) (new : Book D) → ClosesBy meaning was_open old dcb new → new.capacity ≡ old.capacity
   closes-room true old dcb new h = room old new _ h refl

@@ -5,7 +5,7 @@ ghost use Rattle.std.specs.Prelude.{◌≡◌, ◌≤◌, ◌<◌, ◌+◌, All,
 ghost use Rattle.job_script.specs.Books.{IsFresh};
 ghost use Rattle.job_script.specs.Commands.{NamesUnits};
 ghost use Rattle.job_script.specs.Reading.{ReadsAtMost};
-ghost use Rattle.unit_book.specs.Book.{held};
+ghost use Rattle.unit_book.specs.Book.{occupancy};
 
 use crate::output::{Posts, Show};
 use crate::station::Station;
@@ -143,7 +143,7 @@ fn serve_all(stations: &mut [Station], posts: &mut Posts) -> Result<(), AllocErr
 
 /// Starts, runs and interrupts a unit until it is idle, and takes out what was posted: its book has room.
 fn serve(station: &mut Station, posts: &mut Posts) -> Result<(), AllocError>
-    ensures { OnOk result (held station.new < station.new.capacity) }
+    ensures { OnOk result (occupancy station.new < station.new.capacity) }
 {
     station.settle()?;
     while let Some(posted) = station.take_out() {

@@ -3,9 +3,9 @@
 ghost use Rattle.std.specs.Prelude.{◌≡◌, ◌≤◌, ◌<◌, ◌↔◌, IsTrue, ◌∷◌, [], IfErr, IfOk, OnErr, OnOk, drop, length, replicate, slice_get};
 ghost use Rattle.excp_job.specs.Counts.{IsNext};
 ghost use Rattle.unit_device.specs.Devices.{unit_device};
-ghost use Rattle.unit_book.specs.Answers.{Adds, ArriveRefused, Posts};
+ghost use Rattle.unit_book.specs.Answers.{Adds, ArriveRefused, Extends};
 ghost use Rattle.job_script.specs.Books.{IsFresh};
-ghost use Rattle.unit_book.specs.Book.{held};
+ghost use Rattle.unit_book.specs.Book.{occupancy};
 ghost use Rattle.unit_book.specs.Controls.{ClosesBook, DcbRefused, PurgesBook, ResetRefused};
 ghost use Rattle.unit_book.specs.Dooms.{after_dooms};
 ghost use Rattle.unit_book.specs.Settle.{Settles};
@@ -50,7 +50,7 @@ impl Station {
 
     /// Whether the book may hold another request.
     pub fn has_room(&self) -> bool
-        ensures { IsTrue result ↔ (held self.now < self.now.capacity) }
+        ensures { IsTrue result ↔ (occupancy self.now < self.now.capacity) }
     {
         self.book.has_room()
     }
@@ -75,7 +75,7 @@ impl Station {
     /// there is no memory.
     pub fn issue(&mut self, request: Request) -> Result<(), (ArriveError, Request)>
         requires { IsNext request.name self.old.trace }
-        ensures ok { OnOk result (Posts unit_device self.old (after_dooms (Entry.Arrive request ∷ self.old.trace)) self.old.again self.new) }
+        ensures ok { OnOk result (Extends unit_device self.old (after_dooms (Entry.Arrive request ∷ self.old.trace)) self.old.awaits self.new) }
         ensures refused { IfErr result (λ e. ArriveRefused self.old e.0) }
         ensures given_back { IfErr result (λ e. e.1 ≡ request) }
     {

@@ -1,9 +1,11 @@
 -- THE DEVICE OF A UNIT is a disk, a tape or a printer, and means what that one means.
-use Rattle.std.specs.Prelude.{◌≡◌, ℕ, List}
+use Rattle.std.specs.Prelude.{◌≡◌, ◌≢◌, ℕ, List}
+use Rattle.std.proofs.Common.{ap}
 use Rattle.io_images.specs.declared.seek.Seek.{Seek}
 use Rattle.device_port.specs.declared.kind.Flow.{Flow}
 use Rattle.device_port.specs.declared.kind.Flow.TheVariants.{None as NoFlow, Out, Input, Back}
 use Rattle.device_port.specs.declared.kind.Kind.{Kind}
+use Rattle.device_port.specs.declared.kind.Kind.TheVariants.{Disk as DiskKind}
 use Rattle.device_port.specs.Meaning.{Meaning, Outcome, Lawful, GivesWhatItWants}
 use Rattle.ckd_disk.specs.Disk.{disk}
 use Rattle.ckd_disk.specs.DiskLaws.{disk_lawful}
@@ -101,6 +103,21 @@ gives_what_it_wants (Disk d) command given = gives_as Disk (disk.flow d command)
 gives_what_it_wants (Tape t) command given = gives_as Tape (tape.flow t command) (tape.act t command given) (tape_lawful.gives t command given)
 gives_what_it_wants (Printer p) command given = gives_as Printer (printer.flow p command) (printer.act p command given) (printer_lawful.gives p command given)
 
+no_cylinders : (d : UnitDevice) → kind_of d ≢ DiskKind → cylinders_of d ≡ 0
+no_cylinders (Disk d) off = disk_lawful.cylinders_off_disk d off
+no_cylinders (Tape t) off = tape_lawful.cylinders_off_disk t off
+no_cylinders (Printer p) off = printer_lawful.cylinders_off_disk p off
+
+no_heads : (d : UnitDevice) → kind_of d ≢ DiskKind → heads_of d ≡ 0
+no_heads (Disk d) off = disk_lawful.heads_off_disk d off
+no_heads (Tape t) off = tape_lawful.heads_off_disk t off
+no_heads (Printer p) off = printer_lawful.heads_off_disk p off
+
+no_prefix : (d : UnitDevice) (seek : Seek) (mask : ℕ) → kind_of d ≢ DiskKind → prefixed d seek mask ≡ d
+no_prefix (Disk d) seek mask off = ap Disk (disk_lawful.prefix_off_disk d seek mask off)
+no_prefix (Tape t) seek mask off = ap Tape (tape_lawful.prefix_off_disk t seek mask off)
+no_prefix (Printer p) seek mask off = ap Printer (printer_lawful.prefix_off_disk p seek mask off)
+
 -- it keeps the laws of a device
 pub unit_device_lawful : Lawful unit_device
 unit_device_lawful = record {
@@ -110,5 +127,8 @@ unit_device_lawful = record {
   kind_after_prefix = kind_under_prefix;
   cylinders_after_prefix = cylinders_under_prefix;
   heads_after_prefix = heads_under_prefix;
+  cylinders_off_disk = no_cylinders;
+  heads_off_disk = no_heads;
+  prefix_off_disk = no_prefix;
   gives = gives_what_it_wants;
 }
