@@ -1,5 +1,5 @@
 -- Tasks, handlers and units are made of their ends.
-use Rattle.std.proofs.Common.{◌≡◌, ⊎_elim, ℕ, zero, suc, ◌+◌, ◌-◌, true, List, [], ◌∷◌, ◌++◌, length, take, replicate, Some, refl, sym, ap, ◌∙◌, subst, arith, length-append}
+use Rattle.std.proofs.Common.{false, ◌≡◌, ⊎_elim, ℕ, zero, suc, ◌+◌, ◌-◌, true, List, [], ◌∷◌, ◌++◌, length, take, replicate, Some, refl, sym, ap, ◌∙◌, subst, arith, length-append}
 use Rattle.std.specs.Prelude.{slice_get}
 use Rattle.std.specs.List.{list_all}
 use Rattle.std.proofs.lemmas.List.{length-replicate}
@@ -13,7 +13,7 @@ use Rattle.unit_book.proofs.WorldTraces.{opened-only}
 use Rattle.fifo_row.specs.Ends.{Sending, Taking}
 use Rattle.fifo_row.specs.Lists.{of}
 use Rattle.excp_system.specs.declared.item.Notice.{Notice}
-use Rattle.excp_system.specs.Sites.{SiteRows, intakes, posts, notices, for_task, taker_of, end_of}
+use Rattle.excp_system.specs.Sites.{SiteRows, intake_rows, post_rows, notice_rows, for_task, taker_of, end_of}
 use Rattle.excp_system.specs.Fans.{FanState, sent_to}
 use Rattle.excp_system.specs.States.{TaskState, HandlerState, IsUnit, IsTask, AreOf}
 use Rattle.excp_system.specs.Opening.{AreTasks}
@@ -25,13 +25,13 @@ each_next : {A : Type 0} (made : ℕ → A) (k : ℕ) (xs : List A) (x : A) → 
 each_next made k xs x here old is j y e =
     ⊎_elim (λ o. old j y o) (λ (p : (j ≡ length xs) × (x ≡ y)). sym p.1 ∙ (is ∙ ap made (sym (p.0 ∙ here)))) (get_snoc xs x y j e)
 
-pub is_task : (s : SiteRows) (t number : ℕ) (out : FanState Piece) (end : Taking PostedState) → number ≡ out.number → out ≡ record { number = t; sent = replicate s.units [] } → end ≡ taker_of (posts s) s.units t [] →
+pub is_task : (s : SiteRows) (t number : ℕ) (out : FanState Piece) (end : Taking PostedState) → number ≡ out.number → out ≡ record { number = t; sent = replicate s.units [] } → end ≡ taker_of (post_rows s) s.units t [] →
     IsTask s (record { number = number; sent = out.sent; got = end.taken }) out end
 is_task s t number out end same is is' =
     let n : number ≡ t = same ∙ ap (λ (f : FanState Piece). f.number) is in
     record {
       out_is = λ i. record { number = sym same i; sent = out.sent };
-      collected_is = is' ∙ (λ i. taker_of (posts s) s.units (sym n i) (sym (ap (λ (e : Taking PostedState). e.taken) is') i));
+      collected_is = is' ∙ (λ i. taker_of (post_rows s) s.units (sym n i) (sym (ap (λ (e : Taking PostedState). e.taken) is') i));
       count = ap (λ (f : FanState Piece). length f.sent) is ∙ length-replicate s.units [];
     }
 
@@ -52,8 +52,8 @@ take_none zero xs e = refl
 take_none (suc k) xs e = ap (take (suc k)) e
 
 module _ {D : Type 0} (meaning : Meaning D) (s : SiteRows) (unit number : ℕ) (b : Book D) (intake : Taking Piece) (back : FanState PostedState) (ends : FanState Notice) (notice : Sending Notice) where
-  pub is_unit : number ≡ back.number → list_all is_opening b.trace ≡ true → intake ≡ taker_of (intakes s) s.tasks unit [] → back ≡ record { number = unit; sent = replicate s.tasks [] } →
-      ends ≡ record { number = unit; sent = replicate 8 [] } → notice ≡ end_of (notices s) ends.number b.isc (sent_to ends b.isc) → IsUnit meaning s (record { unit = number; book = b }) intake back notice
+  pub is_unit : number ≡ back.number → list_all is_opening b.trace ≡ true → intake ≡ taker_of (intake_rows s) s.tasks unit [] → back ≡ record { number = unit; sent = replicate s.tasks [] } →
+      ends ≡ record { number = unit; sent = replicate 8 [] } → notice ≡ end_of (notice_rows s) ends.number b.isc (sent_to ends b.isc) → IsUnit meaning s (record { unit = number; book = b; notified = notice.sent; owes = false }) intake back notice
   is_unit same opened intake_is back_is ends_are notice_is =
       let n : number ≡ unit = same ∙ ap (λ (f : FanState PostedState). f.number) back_is in
       let m : ends.number ≡ number = ap (λ (f : FanState Notice). f.number) ends_are ∙ sym n in
@@ -61,10 +61,10 @@ module _ {D : Type 0} (meaning : Meaning D) (s : SiteRows) (unit number : ℕ) (
       let none : arrivals b.trace ≡ [] = quiet.0 in
       let gave : given meaning b ≡ [] = take_none (length (posted meaning b.mounted b.trace) - length b.out) (posted meaning b.mounted b.trace) quiet.1 in
       record {
-        intake_is = intake_is ∙ (λ i. taker_of (intakes s) s.tasks (sym n i) (sym none i));
+        intake_is = intake_is ∙ (λ i. taker_of (intake_rows s) s.tasks (sym n i) (sym none i));
         back_is = sym same;
         count = ap (λ (f : FanState PostedState). length f.sent) back_is ∙ length-replicate s.tasks [];
         sent = λ t lt. ap (λ (f : FanState PostedState). sent_to f t) back_is ∙ (index_replicate s.tasks t [] ∙ ap (of for_task t) (sym gave));
-        notice_is = notice_is ∙ (λ i. end_of (notices s) (m i) b.isc (sym (ap (λ (e : Sending Notice). e.sent) notice_is) i));
+        notice_is = notice_is ∙ (λ i. end_of (notice_rows s) (m i) b.isc (sym (ap (λ (e : Sending Notice). e.sent) notice_is) i));
         of_unit = subst (AreOf s number) (sym none) tt;
       }

@@ -1,5 +1,5 @@
 -- What the holds of a unit keep of it.
-use Rattle.std.proofs.Common.{◌≡◌, ◌<◌, ℕ, List, [], ◌∷◌, ◌++◌, length, drop, refl, sym, ap, ◌∙◌, subst, arith}
+use Rattle.std.proofs.Common.{◌≡◌, Bool, ◌<◌, ℕ, List, [], ◌∷◌, ◌++◌, length, drop, refl, sym, ap, ◌∙◌, subst, arith}
 use Rattle.std.specs.Prelude.{IfOk, OnErr, Some, slice_get, slice_set}
 use Rattle.std.specs.declared.result.Result.{Result}
 use Rattle.std.proofs.lemmas.List.{append-nil, get_or-set_same, get_or-set_other}
@@ -9,20 +9,21 @@ use native.Mathlib.Decide.{ℕ_discrete}
 use Rattle.device_port.specs.Meaning.{Meaning}
 use Rattle.request_piece.specs.PostedState.{PostedState}
 use Rattle.request_piece.specs.declared.piece.Piece.{Piece}
-use Rattle.unit_book.specs.Inside.{Each}
+use Rattle.unit_book.specs.Lists.{Each}
 use Rattle.unit_book.specs.Trace.{arrivals}
 use Rattle.unit_book.specs.Legal.{Legal, Free, due}
 use Rattle.unit_book.specs.Posts.{posted, posted_value}
 use Rattle.unit_book.specs.Book.{Book, given}
 use Rattle.unit_book.proofs.WorldBooks.{Keeps, Sound, keeps-same}
-use Rattle.unit_book.proofs.Kept.{either_way, given-keeps, out-of, Each-behind}
+use Rattle.unit_book.proofs.Facts.{Each-behind}
+use Rattle.unit_book.proofs.Kept.{either_way, given-keeps, out-of}
 use Rattle.fifo_row.specs.Ends.{Sending, Taking}
 use Rattle.fifo_row.specs.Lists.{of}
 use Rattle.fifo_row.proofs.Filters.{of-snoc_same, of-snoc_other}
 use Rattle.excp_system.specs.declared.item.Notice.{Notice}
-use Rattle.excp_system.specs.Sites.{SiteRows, intakes, notices, for_task, taker_of, end_of}
+use Rattle.excp_system.specs.Sites.{SiteRows, intake_rows, notice_rows, for_task, taker_of, end_of}
 use Rattle.excp_system.specs.Fans.{FanState, sent_to}
-use Rattle.excp_system.specs.States.{AreOf, IsUnit}
+use Rattle.excp_system.specs.States.{AreOf, IsUnit, Locked}
 
 Each-first : {X : Type 0} (P : X → Type 0) (xs : List X) (x : X) → Each P xs → Some x ≡ slice_get xs 0 → P x
 Each-first P [] x h e = absurd cc
@@ -33,40 +34,44 @@ pub first-rest : {X : Type 0} (xs : List X) (x : X) → Some x ≡ slice_get xs 
 first-rest [] x e = absurd cc
 first-rest (y ∷ xs) x e = let i : x ≡ y = cc in ap (λ z. z ∷ xs) i
 
+-- a unit with this end of a notice row
+abbrev pub locked : {D : Type 0} → ℕ → Book D → Sending Notice → Bool → Locked D
+locked unit book notice owes = record { unit = unit; book = book; notified = notice.sent; owes = owes }
+
 module _ {D : Type 0} (meaning : Meaning D) where
-  module _ (s : SiteRows) (unit : ℕ) (old : Book D) (intake : Taking Piece) (back : FanState PostedState) (notice : Sending Notice)
-      (is : IsUnit meaning s (record { unit = unit; book = old }) intake back notice)
+  module _ (s : SiteRows) (unit : ℕ) (old : Book D) (intake : Taking Piece) (back : FanState PostedState) (notice : Sending Notice) (owes : Bool)
+      (is : IsUnit meaning s (locked unit old notice owes) intake back notice)
       (all : given meaning old ++ old.out ≡ posted meaning old.mounted old.trace) where
-    -- what a book keeps, a unit keeps
-    pub unit-keeps : (new : Book D) → Keeps meaning old [] new → IsUnit meaning s (record { unit = unit; book = new }) intake back notice
-    unit-keeps new k =
+    -- what a book keeps, a unit keeps, whether it owes a notice or not
+    pub unit-keeps : (new : Book D) (owing : Bool) → Keeps meaning old [] new → IsUnit meaning s (locked unit new notice owing) intake back notice
+    unit-keeps new owing k =
         let a : arrivals new.trace ≡ arrivals old.trace = k.arrived ∙ append-nil (arrivals old.trace) in
         record {
-          intake_is = is.intake_is ∙ ap (taker_of (intakes s) s.tasks unit) (sym a);
+          intake_is = is.intake_is ∙ ap (taker_of (intake_rows s) s.tasks unit) (sym a);
           back_is = is.back_is;
           count = is.count;
           sent = λ task lt. is.sent task lt ∙ ap (of for_task task) (sym (given-keeps meaning old new [] all k));
-          notice_is = is.notice_is ∙ ap (λ isc. end_of (notices s) unit isc notice.sent) (sym k.isc);
+          notice_is = is.notice_is ∙ ap (λ isc. end_of (notice_rows s) unit isc notice.sent) (sym k.isc);
           of_unit = subst (AreOf s unit) (sym a) is.of_unit;
         }
 
     -- so it is with a call that changes nothing where it is refused
-    pub unit-call : {A E : Type 0} (r : Result A E) {Done : A → Type 0} (new : Book D) → Legal meaning old.mounted old.trace → due meaning old.mounted old.trace ≡ Free →
+    pub unit-call : {A E : Type 0} (r : Result A E) {Done : A → Type 0} (new : Book D) (owing : Bool) → Legal meaning old.mounted old.trace → due meaning old.mounted old.trace ≡ Free →
         IfOk r Done → OnErr r (new ≡ old) → (Sound meaning old → (a : A) → Done a → Keeps meaning old [] new) →
-        IsUnit meaning s (record { unit = unit; book = new }) intake back notice
-    unit-call r new legal settled done refused keeps =
+        IsUnit meaning s (locked unit new notice owing) intake back notice
+    unit-call r new owing legal settled done refused keeps =
         let sound : Sound meaning old = (legal, settled) in
-        unit-keeps new (either_way r done refused (keeps sound) (keeps-same meaning old new sound))
+        unit-keeps new owing (either_way r done refused (keeps sound) (keeps-same meaning old new sound))
 
     -- a request that arrives
     pub unit-takes : (new : Book D) (r : Piece) (intake' : Taking Piece) → Keeps meaning old (r ∷ []) new → r.name.task < s.tasks → r.unit ≡ unit →
-        intake' ≡ record intake { taken = intake.taken ++ r ∷ [] } → IsUnit meaning s (record { unit = unit; book = new }) intake' back notice
+        intake' ≡ record intake { taken = intake.taken ++ r ∷ [] } → IsUnit meaning s (locked unit new notice owes) intake' back notice
     unit-takes new r intake' k lt mine taken = record {
-      intake_is = taken ∙ ap (λ (t : Taking Piece). record t { taken = t.taken ++ r ∷ [] }) is.intake_is ∙ ap (taker_of (intakes s) s.tasks unit) (sym k.arrived);
+      intake_is = taken ∙ ap (λ (t : Taking Piece). record t { taken = t.taken ++ r ∷ [] }) is.intake_is ∙ ap (taker_of (intake_rows s) s.tasks unit) (sym k.arrived);
       back_is = is.back_is;
       count = is.count;
       sent = λ task lt. is.sent task lt ∙ ap (of for_task task) (sym (given-keeps meaning old new (r ∷ []) all k));
-      notice_is = is.notice_is ∙ ap (λ isc. end_of (notices s) unit isc notice.sent) (sym k.isc);
+      notice_is = is.notice_is ∙ ap (λ isc. end_of (notice_rows s) unit isc notice.sent) (sym k.isc);
       of_unit = subst (AreOf s unit) (sym k.arrived) (Each-behind _ (arrivals old.trace) r is.of_unit (lt, mine));
     }
 
@@ -82,12 +87,12 @@ module _ {D : Type 0} (meaning : Meaning D) where
     pub unit-delivers : (new : Book D) (value : PostedState) (back' : FanState PostedState) → new ≡ record old { out = drop 1 old.out } →
         given meaning new ≡ given meaning old ++ value ∷ [] → value.name.task < s.tasks →
         back' ≡ record { number = back.number; sent = slice_set back.sent value.name.task (sent_to back value.name.task ++ value ∷ []) } →
-        IsUnit meaning s (record { unit = unit; book = new }) intake back' notice
+        IsUnit meaning s (locked unit new notice owes) intake back' notice
     unit-delivers new value back' same gave lt sends =
         let t = value.name.task in
         let more = sent_to back t ++ value ∷ [] in
         record {
-          intake_is = is.intake_is ∙ ap (λ (b : Book D). taker_of (intakes s) s.tasks unit (arrivals b.trace)) (sym same);
+          intake_is = is.intake_is ∙ ap (λ (b : Book D). taker_of (intake_rows s) s.tasks unit (arrivals b.trace)) (sym same);
           back_is = ap (λ (f : FanState PostedState). f.number) sends ∙ is.back_is;
           count = ap (λ (f : FanState PostedState). length f.sent) sends ∙ length-set back.sent t more ∙ is.count;
           sent = λ task here. ap (λ (f : FanState PostedState). sent_to f task) sends ∙ dite (ℕ_discrete t task)
@@ -98,6 +103,6 @@ module _ {D : Type 0} (meaning : Meaning D) where
               ∙ ap (λ k. of for_task k (given meaning old ++ value ∷ [])) e ∙ ap (of for_task task) (sym gave))
               (λ e. get_or-set_other back.sent t task more [] (λ q. e (sym q)) ∙ is.sent task here
               ∙ sym (of-snoc_other for_task task value (given meaning old) e) ∙ ap (of for_task task) (sym gave));
-          notice_is = is.notice_is ∙ ap (λ (b : Book D). end_of (notices s) unit b.isc notice.sent) (sym same);
+          notice_is = is.notice_is ∙ ap (λ (b : Book D). end_of (notice_rows s) unit b.isc notice.sent) (sym same);
           of_unit = subst (λ (b : Book D). AreOf s unit (arrivals b.trace)) (sym same) is.of_unit;
         }

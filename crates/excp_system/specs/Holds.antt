@@ -5,8 +5,8 @@ use Rattle.request_piece.specs.PostedState.{PostedState}
 use Rattle.request_piece.specs.declared.piece.Name.{Name}
 use Rattle.request_piece.specs.declared.piece.Piece.{Piece}
 use Rattle.unit_book.specs.declared.entry.Entry.TheVariants.{Arrive}
-use Rattle.unit_book.specs.Answers.{Posts}
-use Rattle.unit_book.specs.Book.{Book, given, held}
+use Rattle.unit_book.specs.Answers.{Extends}
+use Rattle.unit_book.specs.Book.{Book, given, occupancy}
 use Rattle.unit_book.specs.Dooms.{after_dooms}
 use Rattle.unit_book.specs.Trace.{arrivals, arrived_of}
 use Rattle.fifo_row.specs.Lists.{of}
@@ -15,7 +15,8 @@ use Rattle.excp_system.specs.declared.answer.Intake.{Intake}
 use Rattle.excp_system.specs.declared.answer.Intake.TheVariants as intake
 use Rattle.excp_system.specs.declared.answer.Delivery.{Delivery}
 use Rattle.excp_system.specs.declared.answer.Delivery.TheVariants as delivery
-use Rattle.excp_system.specs.Sites.{SiteRows, NoFact, RequestFact, intakes, posts, task_of, unit_of, for_task, end_of, taker_of}
+use Rattle.excp_system.specs.Sites.{SiteRows, NoFact, RequestFact, intake_rows, post_rows, task_of, unit_of, for_task, end_of, taker_of}
+use Rattle.excp_system.specs.Notices.{InBook}
 use Rattle.excp_system.specs.States.{Locked}
 
 module _ {D : Type 0} (meaning : Meaning D) (s : SiteRows) where
@@ -26,15 +27,16 @@ module _ {D : Type 0} (meaning : Meaning D) (s : SiteRows) where
     pub of_task : request.name.task < s.tasks
     pub of_unit : request.unit ≡ old.unit
     pub next : request.name.seq ≡ arrived_of request.name.task old.book.trace + 1
-    pub arrives : Posts meaning old.book (after_dooms (Arrive request ∷ old.book.trace)) old.book.again new.book
+    pub arrives : Extends meaning old.book (after_dooms (Arrive request ∷ old.book.trace)) old.book.awaits new.book
 
   -- what `take` answers: held where the book has no room, quiet where the row was empty
   abbrev pub TakesIn : Locked D → Intake → Locked D → Type 0
-  TakesIn old intake.Held new = (old.book.capacity ≤ held old.book) × (new ≡ old)
+  TakesIn old intake.Held new = (old.book.capacity ≤ occupancy old.book) × (new ≡ old)
   TakesIn old intake.Quiet new =
-      (held old.book < old.book.capacity) × (new ≡ record old { book = record old.book { spare = new.book.spare } })
-      × WasEmpty task_of RequestFact (taker_of (intakes s) s.tasks old.unit (arrivals old.book.trace))
-  TakesIn old (intake.Took name) new = (held old.book < old.book.capacity) × Takes old name new × (new.unit ≡ old.unit)
+      (occupancy old.book < old.book.capacity)
+      × (new ≡ record old { book = record old.book { spare = new.book.spare } }) × (2 ≤ new.book.spare)
+      × WasEmpty task_of RequestFact (taker_of (intake_rows s) s.tasks old.unit (arrivals old.book.trace))
+  TakesIn old (intake.Took name) new = (occupancy old.book < old.book.capacity) × Takes old name new × InBook old new
 
   -- the first posted value that is out
   pub record IsFirst (b : Book D) (name : Name) (value : PostedState) : Type 0 where
@@ -50,4 +52,4 @@ module _ {D : Type 0} (meaning : Meaning D) (s : SiteRows) where
       × (given meaning new.book ≡ given meaning old.book ++ value ∷ [])
   Delivers old (delivery.Full name) new =
       (value : PostedState) × IsFirst old.book name value × (new ≡ old)
-      × WasFull unit_of NoFact (end_of (posts s) old.unit value.name.task (of for_task value.name.task (given meaning old.book)))
+      × WasFull unit_of NoFact (end_of (post_rows s) old.unit value.name.task (of for_task value.name.task (given meaning old.book)))

@@ -1,6 +1,8 @@
 pub mod Sites
 pub mod Fans
 pub mod States
+pub mod Notices
+pub mod Calls
 pub mod Holds
 pub mod Opening
 pub mod Drained

@@ -62,11 +62,10 @@ pub record AreTakers {I : Type 0} (r : Reached) (senders count : ℕ) (takers : 
   pub count_is : length takers ≡ count
   pub each : (k : ℕ) (w : Taking I) → slice_get takers k ≡ Some w → w ≡ taker_of r senders k []
 
--- a book for each unit, in which nothing happened but openings of DCBs, on one of the eight subclasses
+-- a book for each unit, in which nothing happened but openings of DCBs
 pub record AreBooks {D : Type 0} (units : ℕ) (books : List (Book D)) : Type 0 where
   pub count_is : length books ≡ units
   pub opened : (unit : ℕ) (b : Book D) → slice_get books unit ≡ Some b → list_all is_opening b.trace ≡ true
-  pub isc : (unit : ℕ) (b : Book D) → slice_get books unit ≡ Some b → b.isc ≤ 7
 
 -- tasks that have sent and collected nothing, each at the place of its number
 pub record AreTasks (count units : ℕ) (tasks : List TaskState) : Type 0 where

@@ -33,15 +33,15 @@ no_rows = record {
   notice = λ isc. no_name;
 }
 
-abbrev pub intakes : SiteRows → Reached
-intakes s = record { capacity = s.intake_capacity; row = s.intake }
+abbrev pub intake_rows : SiteRows → Reached
+intake_rows s = record { capacity = s.intake_capacity; row = s.intake }
 
-abbrev pub posts : SiteRows → Reached
-posts s = record { capacity = s.post_capacity; row = s.post }
+abbrev pub post_rows : SiteRows → Reached
+post_rows s = record { capacity = s.post_capacity; row = s.post }
 
 -- a notice row has room for a notice of each unit
-abbrev pub notices : SiteRows → Reached
-notices s = record { capacity = s.units; row = s.notice }
+abbrev pub notice_rows : SiteRows → Reached
+notice_rows s = record { capacity = s.units; row = s.notice }
 
 -- what a row keeps of a request: its number is its place among those of its task, and its unit is the row's
 abbrev pub RequestFact : Piece → ℕ → ℕ → ℕ → Type 0

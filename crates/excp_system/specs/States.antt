@@ -1,21 +1,23 @@
 -- WHAT A UNIT'S LOCK KEEPS, and what a task has (profile).
-use Rattle.std.specs.Prelude.{◌≡◌, ◌<◌, ℕ, List, [], slice_index_or, length}
+use Rattle.std.specs.Prelude.{◌≡◌, ◌<◌, ℕ, Bool, List, [], slice_index_or, length}
 use Rattle.device_port.specs.Meaning.{Meaning}
 use Rattle.request_piece.specs.PostedState.{PostedState}
 use Rattle.request_piece.specs.declared.piece.Piece.{Piece}
-use Rattle.unit_book.specs.Inside.{Each}
+use Rattle.unit_book.specs.Lists.{Each}
 use Rattle.unit_book.specs.Trace.{arrivals}
 use Rattle.unit_book.specs.Book.{Book, given}
 use Rattle.fifo_row.specs.Ends.{Sending, Taking}
 use Rattle.fifo_row.specs.Lists.{of}
 use Rattle.excp_system.specs.declared.item.Notice.{Notice}
-use Rattle.excp_system.specs.Sites.{SiteRows, intakes, posts, notices, for_task, taker_of, end_of}
+use Rattle.excp_system.specs.Sites.{SiteRows, intake_rows, post_rows, notice_rows, for_task, taker_of, end_of}
 use Rattle.excp_system.specs.Fans.{FanState, sent_to}
 
--- the number of a unit, and its book
+-- the number of a unit, its book, the notices that it sent to the handler of its subclass, and whether it owes one
 pub record Locked (D : Type 0) : Type 0 where
   pub unit : ℕ
   pub book : Book D
+  pub notified : List Notice
+  pub owes : Bool
 
 -- each of these requests is of one of the tasks, and for this unit
 abbrev pub AreOf : SiteRows → ℕ → List Piece → Type 0
@@ -24,11 +26,11 @@ AreOf s unit requests = Each (λ r. (r.name.task < s.tasks) × (r.unit ≡ unit)
 -- what a lock keeps: its intake has taken what arrived at the book; each task was sent what the book gave of its
 -- posted values; and its ends are of the rows that the site has for this unit
 pub record IsUnit {D : Type 0} (meaning : Meaning D) (s : SiteRows) (v : Locked D) (intake : Taking Piece) (back : FanState PostedState) (notice : Sending Notice) : Type 0 where
-  pub intake_is : intake ≡ taker_of (intakes s) s.tasks v.unit (arrivals v.book.trace)
+  pub intake_is : intake ≡ taker_of (intake_rows s) s.tasks v.unit (arrivals v.book.trace)
   pub back_is : back.number ≡ v.unit
   pub count : length back.sent ≡ s.tasks
   pub sent : (task : ℕ) → task < s.tasks → sent_to back task ≡ of for_task task (given meaning v.book)
-  pub notice_is : notice ≡ end_of (notices s) v.unit v.book.isc notice.sent
+  pub notice_is : notice ≡ end_of (notice_rows s) v.unit v.book.isc v.notified
   pub of_unit : AreOf s v.unit (arrivals v.book.trace)
 
 -- the number of a task, what it sent to each unit, and what it collected
@@ -44,7 +46,7 @@ sent_by t unit = slice_index_or t.sent unit []
 -- the ends of a task are of the rows that the site has for it
 pub record IsTask (s : SiteRows) (v : TaskState) (out : FanState Piece) (collected : Taking PostedState) : Type 0 where
   pub out_is : out ≡ record { number = v.number; sent = v.sent }
-  pub collected_is : collected ≡ taker_of (posts s) s.units v.number v.got
+  pub collected_is : collected ≡ taker_of (post_rows s) s.units v.number v.got
   pub count : length v.sent ≡ s.units
 
 -- the interruption subclass of a handler, and the notices that it took
@@ -54,4 +56,4 @@ pub record HandlerState : Type 0 where
 
 -- the end of a handler is of the notice row that the site has for its subclass
 abbrev pub IsHandler : SiteRows → HandlerState → Taking Notice → Type 0
-IsHandler s v end = end ≡ taker_of (notices s) s.units v.isc v.taken
+IsHandler s v end = end ≡ taker_of (notice_rows s) s.units v.isc v.taken

@@ -1,8 +1,7 @@
 //! The notices of one interruption subclass.
 
-ghost use Rattle.std.specs.Prelude.{◌≡◌, ◌<◌, ◌≤◌, ◌++◌, ◌∷◌, [], IfNone, IfSome};
-ghost use Rattle.fifo_row.specs.Steps.{WasEmpty};
-ghost use Rattle.excp_system.specs.Sites.{NoFact, notices, notifier_of, taker_of};
+ghost use Rattle.std.specs.Prelude.{◌≡◌, ◌<◌, IfNone, IfSome};
+ghost use Rattle.excp_system.specs.Calls.{NoticeRowWasEmpty, TakesNotice};
 ghost use Rattle.excp_system.specs.States.{IsHandler};
 
 use crate::item::Notice;
@@ -53,10 +52,10 @@ impl<'r, S: Site> IscTaker<'r, S> {
     /// The unit of the next notice, and none only where the row was empty at one moment of the call. It takes no memory
     /// and no unit's lock.
     pub fn next<R: Wait>(&mut self, rt: &R) -> Option<u16>
-        ensures taken { IfSome result (λ unit. self.new ≡ record self.old { taken = self.old.taken ++ record { unit = unit } ∷ [] }) }
+        ensures taken { IfSome result (λ unit. TakesNotice self.old unit self.new) }
         ensures of_unit { IfSome result (λ unit. unit < S.rows.units) }
         ensures unchanged { IfNone result (self.new ≡ self.old) }
-        ensures was_empty { IfNone result (WasEmpty notifier_of NoFact (taker_of (notices S.rows) S.rows.units self.old.isc self.old.taken)) }
+        ensures was_empty { IfNone result (NoticeRowWasEmpty S.rows self.old) }
     {
         let notice = self.notices.take(rt)?;
         Some(notice.unit)

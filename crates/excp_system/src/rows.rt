@@ -2,12 +2,12 @@
 
 ghost use Rattle.std.specs.Prelude.{◌≡◌, ◌<◌, ◌≤◌, IfOk};
 ghost use Rattle.excp_system.specs.Opening.{AreFans, AreFresh, ArePlain, AreTakers, site_of};
-ghost use Rattle.excp_system.specs.Sites.{intakes, notices, posts};
+ghost use Rattle.excp_system.specs.Sites.{intake_rows, notice_rows, post_rows};
 
 use crate::fan::Fan;
 use crate::item::{Notice, Returned, Sent};
 use crate::opening::{new_fans, seat_rows};
-use crate::site::{Intakes, Notices, Posts, Site};
+use crate::site::{IntakeRows, NoticeRows, PostRows, Site};
 use fifo_row::{Item, Row, Taker};
 use std::alloc::{AllocError, Global};
 use std::marker::Model;
@@ -82,11 +82,11 @@ impl Rows {
     {
         let tasks = self.tasks;
         let units = self.units;
-        let mut out = new_fans::<Sent, Intakes<S>>(alloc, tasks)?;
+        let mut out = new_fans::<Sent, IntakeRows<S>>(alloc, tasks)?;
         let intake = seat_rows(alloc, &mut self.intake, tasks, &mut out)?;
-        let mut back = new_fans::<Returned, Posts<S>>(alloc, units)?;
+        let mut back = new_fans::<Returned, PostRows<S>>(alloc, units)?;
         let collected = seat_rows(alloc, &mut self.post, units, &mut back)?;
-        let mut notice = new_fans::<Notice, Notices<S>>(alloc, units)?;
+        let mut notice = new_fans::<Notice, NoticeRows<S>>(alloc, units)?;
         let handled = seat_rows(alloc, &mut self.notice, units, &mut notice)?;
         Ok(Ends {
             out,
@@ -103,18 +103,18 @@ impl Rows {
 /// units' of their intake rows, of the post rows and of the notice rows; and the handlers' of the notice rows.
 #[derive(Drop)]
 pub(crate) struct Ends<'r, S: Site> {
-    pub(crate) out: Vec<Fan<'r, Sent, Intakes<S>>>,
+    pub(crate) out: Vec<Fan<'r, Sent, IntakeRows<S>>>,
     pub(crate) collected: Vec<Taker<'r, Returned>>,
     pub(crate) intake: Vec<Taker<'r, Sent>>,
-    pub(crate) back: Vec<Fan<'r, Returned, Posts<S>>>,
-    pub(crate) notice: Vec<Fan<'r, Notice, Notices<S>>>,
+    pub(crate) back: Vec<Fan<'r, Returned, PostRows<S>>>,
+    pub(crate) notice: Vec<Fan<'r, Notice, NoticeRows<S>>>,
     pub(crate) handled: Vec<Taker<'r, Notice>>,
     ghost out_are: { AreFans S.rows.tasks S.rows.units out.items },
-    ghost collected_are: { AreTakers (posts S.rows) S.rows.units S.rows.tasks collected.items },
-    ghost intake_are: { AreTakers (intakes S.rows) S.rows.tasks S.rows.units intake.items },
+    ghost collected_are: { AreTakers (post_rows S.rows) S.rows.units S.rows.tasks collected.items },
+    ghost intake_are: { AreTakers (intake_rows S.rows) S.rows.tasks S.rows.units intake.items },
     ghost back_are: { AreFans S.rows.units S.rows.tasks back.items },
     ghost notice_are: { AreFans S.rows.units 8 notice.items },
-    ghost handled_are: { AreTakers (notices S.rows) S.rows.units 8 handled.items },
+    ghost handled_are: { AreTakers (notice_rows S.rows) S.rows.units 8 handled.items },
 }
 
 /// So many rows, each with its place for its tag.

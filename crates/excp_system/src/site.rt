@@ -24,28 +24,28 @@ pub trait Reach {
 }
 
 /// All intake rows of a site.
-pub struct Intakes<S>(PhantomData<S>);
+pub struct IntakeRows<S>(PhantomData<S>);
 
-impl<S: Site> Reach for Intakes<S> {
-    ghost use Rattle.excp_system.specs.Sites.{intakes};
+impl<S: Site> Reach for IntakeRows<S> {
+    ghost use Rattle.excp_system.specs.Sites.{intake_rows};
 
-    ghost reached = { intakes S.rows };
+    ghost reached = { intake_rows S.rows };
 }
 
 /// All post rows of a site.
-pub struct Posts<S>(PhantomData<S>);
+pub struct PostRows<S>(PhantomData<S>);
 
-impl<S: Site> Reach for Posts<S> {
-    ghost use Rattle.excp_system.specs.Sites.{posts};
+impl<S: Site> Reach for PostRows<S> {
+    ghost use Rattle.excp_system.specs.Sites.{post_rows};
 
-    ghost reached = { posts S.rows };
+    ghost reached = { post_rows S.rows };
 }
 
 /// All notice rows of a site.
-pub struct Notices<S>(PhantomData<S>);
+pub struct NoticeRows<S>(PhantomData<S>);
 
-impl<S: Site> Reach for Notices<S> {
-    ghost use Rattle.excp_system.specs.Sites.{notices};
+impl<S: Site> Reach for NoticeRows<S> {
+    ghost use Rattle.excp_system.specs.Sites.{notice_rows};
 
-    ghost reached = { notices S.rows };
+    ghost reached = { notice_rows S.rows };
 }

@@ -5,14 +5,14 @@ mod tests;
 
 ghost use Rattle.std.specs.Prelude.{◌≡◌, ◌<◌, ◌≤◌, IfErr, IfOk, vec_capacity, vec_len};
 ghost use Rattle.excp_system.specs.Opening.{AreBooks, AreFans, AreFresh, AreHandlers, AreTakers, AreTasks, site_of};
-ghost use Rattle.excp_system.specs.Sites.{intakes, notices, posts};
+ghost use Rattle.excp_system.specs.Sites.{intake_rows, notice_rows, post_rows};
 
 use crate::answer::UnitPurging;
 use crate::fan::Fan;
 use crate::isc::IscTaker;
 use crate::item::{Notice, Returned, Sent};
 use crate::rows::{Ends, Rows};
-use crate::site::{Intakes, Notices, Posts, Site};
+use crate::site::{IntakeRows, NoticeRows, PostRows, Site};
 use crate::task::Task;
 use crate::unit::UnitState;
 use device_port::Device;
@@ -24,6 +24,7 @@ use unit_book::{Mode, Purging, UnitBook};
 /// The units of a site, each under its lock.
 #[derive(Drop)]
 pub struct System<'r, S: Site, D: Device> {
+    alloc: Global,
     locks: Vec<Mutex<UnitState<'r, S, D>>>,
     ghost sized: { vec_len locks ≡ S.rows.units },
 }
@@ -54,7 +55,7 @@ impl<'r, S: Site, D: Device> System<'r, S, D> {
             return Err(AllocFailed { value: books });
         };
         let locks = lock_units(books, ends, locks);
-        Ok((System { locks }, tasks, handlers))
+        Ok((System { alloc, locks }, tasks, handlers))
     }
 
     /// The lock of a unit. It takes no memory, and waits for nobody.
@@ -70,14 +71,13 @@ impl<'r, S: Site, D: Device> System<'r, S, D> {
     pub fn purge_task<R: Wait>(
         &self,
         rt: &R,
-        alloc: Global,
         task: u16,
         mode: Mode,
     ) -> Result<Vec<UnitPurging>, AllocError>
         ensures { IfOk result (λ answers. vec_len answers ≡ S.rows.units) }
     {
         let count = self.locks.len();
-        let mut answers = Vec::with_capacity(alloc, count)?;
+        let mut answers = Vec::with_capacity(self.alloc, count)?;
         for place in 0..count {
             let answer = match self.locks[place].lock(rt).purge_task(rt, task, mode) {
                 Ok(Purging::Quiet) => UnitPurging::Quiet,
@@ -92,15 +92,15 @@ impl<'r, S: Site, D: Device> System<'r, S, D> {
     /// The states of the units, in order of the locks. Where there is no memory the system is handed back.
     pub fn into_units(
         self,
-        alloc: Global,
     ) -> Result<Vec<UnitState<'r, S, D>>, AllocFailed<System<'r, S, D>>>
         ensures units { IfOk result (λ units. vec_len units ≡ S.rows.units) }
         ensures handed_back { IfErr result (λ failed. failed.value ≡ self.entry) }
     {
-        let Ok(mut units) = Vec::with_capacity(alloc, self.locks.len()) else {
+        let Ok(mut units) = Vec::with_capacity(self.alloc, self.locks.len()) else {
             return Err(AllocFailed { value: self });
         };
-        for lock in self.locks {
+        let System { alloc: _, locks } = self;
+        for lock in locks {
             units.push_reserved(lock.into_inner());
         }
         Ok(units)
@@ -111,9 +111,9 @@ impl<'r, S: Site, D: Device> System<'r, S, D> {
 #[derive(Drop)]
 struct UnitEnds<'r, S: Site> {
     intake: Vec<Taker<'r, Sent>>,
-    back: Vec<Fan<'r, Returned, Posts<S>>>,
-    notice: Vec<Fan<'r, Notice, Notices<S>>>,
-    ghost intake_are: { AreTakers (intakes S.rows) S.rows.tasks S.rows.units intake.items },
+    back: Vec<Fan<'r, Returned, PostRows<S>>>,
+    notice: Vec<Fan<'r, Notice, NoticeRows<S>>>,
+    ghost intake_are: { AreTakers (intake_rows S.rows) S.rows.tasks S.rows.units intake.items },
     ghost back_are: { AreFans S.rows.units S.rows.tasks back.items },
     ghost notice_are: { AreFans S.rows.units 8 notice.items },
 }
@@ -149,11 +149,11 @@ fn make_ends<'r, S: Site>(
 /// The tasks that these ends are of.
 fn make_tasks<'r, S: Site>(
     alloc: Global,
-    out: Vec<Fan<'r, Sent, Intakes<S>>>,
+    out: Vec<Fan<'r, Sent, IntakeRows<S>>>,
     collected: Vec<Taker<'r, Returned>>,
 ) -> Result<Vec<Task<'r, S>>, AllocError>
     requires out { AreFans S.rows.tasks S.rows.units out.items }
-    requires collected { AreTakers (posts S.rows) S.rows.units S.rows.tasks collected.items }
+    requires collected { AreTakers (post_rows S.rows) S.rows.units S.rows.tasks collected.items }
     ensures { IfOk result (λ tasks. AreTasks S.rows.tasks S.rows.units tasks.items) }
 {
     let mut tasks = Vec::new(alloc);
@@ -172,7 +172,7 @@ fn make_handlers<'r, S: Site>(
     alloc: Global,
     handled: Vec<Taker<'r, Notice>>,
 ) -> Result<Vec<IscTaker<'r, S>>, AllocError>
-    requires { AreTakers (notices S.rows) S.rows.units 8 handled.items }
+    requires { AreTakers (notice_rows S.rows) S.rows.units 8 handled.items }
     ensures { IfOk result (λ handlers. AreHandlers handlers.items) }
 {
     let mut handlers = Vec::new(alloc);

@@ -1,14 +1,14 @@
 //! A task's ends of the rows.
 
-ghost use Rattle.std.specs.Prelude.{◌≡◌, ◌<◌, ◌≤◌, ◌-◌, ◌+◌, ◌^◌, ◌++◌, ◌∷◌, [], length, IfErr, IfNone, IfSome, OnErr, OnOk, slice_set};
+ghost use Rattle.std.specs.Prelude.{◌≡◌, ◌<◌, ◌≤◌, ◌-◌, ◌^◌, length, IfErr, IfNone, IfSome, OnErr, OnOk};
 ghost use Rattle.fifo_row.specs.Lists.{of};
-ghost use Rattle.fifo_row.specs.Steps.{WasEmpty, WasFull};
-ghost use Rattle.excp_system.specs.Sites.{NoFact, RequestFact, end_of, intakes, posts, task_of, taker_of, unit_of};
+ghost use Rattle.excp_system.specs.Calls.{Collects, IntakeWasFull, Issues, PostRowWasEmpty, next_name};
+ghost use Rattle.excp_system.specs.Sites.{unit_of};
 ghost use Rattle.excp_system.specs.States.{IsTask, sent_by};
 
 use crate::fan::Fan;
 use crate::item::{Returned, Sent};
-use crate::site::{Intakes, Site};
+use crate::site::{IntakeRows, Site};
 use fifo_row::{Full, Taker};
 use request_piece::{Name, Posted, Request};
 use std::marker::Model;
@@ -18,7 +18,7 @@ use std::sync::Wait;
 #[derive(Drop)]
 pub struct Task<'r, S: Site> {
     number: u16,
-    out: Fan<'r, Sent, Intakes<S>>,
+    out: Fan<'r, Sent, IntakeRows<S>>,
     collected: Taker<'r, Returned>,
 }
 
@@ -36,7 +36,7 @@ impl<'r, S: Site> Task<'r, S> {
     /// The task with this number and these ends.
     pub(crate) fn new(
         number: u16,
-        out: Fan<'r, Sent, Intakes<S>>,
+        out: Fan<'r, Sent, IntakeRows<S>>,
         collected: Taker<'r, Returned>,
     ) -> Task<'r, S>
         requires { IsTask S.rows (record { number = number; sent = out.sent; got = collected.taken }) out collected }
@@ -76,7 +76,7 @@ impl<'r, S: Site> Task<'r, S> {
     /// memory.
     pub fn name(&self, unit: u16) -> Option<Name>
         requires { unit < S.rows.units }
-        ensures name { IfSome result (λ n. n ≡ record { task = self.now.number; seq = length (sent_by self.now unit) + 1 }) }
+        ensures name { IfSome result (λ name. name ≡ next_name self.now unit) }
         ensures last { IfNone result (2 ^ 32 - 1 ≤ length (sent_by self.now unit)) }
     {
         let count = self.out.sent_len(unit);
@@ -94,11 +94,11 @@ impl<'r, S: Site> Task<'r, S> {
     /// unit's lock.
     pub fn excp<R: Wait>(&mut self, rt: &R, request: Request) -> Result<(), Full<Request>>
         requires unit { request.unit < S.rows.units }
-        requires name { request.name ≡ record { task = self.old.number; seq = length (sent_by self.old request.unit) + 1 } }
-        ensures accepted { OnOk result (self.new ≡ record self.old { sent = slice_set self.old.sent request.unit (sent_by self.old request.unit ++ request ∷ []) }) }
+        requires name { request.name ≡ next_name self.old request.unit }
+        ensures accepted { OnOk result (Issues self.old request self.new) }
         ensures handed_back { IfErr result (λ full. full.0 ≡ request) }
         ensures unchanged { OnErr result (self.new ≡ self.old) }
-        ensures was_full { OnErr result (WasFull task_of RequestFact (end_of (intakes S.rows) self.old.number request.unit (sent_by self.old request.unit))) }
+        ensures was_full { OnErr result (IntakeWasFull S.rows self.old request.unit) }
     {
         let unit = request.unit();
         match self.out.send(rt, unit, Sent::new(request)) {
@@ -110,10 +110,10 @@ impl<'r, S: Site> Task<'r, S> {
     /// Collects the next posted value, and none only where the row was empty at one moment of the call. It takes no
     /// memory and no unit's lock.
     pub fn take_post<R: Wait>(&mut self, rt: &R) -> Option<Posted>
-        ensures collected { IfSome result (λ value. self.new ≡ record self.old { got = self.old.got ++ value ∷ [] }) }
+        ensures collected { IfSome result (λ value. Collects self.old value self.new) }
         ensures of_unit { IfSome result (λ value. value.unit < S.rows.units) }
         ensures unchanged { IfNone result (self.new ≡ self.old) }
-        ensures was_empty { IfNone result (WasEmpty unit_of NoFact (taker_of (posts S.rows) S.rows.units self.old.number self.old.got)) }
+        ensures was_empty { IfNone result (PostRowWasEmpty S.rows self.old) }
     {
         match self.collected.take(rt) {
             Some(returned) => Some(returned.into_posted()),
@@ -122,7 +122,7 @@ impl<'r, S: Site> Task<'r, S> {
     }
 
     /// Its ends of the intake rows, and its end of its post row.
-    pub fn into_parts(self) -> (Fan<'r, Sent, Intakes<S>>, Taker<'r, Returned>)
+    pub fn into_parts(self) -> (Fan<'r, Sent, IntakeRows<S>>, Taker<'r, Returned>)
         ensures { IsTask S.rows self.entry result.0 result.1 }
     {
         let Task {

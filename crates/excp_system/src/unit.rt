@@ -2,18 +2,21 @@
 
 mod holds;
 
-ghost use Rattle.std.specs.Prelude.{◌≡◌, ◌<◌, ◌≤◌, length, IfOk, OnErr};
+ghost use Rattle.std.specs.Prelude.{◌≡◌, ◌<◌, ◌≤◌, ◌++◌, ℕ, false, length, IfOk, OnErr};
 ghost use Rattle.fifo_row.specs.Lists.{of};
-ghost use Rattle.unit_book.specs.Book.{given, held};
-ghost use Rattle.unit_book.specs.Trace.{arrived_of};
+ghost use Rattle.unit_book.specs.Book.{given, occupancy};
+ghost use Rattle.unit_book.specs.Legal.{Legal, Settled};
+ghost use Rattle.unit_book.specs.Posts.{posted};
+ghost use Rattle.unit_book.specs.Trace.{arrivals, arrived_of};
 ghost use Rattle.excp_system.specs.Holds.{Delivers, TakesIn};
-ghost use Rattle.excp_system.specs.Sites.{for_task};
-ghost use Rattle.excp_system.specs.States.{IsUnit};
+ghost use Rattle.excp_system.specs.Fans.{sent_to};
+ghost use Rattle.excp_system.specs.Sites.{end_of, for_task, intake_rows, notice_rows, taker_of};
+ghost use Rattle.excp_system.specs.States.{AreOf, IsUnit};
 
 use crate::answer::{Delivery, Intake};
 use crate::fan::Fan;
 use crate::item::{Notice, Returned, Sent};
-use crate::site::{Posts, Site};
+use crate::site::{PostRows, Site};
 use device_port::Device;
 use fifo_row::{Full, Sender, Taker};
 use std::alloc::AllocError;
@@ -21,16 +24,17 @@ use std::marker::{Model, PhantomData};
 use std::sync::Wait;
 use unit_book::UnitBook;
 
-/// A unit's book with its ends of the rows. Contracts see the unit's number and the book.
+/// A unit's book with its ends of the rows. Contracts see the unit's number, the book, the notices that it sent, and
+/// whether it owes one.
 #[derive(Drop)]
 pub struct UnitState<'r, S: Site, D: Device> {
     unit: u16,
     book: UnitBook<D>,
     intake: Taker<'r, Sent>,
-    back: Fan<'r, Returned, Posts<S>>,
+    back: Fan<'r, Returned, PostRows<S>>,
     notice: Sender<'r, Notice>,
     /// Whether a notice is to be sent at the next `run`.
-    owes_notice: bool,
+    owes: bool,
     of: PhantomData<S>,
 }
 
@@ -39,22 +43,22 @@ impl<'r, S: Site, D: Device> Model for UnitState<'r, S, D> {
 
     ghost Value = { Locked D };
 
-    ghost view = { λ u. record { unit = u.unit; book = u.book } };
+    ghost view = { λ u. record { unit = u.unit; book = u.book; notified = u.notice.sent; owes = u.owes } };
 
-    ghost invariant = { λ u. IsUnit D.meaning S.rows (record { unit = u.unit; book = u.book }) u.intake u.back u.notice };
+    ghost invariant = { λ u. IsUnit D.meaning S.rows (record { unit = u.unit; book = u.book; notified = u.notice.sent; owes = u.owes }) u.intake u.back u.notice };
 }
 
 impl<'r, S: Site, D: Device> UnitState<'r, S, D> {
-    /// The unit with this number, book and ends.
+    /// The unit with this number, book and ends, which owes no notice.
     pub(crate) fn new(
         unit: u16,
         book: UnitBook<D>,
         intake: Taker<'r, Sent>,
-        back: Fan<'r, Returned, Posts<S>>,
+        back: Fan<'r, Returned, PostRows<S>>,
         notice: Sender<'r, Notice>,
     ) -> UnitState<'r, S, D>
-        requires { IsUnit D.meaning S.rows (record { unit = unit; book = book }) intake back notice }
-        ensures { result ≡ record { unit = unit; book = book } }
+        requires { IsUnit D.meaning S.rows (record { unit = unit; book = book; notified = notice.sent; owes = false }) intake back notice }
+        ensures { result ≡ record { unit = unit; book = book; notified = notice.entry.sent; owes = false } }
     {
         UnitState {
             unit,
@@ -62,7 +66,7 @@ impl<'r, S: Site, D: Device> UnitState<'r, S, D> {
             intake,
             back,
             notice,
-            owes_notice: false,
+            owes: false,
             of: PhantomData,
         }
     }
@@ -79,6 +83,44 @@ impl<'r, S: Site, D: Device> UnitState<'r, S, D> {
         ensures { result.now ≡ self.now.book }
     {
         &self.book
+    }
+
+    /// What holds whenever the unit's lock is got: what a book keeps; and each of its requests is of one of the tasks and
+    /// for this unit. Of its ends `intake`, `back` and `notice` tell. It takes no memory.
+    pub fn holds(&self)
+        ensures legal { Legal D.meaning self.now.book.mounted self.now.book.trace }
+        ensures settled { Settled D.meaning self.now.book.mounted self.now.book.trace }
+        ensures given { given D.meaning self.now.book ++ self.now.book.out ≡ posted D.meaning self.now.book.mounted self.now.book.trace }
+        ensures occupancy { occupancy self.now.book ≤ self.now.book.capacity }
+        ensures isc { self.now.book.isc ≤ 7 }
+        ensures of_unit { AreOf S.rows self.now.unit (arrivals self.now.book.trace) }
+    {
+        self.book.holds();
+    }
+
+    /// Its end of the intake row that the site has for this unit: what was taken there is what arrived at the book, in
+    /// order. It takes no memory.
+    pub fn intake(&self) -> &Taker<'r, Sent>
+        ensures { result.now ≡ taker_of (intake_rows S.rows) S.rows.tasks self.now.unit (arrivals self.now.book.trace) }
+    {
+        &self.intake
+    }
+
+    /// Its ends of the post rows: each task was sent what the book gave of its posted values, in order. It takes no
+    /// memory.
+    pub fn back(&self) -> &Fan<'r, Returned, PostRows<S>>
+        ensures number { result.now.number ≡ self.now.unit }
+        ensures count { length result.now.sent ≡ S.rows.tasks }
+        ensures sent { (task : ℕ) → task < S.rows.tasks → sent_to result.now task ≡ of for_task task (given D.meaning self.now.book) }
+    {
+        &self.back
+    }
+
+    /// Its end of the notice row that the site has for the book's interruption subclass. It takes no memory.
+    pub fn notice(&self) -> &Sender<'r, Notice>
+        ensures { result.now ≡ end_of (notice_rows S.rows) self.now.unit self.now.book.isc self.now.notified }
+    {
+        &self.notice
     }
 
     /// How many requests of a task it took.
@@ -102,7 +144,7 @@ impl<'r, S: Site, D: Device> UnitState<'r, S, D> {
     pub fn take<R: Wait>(&mut self, rt: &R) -> Result<Intake, AllocError>
         ensures answer { IfOk result (λ answer. TakesIn D.meaning S.rows self.old answer self.new) }
         ensures err { OnErr result (self.new ≡ self.old) }
-        ensures refused { OnErr result ((held self.old.book < self.old.book.capacity) × (self.old.book.spare < 2)) }
+        ensures refused { OnErr result ((occupancy self.old.book < self.old.book.capacity) × (self.old.book.spare < 2)) }
     {
         if !self.book.has_room() {
             return Ok(Intake::Held);
@@ -149,7 +191,7 @@ impl<'r, S: Site, D: Device> UnitState<'r, S, D> {
     ) -> (
         UnitBook<D>,
         Taker<'r, Sent>,
-        Fan<'r, Returned, Posts<S>>,
+        Fan<'r, Returned, PostRows<S>>,
         Sender<'r, Notice>,
     )
         ensures book { result.0 ≡ self.entry.book }
@@ -161,7 +203,7 @@ impl<'r, S: Site, D: Device> UnitState<'r, S, D> {
             intake,
             back,
             notice,
-            owes_notice: _,
+            owes: _,
             of: _,
         } = self;
         (book, intake, back, notice)

@@ -1,3 +1,5 @@
+//! What a row carries: items of numbered senders, each with a fact that the row keeps.
+
 /// What a row carries.
 pub trait Item {
     ghost use Rattle.std.specs.Prelude.{◌≡◌, ℕ};

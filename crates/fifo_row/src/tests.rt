@@ -1,3 +1,5 @@
+//! Rows by hand and between threads: full and empty, one pass of each sender, and what a met sender sent.
+
 ghost use Rattle.std.specs.Prelude.{◌≡◌, ◌+◌, length};
 
 use crate::{Full, Item, Row, Sender, Taker};

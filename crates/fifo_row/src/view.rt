@@ -1,3 +1,5 @@
+//! What the passes of a row know, which contracts alone see.
+
 use std::collections::LinkedList;
 
 /// What a pass of a row knows: a sender's number and what it sent, or what the taker took, how many senders it made, and those that it met.

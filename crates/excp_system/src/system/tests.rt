@@ -1,3 +1,5 @@
+//! A system over rows that were just made: how many tasks, handlers and units it has.
+
 ghost use Rattle.std.specs.Prelude.{◌≡◌, ◌≤◌, [], IfOk};
 ghost use Rattle.excp_system.specs.Opening.{AreBooks, AreFresh, site_of};
 
@@ -12,8 +14,7 @@ use unit_book::UnitBook;
 /// The book of a unit on this subclass, in which nothing happened.
 fn book(alloc: Global, isc: u8) -> Result<UnitBook<ToyBlock>, AllocError>
     requires { isc ≤ 7 }
-    ensures trace { IfOk result (λ book. book.trace ≡ []) }
-    ensures isc { IfOk result (λ book. book.isc ≡ isc) }
+    ensures { IfOk result (λ book. book.trace ≡ []) }
 {
     let device = ToyBlock::mount(alloc, Kind::Tape, [0; 4], &[])?;
     Ok(UnitBook::new(alloc, device, isc, 4)?)
@@ -40,7 +41,7 @@ fn counts<S: Site, D: Device>(
     requires books { AreBooks S.rows.units books.items }
 {
     let (system, tasks, handlers) = System::<S, D>::new(alloc, rows, books)?;
-    let units = system.into_units(alloc)?;
+    let units = system.into_units()?;
     Ok((tasks.len(), handlers.len(), units.len()))
 }
 

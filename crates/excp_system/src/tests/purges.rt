@@ -64,7 +64,7 @@ fn exchange<'r, S: Site, R: Wait + Abort + AllocGlobal>(
     arrives(rt, system, first, 1)?;
     let started = system.lock_of(0).lock(rt).start();
     assert_eq!(rt; started, Ok(Starting::Started(name(1))));
-    let answers = system.purge_task(rt, rt.alloc(), 0, mode)?;
+    let answers = system.purge_task(rt, 0, mode)?;
     assert_eq!(rt;
         answers.as_slice(),
         [UnitPurging::Active(name(1)), UnitPurging::Quiet].as_slice()

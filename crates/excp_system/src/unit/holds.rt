@@ -1,10 +1,14 @@
 //! The holds of a unit that are the calls of its book.
 
-ghost use Rattle.std.specs.Prelude.{◌≡◌, ◌≤◌, [], IfErr, IfOk, OnErr, OnOk};
+ghost use Rattle.std.specs.Prelude.{◌≡◌, ◌≤◌, ◌||◌, ◌&&◌, true, [], not, is_ok, IfErr, IfOk, OnErr, OnOk};
 ghost use Rattle.unit_book.specs.Answers.{Adds, InterruptsBook, OpenRefused, OpensBook, RunsBook, StartsBook};
+ghost use Rattle.unit_book.specs.Book.{is_pending};
 ghost use Rattle.unit_book.specs.Controls.{ClosesBook, DcbRefused, PurgesBook, ResetRefused};
+ghost use Rattle.unit_book.specs.Dcbs.{is_open, is_opened};
+ghost use Rattle.unit_book.specs.Refusals.{CloseLacks, InterruptLacks, PurgeLacks, ResetLacks, RunLacks, SettleLacks, StartLacks};
 ghost use Rattle.unit_book.specs.Settle.{AddsService, Settles};
 ghost use Rattle.unit_book.specs.Trace.{active, waiting};
+ghost use Rattle.excp_system.specs.Notices.{InBook, Notifies, OwesIf, became_pending, leaves_pending};
 
 use crate::item::Notice;
 use crate::site::Site;
@@ -18,13 +22,24 @@ use unit_book::{
     Closing, DcbError, Entry, Interruption, Mode, OpenError, Purging, Running, Starting,
 };
 
+/// Whether the answer of a run tells of a status that is pending now.
+fn leaves_pending(answer: Running) -> bool
+    ensures { result ≡ leaves_pending answer }
+{
+    match answer {
+        Running::Quiet => false,
+        Running::Ran { pending, .. } => pending,
+    }
+}
+
 impl<'r, S: Site, D: Device> UnitState<'r, S, D> {
     /// Opens a DCB, as [`unit_book::UnitBook::open`].
     pub fn open(&mut self, input: bool, extents: &[Extent]) -> Result<u16, OpenError>
         ensures ok { IfOk result (λ dcb. OpensBook D.meaning self.old.book dcb input extents.now self.new.book) }
         ensures refused { IfErr result (OpenRefused D.meaning self.old.book extents.now) }
         ensures err { OnErr result (self.new.book ≡ record self.old.book { spare = self.new.book.spare }) }
-        ensures unit { self.new.unit ≡ self.old.unit }
+        ensures kept { OnErr result (self.old.book.spare ≤ self.new.book.spare) }
+        ensures rest { InBook self.old self.new }
     {
         self.book.holds();
         self.book.open(input, extents)
@@ -33,57 +48,59 @@ impl<'r, S: Site, D: Device> UnitState<'r, S, D> {
     /// Starts what comes next, as [`unit_book::UnitBook::start`].
     pub fn start(&mut self) -> Result<Starting, AllocError>
         ensures ok { IfOk result (λ answer. StartsBook D.meaning self.old.book answer self.new.book) }
+        ensures full { OnErr result (StartLacks D.meaning self.old.book) }
         ensures err { OnErr result (self.new ≡ self.old) }
-        ensures unit { self.new.unit ≡ self.old.unit }
+        ensures rest { InBook self.old self.new }
     {
         self.book.holds();
         self.book.start()
     }
 
     /// Runs the active program for at most `max` commands, as [`unit_book::UnitBook::run`]. Where it ends, or a
-    /// notice is owed, the unit's interruption handler is sent one.
+    /// notice is owed, the unit's interruption handler is sent one; it is owed where the row of its subclass is full.
     pub fn run<R: Wait>(&mut self, rt: &R, max: u32) -> Result<Running, AllocError>
         requires { 1 ≤ max }
         ensures ok { IfOk result (λ answer. RunsBook D.meaning self.old.book max answer self.new.book) }
+        ensures full { OnErr result (RunLacks D.meaning self.old.book) }
         ensures err { OnErr result (self.new ≡ self.old) }
-        ensures unit { self.new.unit ≡ self.old.unit }
+        ensures notice { IfOk result (λ answer. Notifies S.rows (self.old.owes || leaves_pending answer) self.old self.new) }
     {
         self.book.holds();
-        let answer = self.book.run(max);
-        if let Ok(Running::Ran { pending: true, .. }) = answer {
-            self.owes_notice = true;
-        }
-        self.notify(rt);
-        answer
+        let answer = self.book.run(max)?;
+        let due = self.owes | leaves_pending(answer);
+        self.notify(rt, due);
+        Ok(answer)
     }
 
     /// Takes the pending status, as [`unit_book::UnitBook::interrupt`]. Where there is no memory for it, a notice is
     /// sent again at the next `run`.
     pub fn interrupt(&mut self) -> Result<Interruption, AllocError>
         ensures ok { IfOk result (λ answer. InterruptsBook D.meaning self.old.book answer self.new.book) }
-        ensures err { OnErr result (self.new ≡ self.old) }
-        ensures unit { self.new.unit ≡ self.old.unit }
+        ensures full { OnErr result (InterruptLacks D.meaning self.old.book) }
+        ensures err { OnErr result (self.new ≡ record self.old { owes = true }) }
+        ensures rest { OnOk result (InBook self.old self.new) }
     {
         self.book.holds();
         let answer = self.book.interrupt();
-        if answer.is_err() {
-            self.owes_notice = true;
-        }
+        self.owes |= answer.is_err();
         answer
     }
 
     /// Purges the requests of a DCB, as [`unit_book::UnitBook::purge`]. Where that halts the active program, the
     /// unit's interruption handler is sent a notice.
     pub fn purge<R: Wait>(&mut self, rt: &R, dcb: u16, mode: Mode) -> Result<Purging, DcbError>
+        ensures opened { OnOk result (is_opened dcb self.old.book.trace ≡ true) }
         ensures ok { IfOk result (λ answer. PurgesBook D.meaning self.old.book (Scope.Dcb dcb) mode answer self.new.book) }
         ensures refused { IfErr result (DcbRefused self.old.book dcb) }
+        ensures full { IfErr result (λ e. e ≡ DcbError.NoMemory → PurgeLacks self.old.book) }
         ensures err { OnErr result (self.new ≡ self.old) }
-        ensures unit { self.new.unit ≡ self.old.unit }
+        ensures notice { Notifies S.rows (became_pending D.meaning self.old.book self.new.book) self.old self.new }
     {
         self.book.holds();
         let was_pending = self.book.pending();
         let answer = self.book.purge(dcb, mode);
-        self.notify_of_halt(rt, was_pending);
+        let halted = !was_pending & self.book.pending();
+        self.notify(rt, halted);
         answer
     }
 
@@ -95,13 +112,15 @@ impl<'r, S: Site, D: Device> UnitState<'r, S, D> {
         mode: Mode,
     ) -> Result<Purging, AllocError>
         ensures ok { IfOk result (λ answer. PurgesBook D.meaning self.old.book (Scope.Task task) mode answer self.new.book) }
+        ensures full { OnErr result (PurgeLacks self.old.book) }
         ensures err { OnErr result (self.new ≡ self.old) }
-        ensures unit { self.new.unit ≡ self.old.unit }
+        ensures notice { Notifies S.rows (became_pending D.meaning self.old.book self.new.book) self.old self.new }
     {
         self.book.holds();
         let was_pending = self.book.pending();
         let answer = self.book.purge_task(task, mode);
-        self.notify_of_halt(rt, was_pending);
+        let halted = !was_pending & self.book.pending();
+        self.notify(rt, halted);
         answer
     }
 
@@ -109,8 +128,9 @@ impl<'r, S: Site, D: Device> UnitState<'r, S, D> {
     pub fn close(&mut self, dcb: u16) -> Result<Closing, DcbError>
         ensures ok { IfOk result (λ answer. ClosesBook D.meaning self.old.book dcb answer self.new.book) }
         ensures refused { IfErr result (DcbRefused self.old.book dcb) }
+        ensures full { IfErr result (λ e. e ≡ DcbError.NoMemory → CloseLacks self.old.book dcb) }
         ensures err { OnErr result (self.new ≡ self.old) }
-        ensures unit { self.new.unit ≡ self.old.unit }
+        ensures rest { InBook self.old self.new }
     {
         self.book.holds();
         self.book.close(dcb)
@@ -119,43 +139,43 @@ impl<'r, S: Site, D: Device> UnitState<'r, S, D> {
     /// Clears the error flag of an open DCB, as [`unit_book::UnitBook::reset`].
     pub fn reset(&mut self, dcb: u16) -> Result<(), DcbError>
         ensures ok { OnOk result (Adds self.old.book (Entry.Reset dcb) self.new.book) }
+        ensures opened { OnOk result (is_open dcb self.old.book.trace ≡ true) }
         ensures refused { IfErr result (ResetRefused self.old.book dcb) }
+        ensures full { IfErr result (λ e. e ≡ DcbError.NoMemory → ResetLacks self.old.book) }
         ensures err { OnErr result (self.new ≡ self.old) }
-        ensures unit { self.new.unit ≡ self.old.unit }
+        ensures rest { InBook self.old self.new }
     {
         self.book.holds();
         self.book.reset(dcb)
     }
 
-    /// Starts, runs and interrupts until nothing waits or is active, as [`unit_book::UnitBook::settle`].
+    /// Starts, runs and interrupts until nothing waits or is active, as [`unit_book::UnitBook::settle`]. Where it stops
+    /// for want of memory with a status pending, a notice is owed.
     pub fn settle(&mut self) -> Result<(), AllocError>
         ensures steps { Settles D.meaning self.old.book self.new.book }
         ensures adds { AddsService self.old.book.trace self.new.book.trace }
         ensures waiting { OnOk result (waiting self.new.book.trace ≡ []) }
         ensures active { OnOk result (active self.new.book.trace ≡ None) }
-        ensures unit { self.new.unit ≡ self.old.unit }
+        ensures mounted { self.new.book.mounted ≡ self.old.book.mounted }
+        ensures isc { self.new.book.isc ≡ self.old.book.isc }
+        ensures capacity { self.new.book.capacity ≡ self.old.book.capacity }
+        ensures full { OnErr result (SettleLacks D.meaning self.new.book) }
+        ensures notice { OwesIf (not (is_ok result) && is_pending D.meaning self.new.book) self.old self.new }
     {
         self.book.holds();
-        self.book.settle()
+        let answer = self.book.settle();
+        self.owes |= answer.is_err() & self.book.pending();
+        answer
     }
 
-    /// Sends the notice of a program that a purge halted.
-    fn notify_of_halt<R: Wait>(&mut self, rt: &R, was_pending: bool)
-        ensures { self.new ≡ self.old }
+    /// Sends a notice, if one is due; it is owed where the row of the unit's subclass is full.
+    fn notify<R: Wait>(&mut self, rt: &R, due: bool)
+        ensures book { self.new.book ≡ self.old.book }
+        ensures notice { Notifies S.rows due self.old self.new }
     {
-        if !was_pending && self.book.pending() {
-            self.owes_notice = true;
-            self.notify(rt);
-        }
-    }
-
-    /// Sends the notice that is owed, unless the row of the unit's subclass is full.
-    fn notify<R: Wait>(&mut self, rt: &R)
-        ensures { self.new ≡ self.old }
-    {
-        if self.owes_notice {
+        if due {
             let notice = Notice { unit: self.unit };
-            self.owes_notice = self.notice.send(rt, notice).is_err();
+            self.owes = self.notice.send(rt, notice).is_err();
         }
     }
 }

@@ -2,7 +2,7 @@ use Rattle.std.proofs.Common.{◌≡◌, ◌+◌, [], ◌∷◌, ◌++◌, lengt
 use Rattle.std.specs.Prelude.{slice_get}
 use Rattle.std.specs.Vec.Iter.{into_iter_items}
 use Rattle.std.proofs.lemmas.Grind.{common_steps}
-use Rattle.excp_system.specs.Sites.{notices, end_of}
+use Rattle.excp_system.specs.Sites.{notice_rows, end_of}
 use Rattle.excp_system.specs.Fans.{FanState, sent_to}
 use Rattle.excp_system.proofs.Places.{drop_get, drop_next, get_seam}
 use Rattle.excp_system.proofs.Makes.{is_unit}
@@ -18,7 +18,7 @@ into_end-notice-requires g c =
     let there : slice_get c.args.books.items u ≡ Some b = ap (λ l. slice_get l u) all ∙ get_seam c.loop-book.yielded (into_iter_items c.next.new.self) b in
     let at = drop_get u c.args.ends.notice.items (into_iter_items c.next-in-loop-book-3.new.self) fan (sym i.notices ∙ c.in-Some-next-3.ensures.items) in
     let eight : length fan.sent ≡ 8 = ap (λ (f : FanState _). length f.sent) (c.args.ends.notice_are.each u fan at) in
-    omega (arith, c.from.ensures, c.isc.ensures, eight, c.requires.books.isc u b there)
+    omega (arith, c.from.ensures, c.isc.ensures.is, c.isc.ensures.few, eight)
 
 pub new-unit-requires : goal.new-unit-requires
 new-unit-requires g c =
@@ -37,7 +37,7 @@ new-unit-requires g c =
     (c.args.ends.intake_are.each u c.in-Some-next.intake intake)
     (c.args.ends.back_are.each u c.in-Some-next-2.back back)
     (c.args.ends.notice_are.each u fan notice)
-    (c.into_end-notice.ensures ∙ ap (λ k. end_of (notices s) fan.number k (sent_to fan k)) (c.from.ensures ∙ c.isc.ensures))
+    (c.into_end-notice.ensures ∙ ap (λ k. end_of (notice_rows s) fan.number k (sent_to fan k)) (c.from.ensures ∙ c.isc.ensures.is))
 
 pub loop-book-preserved : goal.loop-book-preserved
 loop-book-preserved g c =

@@ -7,7 +7,7 @@ pub invariant_of-self : goal.invariant_of-self
 invariant_of-self g c =
     let meaning = g.D.Device.meaning in
     let old = c.self.inside.book in
-    let new = c.settle.new.self in
+    let new = c.settle-answer.new.self in
     let sound : Sound meaning old = (c.holds.ensures.legal, c.holds.ensures.settled) in
-    unit-keeps g.D.Device.meaning g.S.Site.rows c.self.inside.unit old c.self.inside.intake c.self.inside.back c.self.inside.notice c.self.invariant c.holds.ensures.given new
-    (keeps-settles meaning old new sound c.settle.ensures.steps)
+    unit-keeps g.D.Device.meaning g.S.Site.rows c.self.inside.unit old c.self.inside.intake c.self.inside.back c.self.inside.notice c.self.inside.owes c.self.invariant c.holds.ensures.given new _
+    (keeps-settles meaning old new sound c.settle-answer.ensures.steps)
