@@ -90,9 +90,7 @@ impl<'r, S: Site, D: Device> System<'r, S, D> {
     }
 
     /// The states of the units, in order of the locks. Where there is no memory the system is handed back.
-    pub fn into_units(
-        self,
-    ) -> Result<Vec<UnitState<'r, S, D>>, AllocFailed<System<'r, S, D>>>
+    pub fn into_units(self) -> Result<Vec<UnitState<'r, S, D>>, AllocFailed<System<'r, S, D>>>
         ensures units { IfOk result (λ units. vec_len units ≡ S.rows.units) }
         ensures handed_back { IfErr result (λ failed. failed.value ≡ self.entry) }
     {
