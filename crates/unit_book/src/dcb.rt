@@ -99,7 +99,7 @@ impl DcbTable {
         }
     }
 
-    /// Notes at its DCB that a request was posted.
+    /// Notes at the DCB of a request, if there is one, that it was posted.
     pub fn note_post(&mut self, piece: &Piece, code: Code)
         ensures dcbs { (d : ℕ) → dcb_at self.new d ≡ noted (is_error code && piece.now.related && (piece.now.dcb == d)) (dcb_at self.old d) }
         ensures count { length self.new ≡ length self.old }
@@ -113,7 +113,7 @@ impl DcbTable {
         }
     }
 
-    /// Closes a DCB.
+    /// Closes the DCB with this number, if there is one.
     pub fn close(&mut self, dcb: u16)
         ensures dcbs { (d : ℕ) → dcb_at self.new d ≡ shut (dcb == d) (dcb_at self.old d) }
         ensures count { length self.new ≡ length self.old }
@@ -127,7 +127,7 @@ impl DcbTable {
         }
     }
 
-    /// Clears the error flag of a DCB.
+    /// Clears the error flag of the DCB with this number, if there is one.
     pub fn reset(&mut self, dcb: u16)
         ensures dcbs { (d : ℕ) → dcb_at self.new d ≡ unflagged (dcb == d) (dcb_at self.old d) }
         ensures count { length self.new ≡ length self.old }

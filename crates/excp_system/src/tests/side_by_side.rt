@@ -7,12 +7,8 @@ ghost use Rattle.excp_system.specs.Opening.{AreBooks, AreFresh, site_of};
 use super::*;
 use crate::{Gate, IscTaker, OpenGate, Point, Stop, serve_channel, serve_isc};
 use std::sync::atomic::{AtomicBool, Ordering};
-use std::thread;
 use std::thread::{Threads, join};
 use unit_book::Entry;
-
-/// How often a thread looks before it gives up.
-const LOOKS: u32 = 1_000_000;
 
 /// Holds up the runs of unit 0 until it is told to let them go.
 #[derive(Drop)]
@@ -55,15 +51,10 @@ fn is_set(flag: &AtomicBool) -> bool {
     false
 }
 
-/// The next posted value of the task, if it comes within so many looks: its unit, and how it ended.
+/// The unit of the next posted value of the task, and how it ended.
 fn collected<S: Site, R: Wait>(rt: &R, task: &mut Task<'_, S>) -> Option<(u16, Code)> {
-    for _ in 0..LOOKS {
-        if let Some(value) = task.take_post(rt) {
-            return Some((value.unit(), value.code()));
-        }
-        thread::yield_now();
-    }
-    None
+    let value = awaited(rt, task)?;
+    Some((value.unit(), value.code()))
 }
 
 /// What the task does: with unit 0 held up it issues to both, and collects of unit 1; then it lets unit 0 go, and
@@ -78,8 +69,8 @@ fn exchange<S: Site, R: Wait + AllocGlobal>(
     if !is_set(&held.holds) {
         return None;
     }
-    issue(rt, rt.alloc(), task, 0).ok()?.ok()?;
-    issue(rt, rt.alloc(), task, 1).ok()?.ok()?;
+    issue(rt, task, 0).ok()?.ok()?;
+    issue(rt, task, 1).ok()?.ok()?;
     let first = collected(rt, task)?;
     held.let_go.store(true, Ordering::SeqCst);
     let second = collected(rt, task)?;
