@@ -1,49 +1,66 @@
-//! The parts of the data of a command, in order.
+//! Short lists that are made once and used again for each command.
 
-ghost use Rattle.std.specs.Prelude.{◌≡◌, ◌<◌, ◌≤◌, ◌++◌, ◌∷◌, [], length};
+ghost use Rattle.std.specs.Prelude.{◌≡◌, ◌<◌, ◌≤◌, ◌++◌, ◌∷◌, [], length, take};
 
-use arrayvec::ArrayVec;
-use device_port::{MOST_SEGMENTS, Segment};
 use std::marker::Model;
 
-/// The parts of the data of a command that are put together.
+/// The first `len` items of an array: clearing it and using it again costs no time in the room that it has.
 #[derive(Drop)]
-pub(crate) struct PartList {
-    segments: ArrayVec<Segment, 528>,
+pub struct ShortList<T: Copy, const N: usize> {
+    items: [T; N],
+    len: usize,
 }
 
-impl Model for PartList {
-    ghost use Rattle.std.specs.Prelude.{List};
-    ghost use Rattle.device_port.specs.declared.chain.Segment.{Segment};
+impl<T: Copy, const N: usize> Model for ShortList<T, N> {
+    ghost use Rattle.std.specs.Prelude.{List, take, ◌≤◌};
 
-    ghost Value = { List Segment };
+    ghost Value = { List T };
 
-    ghost view = { λ c. c.segments.items };
+    ghost view = { λ l. take l.len l.items };
+
+    ghost invariant = { λ l. l.len ≤ N };
 }
 
-impl PartList {
-    /// No parts.
-    pub fn new() -> Self
+impl<T: Copy, const N: usize> ShortList<T, N> {
+    /// No items, in room that is filled with this one.
+    pub fn new(blank: T) -> Self
         ensures { result ≡ [] }
     {
-        PartList {
-            segments: ArrayVec::new(),
+        ShortList {
+            items: [blank; N],
+            len: 0,
         }
     }
 
-    /// Adds a part behind the others.
-    pub fn push(&mut self, segment: Segment)
-        requires { length self.old < MOST_SEGMENTS }
-        ensures { self.new ≡ self.old ++ segment ∷ [] }
+    /// Takes all items out.
+    pub fn clear(&mut self)
+        ensures { self.new ≡ [] }
     {
-        self.segments.push(segment);
+        self.len = 0;
     }
 
-    /// The parts.
-    pub fn as_slice(&self) -> &[Segment]
-        ensures value { result.now ≡ self.now }
-        ensures few { length result.now ≤ MOST_SEGMENTS }
+    /// How many items there are.
+    pub fn len(&self) -> usize
+        ensures value { result ≡ length self.now }
+        ensures few { result ≤ N }
     {
-        self.segments.as_slice()
+        self.len
+    }
+
+    /// Adds an item behind the others.
+    pub fn push(&mut self, item: T)
+        requires { length self.old < N }
+        ensures { self.new ≡ self.old ++ item ∷ [] }
+    {
+        self.items[self.len] = item;
+        self.len += 1;
+    }
+
+    /// The items.
+    pub fn as_slice(&self) -> &[T]
+        ensures value { result.now ≡ self.now }
+        ensures few { length result.now ≤ N }
+    {
+        &self.items[..self.len]
     }
 }
