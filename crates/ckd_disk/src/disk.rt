@@ -154,7 +154,7 @@ impl Disk {
     }
 
     /// A command that gives data to the program.
-    #[inline(never)]
+    #[inline(always)]
     fn read(&mut self, command: Read, chain: &Chain<'_>, area: &mut Area) -> Acted
         requires { AllLie Flow.Input area.old chain.now }
         ensures acted { result ≡ (read_on self.old command).acted }

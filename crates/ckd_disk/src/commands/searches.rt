@@ -49,7 +49,7 @@ fn end_of_search(equal: bool, want: u32) -> Acted
 }
 
 /// SEARCH ID EQUAL.
-#[inline(never)]
+#[inline(always)]
 pub fn search_id(track: &Track, access: &mut Access, given: &Given<'_>) -> Acted
     requires { IsPlaced access.old track.now }
     ensures answer { answer_of result access.new [] ≡ search_id track.now (access_of access.old) given.now }
