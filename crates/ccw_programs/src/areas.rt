@@ -8,7 +8,7 @@ ghost use Rattle.ccw_programs.specs.Links.{Sound, is_indirect, skips};
 ghost use Rattle.ccw_programs.specs.Areas.{areas, parts_of, parts_from, part_of, is_usable, room_after, indirect_parts, direct_parts, prefixed, word_at, Parts, Bad};
 
 use crate::fetch::Link;
-use crate::part_list::PartList;
+use crate::workspace::Parts;
 use device_port::{Flow, Segment};
 use io_area::Area;
 use io_images::{AddressWord, Ccw};
@@ -45,7 +45,7 @@ fn segment_lies(flow: Flow, area: &Area, segment: &Segment) -> bool
 }
 
 /// Adds the one part of a CCW that names its data.
-fn push_direct(chain: &mut PartList, flow: Flow, area: &Area, ccw: &Ccw) -> bool
+fn push_direct(chain: &mut Parts, flow: Flow, area: &Area, ccw: &Ccw) -> bool
     requires { length chain.old ≤ 495 }
     ensures room { length chain.new ≤ length chain.old + 33 }
     ensures parts { prefixed chain.old (direct_parts flow area.now ccw.now) ≡ (if result then Some chain.new else None) }
@@ -59,7 +59,7 @@ fn push_direct(chain: &mut PartList, flow: Flow, area: &Area, ccw: &Ccw) -> bool
 }
 
 /// Adds the parts of a CCW that names a list of words.
-fn push_indirect(chain: &mut PartList, area: &Area, ccw: &Ccw) -> bool
+fn push_indirect(chain: &mut Parts, area: &Area, ccw: &Ccw) -> bool
     requires { length chain.old ≤ 495 }
     ensures room { length chain.new ≤ length chain.old + 33 }
     ensures parts { prefixed chain.old (indirect_parts area.now ccw.now) ≡ (if result then Some chain.new else None) }
@@ -77,14 +77,7 @@ fn push_indirect(chain: &mut PartList, area: &Area, ccw: &Ccw) -> bool
 }
 
 /// Adds the parts that so many words of a list give.
-fn push_words(
-    chain: &mut PartList,
-    area: &Area,
-    list: u32,
-    words: u32,
-    bytes: u16,
-    skip: bool,
-) -> bool
+fn push_words(chain: &mut Parts, area: &Area, list: u32, words: u32, bytes: u16, skip: bool) -> bool
     requires { length chain.old + words ≤ 528 }
     ensures room { length chain.new ≤ length chain.old + words }
     ensures parts { prefixed chain.old (parts_from area.now skip true list words bytes) ≡ (if result then Some chain.new else None) }
@@ -121,7 +114,7 @@ fn usable_part(area: &Area, is_first: bool, at: u32, count: u16, skip: bool) -> 
 }
 
 /// Adds the parts of a CCW, and answers whether they lie in storage.
-fn push_parts(chain: &mut PartList, flow: Flow, area: &Area, ccw: &Ccw) -> bool
+fn push_parts(chain: &mut Parts, flow: Flow, area: &Area, ccw: &Ccw) -> bool
     requires { length chain.old ≤ 495 }
     ensures room { length chain.new ≤ length chain.old + 33 }
     ensures parts { prefixed chain.old (parts_of flow area.now ccw.now) ≡ (if result then Some chain.new else None) }
@@ -176,7 +169,7 @@ pub(crate) fn data_areas(
     flow: Flow,
     area: &Area,
     links: &[Link],
-    chain: &mut PartList,
+    chain: &mut Parts,
 ) -> Result<(), u32>
     requires few { length links.now ≤ 16 }
     requires some { 1 ≤ length links.now }

@@ -9,7 +9,7 @@ ghost use Rattle.ccw_programs.specs.Step.{acted_place, placed};
 
 use crate::ending::{Ending, ended_in, ending_of, last_of, total_count};
 use crate::fetch::Link;
-use crate::length::{goes_on, moved, next_address, sub_status};
+use crate::length::{goes_on, next_address, sub_status};
 use device_port::{Acted, Flow};
 use io_images::{Address, Csw, SubStatus, UnitStatus};
 use std::marker::Model;
@@ -127,20 +127,23 @@ impl Context {
 
     /// After a command that the device did, on these CCWs.
     pub(crate) fn advance(&mut self, flow: Flow, links: &[Link], fetches: u16, acted: Acted)
+        requires running { self.old.state ≡ State.Running }
         requires some { 1 ≤ length links.now }
         requires few { length links.now ≤ 16 }
         requires sound { All Sound links.now }
         requires fetches { fetches ≤ 4096 }
         ensures { self.new ≡ acted_place self.old flow links.now fetches acted }
     {
-        let end = ending_of(links, moved(links, acted));
-        let sub = sub_status(flow, &links[0], total_count(links), acted, &end.link);
+        let counted = total_count(links);
+        let end = ending_of(links, counted.min(acted.want));
+        let sub = sub_status(flow, &links[0], counted, acted, &end.link);
         self.stand_behind(&last_of(links), fetches, acted, end, sub);
     }
 
     /// After a command of one CCW that the device did.
     #[inline(always)]
     pub(crate) fn advance_one(&mut self, flow: Flow, link: &Link, fetches: u16, acted: Acted)
+        requires running { self.old.state ≡ State.Running }
         requires sound { Sound link.now }
         requires fetches { fetches ≤ 4096 }
         ensures { self.new ≡ acted_place self.old flow (link.now ∷ []) fetches acted }
@@ -154,6 +157,7 @@ impl Context {
     /// the end of the program.
     #[inline(always)]
     fn stand_behind(&mut self, last: &Link, fetches: u16, acted: Acted, end: Ending, sub: SubStatus)
+        requires running { self.old.state ≡ State.Running }
         requires sound { Sound last.now }
         requires fetches { fetches ≤ 4096 }
         ensures { self.new ≡ placed self.old last.now fetches acted end sub.0 }
@@ -164,7 +168,6 @@ impl Context {
             self.fetched = fetches;
             self.address = address;
             self.residual = end.residual;
-            self.state = State::Running;
         } else {
             self.end(
                 Csw {

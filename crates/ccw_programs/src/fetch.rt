@@ -2,11 +2,10 @@
 //! Chaining" and "Transfer in Channel"; which bits may be on, and the limits, are the profile's).
 
 ghost use Rattle.std.specs.Prelude.{◌≡◌, ◌<◌, ◌≤◌, ◌+◌, ◌-◌, ◌==◌, ◌%◌, not, length, [], ◌∷◌, false, MatchResult, IfOk, IfSome, OnOk, All};
-ghost use Rattle.arrayvec.specs.ArrayVec.{array_vec_len};
 ghost use Rattle.ccw_programs.specs.Links.{Tells, TellsKind, fetch_at, kind_of_fetch, is_transfer, is_allowed, chain, chain_within, Whole, Broken, Sound};
 ghost use Rattle.io_images.specs.Images.{ccw_of};
 
-use arrayvec::ArrayVec;
+use crate::short_list::ShortList;
 use io_area::Area;
 use io_images::Ccw;
 
@@ -138,8 +137,8 @@ fn fetch_behind(area: &Area, at: u32, fetches: u16) -> Option<Single>
 /// CCWs that one attempt may fetch.
 pub(crate) const FETCH_LIMIT: u16 = 4096;
 
-/// The CCWs of one command: at most 16. They are made once and cleared for each command.
-pub type Links = ArrayVec<Link, 16>;
+/// The CCWs of one command: at most 16.
+pub type Links = ShortList<Link, 16>;
 
 /// Fetches the CCWs of one command, and gives the number of fetches after it, or tells the address of the
 /// CCW that failed.
@@ -150,13 +149,13 @@ pub(crate) fn fetch_chain(
     links: &mut Links,
 ) -> Result<u16, u32>
     requires limit { fetches ≤ 4096 }
-    requires empty { links.old.items ≡ [] }
-    ensures some { OnOk result (1 ≤ array_vec_len links.new) }
-    ensures few { OnOk result (array_vec_len links.new ≤ 16) }
-    ensures sound { OnOk result (All Sound links.new.items) }
+    requires empty { links.old ≡ [] }
+    ensures some { OnOk result (1 ≤ length links.new) }
+    ensures few { OnOk result (length links.new ≤ 16) }
+    ensures sound { OnOk result (All Sound links.new) }
     ensures fetches { IfOk result (λ after. after ≤ 4096) }
     ensures later { IfOk result (λ after. fetches < after) }
-    ensures chain { MatchResult result (λ after. chain area.now start fetches ≡ Whole links.new.items after) (λ at. chain area.now start fetches ≡ Broken at) }
+    ensures chain { MatchResult result (λ after. chain area.now start fetches ≡ Whole links.new after) (λ at. chain area.now start fetches ≡ Broken at) }
 {
     let mut at = start;
     let mut may_transfer = fetches != 0;

@@ -1,23 +1,14 @@
-//! The length of a command and what comes behind it: the bytes that it moved, whether its length is shown as
+//! The length of a command and what comes behind it: whether its length is shown as
 //! incorrect, and the next command (Principles of Operation, chapter 15, "Command Chaining", and chapter 16,
 //! "Incorrect Length").
 
-ghost use Rattle.std.specs.Prelude.{◌≡◌, ◌≤◌, ◌<◌, ◌+◌, ◌%◌, ◌^◌, length};
+ghost use Rattle.std.specs.Prelude.{◌≡◌, ◌≤◌, ◌<◌, ◌+◌, ◌%◌, ◌^◌};
 ghost use Rattle.ccw_programs.specs.Links.{Sound};
-ghost use Rattle.ccw_programs.specs.Step.{moved, shows_length, sub_status, goes_on, next_address};
+ghost use Rattle.ccw_programs.specs.Step.{shows_length, sub_status, goes_on, next_address};
 
-use crate::ending::total_count;
 use crate::fetch::Link;
 use device_port::{Acted, Flow};
 use io_images::{SubStatus, UnitStatus};
-
-/// The bytes that a command moved.
-pub(crate) fn moved(links: &[Link], acted: Acted) -> u32
-    requires { length links.now ≤ 16 }
-    ensures { result ≡ moved links.now acted }
-{
-    total_count(links).min(acted.want)
-}
 
 /// Whether incorrect length is shown, where the program counts so many bytes from its first CCW on, and ended in
 /// another.

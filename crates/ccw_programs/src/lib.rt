@@ -13,8 +13,10 @@ mod ending;
 mod fetch;
 pub mod laws;
 mod length;
-mod part_list;
 mod run;
+mod short_list;
+mod workspace;
 
 pub use context::{Burst, Context, State};
 pub use run::{burst, bursts};
+pub use workspace::Workspace;

@@ -3,20 +3,26 @@
 
 ghost use Rattle.std.specs.Prelude.{◌≡◌, ◌≤◌, ◌<◌, [], ◌∷◌, length, min, sum, All, false, ◌↔◌};
 ghost use Rattle.io_area.specs.Storage.{SamePlace};
+ghost use Rattle.ccw_programs.specs.Areas.{areas, Parts};
 ghost use Rattle.ccw_programs.specs.Links.{chain, Whole, Sound, is_indirect};
 ghost use Rattle.ccw_programs.specs.Step.{Program, program, step, after, length_of, is_running};
 
 use crate::areas::{data_area, data_areas, part_of};
 use crate::context::{Burst, Context, State};
 use crate::ending::command_code;
-use crate::fetch::{Link, Links, fetch_chain, fetch_single};
-use crate::part_list::PartList;
-use device_port::{Chain, Device};
+use crate::fetch::{Link, fetch_chain, fetch_single};
+use crate::workspace::{Parts, Workspace};
+use device_port::{Chain, Device, Flow, Segment};
 use io_area::Area;
 
 /// One command step.
 #[inline(always)]
-fn command<D: Device>(context: &mut Context, device: &mut D, area: &mut Area)
+fn command<D: Device>(
+    context: &mut Context,
+    device: &mut D,
+    area: &mut Area,
+    workspace: &mut Workspace,
+)
     requires { context.old.state ≡ State.Running }
     ensures bound { context.old.fetched ≤ 4096 }
     ensures place { SamePlace area.old area.new }
@@ -26,7 +32,7 @@ fn command<D: Device>(context: &mut Context, device: &mut D, area: &mut Area)
         Some(single) if !single.link.ccw.flags.is_indirect() => {
             command_on_one(context, device, area, &single.link, single.fetches);
         }
-        _ => command_of_chain(context, device, area),
+        _ => command_of_chain(context, device, area, workspace),
     }
 }
 
@@ -47,37 +53,62 @@ fn command_on_one<D: Device>(
     ensures place { SamePlace area.old area.new }
     ensures step { program context.new device.new area.new ≡ step D.meaning (program context.old device.old area.old) }
 {
-    let code = link.ccw.command;
-    let flow = device.flow(code);
+    let flow = device.flow(link.ccw.command);
+    if flow == Flow::None {
+        act_on_one(context, device, area, link, fetches, flow, &[]);
+        return;
+    }
     let part = [part_of(&link.ccw)];
     match data_area(flow, area, link, &part) {
         None => context.check(link.at),
-        Some(parts) => {
-            let acted = device.act(code, &Chain::of(parts), area);
-            context.advance_one(flow, link, fetches, acted);
-        }
+        Some(parts) => act_on_one(context, device, area, link, fetches, flow, parts),
     }
+}
+
+/// One command step, on the data area of its only CCW.
+#[inline(always)]
+fn act_on_one<D: Device>(
+    context: &mut Context,
+    device: &mut D,
+    area: &mut Area,
+    link: &Link,
+    fetches: u16,
+    flow: Flow,
+    parts: &[Segment],
+)
+    requires running { context.old.state ≡ State.Running }
+    requires fetched { chain area.old context.old.next context.old.fetched ≡ Whole (link.now ∷ []) fetches }
+    requires sound { Sound link.now }
+    requires fetches { fetches ≤ 4096 }
+    requires flow { flow ≡ D.meaning.flow device.old link.now.ccw.command }
+    requires parts { areas flow area.old (link.now ∷ []) ≡ Parts parts.now }
+    requires few { length parts.now ≤ 1 }
+    ensures place { SamePlace area.old area.new }
+    ensures step { program context.new device.new area.new ≡ step D.meaning (program context.old device.old area.old) }
+{
+    let acted = device.act(link.ccw.command, &Chain::of(parts), area);
+    context.advance_one(flow, link, fetches, acted);
 }
 
 /// One command step, of any chain.
 #[inline(never)]
-fn command_of_chain<D: Device>(context: &mut Context, device: &mut D, area: &mut Area)
+fn command_of_chain<D: Device>(
+    context: &mut Context,
+    device: &mut D,
+    area: &mut Area,
+    workspace: &mut Workspace,
+)
     requires { context.old.state ≡ State.Running }
     ensures bound { context.old.fetched ≤ 4096 }
     ensures place { SamePlace area.old area.new }
     ensures step { program context.new device.new area.new ≡ step D.meaning (program context.old device.old area.old) }
 {
-    let mut links = Links::new();
-    match fetch_chain(area, context.next(), context.fetched(), &mut links) {
+    let Workspace { links, parts } = workspace;
+    links.clear();
+    parts.clear();
+    match fetch_chain(area, context.next(), context.fetched(), links) {
         Err(at) => context.check(at),
-        Ok(fetches) => command_on(
-            context,
-            device,
-            area,
-            links.as_slice(),
-            fetches,
-            &mut PartList::new(),
-        ),
+        Ok(fetches) => command_on(context, device, area, links.as_slice(), fetches, parts),
     }
 }
 
@@ -88,7 +119,7 @@ fn command_on<D: Device>(
     area: &mut Area,
     links: &[Link],
     fetches: u16,
-    parts: &mut PartList,
+    parts: &mut Parts,
 )
     requires running { context.old.state ≡ State.Running }
     requires fetched { chain area.old context.old.next context.old.fetched ≡ Whole links.now fetches }
@@ -113,8 +144,14 @@ fn command_on<D: Device>(
 
 /// Goes on with a program, by so many commands at most: it does as many, or as many as the program has left, and
 /// tells how many and where the program then stands (chapter 15, "Command Chaining"; that a program goes on in bursts
-/// is the profile's). Takes no memory.
-pub fn burst<D: Device>(context: &mut Context, device: &mut D, area: &mut Area, max: u32) -> Burst
+/// is the profile's). Takes no memory: what it puts together it puts into the workspace.
+pub fn burst<D: Device>(
+    context: &mut Context,
+    device: &mut D,
+    area: &mut Area,
+    workspace: &mut Workspace,
+    max: u32,
+) -> Burst
     requires some { 1 ≤ max }
     requires running { context.old.state ≡ State.Running }
     ensures after { program context.new device.new area.new ≡ after D.meaning result.commands (program context.old device.old area.old) }
@@ -124,7 +161,7 @@ pub fn burst<D: Device>(context: &mut Context, device: &mut D, area: &mut Area, 
     ensures full { result.state ≡ State.Running → result.commands ≡ max }
 {
     for done in 0..max {
-        command(context, device, area);
+        command(context, device, area, workspace);
         let state = context.state();
         match state {
             State::Running => {}
@@ -148,6 +185,7 @@ pub fn bursts<D: Device>(
     context: &mut Context,
     device: &mut D,
     area: &mut Area,
+    workspace: &mut Workspace,
     sizes: &[u32],
 ) -> Burst
     requires sizes { All (λ size. 1 ≤ size) sizes.now }
@@ -160,7 +198,7 @@ pub fn bursts<D: Device>(
     let _bound = context.fetched();
     let mut commands = 0;
     for size in sizes {
-        let done = burst(context, device, area, *size);
+        let done = burst(context, device, area, workspace, *size);
         commands += done.commands;
         match done.state {
             State::Running => {}

@@ -47,9 +47,11 @@ impl Model for Disk {
 
 impl Disk {
     ghost use Rattle.std.specs.Prelude.{◌≡◌, ◌<◌, [], length};
-    ghost use Rattle.device_port.specs.Moves.{AllLie, gathered, stored};
+    ghost use Rattle.device_port.specs.Moves.{AllLie, CanAct, gathered, offered, received, stored};
+    ghost use Rattle.device_port.specs.Meaning.{effect};
+    ghost use Rattle.ckd_disk.specs.Command.{command_of, flow_of};
     ghost use Rattle.io_area.specs.Storage.{SamePlace};
-    ghost use Rattle.ckd_disk.specs.Disk.{records_of, control_on, read_on, write_on, seek, is_seek, prefix};
+    ghost use Rattle.ckd_disk.specs.Disk.{records_of, command_on, control_on, read_on, write_on, seek, is_seek, prefix};
     ghost use Rattle.ckd_disk.specs.Mount.{Mounts};
 
     /// A disk that holds these records behind the R0 of each track, with its heads at the index point of track
@@ -106,6 +108,40 @@ impl Disk {
         self.tracks[number].records()
     }
 
+    /// Does a command that may meet a fault.
+    #[inline(never)]
+    fn act_by_script(&mut self, command: u8, chain: &Chain<'_>, area: &mut Area) -> Acted
+        requires { CanAct (flow_of (command_of command)) area.old chain.now }
+        ensures acted { result ≡ (effect disk self.old command chain.now area.old).acted }
+        ensures device { self.new ≡ (effect disk self.old command chain.now area.old).device }
+        ensures area { area.new ≡ (effect disk self.old command chain.now area.old).area }
+        ensures place { SamePlace area.old area.new }
+    {
+        if let Some(fault) = self.faults.count() {
+            let orientation = self.access.orientation;
+            self.access.leave(orientation, Armed::No);
+            return fault.acted();
+        }
+        self.obey(command, chain, area)
+    }
+
+    /// Does a command that meets no fault.
+    #[inline(always)]
+    fn obey(&mut self, command: u8, chain: &Chain<'_>, area: &mut Area) -> Acted
+        requires { CanAct (flow_of (command_of command)) area.old chain.now }
+        ensures acted { result ≡ (command_on self.old (command_of command) (offered (flow_of (command_of command)) area.old chain.now)).acted }
+        ensures device { self.new ≡ (command_on self.old (command_of command) (offered (flow_of (command_of command)) area.old chain.now)).device }
+        ensures area { area.new ≡ received (flow_of (command_of command)) chain.now (command_on self.old (command_of command) (offered (flow_of (command_of command)) area.old chain.now)).bytes area.old }
+        ensures place { SamePlace area.old area.new }
+    {
+        match Command::decode(command) {
+            None => check(&mut self.access, COMMAND_REJECT),
+            Some(Command::Control(control)) => self.control(control),
+            Some(Command::Read(read)) => self.read(read, chain, area),
+            Some(Command::Write(write)) => self.write(write, chain, area),
+        }
+    }
+
     /// A command that moves no data.
     fn control(&mut self, command: Control) -> Acted
         ensures acted { result ≡ (control_on self.old command).acted }
@@ -118,6 +154,7 @@ impl Disk {
     }
 
     /// A command that gives data to the program.
+    #[inline(always)]
     fn read(&mut self, command: Read, chain: &Chain<'_>, area: &mut Area) -> Acted
         requires { AllLie Flow.Input area.old chain.now }
         ensures acted { result ≡ (read_on self.old command).acted }
@@ -139,6 +176,7 @@ impl Disk {
     }
 
     /// A command that takes data from the program.
+    #[inline(always)]
     fn write(&mut self, command: Write, chain: &Chain<'_>, area: &Area) -> Acted
         requires { AllLie Flow.Out area.now chain.now }
         ensures acted { result ≡ (write_on self.old command (gathered area.now chain.now)).acted }
@@ -158,6 +196,7 @@ impl Disk {
     }
 
     /// SEEK.
+    #[inline(never)]
     fn seek(&mut self, given: &Given<'_>) -> Acted
         ensures acted { result ≡ (seek self.old given.now).acted }
         ensures device { self.new ≡ (seek self.old given.now).device }
@@ -221,16 +260,10 @@ impl Device for Disk {
     }
 
     fn act(&mut self, command: u8, chain: &Chain<'_>, area: &mut Area) -> Acted {
-        if let Some(fault) = self.faults.count() {
-            let orientation = self.access.orientation;
-            self.access.leave(orientation, Armed::No);
-            return fault.acted();
-        }
-        match Command::decode(command) {
-            None => check(&mut self.access, COMMAND_REJECT),
-            Some(Command::Control(control)) => self.control(control),
-            Some(Command::Read(read)) => self.read(read, chain, area),
-            Some(Command::Write(write)) => self.write(write, chain, area),
+        if self.faults.pass() {
+            self.obey(command, chain, area)
+        } else {
+            self.act_by_script(command, chain, area)
         }
     }
 

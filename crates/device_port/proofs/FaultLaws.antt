@@ -7,7 +7,7 @@ use Rattle.std.proofs.lemmas.Bool.{cases_lt}
 use Rattle.std.proofs.lemmas.List.{drop_all, drop-drop}
 use Rattle.std.proofs.lemmas.Bool.Decides.{nat_tests}
 use Rattle.device_port.specs.declared.faults.Fault.{Fault}
-use Rattle.device_port.specs.Faults.{Follows, fault_of, fault_met, are_faults_after, is_fault, next_ordinal}
+use Rattle.device_port.specs.Faults.{Follows, IsClear, fault_of, fault_met, are_faults_after, is_fault, next_ordinal}
 
 no_fault : Fault
 no_fault = record { ordinal = 0; unit = record { 0 = 0 }; sub = record { 0 = 0 }; sense = 0 }
@@ -158,3 +158,40 @@ follows-some script next done (Some f) h is some = follows-met script next done 
 pub follows-none : (script : List Fault) (next done : ℕ) (fault : Option Fault) → done < 2 ^ 64 → Follows script next done → fault ≡ fault_met (record { script = script; done = done }) → is_some fault ≡ false → Follows script next (next_ordinal done)
 follows-none script next done None fits h is none = follows-missed script next done fits h (sym is)
 follows-none script next done (Some f) fits h is none = absurd cc
+
+-- where a later number is met by none of the script, none is met there
+clear-at : (script : List Fault) (k : ℕ) → fault_of script (k + 1) ≡ None → fault_met (record { script = script; done = k }) ≡ None
+clear-at script k none =
+    elim (cases_lt (k + 1) (2 ^ 64 - 1)) [
+      | inl lt ↦ rw (nat_lt-true (k + 1) (2 ^ 64 - 1) lt) none
+      | inr late ↦ met-late script k late
+    ]
+
+-- behind the last fault all commands are clear
+pub clear-end : (script : List Fault) (next done : ℕ) → Follows script next done → length script ≤ next → IsClear script done (2 ^ 64 - 1)
+clear-end script next done f end = record {
+  none = λ k from until. clear-at script k (fault_of-passed script next done (k + 1) f.passed (omega (arith, from)) ∙ rw (drop_all next script end) refl);
+}
+
+none-below : (k : ℕ) (f : Fault) (rest : List Fault) (done : ℕ) → are_faults_after done (f ∷ rest) ≡ true → k + 1 < f.ordinal → fault_of (f ∷ rest) (k + 1) ≡ None
+none-below k f rest done h below =
+    let later : are_faults_after f.ordinal rest ≡ true = grind (arith, nat_tests, h) in
+    let none = fault_of-ahead f.ordinal (k + 1) rest later (omega arith) in
+    grind (arith, nat_tests, none)
+
+-- commands below the number of the next fault are clear
+pub clear-below : (script : List Fault) (next done : ℕ) (f : Fault) → Follows script next done → next < length script → f ≡ get_or script next f → f.ordinal < 2 ^ 64 → IsClear script done (f.ordinal - 1)
+clear-below script next done f h within is fits =
+    let cut : drop next script ≡ f ∷ drop (next + 1) script = drop-cons script next f within ∙ rw (← is, add-one) refl in
+    record {
+      none = λ k from until.
+          let ahead : are_faults_after done (f ∷ drop (next + 1) script) ≡ true = subst (λ (fs : List Fault). are_faults_after done fs ≡ true) cut (h.ahead (omega (arith, from, until, fits))) in
+          clear-at script k (fault_of-passed script next done (k + 1) h.passed (omega (arith, from)) ∙ rw cut (none-below k f (drop (next + 1) script) done ahead (omega (arith, until))));
+    }
+
+-- a command that is clear meets nothing, and those behind it stay clear
+pub clear-here : (script : List Fault) (done clear : ℕ) → IsClear script done clear → done < clear → fault_met (record { script = script; done = done }) ≡ None
+clear-here script done clear h lt = h.none done (omega arith) lt
+
+pub clear-later : (script : List Fault) (done later clear : ℕ) → IsClear script done clear → done ≤ later → IsClear script later clear
+clear-later script done later clear h le = record { none = λ k from until. h.none k (omega (arith, le, from)) until }

@@ -57,3 +57,7 @@ pub record Follows (script : List Fault) (next done : ℕ) : Type 0 where
   pub within : next ≤ length script
   pub passed : AllByRecursion (λ f. f.ordinal ≤ done) (take next script)
   pub ahead : done < 2 ^ 64 - 1 → are_faults_after done (drop next script) ≡ true
+
+-- until so many commands are done, no command meets a fault
+pub record IsClear (script : List Fault) (done clear : ℕ) : Type 0 where
+  pub none : (k : ℕ) → done ≤ k → k < clear → fault_met (record { script = script; done = k }) ≡ None

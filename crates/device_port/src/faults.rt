@@ -1,7 +1,7 @@
 //! Faults that a device is to meet, by the numbers of its commands.
 
-ghost use Rattle.std.specs.Prelude.{◌≡◌, ◌<◌, IfOk, IsSome, length, true};
-ghost use Rattle.device_port.specs.Faults.{Ordinals, fault_met, counted, failed, is_channel_check, is_script, are_faults_after, Follows};
+ghost use Rattle.std.specs.Prelude.{◌≡◌, ◌<◌, IfOk, IsSome, IsTrue, None, if◌then◌else◌, length, true};
+ghost use Rattle.device_port.specs.Faults.{Ordinals, fault_met, counted, failed, is_channel_check, is_script, are_faults_after, Follows, IsClear, next_ordinal};
 
 use crate::answer::Acted;
 use io_images::{SubStatus, UnitStatus};
@@ -78,16 +78,18 @@ pub struct FaultScript {
     faults: Vec<Fault>,
     next: usize,
     done: u64,
+    /// Until so many commands are done, none meets a fault.
+    clear: u64,
 }
 
 impl Model for FaultScript {
-    ghost use Rattle.device_port.specs.Faults.{Ordinals, Follows};
+    ghost use Rattle.device_port.specs.Faults.{Ordinals, Follows, IsClear};
 
     ghost Value = { Ordinals };
 
     ghost view = { λ s. record { script = s.faults.items; done = s.done } };
 
-    ghost invariant = { λ s. Follows s.faults.items s.next s.done };
+    ghost invariant = { λ s. Follows s.faults.items s.next s.done × IsClear s.faults.items s.done s.clear };
 }
 
 impl FaultScript {
@@ -101,19 +103,49 @@ impl FaultScript {
             faults,
             next: 0,
             done: 0,
+            clear: 0,
         })
     }
 
+    /// Counts a command where the next fault is known to be ahead; elsewhere it answers false and counts nothing.
+    #[inline(always)]
+    pub fn pass(&mut self) -> bool
+        ensures clear { IsTrue result → fault_met self.old ≡ None }
+        ensures counted { self.new ≡ (if result then counted self.old else self.old) }
+    {
+        if self.done >= self.clear {
+            return false;
+        }
+        self.done += 1;
+        true
+    }
+
     /// Counts a command, and gives the fault that it meets.
+    #[inline(always)]
     pub fn count(&mut self) -> Option<Fault>
         ensures fault { result ≡ fault_met self.old }
         ensures counted { self.new ≡ counted self.old }
     {
-        let fault = fault_met(self.faults.as_slice(), self.next, self.done);
-        self.done = self.done.saturating_add(1);
-        if fault.is_some() {
-            self.next += 1;
+        if self.pass() {
+            return None;
         }
+        self.count_in_script()
+    }
+
+    /// The same by a look into the script, which also tells how far the next commands are clear of faults.
+    #[inline(never)]
+    fn count_in_script(&mut self) -> Option<Fault>
+        ensures fault { result ≡ fault_met self.old }
+        ensures counted { self.new ≡ counted self.old }
+    {
+        let faults = self.faults.as_slice();
+        let fault = fault_met(faults, self.next, self.done);
+        let next = place_behind(faults, self.next, self.done, &fault);
+        let done = self.done.saturating_add(1);
+        let clear = clear_until(faults, next, done);
+        self.next = next;
+        self.done = done;
+        self.clear = clear;
         fault
     }
 
@@ -125,6 +157,7 @@ impl FaultScript {
             faults: self.faults.clone()?,
             next: self.next,
             done: self.done,
+            clear: self.clear,
         })
     }
 }
@@ -143,5 +176,27 @@ fn fault_met(faults: &[Fault], next: usize, done: u64) -> Option<Fault>
         Some(fault)
     } else {
         None
+    }
+}
+
+/// The place of the next fault behind a command that met this one, or none.
+fn place_behind(faults: &[Fault], next: usize, done: u64, met: &Option<Fault>) -> usize
+    requires follows { Follows faults.now next done }
+    requires met { met.now ≡ fault_met (record { script = faults.now; done = done }) }
+    requires within { IsSome met.now → next < length faults.now }
+    ensures { Follows faults.now result (next_ordinal done) }
+{
+    if met.is_some() { next + 1 } else { next }
+}
+
+/// How many commands can be done until the next one may meet a fault, where the faults before `next` are passed.
+fn clear_until(faults: &[Fault], next: usize, done: u64) -> u64
+    requires { Follows faults.now next done }
+    ensures { IsClear faults.now done result }
+{
+    if next < faults.len() {
+        faults[next].ordinal.saturating_sub(1)
+    } else {
+        u64::MAX
     }
 }

@@ -1,4 +1,4 @@
-//! Attempts of a channel program on a subchannel.
+//! A channel program on a subchannel with a model disk, run again and again.
 
 use ckd_disk::{Disk, Geometry, InitialRecord};
 use device_port::{Device, Fault};
@@ -7,40 +7,31 @@ use io_images::{Address, Seek};
 use std::alloc::{AllocError, Global};
 use subchannel::Subchannel;
 
-/// Storage from X'1000' on with a channel program that goes on to the fetch limit: no-operation, transfer back.
-pub const LOOP: [u8; 16] = [0x03, 0, 0, 0, 0x60, 0, 0, 1, 0x08, 0, 0x10, 0, 0, 0, 0, 0];
-
-/// Storage from X'1000' on with search, transfer back and read data, the search argument and a buffer.
-pub const READ: [u8; 40] = [
-    0x31, 0, 0x10, 0x18, 0x40, 0, 0, 5, 0x08, 0, 0x10, 0, 0, 0, 0, 0, 0x06, 0, 0x10, 0x20, 0, 0, 0,
-    4, 0, 0, 0, 0, 1, 0, 0, 0, 0, 0, 0, 0, 0, 0, 0, 0,
-];
-
-/// A disk of one track with one record of four bytes.
-pub fn disk(alloc: Global) -> Result<Disk, AllocError> {
+/// A disk of one track with so many records of so many bytes.
+pub fn disk(alloc: Global, records: u8, bytes: u16) -> Result<Disk, AllocError> {
     let geometry = Geometry {
         cylinders: 1,
         heads: 1,
-        track_bytes: 40,
+        track_bytes: 16 + u64::from(records) * (8 + u64::from(bytes)),
     };
     let mut content = Vec::new(alloc);
-    content.extend_from_slice(&[0xC1, 0xC2, 0xC3, 0xC4])?;
-    let record = InitialRecord {
-        cylinder: 0,
-        head: 0,
-        number: 1,
-        key: Vec::new(alloc),
-        content,
-    };
-    let records = [record];
+    for before in 0..records {
+        content.push(InitialRecord {
+            cylinder: 0,
+            head: 0,
+            number: before + 1,
+            key: Vec::new(alloc),
+            content: vec![in alloc; 0xC1; usize::from(bytes)]?,
+        })?;
+    }
     let none: [Fault; 0] = [];
-    match Disk::mount(alloc, geometry, &records, &none) {
+    match Disk::mount(alloc, geometry, &content, &none) {
         Ok(disk) => Ok(disk),
         Err(_) => Err(AllocError),
     }
 }
 
-/// A subchannel with the disk, and the storage of a channel program.
+/// A subchannel with a disk, and the storage of a channel program.
 #[derive(Drop)]
 pub struct Channel {
     subchannel: Subchannel<Disk>,
@@ -48,9 +39,18 @@ pub struct Channel {
 }
 
 impl Channel {
-    pub fn new(alloc: Global, image: &[u8]) -> Result<Self, AllocError> {
-        let disk = disk(alloc)?;
-        match Area::new(alloc, 0x1000, image) {
+    /// The program stands from X'1000' on, in storage of so many bytes or of its own.
+    pub fn new(
+        alloc: Global,
+        disk: Disk,
+        program: &[u8],
+        storage: usize,
+    ) -> Result<Self, AllocError> {
+        let mut image = program.to_vec(alloc)?;
+        for _ in program.len()..storage {
+            image.push(0)?;
+        }
+        match Area::new(alloc, 0x1000, &image) {
             Ok(area) => Ok(Channel {
                 subchannel: Subchannel::new(disk, 0),
                 area,

@@ -50,7 +50,7 @@ impl Cycles {
         let Ok(area) = Area::new(alloc, 0x1000, &IMAGE) else {
             return Err(AllocError);
         };
-        let mut book = UnitBook::new(alloc, disk(alloc)?, 0, 1)?;
+        let mut book = UnitBook::new(alloc, disk(alloc, 1, 4)?, 0, 1)?;
         open(&mut book)?;
         Ok(Cycles {
             book,

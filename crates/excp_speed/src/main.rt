@@ -1,15 +1,19 @@
-//! Counts command steps, starts and book cycles on a model disk. `excp_speed` does one round and prints the counts;
-//! `excp_speed ROUNDS` does so many rounds and prints how many there were in a second beside them.
+//! Measures command steps, starts and book cycles on a model disk. `excp_speed` does one round and prints the counts;
+//! `excp_speed ROUNDS` does so many rounds, and prints how many there were in a second and the time of each beside
+//! them; `excp_speed ROUNDS WORDS` does only what has a name that begins so.
 #![tactic(auto)]
 
 mod channel;
 mod cycles;
+mod report;
+mod workload;
 
-use channel::{Channel, LOOP, READ};
 use cycles::Cycles;
+use report::Request;
+use std::io;
 use std::process::ExitCode;
 use std::time::Instant;
-use std::{env, io};
+use workload::Workload;
 
 fn main(rt: HostRuntime) -> ExitCode {
     match measure(&rt) {
@@ -18,54 +22,38 @@ fn main(rt: HostRuntime) -> ExitCode {
     }
 }
 
-/// Runs and prints each workload.
+/// Runs and prints each workload that is wanted.
 fn measure(rt: &HostRuntime) -> io::Result<()> {
-    let rounds = rounds(rt)?;
-    let count = rounds.unwrap_or(1);
-    let timed = rounds.is_some();
+    let request = Request::read(rt)?;
+    for workload in &Workload::ALL {
+        if request.wants(workload.name()) {
+            measure_channel(rt, &request, *workload)?;
+        }
+    }
+    if request.wants("book cycles") {
+        measure_book(rt, &request)?;
+    }
+    Ok(())
+}
 
-    let mut channel = Channel::new(rt.alloc(), &LOOP)?;
+/// Runs a channel program once a round.
+fn measure_channel(rt: &HostRuntime, request: &Request, workload: Workload) -> io::Result<()> {
+    let rounds = request.rounds();
+    let mut channel = workload.channel(rt.alloc())?;
     let begin = Instant::now(rt)?;
-    let steps = channel.attempts(count);
-    print(rt, "command steps", steps, timed, micros(rt, &begin)?)?;
+    let steps = channel.attempts(rounds);
+    let count = if workload.counts_steps() {
+        steps
+    } else {
+        u64::from(rounds)
+    };
+    request.print(rt, workload.name(), count, &begin)
+}
 
-    let mut channel = Channel::new(rt.alloc(), &READ)?;
-    let begin = Instant::now(rt)?;
-    channel.attempts(count);
-    print(rt, "starts", u64::from(count), timed, micros(rt, &begin)?)?;
-
+/// Does a cycle of a book a round.
+fn measure_book(rt: &HostRuntime, request: &Request) -> io::Result<()> {
     let mut cycles = Cycles::new(rt.alloc())?;
     let begin = Instant::now(rt)?;
-    let done = cycles.run(rt.alloc(), count)?;
-    print(rt, "book cycles", done, timed, micros(rt, &begin)?)
-}
-
-/// The number that follows the program's name, if one does.
-fn rounds(rt: &HostRuntime) -> io::Result<Option<u32>> {
-    let mut arguments = env::args(rt)?;
-    let _ = arguments.next();
-    Ok(match arguments.next() {
-        Some(word) => word.as_str().parse::<u32>().ok(),
-        None => None,
-    })
-}
-
-/// Microseconds since then.
-fn micros(rt: &HostRuntime, begin: &Instant) -> io::Result<u64> {
-    let spent = begin.elapsed(rt)?;
-    Ok(
-        spent
-            .as_secs()
-            .saturating_mul(1_000_000)
-            .saturating_add(u64::from(spent.subsec_micros())),
-    )
-}
-
-fn print(rt: &HostRuntime, what: &str, count: u64, timed: bool, micros: u64) -> io::Result<()> {
-    if timed {
-        let rate = count.saturating_mul(1_000_000) / micros.max(1);
-        println!(rt; "{what}: {count}, {rate} a second")
-    } else {
-        println!(rt; "{what}: {count}")
-    }
+    let done = cycles.run(rt.alloc(), request.rounds())?;
+    request.print(rt, "book cycles", done, &begin)
 }

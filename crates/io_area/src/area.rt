@@ -121,6 +121,7 @@ impl Area {
         ensures { MatchOption result (lies_in self.now at count ≡ false) (IsOffset self.now at count) }
     {
         let from = at.checked_sub(self.base)? as usize;
-        (from <= self.bytes.len() && count <= self.bytes.len() - from).then_some(from)
+        let room = self.bytes.len().checked_sub(from)?;
+        (count <= room).then_some(from)
     }
 }

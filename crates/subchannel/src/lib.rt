@@ -8,7 +8,7 @@ ghost use Rattle.io_area.specs.Storage.{SamePlace};
 ghost use Rattle.ccw_programs.specs.Step.{program};
 ghost use Rattle.subchannel.specs.Subchannel.{Channel, Absent, Idle, Fits, started, ssch_code, hsch_code, tsch_code, halted_phase, running_program, RunsAs, status_of, tested_phase, is_pending};
 
-use ccw_programs::{Burst, Context, State, burst};
+use ccw_programs::{Burst, Context, State, Workspace, burst};
 use device_port::Device;
 use io_area::Area;
 use io_images::{Address, Csw, Seek};
@@ -28,6 +28,7 @@ pub struct Subchannel<D: Device> {
     isc: u8,
     device: Option<D>,
     phase: Phase,
+    workspace: Workspace,
 }
 
 impl<D: Device> Model for Subchannel<D> {
@@ -53,6 +54,7 @@ impl<D: Device> Subchannel<D> {
             isc,
             device: Some(device),
             phase: Phase::Idle,
+            workspace: Workspace::new(),
         }
     }
 
@@ -65,6 +67,7 @@ impl<D: Device> Subchannel<D> {
             isc,
             device: None,
             phase: Phase::Idle,
+            workspace: Workspace::new(),
         }
     }
 
@@ -167,7 +170,7 @@ impl<D: Device> Subchannel<D> {
         let Phase::Running(context) = &mut self.phase else {
             return None;
         };
-        let done = burst(context, device, area, max);
+        let done = burst(context, device, area, &mut self.workspace, max);
         let state = done.state;
         if let State::Ended(csw, sense) = state {
             self.phase = Phase::Pending(csw, sense);

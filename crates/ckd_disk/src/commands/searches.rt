@@ -12,14 +12,25 @@ use crate::walk::{key_record, next};
 use device_port::{Acted, Given, NO_RECORD_FOUND};
 
 /// Whether the first bytes given are those of a field of at most `N` bytes, as far as both go.
+#[inline(always)]
 fn is_match<const N: usize>(field: &[u8], given: &Given<'_>) -> bool
     requires fits { length field.now ≤ N }
     requires small { N ≤ 255 }
     ensures { result ≡ matches field.now given.now }
 {
-    if let Some(bytes) = given.first(field.len()) {
-        return field.starts_with(bytes);
+    match given.first(field.len()) {
+        Some(bytes) => field.starts_with(bytes),
+        None => is_match_of_parts::<N>(field, given),
     }
+}
+
+/// The same of bytes that are given in many parts.
+#[inline(never)]
+fn is_match_of_parts<const N: usize>(field: &[u8], given: &Given<'_>) -> bool
+    requires fits { length field.now ≤ N }
+    requires small { N ≤ 255 }
+    ensures { result ≡ matches field.now given.now }
+{
     let len = given.len().min(field.len());
     let mut argument = [0; N];
     given.fill(&mut argument[..len]);
@@ -38,6 +49,7 @@ fn end_of_search(equal: bool, want: u32) -> Acted
 }
 
 /// SEARCH ID EQUAL.
+#[inline(always)]
 pub fn search_id(track: &Track, access: &mut Access, given: &Given<'_>) -> Acted
     requires { IsPlaced access.old track.now }
     ensures answer { answer_of result access.new [] ≡ search_id track.now (access_of access.old) given.now }
@@ -59,6 +71,7 @@ pub fn search_id(track: &Track, access: &mut Access, given: &Given<'_>) -> Acted
 }
 
 /// SEARCH KEY EQUAL.
+#[inline(never)]
 pub fn search_key(track: &Track, access: &mut Access, given: &Given<'_>) -> Acted
     requires { IsPlaced access.old track.now }
     ensures answer { answer_of result access.new [] ≡ search_key track.now (access_of access.old) given.now }

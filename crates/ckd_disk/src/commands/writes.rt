@@ -10,6 +10,7 @@ use crate::track::{Track, size_given};
 use device_port::{Acted, COMMAND_REJECT, Given, INVALID_TRACK_FORMAT};
 
 /// WRITE DATA.
+#[inline(never)]
 pub fn write_data(track: &mut Track, access: &mut Access, given: &Given<'_>) -> Acted
     requires { IsPlaced access.old track.old }
     ensures written { written_of result access.new track.new
@@ -33,6 +34,7 @@ pub fn write_data(track: &mut Track, access: &mut Access, given: &Given<'_>) -> 
 }
 
 /// WRITE KEY AND DATA.
+#[inline(never)]
 pub fn write_key_and_data(track: &mut Track, access: &mut Access, given: &Given<'_>) -> Acted
     requires { IsPlaced access.old track.old }
     ensures written { written_of result access.new track.new
@@ -52,6 +54,7 @@ pub fn write_key_and_data(track: &mut Track, access: &mut Access, given: &Given<
 }
 
 /// WRITE COUNT, KEY AND DATA.
+#[inline(never)]
 pub fn write_count_key_and_data(track: &mut Track, access: &mut Access, given: &Given<'_>) -> Acted
     requires { IsPlaced access.old track.old }
     ensures written { written_of result access.new track.new

@@ -3,7 +3,7 @@ use Rattle.device_port.specs.Faults.{fault_met}
 use Rattle.device_port.specs.MovesLaws.{received-nothing}
 use Rattle.ckd_disk.specs.Command.{command_of, flow_of}
 use Rattle.ckd_disk.specs.Disk.{DiskState}
-use Rattle.ckd_disk.proofs.disk.DiskDevice.act.Goals as goal
+use Rattle.ckd_disk.proofs.disk.Disk.act_by_script.Goals as goal
 
 -- a command that meets a fault moves nothing
 pub returns-in-Some-clause-area : goal.returns-in-Some-clause-area

@@ -1,0 +1,26 @@
+//! What the commands of programs put together, one command after another.
+
+use crate::fetch::{Link, Links};
+use crate::short_list::ShortList;
+use device_port::{MOST_SEGMENTS, Segment};
+
+/// The parts of the data of a command.
+pub type Parts = ShortList<Segment, MOST_SEGMENTS>;
+
+/// Room for the CCWs of a command and for the parts of its data. It says nothing between two commands, and is made
+/// once for many programs.
+#[derive(Drop)]
+pub struct Workspace {
+    pub(crate) links: Links,
+    pub(crate) parts: Parts,
+}
+
+impl Workspace {
+    /// Room that holds nothing.
+    pub fn new() -> Self {
+        Workspace {
+            links: ShortList::new(Link::default()),
+            parts: ShortList::new(Segment::default()),
+        }
+    }
+}
