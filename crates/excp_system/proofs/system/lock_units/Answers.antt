@@ -2,11 +2,35 @@ use Rattle.std.proofs.Common.{◌≡◌, ◌+◌, [], ◌∷◌, ◌++◌, lengt
 use Rattle.std.specs.Prelude.{slice_get}
 use Rattle.std.specs.Vec.Iter.{into_iter_items}
 use Rattle.std.proofs.lemmas.Grind.{common_steps}
+use Rattle.std.proofs.lemmas.List.{length-drop}
 use Rattle.excp_system.specs.Sites.{notice_rows, end_of}
 use Rattle.excp_system.specs.Fans.{FanState, sent_to}
 use Rattle.excp_system.proofs.Places.{drop_get, drop_next, get_seam}
 use Rattle.excp_system.proofs.Makes.{is_unit}
 use Rattle.excp_system.proofs.system.lock_units.Goals as goal
+
+-- as many ends of each kind are left as books, this one among them
+pub unreachable-requires : goal.unreachable-requires
+unreachable-requires g c =
+    let i = c.loop-book.invariant in
+    let yielded = c.loop-book.yielded in
+    let b = c.in-Some.book in
+    let rest = into_iter_items c.next.new.self in
+    let all : c.args.books.items ≡ yielded ++ b ∷ rest = first_of (search rules, grind (arith, common_steps)) in
+    let count = ap length all ∙ length-append yielded (b ∷ rest) in
+    let left = ap length i.intakes ∙ length-drop (length yielded) c.args.ends.intake.items in
+    omega (arith, count, left, c.requires.books.count_is, c.args.ends.intake_are.count_is, c.in_default.ensures.cases.0, c.loop-book.intakes.rest.ok)
+
+pub unreachable-requires-in_default-next-2 : goal.unreachable-requires-in_default-next-2
+unreachable-requires-in_default-next-2 g c =
+    let i = c.loop-book.invariant in
+    let yielded = c.loop-book.yielded in
+    let b = c.in-Some.book in
+    let rest = into_iter_items c.next.new.self in
+    let all : c.args.books.items ≡ yielded ++ b ∷ rest = first_of (search rules, grind (arith, common_steps)) in
+    let count = ap length all ∙ length-append yielded (b ∷ rest) in
+    let left = ap length i.notices ∙ length-drop (length yielded) c.args.ends.notice.items in
+    omega (arith, count, left, c.requires.books.count_is, c.args.ends.notice_are.count_is, c.in_default-next-2.ensures.cases.0, c.loop-book.notices.rest.ok)
 
 pub into_end-notice-requires : goal.into_end-notice-requires
 into_end-notice-requires g c =
