@@ -24,6 +24,7 @@ use Rattle.fifo_row.proofs.Filters.{of-append, of-snoc_same, of-snoc_other}
 use Rattle.excp_system.proofs.Places.{get_set_other, index_replicate, some_is}
 use Rattle.excp_system.specs.Drained.{ArePlaced}
 use Rattle.excp_system.specs.Holds.{TakesIn}
+use Rattle.excp_system.specs.Opening.{AreTasks}
 use Rattle.excp_system.specs.Sites.{SiteRows, unit_of}
 use Rattle.excp_system.specs.States.{Locked, TaskState}
 use Rattle.excp_system.specs.declared.answer.Intake.{Intake}
@@ -211,3 +212,17 @@ lists_more [] x units is zero u = ap (λ l. list_of l u) is ∙ index_replicate 
 lists_more [] x units is (suc t) u = refl
 lists_more (y ∷ posts) x units is zero u = refl
 lists_more (y ∷ posts) x units is (suc t) u = lists_more posts x units is t u
+
+-- tasks of a system that was just made are at their places
+pub placed_start : (count units : ℕ) (tasks : List TaskState) → AreTasks count units tasks → ArePlaced (λ (w : TaskState). w.number) count tasks
+placed_start count units tasks made = record { count_is = made.count_is; each = λ k w e. ap (λ (x : TaskState). x.number) (made.each k w e) }
+
+-- and stay there where one is replaced by one of its number
+pub placed_set : (count : ℕ) (tasks : List TaskState) (i : ℕ) (old new : TaskState) → i < length tasks → old ≡ get_or tasks i old → new.number ≡ old.number → ArePlaced (λ (w : TaskState). w.number) count tasks →
+    ArePlaced (λ (w : TaskState). w.number) count (set tasks i new)
+placed_set count tasks i old new lt at same placed = record {
+  count_is = length-set tasks i new ∙ placed.count_is;
+  each = λ k w e. dite (ℕ_discrete k i)
+      (λ here. ap (λ (x : TaskState). x.number) (sym (new_is tasks i old new lt at k w here e)) ∙ (same ∙ (placed.each i old (there tasks i old new lt at) ∙ sym here)))
+      (λ ne. placed.each k w (sym (get_set_other tasks i k new ne) ∙ e));
+}

@@ -12,8 +12,8 @@ use Rattle.post_ledger.specs.declared.cause.Cause.TheVariants.{NoMemory, Mixed}
 use Rattle.post_ledger.specs.Parting.{Paired}
 use Rattle.post_ledger.specs.Work.{Grew, Works}
 
--- why; the states of the units, once they were taken from under their locks; the tasks; and for each task a list for each
--- unit, of what was collected for the report, or none yet
+-- why; the states of the units, once they were taken from under their locks; the tasks; and for each task a list
+-- for each unit, of what was collected for the report, or none yet
 pub record Left (D : Type 0) : Type 0 where
   pub cause : Cause
   pub units : Option (List (Locked D))

@@ -48,5 +48,6 @@ module _ {D : Type 0} (meaning : Meaning D) where
 
   -- of each task and unit: what arrived is what the task sent, and what the task collected is what the book gave
   abbrev pub AreSettled : List (Locked D) → List TaskState → Type 0
-  AreSettled units tasks = (u t : ℕ) (v : Locked D) (w : TaskState) → slice_get units u ≡ Some v → slice_get tasks t ≡ Some w →
+  AreSettled units tasks = (u t : ℕ) (v : Locked D) (w : TaskState) →
+      slice_get units u ≡ Some v → slice_get tasks t ≡ Some w →
       (of task_of t (arrivals v.book.trace) ≡ sent_by w u) × (of unit_of u w.got ≡ of for_task t (given meaning v.book))

@@ -1,5 +1,5 @@
--- WHAT A REPORT TELLS of a run that was brought to its end (profile). In what follows u is the number of a unit with the
--- book b in the report, and t that of a task w.
+-- WHAT A REPORT TELLS of a run that was brought to its end (profile). In what follows u is the number of a unit
+-- with the book b in the report, and t that of a task w.
 use Rattle.std.specs.Prelude.{◌≡◌, ℕ, List, length, ◌++◌, Some, slice_get}
 use Rattle.std.specs.List.{All}
 use Rattle.device_port.specs.Meaning.{Meaning}
@@ -33,7 +33,8 @@ pub record IsFor {D : Type 0} (units tasks : ℕ) (report : ReportState D) : Typ
 
 -- what holds of each unit and each task
 abbrev pub OfEach : {D : Type 0} → (ℕ → ℕ → Book D → TaskState → Type 0) → ReportState D → List TaskState → Type 0
-OfEach {D} P report tasks = (u t : ℕ) (b : Book D) (w : TaskState) → slice_get report.books u ≡ Some b → slice_get tasks t ≡ Some w → P u t b w
+OfEach {D} P report tasks = (u t : ℕ) (b : Book D) (w : TaskState) →
+    slice_get report.books u ≡ Some b → slice_get tasks t ≡ Some w → P u t b w
 
 -- RECEIVED: what arrived of a task at a unit is what the task sent there, in order
 abbrev pub Received : {D : Type 0} → ReportState D → List TaskState → Type 0
@@ -50,11 +51,13 @@ module _ {D : Type 0} (meaning : Meaning D) where
 
   -- RETURNED: what a task had collected of a unit, and then its list in the report, is what the unit posted for it
   abbrev pub Returned : ReportState D → List TaskState → Type 0
-  Returned report tasks = OfEach (λ u t b w. of unit_of u w.got ++ list_at report t u ≡ of for_task t (posted meaning b.mounted b.trace)) report tasks
+  Returned report tasks =
+      OfEach (λ u t b w. of unit_of u w.got ++ list_at report t u ≡ of for_task t (posted meaning b.mounted b.trace)) report tasks
 
   -- the same where some of it was collected for the report already, and stands in these lists
   abbrev pub ReturnedRest : List (List (List PostedState)) → ReportState D → List TaskState → Type 0
-  ReturnedRest lists report tasks = OfEach (λ u t b w. (before : List PostedState) → of unit_of u w.got ≡ before ++ list_of (lists_of lists t) u →
+  ReturnedRest lists report tasks =
+      OfEach (λ u t b w. (before : List PostedState) → of unit_of u w.got ≡ before ++ list_of (lists_of lists t) u →
       before ++ list_at report t u ≡ of for_task t (posted meaning b.mounted b.trace)) report tasks
 
 -- nothing waits and nothing is active at any unit

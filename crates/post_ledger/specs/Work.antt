@@ -50,4 +50,5 @@ pub record Gathers (units : ℕ) (old new : TaskState) (before after : List (Lis
 -- each task has collected values, which stand in its lists
 pub record Collects (units : ℕ) (old new : List TaskState) (before after : List (List (List PostedState))) : Type 0 where
   pub count : length new ≡ length old
-  pub each : (t : ℕ) (w v : TaskState) → slice_get old t ≡ Some w → slice_get new t ≡ Some v → Gathers units w v (lists_of before t) (lists_of after t)
+  pub each : (t : ℕ) (w v : TaskState) → slice_get old t ≡ Some w → slice_get new t ≡ Some v →
+      Gathers units w v (lists_of before t) (lists_of after t)

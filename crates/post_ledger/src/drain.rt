@@ -93,8 +93,8 @@ fn gather_all<S: Site, R: Wait>(
     Ok(())
 }
 
-/// Has units and tasks do all that they can do until nothing is on its way between them. A full book or a full row takes
-/// several rounds.
+/// Has units and tasks do all that they can do until nothing is on its way between them. A full book or a full row
+/// takes several rounds.
 pub(crate) fn drain<S: Site, D: Device, R: Wait>(
     rt: &R,
     units: &mut Vec<UnitState<'_, S, D>>,

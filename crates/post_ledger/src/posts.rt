@@ -105,7 +105,8 @@ pub(crate) fn make_lists(
     requires lists { All (λ lists. length lists ≡ units) posts.old.items }
     ensures count { length posts.new.items ≤ tasks }
     ensures lists { All (λ lists. length lists ≡ units) posts.new.items }
-    ensures values { (task unit : ℕ) → list_of (lists_of posts.new.items task) unit ≡ list_of (lists_of posts.old.items task) unit }
+    ensures values { (task unit : ℕ) →
+        list_of (lists_of posts.new.items task) unit ≡ list_of (lists_of posts.old.items task) unit }
     ensures all { OnOk result (length posts.new.items ≡ tasks) }
 {
     for _ in posts.len()..tasks {

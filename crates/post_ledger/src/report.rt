@@ -10,7 +10,8 @@ use request_piece::Posted;
 use std::marker::Model;
 use unit_book::UnitBook;
 
-/// The account of a run that was brought to its end. Contracts see the book of each unit, and for each task a list for each unit.
+/// The account of a run that was brought to its end. Contracts see the book of each unit, and for each task a list
+/// for each unit.
 #[derive(Drop)]
 pub struct Report<D: Device> {
     units: Vec<UnitBook<D>>,
@@ -33,8 +34,8 @@ impl<D: Device> Report<D> {
         Report { units, tasks }
     }
 
-    /// The books of the units, in order of number: their readers give the trace, the device as it was mounted, and the device as the
-    /// trace leaves it.
+    /// The books of the units, in order of number: their readers give the trace, the device as it was mounted, and
+    /// the device as the trace leaves it.
     pub fn units(&self) -> &[UnitBook<D>]
         ensures { result.now ≡ self.now.books }
     {

@@ -29,9 +29,9 @@ enum Units<L, F> {
     Free(F),
 }
 
-/// A run that was not brought to its end, with all that it has: its units, its tasks, and what was collected of each task for the
-/// report. What has changed in it is a list of lawful steps, and no row is joined. Contracts see the cause, the states of the units
-/// once they are free, the tasks, and for each task a list for each unit.
+/// A run that was not brought to its end, with all that it has: its units, its tasks, and what was collected of
+/// each task for the report. What has changed in it is a list of lawful steps, and no row is joined. Contracts see
+/// the cause, the states of the units once they are free, the tasks, and for each task a list for each unit.
 #[derive(Drop)]
 pub struct Unfinished<'r, S: Site, D: Device> {
     alloc: Global,
@@ -100,14 +100,15 @@ impl<'r, S: Site, D: Device> Unfinished<'r, S, D> {
     }
 }
 
-/// Brings a run to its end, once its workers have ended: takes the locks off, lets units and tasks do all that is left to do until
-/// nothing is on its way between them, and joins the ends of each row. The tasks are all tasks of the system, each at the place of its
-/// number.
+/// Brings a run to its end, once its workers have ended: takes the locks off, lets units and tasks do all that is
+/// left to do until nothing is on its way between them, and joins the ends of each row. The tasks are all tasks of
+/// the system, each at the place of its number.
 ///
-/// Whatever the threads of the run did, for each unit of the report, with the trace of its book: the trace is legal, nothing waits and
-/// nothing is active; what arrived of each task is what `excp` accepted of it there, in order; each of these requests has just one post;
-/// and what the task had collected of the unit, and then its list in the report, is what the unit posted for it, in order, each value as
-/// its trace gives it. The device of the book is that of its trace on the device as it was mounted ([`unit_book::UnitBook::device`]).
+/// Whatever the threads of the run did, for each unit of the report, with the trace of its book: the trace is
+/// legal, nothing waits and nothing is active; what arrived of each task is what `excp` accepted of it there, in
+/// order; each of these requests has just one post; and what the task had collected of the unit, and then its list
+/// in the report, is what the unit posted for it, in order, each value as its trace gives it. The device of the
+/// book is that of its trace on the device as it was mounted ([`unit_book::UnitBook::device`]).
 ///
 /// Where there is no memory, or a unit's state is not under its own lock, nothing is lost: see [`Unfinished`].
 pub fn finish<'r, S: Site, D: Device, R: Wait>(
@@ -204,7 +205,8 @@ fn run_out<'r, S: Site, D: Device, R: Wait>(
     }
 }
 
-/// Lets units and tasks do all that is left to do, and makes room for all that the report needs, so that nothing is refused any more.
+/// Lets units and tasks do all that is left to do, and makes room for all that the report needs, so that nothing is
+/// refused any more.
 fn make_ready<'r, S: Site, D: Device, R: Wait>(
     rt: &R,
     alloc: Global,
@@ -227,7 +229,8 @@ fn make_ready<'r, S: Site, D: Device, R: Wait>(
     Room::new(alloc, units.len(), tasks.len())
 }
 
-/// Joins the rows of a run in which nothing is left to do, and gives its report. It takes no memory, and cannot be refused.
+/// Joins the rows of a run in which nothing is left to do, and gives its report. It takes no memory, and cannot be
+/// refused.
 fn close<'r, S: Site, D: Device>(
     units: Vec<UnitState<'r, S, D>>,
     tasks: Vec<Task<'r, S>>,
