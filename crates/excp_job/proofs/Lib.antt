@@ -1,4 +1,2 @@
--- How many requests arrived at a unit and may be held, and worked channel programs.
-pub mod Counting
-pub mod Rooms
+-- Worked channel programs.
 pub mod Rows

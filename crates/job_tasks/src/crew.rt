@@ -138,7 +138,7 @@ fn start<'s, 'r, S: Site + Send + Sync, R: Threads + Wait + Sync, E>(
 fn run_each<'r, S: Site + Send + Sync, R: Threads + Wait + Sync>(
     rt: &R,
     alloc: Global,
-    job: &Job<'_, 'r, S>,
+    job: &Job<'_, '_, S>,
     runners: &mut [Runner<'r, S>],
 )
     requires { ArePlaced (λ runner. runner.task.number) S.rows.tasks runners.old }

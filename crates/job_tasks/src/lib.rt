@@ -9,11 +9,10 @@ mod alarm;
 mod crew;
 mod lines;
 mod runner;
+mod tasks;
 
 pub use alarm::Alarm;
 pub use crew::{Crew, run_tasks};
 pub use lines::{End, Line, Lines};
 pub use runner::{Job, Runner};
-
-
-
+pub use tasks::{parted, runners};

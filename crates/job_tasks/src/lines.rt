@@ -1,6 +1,6 @@
 //! What is printed of the requests of a task.
 
-ghost use Rattle.std.specs.Prelude.{◌≡◌};
+ghost use Rattle.std.specs.Prelude.{◌≡◌, ◌<◌, IfOk, vec_len};
 
 use io_images::{Code, Csw};
 use request_piece::{Name, Posted};
@@ -57,17 +57,19 @@ impl Line {
 /// numbers.
 #[derive(Drop)]
 pub struct Lines {
-    units: Vec<Vec<Line>>,
+    pub units: Vec<Vec<Line>>,
     /// Whether a post came that no request waits for.
     stray: bool,
 }
 
 impl Lines {
     /// No request to so many units.
-    pub fn new(alloc: Global, units: usize) -> Result<Lines, AllocError> {
+    pub fn new(alloc: Global, units: usize) -> Result<Lines, AllocError>
+        ensures { IfOk result (λ lines. vec_len lines.units ≡ units) }
+    {
         let mut lines = Vec::with_capacity(alloc, units)?;
         for _ in 0..units {
-            lines.push_reserved(Vec::new(alloc));
+            lines.push(Vec::new(alloc))?;
         }
         Ok(Lines {
             units: lines,
@@ -82,7 +84,10 @@ impl Lines {
         unit: u16,
         show: u32,
         len: usize,
-    ) -> Result<(), AllocError> {
+    ) -> Result<(), AllocError>
+        requires { unit < vec_len self.old.units }
+        ensures { vec_len self.new.units ≡ vec_len self.old.units }
+    {
         self.units[usize::from(unit)].push(Line::new(alloc, show, len)?)?;
         Ok(())
     }
@@ -110,19 +115,5 @@ impl Lines {
                 .units
                 .iter()
                 .all(|lines| lines.iter().all(|line| line.end.is_some()))
-    }
-
-    /// How many requests there are.
-    pub fn count(&self) -> usize {
-        let mut count: usize = 0;
-        for lines in &self.units {
-            count = count.saturating_add(lines.len());
-        }
-        count
-    }
-
-    /// The lines of the requests to each unit, in order of the units and of the requests.
-    pub fn units(&self) -> &[Vec<Line>] {
-        &self.units
     }
 }

@@ -42,13 +42,14 @@ impl<'a, 'r, S: Site> Job<'a, 'r, S> {
     }
 }
 
-/// A task, what is printed of its requests, how many of them it collects yet, and why it ended before its last command.
+/// A task, what is printed of its requests, how many of them it has not collected yet, and why it ended before its
+/// last command.
 #[derive(Drop)]
 pub struct Runner<'r, S: Site> {
     pub task: Task<'r, S>,
-    pub lines: Lines,
+    lines: Lines,
     awaited: usize,
-    pub fault: Option<Fault>,
+    fault: Option<Fault>,
 }
 
 impl<'r, S: Site> Runner<'r, S> {
@@ -58,7 +59,7 @@ impl<'r, S: Site> Runner<'r, S> {
         task: Task<'r, S>,
         script: &Script,
     ) -> Result<Runner<'r, S>, AllocError>
-        ensures { IfOk result (λ runner. runner.task ≡ task) }
+        ensures { IfOk result (λ runner. runner.task ≡ task.entry) }
     {
         let lines = lines_of(alloc, script, task.number())?;
         Ok(Runner {
@@ -69,8 +70,18 @@ impl<'r, S: Site> Runner<'r, S> {
         })
     }
 
+    /// The task, and what is printed of its requests; or why it ended before its last command.
+    pub fn into_parts(self) -> Result<(Task<'r, S>, Lines), Fault>
+        ensures { IfOk result (λ parts. parts.0 ≡ self.entry.task) }
+    {
+        match self.fault {
+            None => Ok((self.task, self.lines)),
+            Some(fault) => Err(fault),
+        }
+    }
+
     /// Does the commands of the task, in order, and waits until all its requests were posted.
-    pub fn run<R: Wait>(&mut self, rt: &R, alloc: Global, job: &Job<'_, 'r, S>)
+    pub fn run<R: Wait>(&mut self, rt: &R, alloc: Global, job: &Job<'_, '_, S>)
         ensures { self.new.task.number ≡ self.old.task.number }
     {
         if let Err(fault) = self.commands(rt, alloc, job) {
@@ -82,7 +93,7 @@ impl<'r, S: Site> Runner<'r, S> {
         &mut self,
         rt: &R,
         alloc: Global,
-        job: &Job<'_, 'r, S>,
+        job: &Job<'_, '_, S>,
     ) -> Result<(), Fault>
         ensures { self.new.task.number ≡ self.old.task.number }
     {
@@ -103,7 +114,7 @@ impl<'r, S: Site> Runner<'r, S> {
         &mut self,
         rt: &R,
         alloc: Global,
-        job: &Job<'_, 'r, S>,
+        job: &Job<'_, '_, S>,
         command: &Command,
     ) -> Result<(), LineFault>
         requires { NamesUnits S.rows.units command.now }
@@ -184,12 +195,21 @@ fn lines_of(alloc: Global, script: &Script, task: u16) -> Result<Lines, AllocErr
     let mut lines = Lines::new(alloc, script.set_up.units.len())?;
     for command in &script.commands {
         if command.task == task {
-            if let Action::Excp(excp) = &command.action {
-                lines.expect(alloc, excp.dcb.unit, excp.show, excp.len as usize)?;
-            }
+            expect(alloc, &mut lines, command)?;
         }
     }
     Ok(lines)
+}
+
+/// Adds the line of the request that a command issues, if it issues one.
+fn expect(alloc: Global, lines: &mut Lines, command: &Command) -> Result<(), AllocError>
+    requires { NamesUnits (vec_len lines.old.units) command.now }
+    ensures { vec_len lines.new.units ≡ vec_len lines.old.units }
+{
+    if let Action::Excp(excp) = &command.action {
+        lines.expect(alloc, excp.dcb.unit, excp.show, excp.len as usize)?;
+    }
+    Ok(())
 }
 
 /// Purges the requests of a DCB.
