@@ -1,2 +1,3 @@
--- Worked channel programs.
+-- The books of a script, and worked channel programs.
+pub mod Books
 pub mod Rows

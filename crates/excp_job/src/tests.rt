@@ -19,8 +19,10 @@ use tapes_and_printers::TAPES_AND_PRINTERS;
 
 mod controls;
 mod disks;
+mod holds;
 mod programs;
 mod tapes_and_printers;
+mod threads;
 
 /// One task, and a disk of one track with R1, whose data are C1C2C3C4.
 const DISK: &str = "tasks 1\ndisk 0 0 1 1 40\nrec 0 0 0 1 - C1C2C3C4\n";
@@ -91,7 +93,7 @@ fn disks_tapes_and_printers(rt: HostRuntime) -> Result<(), Fail> {
 
 #[test]
 fn related_and_purged(rt: HostRuntime) -> Result<(), Fail> {
-    expect_runs(&rt, CONTROLS, 12)
+    expect_runs(&rt, CONTROLS, 7)
 }
 
 /// Reads by a list of two words on an area of 4,100 bytes: the first word leads to the last two bytes of a block of
