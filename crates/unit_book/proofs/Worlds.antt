@@ -12,7 +12,7 @@ use Rattle.unit_book.specs.Legal.{Legal}
 use Rattle.unit_book.specs.Lists.{Each}
 use Rattle.unit_book.specs.Laws.{times}
 use Rattle.unit_book.specs.World.{World, IsOpening, IsFinished, Reaches, requests_of}
-use Rattle.unit_book.specs.WorldLaws.{posts_of, KeepsRequests, WorldLaws}
+use Rattle.unit_book.specs.WorldLaws.{FinishedOnce, posts_of, KeepsRequests, WorldLaws}
 use Rattle.unit_book.proofs.Lists.{no_both}
 use Rattle.unit_book.proofs.Facts.{Known, Each-filter, Each-weaker, facts}
 use Rattle.unit_book.proofs.TraceLaws.{not-of, posts-last}
@@ -56,20 +56,22 @@ module _ {D : Type 0} (meaning : Meaning D) where
           clash : {k : ℕ} → k ≡ 0 → 0 + k ≡ 1 → ⊥
           clash z u = omega (arith, z, u)
 
+  -- in a finished trace each request that arrived has one post
+  pub finished-once : FinishedOnce meaning
+  finished-once mounted H l w a =
+      Each-weaker (Known H) (λ r. posts_of r.name H ≡ 1)
+      (λ r h. posts-once mounted r.name H l ∙ ap times (arrived-posted mounted r.name H l w a h.1))
+      (arrivals H) (facts meaning mounted H l).6
+
   finished-posts : (w : World D) → Kept meaning w → IsFinished w → (task : ℕ) → Each (λ r. posts_of r.name w.book.trace ≡ 1) (w.sent task)
   finished-posts w k f task =
       subst (Each (λ r. posts_of r.name w.book.trace ≡ 1)) sent
-      (Each-filter (λ r. posts_of r.name w.book.trace ≡ 1) (λ (r : Piece). r.name.task == task) (arrivals w.book.trace) all) where
+      (Each-filter (λ r. posts_of r.name w.book.trace ≡ 1) (λ (r : Piece). r.name.task == task) (arrivals w.book.trace)
+      (finished-once w.book.mounted w.book.trace k.legal f.waiting f.active)) where
         sent : requests_of task (arrivals w.book.trace) ≡ w.sent task
         sent =
             sym (append-nil (requests_of task (arrivals w.book.trace)))
             ∙ ap (λ x. requests_of task (arrivals w.book.trace) ++ requests_of task x) (sym f.flight) ∙ k.received task
-
-        all : Each (λ r. posts_of r.name w.book.trace ≡ 1) (arrivals w.book.trace)
-        all = Each-weaker (Known w.book.trace) (λ r. posts_of r.name w.book.trace ≡ 1)
-            (λ r h. posts-once w.book.mounted r.name w.book.trace k.legal
-            ∙ ap times (arrived-posted w.book.mounted r.name w.book.trace k.legal f.waiting f.active h.1))
-            (arrivals w.book.trace) (facts meaning w.book.mounted w.book.trace k.legal).6
 
   worlds-keep : (first last : World D) → IsOpening meaning first → Reaches meaning first last → KeepsRequests meaning last
   worlds-keep first last o r =

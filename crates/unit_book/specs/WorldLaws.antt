@@ -1,11 +1,11 @@
 -- LAWS OF WORLDS: what holds after every list of steps (profile).
-use Rattle.std.specs.Prelude.{◌≡◌, ◌≤◌, ℕ, ◌+◌, ◌==◌, Some, List, ◌++◌, length, map, slice_get}
+use Rattle.std.specs.Prelude.{◌≡◌, ◌≤◌, ℕ, ◌+◌, ◌==◌, Some, None, List, [], ◌++◌, length, map, slice_get}
 use Rattle.std.specs.List.{filter}
 use Rattle.device_port.specs.Meaning.{Meaning}
 use Rattle.request_piece.specs.declared.piece.Name.{Name}
 use Rattle.request_piece.specs.declared.piece.Piece.{Piece}
 use Rattle.unit_book.specs.declared.entry.Entry.{Entry}
-use Rattle.unit_book.specs.Trace.{posts, arrivals, has_started}
+use Rattle.unit_book.specs.Trace.{posts, arrivals, waiting, active, has_started}
 use Rattle.unit_book.specs.Legal.{Legal, Settled}
 use Rattle.unit_book.specs.Posts.{posted}
 use Rattle.unit_book.specs.Lists.{Each}
@@ -17,6 +17,10 @@ abbrev pub posts_of : Name → List Entry → ℕ
 posts_of n H = length (filter (posts n) H)
 
 module _ {D : Type 0} (meaning : Meaning D) where
+  -- A FINISHED TRACE HAS ONE POST FOR EACH ARRIVAL: one in which nothing waits and nothing is active
+  abbrev pub FinishedOnce : Type 0
+  FinishedOnce = (mounted : D) (H : List Entry) → Legal meaning mounted H → waiting H ≡ [] → active H ≡ None → Each (λ r. posts_of r.name H ≡ 1) (arrivals H)
+
   -- A WORLD KEEPS ITS REQUESTS
   pub record KeepsRequests (w : World D) : Type 0 where
     -- what arrived of a task, and then what is in flight of it, is what it sent

@@ -1,7 +1,7 @@
 //! Laws of every legal trace, those with halts, purges and closed DCBs included, and of the world of a unit.
 
 ghost use Rattle.unit_book.specs.Laws.{FewStarts, NoDoomedStarts, OnePlace, PostsLast, StartsInOrder};
-ghost use Rattle.unit_book.specs.WorldLaws.{WorldLaws};
+ghost use Rattle.unit_book.specs.WorldLaws.{FinishedOnce, WorldLaws};
 
 use device_port::Device;
 
@@ -30,6 +30,11 @@ pub fn doomed_are_not_started<D: Device>()
 /// At most one request is active, and each has at most eleven starts.
 pub fn starts_are_few<D: Device>()
     ensures { FewStarts D.meaning }
+{}
+
+/// Where nothing waits and nothing is active, each request that arrived has just one post.
+pub fn finished_posts_once<D: Device>()
+    ensures { FinishedOnce D.meaning }
 {}
 
 /// After every list of steps of a unit's world, what arrived of a task and what is in flight of it is what the

@@ -1,0 +1,64 @@
+-- What the joined rows tell of a report.
+use Rattle.std.proofs.Common.{◌≡◌, ◌==◌, ℕ, List, [], ◌++◌, map, Some, sym, ap, ◌∙◌, subst}
+use Rattle.std.specs.Prelude.{slice_get}
+use Rattle.std.specs.List.{All}
+use Rattle.std.proofs.lemmas.List.{append-nil}
+use Rattle.device_port.specs.Meaning.{Meaning}
+use Rattle.request_piece.specs.PostedState.{PostedState}
+use Rattle.request_piece.specs.declared.piece.Piece.{Piece}
+use Rattle.unit_book.specs.Book.{Book, given}
+use Rattle.unit_book.specs.Legal.{Legal}
+use Rattle.unit_book.specs.Lists.{Each}
+use Rattle.unit_book.specs.Posts.{posted}
+use Rattle.unit_book.specs.Settle.{IsIdle}
+use Rattle.unit_book.specs.Trace.{arrivals}
+use Rattle.unit_book.specs.WorldLaws.{FinishedOnce, posts_of}
+use Rattle.unit_book.proofs.Facts.{Each-filter}
+use Rattle.fifo_row.specs.Lists.{of}
+use Rattle.excp_system.specs.Drained.{Drained, IsDrained}
+use Rattle.excp_system.specs.Sites.{task_of, for_task}
+use Rattle.excp_system.specs.States.{Locked, TaskState}
+use Rattle.post_ledger.specs.Parting.{AreSettled, IsSound, book_of}
+use Rattle.post_ledger.specs.Report.{AreIdle, AreLegal, PostedOnce, Received, ReportState, ReturnedRest}
+use Rattle.post_ledger.specs.Work.{list_of, lists_of}
+use Rattle.post_ledger.proofs.Pairs.{all_get, all_map, all_weaker, get_map}
+
+module _ {D : Type 0} (meaning : Meaning D) (units : List (Locked D)) (tasks : List TaskState) (report : ReportState D) (are : report.books ≡ map book_of units) where
+  -- the unit that a book of the report is of
+  unit_at : (u : ℕ) (b : Book D) → slice_get report.books u ≡ Some b → (v : Locked D) × (slice_get units u ≡ Some v) × (b ≡ v.book)
+  unit_at u b e = get_map book_of units u b (ap (λ l. slice_get l u) (sym are) ∙ e)
+
+  pub are_legal : All (λ (v : Locked D). IsSound meaning v.book) units → AreLegal meaning report
+  are_legal sound =
+      subst (All (λ (b : Book D). Legal meaning b.mounted b.trace)) (sym are)
+      (all_map book_of (λ (b : Book D). Legal meaning b.mounted b.trace) units
+      (all_weaker (λ (v : Locked D). IsSound meaning v.book) (λ (v : Locked D). Legal meaning v.book.mounted v.book.trace) units (λ v s. s.legal) sound))
+
+  pub are_idle : All (λ (v : Locked D). IsIdle v.book.trace) units → AreIdle report
+  are_idle idle = subst (All (λ (b : Book D). IsIdle b.trace)) (sym are) (all_map book_of (λ (b : Book D). IsIdle b.trace) units idle)
+
+  module _ (settled : AreSettled meaning units tasks) where
+    pub received : Received report tasks
+    received u t b w e e' = let v = unit_at u b e in ap (λ (x : Book D). of task_of t (arrivals x.trace)) v.2 ∙ (settled u t v.0 w v.1 e').0
+
+    pub posted_once : FinishedOnce meaning → AreLegal meaning report → AreIdle report → PostedOnce report tasks
+    posted_once law legal idle u t b w e e' =
+        let i = all_get (λ (x : Book D). IsIdle x.trace) report.books u b idle e in
+        let l = all_get (λ (x : Book D). Legal meaning x.mounted x.trace) report.books u b legal e in
+        subst (Each (λ r. posts_of r.name b.trace ≡ 1)) (received u t b w e e')
+        (Each-filter (λ r. posts_of r.name b.trace ≡ 1) (λ (r : Piece). r.name.task == t) (arrivals b.trace) (law b.mounted b.trace l i.none_waits i.none_active))
+
+    -- nothing is out, so that all that was posted was given
+    all_given : (v : Locked D) → IsSound meaning v.book → v.book.out ≡ [] → given meaning v.book ≡ posted meaning v.book.mounted v.book.trace
+    all_given v sound none = sym (append-nil (given meaning v.book)) ∙ (ap (λ l. given meaning v.book ++ l) (sym none) ∙ sound.given)
+
+    pub returned_rest : (lists : List (List (List PostedState))) → report.lists ≡ lists → All (λ (v : Locked D). IsSound meaning v.book) units → Drained meaning units tasks → ReturnedRest meaning lists report tasks
+    returned_rest lists same sound drained u t b w e e' before got =
+        let v = unit_at u b e in
+        let s = all_get (λ (x : Locked D). IsSound meaning x.book) units u v.0 sound v.1 in
+        let d = all_get (IsDrained meaning tasks) units u v.0 drained v.1 in
+        ap (λ l. before ++ list_of (lists_of l t) u) same
+        ∙ (sym got
+        ∙ ((settled u t v.0 w v.1 e').1
+        ∙ (ap (of for_task t) (all_given v.0 s d.out)
+        ∙ ap (λ (x : Book D). of for_task t (posted meaning x.mounted x.trace)) (sym v.2))))

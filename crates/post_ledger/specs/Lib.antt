@@ -1,0 +1,5 @@
+pub mod Rows
+pub mod Parting
+pub mod Work
+pub mod Report
+pub mod Left

@@ -1,0 +1,52 @@
+-- UNITS AND TASKS AND THEIR ENDS OF THE ROWS (profile).
+use Rattle.std.specs.Prelude.{◌≡◌, ◌<◌, ℕ, List, length, ◌++◌, Some, slice_get}
+use Rattle.device_port.specs.Meaning.{Meaning}
+use Rattle.request_piece.specs.PostedState.{PostedState}
+use Rattle.request_piece.specs.declared.piece.Piece.{Piece}
+use Rattle.unit_book.specs.Book.{Book, given}
+use Rattle.unit_book.specs.Legal.{Legal}
+use Rattle.unit_book.specs.Posts.{posted}
+use Rattle.unit_book.specs.Trace.{arrivals}
+use Rattle.fifo_row.specs.Ends.{Taking}
+use Rattle.fifo_row.specs.Lists.{of}
+use Rattle.excp_system.specs.Sites.{SiteRows, intake_rows, post_rows, task_of, unit_of, for_task, taker_of}
+use Rattle.excp_system.specs.Fans.{FanState, sent_to}
+use Rattle.excp_system.specs.States.{Locked, TaskState, sent_by}
+
+-- the book of a unit
+abbrev pub book_of : {D : Type 0} → Locked D → Book D
+book_of v = v.book
+
+-- a unit's end of its intake row
+abbrev pub intake_end : {D : Type 0} → SiteRows → Locked D → Taking Piece
+intake_end s v = taker_of (intake_rows s) s.tasks v.unit (arrivals v.book.trace)
+
+-- a task's end of its post row
+abbrev pub post_end : SiteRows → TaskState → Taking PostedState
+post_end s w = taker_of (post_rows s) s.units w.number w.got
+
+-- a task's ends of the intake rows
+abbrev pub out_of : TaskState → FanState Piece
+out_of w = record { number = w.number; sent = w.sent }
+
+-- one value of another list for each
+pub record Paired {A B : Type 0} (P : A → B → Type 0) (xs : List A) (ys : List B) : Type 0 where
+  pub count : length ys ≡ length xs
+  pub each : (k : ℕ) (x : A) (y : B) → slice_get xs k ≡ Some x → slice_get ys k ≡ Some y → P x y
+
+module _ {D : Type 0} (meaning : Meaning D) where
+  -- what a book keeps: its trace is legal, and what it posted was given or is out
+  pub record IsSound (b : Book D) : Type 0 where
+    pub legal : Legal meaning b.mounted b.trace
+    pub given : given meaning b ++ b.out ≡ posted meaning b.mounted b.trace
+
+  -- a unit's ends of the post rows: each task was sent what the book gave of its values
+  pub record IsBack (s : SiteRows) (v : Locked D) (f : FanState PostedState) : Type 0 where
+    pub number_is : f.number ≡ v.unit
+    pub count : length f.sent ≡ s.tasks
+    pub sent : (task : ℕ) → task < s.tasks → sent_to f task ≡ of for_task task (given meaning v.book)
+
+  -- of each task and unit: what arrived is what the task sent, and what the task collected is what the book gave
+  abbrev pub AreSettled : List (Locked D) → List TaskState → Type 0
+  AreSettled units tasks = (u t : ℕ) (v : Locked D) (w : TaskState) → slice_get units u ≡ Some v → slice_get tasks t ≡ Some w →
+      (of task_of t (arrivals v.book.trace) ≡ sent_by w u) × (of unit_of u w.got ≡ of for_task t (given meaning v.book))

@@ -1,0 +1,156 @@
+//! Units and tasks are taken apart, and their ends of the rows come together.
+
+ghost use Rattle.std.specs.Prelude.{◌≡◌, ◌≤◌, [], length, map, vec_capacity, vec_len, IfOk};
+ghost use Rattle.std.specs.List.{All};
+ghost use Rattle.excp_system.specs.Drained.{ArePlaced, Drained};
+ghost use Rattle.post_ledger.specs.Parting.{AreSettled, IsBack, IsSound, Paired, book_of, intake_end, out_of, post_end};
+
+use crate::join::join_rows;
+use device_port::Device;
+use excp_system::{Fan, IntakeRows, PostRows, Returned, Sent, Site, Task, UnitState};
+use fifo_row::Taker;
+use std::alloc::{AllocError, Global};
+use unit_book::UnitBook;
+
+/// What units are taken apart into.
+#[derive(Drop)]
+struct UnitParts<'r, S: Site, D: Device> {
+    books: Vec<UnitBook<D>>,
+    intakes: Vec<Taker<'r, Sent>>,
+    backs: Vec<Fan<'r, Returned, PostRows<S>>>,
+}
+
+/// What tasks are taken apart into.
+#[derive(Drop)]
+struct TaskParts<'r, S: Site> {
+    outs: Vec<Fan<'r, Sent, IntakeRows<S>>>,
+    collected: Vec<Taker<'r, Returned>>,
+}
+
+/// Room for what units and tasks are taken apart into.
+#[derive(Drop)]
+pub(crate) struct Room<'r, S: Site, D: Device> {
+    books: Vec<UnitBook<D>>,
+    intakes: Vec<Taker<'r, Sent>>,
+    backs: Vec<Fan<'r, Returned, PostRows<S>>>,
+    outs: Vec<Fan<'r, Sent, IntakeRows<S>>>,
+    collected: Vec<Taker<'r, Returned>>,
+    ghost no_books: { (books.items ≡ []) × (S.rows.units ≤ vec_capacity books) },
+    ghost no_intakes: { (intakes.items ≡ []) × (S.rows.units ≤ vec_capacity intakes) },
+    ghost no_backs: { (backs.items ≡ []) × (S.rows.units ≤ vec_capacity backs) },
+    ghost no_outs: { (outs.items ≡ []) × (S.rows.tasks ≤ vec_capacity outs) },
+    ghost no_collected: { (collected.items ≡ []) × (S.rows.tasks ≤ vec_capacity collected) },
+}
+
+impl<'r, S: Site, D: Device> Room<'r, S, D> {
+    /// Room for all units and tasks of a site.
+    pub(crate) fn new(
+        alloc: Global,
+        units: usize,
+        tasks: usize,
+    ) -> Result<Room<'r, S, D>, AllocError>
+        requires units { units ≡ S.rows.units }
+        requires tasks { tasks ≡ S.rows.tasks }
+    {
+        Ok(Room {
+            books: Vec::with_capacity(alloc, units)?,
+            intakes: Vec::with_capacity(alloc, units)?,
+            backs: Vec::with_capacity(alloc, units)?,
+            outs: Vec::with_capacity(alloc, tasks)?,
+            collected: Vec::with_capacity(alloc, tasks)?,
+        })
+    }
+}
+
+/// Takes units apart, where there is room for their parts.
+fn split_units<'r, S: Site, D: Device>(
+    units: Vec<UnitState<'r, S, D>>,
+    parts: UnitParts<'r, S, D>,
+) -> UnitParts<'r, S, D>
+    requires books { (parts.books.items ≡ []) × (vec_len units ≤ vec_capacity parts.books) }
+    requires intakes { (parts.intakes.items ≡ []) × (vec_len units ≤ vec_capacity parts.intakes) }
+    requires backs { (parts.backs.items ≡ []) × (vec_len units ≤ vec_capacity parts.backs) }
+    ensures books { result.books.items ≡ map book_of units.entry.items }
+    ensures intakes { result.intakes.items ≡ map (intake_end S.rows) units.entry.items }
+    ensures backs { Paired (IsBack D.meaning S.rows) units.entry.items result.backs.items }
+    ensures sound { All (λ unit. IsSound D.meaning unit.book) units.entry.items }
+{
+    let UnitParts {
+        mut books,
+        mut intakes,
+        mut backs,
+    } = parts;
+    for unit in units {
+        unit.holds();
+        let (book, intake, back, _notice) = unit.into_parts();
+        books.push_reserved(book);
+        intakes.push_reserved(intake);
+        backs.push_reserved(back);
+    }
+    UnitParts {
+        books,
+        intakes,
+        backs,
+    }
+}
+
+/// Takes tasks apart, where there is room for their parts.
+fn split_tasks<'r, S: Site>(tasks: Vec<Task<'r, S>>, parts: TaskParts<'r, S>) -> TaskParts<'r, S>
+    requires outs { (parts.outs.items ≡ []) × (vec_len tasks ≤ vec_capacity parts.outs) }
+    requires collected { (parts.collected.items ≡ []) × (vec_len tasks ≤ vec_capacity parts.collected) }
+    ensures outs { result.outs.items ≡ map out_of tasks.entry.items }
+    ensures collected { result.collected.items ≡ map (post_end S.rows) tasks.entry.items }
+    ensures counts { All (λ task. length task.sent ≡ S.rows.units) tasks.entry.items }
+{
+    let TaskParts {
+        mut outs,
+        mut collected,
+    } = parts;
+    for task in tasks {
+        let (out, end) = task.into_parts();
+        outs.push_reserved(out);
+        collected.push_reserved(end);
+    }
+    TaskParts { outs, collected }
+}
+
+/// Joins all rows of a system from which all was taken, and gives the books. It takes no memory, and cannot be refused.
+pub(crate) fn join_all<'r, S: Site, D: Device>(
+    units: Vec<UnitState<'r, S, D>>,
+    tasks: Vec<Task<'r, S>>,
+    room: Room<'r, S, D>,
+) -> Vec<UnitBook<D>>
+    requires units { ArePlaced (λ unit. unit.unit) S.rows.units units.items }
+    requires tasks { ArePlaced (λ task. task.number) S.rows.tasks tasks.items }
+    requires drained { Drained D.meaning units.items tasks.items }
+    ensures books { result.items ≡ map book_of units.entry.items }
+    ensures sound { All (λ unit. IsSound D.meaning unit.book) units.entry.items }
+    ensures settled { AreSettled D.meaning units.entry.items tasks.entry.items }
+{
+    let Room {
+        books,
+        intakes,
+        backs,
+        outs,
+        collected,
+    } = room;
+    let UnitParts {
+        books,
+        intakes,
+        mut backs,
+    } = split_units(
+        units,
+        UnitParts {
+            books,
+            intakes,
+            backs,
+        },
+    );
+    let TaskParts {
+        mut outs,
+        collected,
+    } = split_tasks(tasks, TaskParts { outs, collected });
+    join_rows(intakes, &mut outs);
+    join_rows(collected, &mut backs);
+    books
+}

@@ -1,0 +1,252 @@
+//! The end of a run.
+
+ghost use Rattle.std.specs.Prelude.{◌≡◌, ◌≤◌, [], Some, length, map, IfErr, IfOk, OnOk};
+ghost use Rattle.std.specs.List.{All};
+ghost use Rattle.unit_book.specs.Settle.{IsIdle};
+ghost use Rattle.excp_system.specs.Drained.{ArePlaced, Drained};
+ghost use Rattle.post_ledger.specs.Left.{AreLists, GrewInto, IsCause, WorkOn};
+ghost use Rattle.post_ledger.specs.Parting.{Paired, book_of};
+ghost use Rattle.post_ledger.specs.Report.{AreIdle, AreLegal, IsFor, PostedOnce, Received, Returned, ReturnedRest};
+ghost use Rattle.post_ledger.specs.Work.{Collects, Works};
+
+use crate::cause::Cause;
+use crate::drain::drain;
+use crate::parting::{Room, join_all};
+use crate::places::are_placed;
+use crate::posts::{Posts, make_lists};
+use crate::report::Report;
+use device_port::Device;
+use excp_system::{Site, System, Task, UnitState};
+use std::alloc::{AllocError, AllocFailed, Global};
+use std::marker::Model;
+use std::sync::Wait;
+use unit_book::laws::finished_posts_once;
+
+/// The units of a run, under their locks or free.
+#[derive(Drop)]
+enum Units<L, F> {
+    Locked(L),
+    Free(F),
+}
+
+/// A run that was not brought to its end, with all that it has: its units, its tasks, and what was collected of each task for the
+/// report. What has changed in it is a list of lawful steps, and no row is joined. Contracts see the cause, the states of the units
+/// once they are free, the tasks, and for each task a list for each unit.
+#[derive(Drop)]
+pub struct Unfinished<'r, S: Site, D: Device> {
+    alloc: Global,
+    cause: Cause,
+    units: Units<System<'r, S, D>, Vec<UnitState<'r, S, D>>>,
+    tasks: Vec<Task<'r, S>>,
+    posts: Vec<Posts>,
+}
+
+impl<'r, S: Site, D: Device> Model for Unfinished<'r, S, D> {
+    ghost use Rattle.std.specs.Prelude.{◌≤◌, ◌≡◌, length, IfSome};
+    ghost use Rattle.std.specs.List.{All};
+    ghost use Rattle.excp_system.specs.Drained.{ArePlaced};
+    ghost use Rattle.post_ledger.specs.Left.{Left, free_states, AreLists};
+
+    ghost Value = { Left D };
+
+    ghost view = { λ u. record { cause = u.cause; units = free_states u.units; tasks = u.tasks.items; lists = u.posts.items } };
+
+    ghost invariant = { λ u. ArePlaced (λ task. task.number) S.rows.tasks u.tasks.items
+        × AreLists S.rows.units S.rows.tasks u.posts.items
+        × IfSome (free_states u.units) (λ units. length units ≡ S.rows.units) };
+}
+
+impl<'r, S: Site, D: Device> Unfinished<'r, S, D> {
+    /// Why the run was not brought to its end.
+    pub fn cause(&self) -> Cause
+        ensures { result ≡ self.now.cause }
+    {
+        self.cause
+    }
+
+    /// Goes on to bring the run to its end, as [`finish`], from where it stands.
+    pub fn resume<R: Wait>(self, rt: &R) -> Result<Report<D>, Unfinished<'r, S, D>>
+        ensures complete { IfOk result (λ report. IsFor S.rows.units S.rows.tasks report) }
+        ensures legal { IfOk result (λ report. AreLegal D.meaning report) }
+        ensures idle { IfOk result (λ report. AreIdle report) }
+        ensures received { IfOk result (λ report. Received report self.entry.tasks) }
+        ensures posted_once { IfOk result (λ report. PostedOnce report self.entry.tasks) }
+        ensures returned { IfOk result (λ report. ReturnedRest D.meaning self.entry.lists report self.entry.tasks) }
+        ensures grew { IfOk result (λ report. GrewInto self.entry.units report.books) }
+        ensures collects { IfErr result (λ left. Collects S.rows.units self.entry.tasks left.tasks self.entry.lists left.lists) }
+        ensures works { IfErr result (λ left. WorkOn self.entry.units left.units) }
+        ensures cause { IfErr result (λ left. IsCause S.rows.units left.cause left.units) }
+    {
+        let Unfinished {
+            alloc,
+            cause: _,
+            units,
+            tasks,
+            posts,
+        } = self;
+        match units {
+            Units::Free(units) => go_on(rt, alloc, units, tasks, posts),
+            Units::Locked(system) => match system.into_units() {
+                Ok(units) => go_on(rt, alloc, units, tasks, posts),
+                Err(AllocFailed { value: system }) => Err(Unfinished {
+                    alloc,
+                    cause: Cause::NoMemory,
+                    units: Units::Locked(system),
+                    tasks,
+                    posts,
+                }),
+            },
+        }
+    }
+}
+
+/// Brings a run to its end, once its workers have ended: takes the locks off, lets units and tasks do all that is left to do until
+/// nothing is on its way between them, and joins the ends of each row. The tasks are all tasks of the system, each at the place of its
+/// number.
+///
+/// Whatever the threads of the run did, for each unit of the report, with the trace of its book: the trace is legal, nothing waits and
+/// nothing is active; what arrived of each task is what `excp` accepted of it there, in order; each of these requests has just one post;
+/// and what the task had collected of the unit, and then its list in the report, is what the unit posted for it, in order, each value as
+/// its trace gives it. The device of the book is that of its trace on the device as it was mounted ([`unit_book::UnitBook::device`]).
+///
+/// Where there is no memory, or a unit's state is not under its own lock, nothing is lost: see [`Unfinished`].
+pub fn finish<'r, S: Site, D: Device, R: Wait>(
+    rt: &R,
+    alloc: Global,
+    system: System<'r, S, D>,
+    tasks: Vec<Task<'r, S>>,
+) -> Result<Report<D>, Unfinished<'r, S, D>>
+    requires { ArePlaced (λ task. task.number) S.rows.tasks tasks.items }
+    ensures complete { IfOk result (λ report. IsFor S.rows.units S.rows.tasks report) }
+    ensures legal { IfOk result (λ report. AreLegal D.meaning report) }
+    ensures idle { IfOk result (λ report. AreIdle report) }
+    ensures received { IfOk result (λ report. Received report tasks.entry.items) }
+    ensures posted_once { IfOk result (λ report. PostedOnce report tasks.entry.items) }
+    ensures returned { IfOk result (λ report. Returned D.meaning report tasks.entry.items) }
+    ensures collects { IfErr result (λ left. Collects S.rows.units tasks.entry.items left.tasks [] left.lists) }
+    ensures cause { IfErr result (λ left. IsCause S.rows.units left.cause left.units) }
+{
+    let run = Unfinished {
+        alloc,
+        cause: Cause::NoMemory,
+        units: Units::Locked(system),
+        tasks,
+        posts: Vec::new(alloc),
+    };
+    run.resume(rt)
+}
+
+/// Brings a run whose units are free to its end, if each unit's state is at the place of its number.
+fn go_on<'r, S: Site, D: Device, R: Wait>(
+    rt: &R,
+    alloc: Global,
+    units: Vec<UnitState<'r, S, D>>,
+    tasks: Vec<Task<'r, S>>,
+    posts: Vec<Posts>,
+) -> Result<Report<D>, Unfinished<'r, S, D>>
+    requires units { length units.items ≡ S.rows.units }
+    requires tasks { ArePlaced (λ task. task.number) S.rows.tasks tasks.items }
+    requires lists { AreLists S.rows.units S.rows.tasks posts.items }
+    ensures complete { IfOk result (λ report. IsFor S.rows.units S.rows.tasks report) }
+    ensures legal { IfOk result (λ report. AreLegal D.meaning report) }
+    ensures idle { IfOk result (λ report. AreIdle report) }
+    ensures received { IfOk result (λ report. Received report tasks.entry.items) }
+    ensures posted_once { IfOk result (λ report. PostedOnce report tasks.entry.items) }
+    ensures returned { IfOk result (λ report. ReturnedRest D.meaning posts.items report tasks.entry.items) }
+    ensures grew { IfOk result (λ report. GrewInto (Some units.entry.items) report.books) }
+    ensures collects { IfErr result (λ left. Collects S.rows.units tasks.entry.items left.tasks posts.items left.lists) }
+    ensures works { IfErr result (λ left. WorkOn (Some units.entry.items) left.units) }
+    ensures cause { IfErr result (λ left. IsCause S.rows.units left.cause left.units) }
+{
+    if are_placed(units.as_slice()) {
+        return run_out(rt, alloc, units, tasks, posts);
+    }
+    Err(Unfinished {
+        alloc,
+        cause: Cause::Mixed,
+        units: Units::Free(units),
+        tasks,
+        posts,
+    })
+}
+
+/// Brings a run whose units are free, each at the place of its number, to its end.
+fn run_out<'r, S: Site, D: Device, R: Wait>(
+    rt: &R,
+    alloc: Global,
+    mut units: Vec<UnitState<'r, S, D>>,
+    mut tasks: Vec<Task<'r, S>>,
+    mut posts: Vec<Posts>,
+) -> Result<Report<D>, Unfinished<'r, S, D>>
+    requires units { ArePlaced (λ unit. unit.unit) S.rows.units units.items }
+    requires tasks { ArePlaced (λ task. task.number) S.rows.tasks tasks.items }
+    requires lists { AreLists S.rows.units S.rows.tasks posts.items }
+    ensures complete { IfOk result (λ report. IsFor S.rows.units S.rows.tasks report) }
+    ensures legal { IfOk result (λ report. AreLegal D.meaning report) }
+    ensures idle { IfOk result (λ report. AreIdle report) }
+    ensures received { IfOk result (λ report. Received report tasks.entry.items) }
+    ensures posted_once { IfOk result (λ report. PostedOnce report tasks.entry.items) }
+    ensures returned { IfOk result (λ report. ReturnedRest D.meaning posts.items report tasks.entry.items) }
+    ensures grew { IfOk result (λ report. GrewInto (Some units.entry.items) report.books) }
+    ensures collects { IfErr result (λ left. Collects S.rows.units tasks.entry.items left.tasks posts.items left.lists) }
+    ensures works { IfErr result (λ left. WorkOn (Some units.entry.items) left.units) }
+    ensures cause { IfErr result (λ left. IsCause S.rows.units left.cause left.units) }
+{
+    match make_ready(rt, alloc, &mut units, &mut tasks, &mut posts) {
+        Ok(room) => Ok(close(units, tasks, posts, room)),
+        Err(AllocError) => Err(Unfinished {
+            alloc,
+            cause: Cause::NoMemory,
+            units: Units::Free(units),
+            tasks,
+            posts,
+        }),
+    }
+}
+
+/// Lets units and tasks do all that is left to do, and makes room for all that the report needs, so that nothing is refused any more.
+fn make_ready<'r, S: Site, D: Device, R: Wait>(
+    rt: &R,
+    alloc: Global,
+    units: &mut Vec<UnitState<'r, S, D>>,
+    tasks: &mut Vec<Task<'r, S>>,
+    posts: &mut Vec<Posts>,
+) -> Result<Room<'r, S, D>, AllocError>
+    requires units { ArePlaced (λ unit. unit.unit) S.rows.units units.old.items }
+    requires tasks { ArePlaced (λ task. task.number) S.rows.tasks tasks.old.items }
+    requires lists { AreLists S.rows.units S.rows.tasks posts.old.items }
+    ensures works { Paired Works units.old.items units.new.items }
+    ensures collects { Collects S.rows.units tasks.old.items tasks.new.items posts.old.items posts.new.items }
+    ensures lists { AreLists S.rows.units S.rows.tasks posts.new.items }
+    ensures all { OnOk result (length posts.new.items ≡ S.rows.tasks) }
+    ensures idle { OnOk result (All (λ unit. IsIdle unit.book.trace) units.new.items) }
+    ensures drained { OnOk result (Drained D.meaning units.new.items tasks.new.items) }
+{
+    make_lists(alloc, posts, tasks.len(), units.len())?;
+    drain(rt, units, tasks, posts)?;
+    Room::new(alloc, units.len(), tasks.len())
+}
+
+/// Joins the rows of a run in which nothing is left to do, and gives its report. It takes no memory, and cannot be refused.
+fn close<'r, S: Site, D: Device>(
+    units: Vec<UnitState<'r, S, D>>,
+    tasks: Vec<Task<'r, S>>,
+    posts: Vec<Posts>,
+    room: Room<'r, S, D>,
+) -> Report<D>
+    requires units { ArePlaced (λ unit. unit.unit) S.rows.units units.items }
+    requires tasks { ArePlaced (λ task. task.number) S.rows.tasks tasks.items }
+    requires idle { All (λ unit. IsIdle unit.book.trace) units.items }
+    requires drained { Drained D.meaning units.items tasks.items }
+    ensures books { result.books ≡ map book_of units.entry.items }
+    ensures lists { result.lists ≡ posts.items }
+    ensures legal { AreLegal D.meaning result }
+    ensures idle { AreIdle result }
+    ensures received { Received result tasks.entry.items }
+    ensures posted_once { PostedOnce result tasks.entry.items }
+    ensures returned { ReturnedRest D.meaning posts.items result tasks.entry.items }
+{
+    finished_posts_once::<D>();
+    let books = join_all(units, tasks, room);
+    Report::new(books, posts)
+}
