@@ -1,13 +1,18 @@
 //! The run of a script: its tasks on threads of their own, beside channel workers and interruption handlers.
 
-ghost use Rattle.std.specs.Prelude.{◌≡◌, ◌≤◌, ◌+◌, vec_len};
+ghost use Rattle.std.specs.Prelude.{◌≡◌, ◌≤◌, ◌<◌, ◌+◌, IfOk, length, vec_len};
 ghost use Rattle.job_script.specs.Reading.{ReadsAtMost};
-ghost use Rattle.excp_system.specs.Opening.{AreBooks, AreFresh, site_of};
+ghost use Rattle.excp_system.specs.Drained.{ArePlaced};
+ghost use Rattle.excp_system.specs.Opening.{AreBooks, AreFresh, AreTasks, site_of};
+ghost use Rattle.post_ledger.specs.Report.{IsFor};
+ghost use Rattle.post_ledger.specs.Work.{lists_of};
 
+use crate::arguments::Workers;
 use crate::output::write;
-use excp_system::{Rows, Site, System};
+use excp_system::{Rows, Site, System, Task};
 use job_script::{Fault, LIMIT, Script, read_script};
 use job_tasks::{Alarm, Crew, Job, Lines, parted, run_tasks, runners};
+use post_ledger::{Cause, Report, finish};
 use std::alloc::Global;
 use std::io::{Read, Write};
 use std::marker::Brand;
@@ -35,7 +40,8 @@ pub fn run_script<R: Threads + Wait + Sync, I: Read, W: Write + Drop>(
 {
     let text = read_script(alloc, reader)?;
     let script = Script::parse(alloc, &text)?;
-    let lines = lines(rt, alloc, &script, channels, handlers)?;
+    let workers = Workers { channels, handlers };
+    let lines = lines(rt, alloc, &script, workers)?;
     write(alloc, &lines, writer)
 }
 
@@ -44,20 +50,17 @@ fn lines<R: Threads + Wait + Sync>(
     rt: &R,
     alloc: Global,
     script: &Script,
-    channels: u8,
-    handlers: u8,
+    workers: Workers,
 ) -> Result<Vec<Lines>, Fault>
     requires tasks { (1 ≤ script.now.set_up.tasks) × (script.now.set_up.tasks ≤ 64) }
     requires units { (1 ≤ vec_len script.now.set_up.units) × (vec_len script.now.set_up.units ≤ 64) }
-    requires channels { 1 ≤ channels }
-    requires handlers { 1 ≤ handlers }
 {
     let intake = script.most_to_a_unit().clamp(1, MOST_HELD);
     let post = script.most_of_a_task().clamp(1, MOST_HELD);
     let books = script.books(alloc, intake)?;
     let units = script.set_up.units.len() as u16;
     let mut rows = Rows::new(alloc, script.set_up.tasks, units, intake, post)?;
-    run_on::<Brand, R>(rt, alloc, &mut rows, books, script, channels, handlers)
+    run_on::<Brand, R>(rt, alloc, &mut rows, books, script, workers)
 }
 
 /// Runs a script on a system of these rows and books, to its end.
@@ -67,31 +70,78 @@ fn run_on<S: Site + Send + Sync, R: Threads + Wait + Sync>(
     rows: &mut Rows,
     books: Vec<UnitBook<UnitDevice>>,
     script: &Script,
-    channels: u8,
-    handlers: u8,
+    workers: Workers,
 ) -> Result<Vec<Lines>, Fault>
     requires site { S.rows ≡ site_of rows.old }
     requires fresh { AreFresh rows.old }
     requires books { AreBooks S.rows.units books.items }
     requires units { vec_len script.now.set_up.units ≡ S.rows.units }
-    requires few { S.rows.units ≤ 64 }
-    requires channels { 1 ≤ channels }
-    requires handlers { 1 ≤ handlers }
+    requires few { (S.rows.units ≤ 64) × (S.rows.tasks ≤ 64) }
 {
     let (system, tasks, takers) = System::<S, UnitDevice>::new(alloc, rows, books)?;
     let units = script.set_up.units.len() as u16;
-    let crew = Crew::new(alloc, units, takers, channels, handlers)?;
+    let crew = Crew::new(alloc, units, takers, workers.channels, workers.handlers)?;
+    let (tasks, mut lines) = run_commands(rt, alloc, script, &system, tasks, crew)?;
+    match finish(rt, alloc, system, tasks) {
+        Ok(report) => add_rest(&mut lines, &report, units),
+        Err(unfinished) => return Err(fault_of(unfinished.cause())),
+    }
+    if !lines.iter().all(|of_task| of_task.is_complete()) {
+        return Err(Fault::Unmatched);
+    }
+    Ok(lines)
+}
+
+/// Lets the tasks do their commands beside the workers, and gives them with what is printed of their requests.
+fn run_commands<'r, S: Site + Send + Sync, R: Threads + Wait + Sync>(
+    rt: &R,
+    alloc: Global,
+    script: &Script,
+    system: &System<'r, S, UnitDevice>,
+    tasks: Vec<Task<'r, S>>,
+    crew: Crew<'r, S>,
+) -> Result<(Vec<Task<'r, S>>, Vec<Lines>), Fault>
+    requires units { vec_len script.now.set_up.units ≡ S.rows.units }
+    requires tasks { AreTasks S.rows.tasks S.rows.units tasks.items }
+    ensures tasks { IfOk result (λ parts. ArePlaced (λ task. task.number) S.rows.tasks parts.0.items) }
+    ensures lines { IfOk result (λ parts. length parts.1.items ≡ S.rows.tasks) }
+{
     let runners = runners(alloc, tasks, script)?;
     let alarm = Alarm::new();
-    let job = Job::new(script, &system, &alarm);
+    let job = Job::new(script, system, &alarm);
     let runners = run_tasks(rt, alloc, &job, crew, runners)?;
     if alarm.raised() {
         return Err(Fault::NoMemory);
     }
-    let (_tasks, lines) = parted(alloc, runners)?;
-    if lines.iter().all(|of_task| of_task.is_complete()) {
-        Ok(lines)
-    } else {
-        Err(Fault::Unmatched)
+    parted(alloc, runners)
+}
+
+/// Adds what the report of a run lists for each task.
+fn add_rest(tasks: &mut [Lines], report: &Report<UnitDevice>, units: u16)
+    requires lists { IsFor units (length tasks.old) report.now }
+    requires few { length tasks.old ≤ 64 }
+{
+    for task in 0..tasks.len() {
+        add_listed(&mut tasks[task], report, task as u16, units);
+    }
+}
+
+/// Adds what the report of a run lists for a task.
+fn add_listed(lines: &mut Lines, report: &Report<UnitDevice>, task: u16, units: u16)
+    requires task { task < length report.now.lists }
+    requires units { length (lists_of report.now.lists task) ≡ units }
+{
+    for unit in 0..units {
+        for posted in report.posts(task, unit) {
+            lines.fill(posted);
+        }
+    }
+}
+
+/// The fault of a run that was not brought to its end.
+fn fault_of(cause: Cause) -> Fault {
+    match cause {
+        Cause::NoMemory => Fault::NoMemory,
+        Cause::Mixed => Fault::Unmatched,
     }
 }

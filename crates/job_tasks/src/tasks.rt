@@ -1,6 +1,6 @@
 //! The tasks of a system and of a run.
 
-ghost use Rattle.std.specs.Prelude.{◌≡◌, IfOk};
+ghost use Rattle.std.specs.Prelude.{◌≡◌, IfOk, length};
 ghost use Rattle.excp_system.specs.Drained.{ArePlaced};
 ghost use Rattle.excp_system.specs.Opening.{AreTasks};
 
@@ -33,7 +33,8 @@ pub fn parted<'r, S: Site>(
     runners: Vec<Runner<'r, S>>,
 ) -> Result<(Vec<Task<'r, S>>, Vec<Lines>), Fault>
     requires { ArePlaced (λ runner. runner.task.number) S.rows.tasks runners.items }
-    ensures { IfOk result (λ parts. ArePlaced (λ task. task.number) S.rows.tasks parts.0.items) }
+    ensures tasks { IfOk result (λ parts. ArePlaced (λ task. task.number) S.rows.tasks parts.0.items) }
+    ensures lines { IfOk result (λ parts. length parts.1.items ≡ S.rows.tasks) }
 {
     let mut tasks = Vec::with_capacity(alloc, runners.len())?;
     let mut lines = Vec::with_capacity(alloc, runners.len())?;

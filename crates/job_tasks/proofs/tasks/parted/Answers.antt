@@ -24,4 +24,5 @@ loop-runner-preserved g c =
       made = subst (λ (l : List TaskState). ArePlaced (λ task. task.number) (length (yielded ++ runner ∷ [])) l) (sym c.in_ok-push.ensures.items)
           (subst (λ n. ArePlaced (λ (task : TaskState). task.number) n (old ++ task ∷ [])) (sym one)
           (placed_snoc (λ (task : TaskState). task.number) (length yielded) old task i.made (ap (λ (w : TaskState). w.number) c.in_ok-task.ensures ∙ number)));
+      lines = ap length c.in_ok-push-2.ensures.items ∙ length-append c.loop-runner.lines.items (c.in_ok-task.of_task ∷ []) ∙ ap (λ n. n + 1) i.lines ∙ sym one;
     }

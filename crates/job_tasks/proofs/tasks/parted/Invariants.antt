@@ -7,4 +7,5 @@ abbrev pub invariant-loop-runner : goal.invariant-loop-runner
 invariant-loop-runner g l = record {
   all : l.fn.runners.items ≡ l.yielded ++ into_iter_items l.runner-iterator;
   made : ArePlaced (λ task. task.number) (length l.yielded) l.tasks.items;
+  lines : length l.lines.items ≡ length l.yielded;
 }
