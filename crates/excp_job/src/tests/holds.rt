@@ -15,9 +15,7 @@ use std::marker::Brand;
 use std::process::Abort;
 use std::sync::Wait;
 use std::test::Fail;
-use unit_book::{
-    Closing, DcbError, Interruption, Mode, Purging, Running, Starting, UnitBook,
-};
+use unit_book::{Closing, DcbError, Interruption, Mode, Purging, Running, Starting, UnitBook};
 use unit_device::UnitDevice;
 
 /// One task, and a disk of one track with R1, whose data are C1C2C3C4; DCBs 1 and 2 for output.

@@ -25,7 +25,9 @@ fn four_hundred_excps(alloc: Global) -> Result<String, AllocError> {
         let area = number % 2;
         for task in 0..2 {
             for unit in 0..2 {
-                text.push_str(&format!(in alloc; "excp {task} {unit} 1 001000 {area} 001060 4\n")?)?;
+                text.push_str(&format!(in alloc;
+                    "excp {task} {unit} 1 001000 {area} 001060 4\n"
+                )?)?;
             }
         }
     }
@@ -38,7 +40,9 @@ fn four_hundred_posts(alloc: Global) -> Result<String, AllocError> {
     for task in 0..2 {
         for unit in 0..2 {
             for number in 1..101 {
-                text.push_str(&format!(in alloc; "post {task} {unit} {number} 7F 001048 0C00 0000 0000 C1C2C3C4\n")?)?;
+                text.push_str(&format!(in alloc;
+                    "post {task} {unit} {number} 7F 001048 0C00 0000 0000 C1C2C3C4\n"
+                )?)?;
             }
         }
     }
