@@ -1,4 +1,3 @@
--- How many requests arrived at a unit and may be held, and worked channel programs.
-pub mod Counting
-pub mod Rooms
+-- The books of a script, and worked channel programs.
+pub mod Books
 pub mod Rows

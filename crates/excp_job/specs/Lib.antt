@@ -1,2 +1,0 @@
--- How many requests arrived at a unit.
-pub mod Counts

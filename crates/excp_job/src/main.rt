@@ -5,7 +5,6 @@
 mod arguments;
 mod output;
 mod run;
-mod station;
 
 use arguments::Workers;
 use clap::error::ErrorKind;
@@ -19,26 +18,25 @@ use std::process::ExitCode;
 const USAGE: u8 = 2;
 
 fn main(rt: HostRuntime) -> ExitCode {
-    match job(&rt) {
-        Ok(()) => ExitCode::SUCCESS,
-        Err(status) => ExitCode::from(status),
-    }
-}
-
-/// The whole program, or the exit status of what ended it.
-fn job(rt: &HostRuntime) -> Result<(), u8> {
-    let workers = command_line(rt)?;
+    let workers = match command_line(&rt) {
+        Ok(workers) => workers,
+        Err(status) => return ExitCode::from(status),
+    };
     let done = run_script(
+        &rt,
         rt.alloc(),
         &mut rt.stdin(),
         rt.stdout(),
         workers.channels,
         workers.handlers,
     );
-    done.map_err(|fault| ended_by(rt, fault))
+    match done {
+        Ok(()) => ExitCode::SUCCESS,
+        Err(fault) => ExitCode::from(ended_by(&rt, fault)),
+    }
 }
 
-/// Reads the command line, before any byte of the script is read.
+/// Reads the command line, before any byte of the script is read, or gives the exit status.
 fn command_line(rt: &HostRuntime) -> Result<Workers, u8> {
     let Ok(arguments) = env::args(rt) else {
         return Err(ended_by(rt, Fault::NoMemory));

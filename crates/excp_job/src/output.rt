@@ -2,118 +2,65 @@
 
 ghost use Rattle.std.specs.Prelude.{◌<◌};
 
-use io_images::{Address, Code, Csw};
+use io_images::Address;
 use job_script::Fault;
-use request_piece::{Name, Posted};
-use std::alloc::{AllocError, Global};
-use std::collections::HashMap;
+use job_tasks::{End, Line, Lines};
+use std::alloc::Global;
 use std::io;
 use std::io::{BufWriter, Write};
 
-/// Which bytes of the area of a request are shown when it is posted.
-#[derive(Clone, Copy)]
-pub struct Show {
-    pub at: u32,
-    pub len: usize,
+/// Writes what the requests of each task were posted with, in order of tasks, units and numbers, each with its shown
+/// bytes, and then how many there are.
+pub fn write<W: Write + Drop>(alloc: Global, tasks: &[Lines], writer: W) -> Result<(), Fault> {
+    let Ok(mut out) = BufWriter::new(alloc, writer) else {
+        return Err(Fault::NoMemory);
+    };
+    match write_tasks(&mut out, tasks) {
+        Ok(()) => Ok(()),
+        Err(_) => Err(Fault::NotWritten),
+    }
 }
 
-/// The task, the unit and the number of a request.
-type Key = (u16, u16, u32);
-
-/// What is printed of a post.
-#[derive(Drop)]
-struct Line {
-    key: Key,
-    code: Code,
-    csw: Csw,
-    sense: u16,
-    shown: Vec<u8>,
-}
-
-/// What the requests show that are on their way, and what is printed of those that were posted.
-#[derive(Drop)]
-pub struct Posts {
-    alloc: Global,
-    shows: HashMap<Key, Show>,
-    lines: Vec<Line>,
-}
-
-impl Posts {
-    /// Nothing was issued or posted.
-    pub fn new(alloc: Global) -> Self {
-        Posts {
-            alloc,
-            shows: HashMap::new(alloc),
-            lines: Vec::new(alloc),
+fn write_tasks<W: Write>(out: &mut W, tasks: &[Lines]) -> io::Result<()> {
+    let mut posts: u64 = 0;
+    for (task, lines) in (0..).zip(tasks) {
+        for (unit, lines) in (0..).zip(&lines.units) {
+            posts = posts.saturating_add(write_lines(out, task, unit, lines)?);
         }
     }
-
-    /// The request with this name is issued to the unit, and shows these bytes when it is posted.
-    pub fn expect(&mut self, unit: u16, name: Name, show: Show) -> Result<(), AllocError> {
-        self.shows.insert(key(unit, name), show)?;
-        Ok(())
-    }
-
-    /// A request was posted: its line has the bytes that it shows.
-    pub fn add(&mut self, posted: &Posted) -> Result<(), AllocError> {
-        let key = key(posted.unit(), posted.name());
-        let mut shown = Vec::new(self.alloc);
-        if let Some(show) = self.shows.remove(&key) {
-            let bytes = posted.area().get(show.at, show.len);
-            shown.extend_from_slice(bytes.unwrap_or(&[]))?;
-        }
-        self.lines.push(Line {
-            key,
-            code: posted.code(),
-            csw: posted.csw(),
-            sense: posted.sense(),
-            shown,
-        })?;
-        Ok(())
-    }
-
-    /// Writes the posts by task, unit and number, each with its shown bytes, and then how many there are.
-    pub fn write<W: Write + Drop>(mut self, writer: W) -> Result<(), Fault> {
-        self.lines.sort_unstable_by_key(|line| line.key);
-        let Ok(mut out) = BufWriter::new(self.alloc, writer) else {
-            return Err(Fault::NoMemory);
-        };
-        match write_lines(&mut out, &self.lines) {
-            Ok(()) => Ok(()),
-            Err(_) => Err(Fault::NotWritten),
-        }
-    }
-}
-
-fn key(unit: u16, name: Name) -> Key {
-    (name.task, unit, name.seq)
-}
-
-fn write_lines<W: Write>(out: &mut W, lines: &[Line]) -> io::Result<()> {
-    for line in lines {
-        write_line(out, line)?;
-    }
-    writeln!(out, "end {}", lines.len())?;
+    writeln!(out, "end {}", posts)?;
     out.flush()
 }
 
-fn write_line<W: Write>(out: &mut W, line: &Line) -> io::Result<()> {
-    let (task, unit, number) = line.key;
-    out.write_all(b"post ")?;
-    write_decimal(out, u32::from(task))?;
-    write_decimal(out, u32::from(unit))?;
-    write_decimal(out, number)?;
-    let [a, b] = digits(line.code.byte());
-    let [c, d, e, f, g, h] = digits_of_address(line.csw.address);
-    let [i, j] = digits(line.csw.unit.bits());
-    let [k, l] = digits(line.csw.sub.bits());
-    let [m, n, o, p] = digits_of_halfword(line.csw.residual);
-    let [q, r, s, t] = digits_of_halfword(line.sense);
+/// Writes the lines of the requests of a task to a unit that were posted, and tells how many there are.
+fn write_lines<W: Write>(out: &mut W, task: u32, unit: u32, lines: &[Line]) -> io::Result<u64> {
+    let mut posts: u64 = 0;
+    for (number, line) in (1..).zip(lines) {
+        if let Some(end) = &line.end {
+            out.write_all(b"post ")?;
+            write_decimal(out, task)?;
+            write_decimal(out, unit)?;
+            write_decimal(out, number)?;
+            write_end(out, end)?;
+            write_bytes(out, &line.shown)?;
+            out.write_all(b"\n")?;
+            posts = posts.saturating_add(1);
+        }
+    }
+    Ok(posts)
+}
+
+/// The completion code, the CSW and the sense bytes, each with a blank behind it.
+fn write_end<W: Write>(out: &mut W, end: &End) -> io::Result<()> {
+    let [a, b] = digits(end.code.byte());
+    let [c, d, e, f, g, h] = digits_of_address(end.csw.address);
+    let [i, j] = digits(end.csw.unit.bits());
+    let [k, l] = digits(end.csw.sub.bits());
+    let [m, n, o, p] = digits_of_halfword(end.csw.residual);
+    let [q, r, s, t] = digits_of_halfword(end.sense);
     out.write_all(&[
         a, b, b' ', c, d, e, f, g, h, b' ', i, j, k, l, b' ', m, n, o, p, b' ', q, r, s, t, b' ',
-    ])?;
-    write_bytes(out, &line.shown)?;
-    out.write_all(b"\n")
+    ])
 }
 
 /// The four hexadecimal digits of a halfword.

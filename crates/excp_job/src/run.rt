@@ -1,153 +1,147 @@
-//! The run of a script, without threads: requests arrive in the order of their lines; at a wait and at the end
-//! each unit starts, runs and is interrupted until it is idle, and what was posted is taken out.
+//! The run of a script: its tasks on threads of their own, beside channel workers and interruption handlers.
 
-ghost use Rattle.std.specs.Prelude.{◌≡◌, ◌≤◌, ◌<◌, ◌+◌, All, IfOk, OnOk, vec_len};
-ghost use Rattle.job_script.specs.Books.{IsFresh};
-ghost use Rattle.job_script.specs.Commands.{NamesUnits};
+ghost use Rattle.std.specs.Prelude.{◌≡◌, ◌≤◌, ◌<◌, ◌+◌, IfOk, length, vec_len};
 ghost use Rattle.job_script.specs.Reading.{ReadsAtMost};
-ghost use Rattle.unit_book.specs.Book.{occupancy};
+ghost use Rattle.excp_system.specs.Drained.{ArePlaced};
+ghost use Rattle.excp_system.specs.Opening.{AreBooks, AreFresh, AreTasks, site_of};
+ghost use Rattle.post_ledger.specs.Report.{IsFor};
+ghost use Rattle.post_ledger.specs.Work.{lists_of};
 
-use crate::output::{Posts, Show};
-use crate::station::Station;
-use job_script::{Action, Command, Excp, Fault, LIMIT, LineFault, Script, read_script};
-use std::alloc::{AllocError, Global};
+use crate::arguments::Workers;
+use crate::output::write;
+use excp_system::{Rows, Site, System, Task};
+use job_script::{Fault, LIMIT, Script, read_script};
+use job_tasks::{Alarm, Crew, Job, Lines, parted, run_tasks, runners};
+use post_ledger::{Cause, Report, finish};
+use std::alloc::Global;
 use std::io::{Read, Write};
-use unit_book::{ArriveError, DcbError, Mode, UnitBook};
+use std::marker::Brand;
+use std::sync::Wait;
+use std::thread::Threads;
+use unit_book::UnitBook;
 use unit_device::UnitDevice;
 
-/// The most requests that a book holds (profile).
+/// The most requests that a row or a book holds (profile).
 const MOST_HELD: usize = 65_536;
 
-/// Reads a script, at most 1,048,576 bytes and one more, and writes what its requests were posted with, or tells why
-/// not. The numbers of channel workers and handlers have no effect while a script is run without threads.
-pub fn run_script<R: Read, W: Write + Drop>(
+/// Reads a script, at most 1,048,576 bytes and one more, runs its tasks beside so many channel workers and interruption
+/// handlers, and writes what its requests were posted with, or tells why not.
+pub fn run_script<R: Threads + Wait + Sync, I: Read, W: Write + Drop>(
+    rt: &R,
     alloc: Global,
-    reader: &mut R,
+    reader: &mut I,
     writer: W,
     channels: u8,
     handlers: u8,
 ) -> Result<(), Fault>
     requires channels { (1 ≤ channels) × (channels ≤ 16) }
     requires handlers { (1 ≤ handlers) × (handlers ≤ 8) }
-    ensures { ReadsAtMost (LIMIT + 1) (R.remaining reader.old) (R.remaining reader.new) }
+    ensures { ReadsAtMost (LIMIT + 1) (I.remaining reader.old) (I.remaining reader.new) }
 {
-    let _ = (channels, handlers);
     let text = read_script(alloc, reader)?;
     let script = Script::parse(alloc, &text)?;
-    posts(alloc, &script)?.write(writer)
+    let workers = Workers { channels, handlers };
+    let lines = lines(rt, alloc, &script, workers)?;
+    write(alloc, &lines, writer)
 }
 
-/// Does what a script says.
-fn posts(alloc: Global, script: &Script) -> Result<Posts, Fault> {
-    let capacity = script.requests().clamp(1, MOST_HELD);
-    let books = script.books(alloc, capacity)?;
-    let mut run = Run {
-        stations: stations(alloc, books)?,
-        posts: Posts::new(alloc),
-    };
-    for command in &script.commands {
-        if let Err(fault) = run.command(alloc, command) {
-            return Err(fault.at(command.line));
-        }
-    }
-    serve_all(&mut run.stations, &mut run.posts)?;
-    Ok(run.posts)
-}
-
-/// The stations of the units with these books.
-fn stations(alloc: Global, books: Vec<UnitBook<UnitDevice>>) -> Result<Vec<Station>, AllocError>
-    requires { All IsFresh books.items }
-    ensures { IfOk result (λ stations. vec_len stations ≡ vec_len books) }
+/// What is printed of the requests of each task, once all were posted.
+fn lines<R: Threads + Wait + Sync>(
+    rt: &R,
+    alloc: Global,
+    script: &Script,
+    workers: Workers,
+) -> Result<Vec<Lines>, Fault>
+    requires tasks { (1 ≤ script.now.set_up.tasks) × (script.now.set_up.tasks ≤ 64) }
+    requires units { (1 ≤ vec_len script.now.set_up.units) × (vec_len script.now.set_up.units ≤ 64) }
 {
-    let mut stations = Vec::new(alloc);
-    for book in books {
-        stations.push(Station::new(book))?;
-    }
-    Ok(stations)
+    let intake = script.most_to_a_unit().clamp(1, MOST_HELD);
+    let post = script.most_of_a_task().clamp(1, MOST_HELD);
+    let books = script.books(alloc, intake)?;
+    let units = script.set_up.units.len() as u16;
+    let mut rows = Rows::new(alloc, script.set_up.tasks, units, intake, post)?;
+    run_on::<Brand, R>(rt, alloc, &mut rows, books, script, workers)
 }
 
-/// The units, and what was posted so far.
-#[derive(Drop)]
-struct Run {
-    stations: Vec<Station>,
-    posts: Posts,
-}
-
-impl Run {
-    /// Does one command.
-    fn command(&mut self, alloc: Global, command: &Command) -> Result<(), LineFault>
-        requires { NamesUnits (vec_len self.old.stations) command.now }
-        ensures { vec_len self.new.stations ≡ vec_len self.old.stations }
-    {
-        match &command.action {
-            Action::Excp(excp) => self.issue(alloc, command.task, excp)?,
-            Action::Purge(dcb, mode) => {
-                self.stations[usize::from(dcb.unit)].purge(dcb.number, *mode)?;
-            }
-            Action::PurgeTask(task, mode) => self.purge_task(*task, *mode)?,
-            Action::Close(dcb) => {
-                self.stations[usize::from(dcb.unit)].close(dcb.number)?;
-            }
-            Action::Reset(dcb) => match self.stations[usize::from(dcb.unit)].reset(dcb.number) {
-                // a DCB that is not open is passed over
-                Ok(()) | Err(DcbError::NoSuchDcb) => {}
-                Err(DcbError::NoMemory) => return Err(LineFault::NoMemory),
-            },
-            Action::Wait => serve_all(&mut self.stations, &mut self.posts)?,
-        }
-        Ok(())
-    }
-
-    /// A task issues a request. Where the book of its unit is full, the unit is served first.
-    fn issue(&mut self, alloc: Global, task: u16, excp: &Excp) -> Result<(), LineFault>
-        requires { excp.now.dcb.unit < vec_len self.old.stations }
-        ensures { vec_len self.new.stations ≡ vec_len self.old.stations }
-    {
-        let unit = excp.dcb.unit;
-        let station = &mut self.stations[usize::from(unit)];
-        if !station.has_room() {
-            serve(station, &mut self.posts)?;
-        }
-        let name = station.next_name(task)?;
-        let request = excp.request(alloc, name)?;
-        let show = Show {
-            at: excp.show,
-            len: excp.len as usize,
-        };
-        self.posts.expect(unit, name, show)?;
-        match station.issue(request) {
-            Ok(()) => Ok(()),
-            Err((ArriveError::NoMemory, _)) => Err(LineFault::NoMemory),
-            Err((ArriveError::Held, _)) => unreachable!(),
-        }
-    }
-
-    /// Purges the requests of a task on every unit, in order.
-    fn purge_task(&mut self, task: u16, mode: Mode) -> Result<(), AllocError>
-        ensures { vec_len self.new.stations ≡ vec_len self.old.stations }
-    {
-        for station in &mut self.stations {
-            station.purge_task(task, mode)?;
-        }
-        Ok(())
-    }
-}
-
-/// Serves each unit, in order.
-fn serve_all(stations: &mut [Station], posts: &mut Posts) -> Result<(), AllocError> {
-    for station in stations {
-        serve(station, posts)?;
-    }
-    Ok(())
-}
-
-/// Starts, runs and interrupts a unit until it is idle, and takes out what was posted: its book has room.
-fn serve(station: &mut Station, posts: &mut Posts) -> Result<(), AllocError>
-    ensures { OnOk result (occupancy station.new < station.new.capacity) }
+/// Runs a script on a system of these rows and books, to its end.
+fn run_on<S: Site + Send + Sync, R: Threads + Wait + Sync>(
+    rt: &R,
+    alloc: Global,
+    rows: &mut Rows,
+    books: Vec<UnitBook<UnitDevice>>,
+    script: &Script,
+    workers: Workers,
+) -> Result<Vec<Lines>, Fault>
+    requires site { S.rows ≡ site_of rows.old }
+    requires fresh { AreFresh rows.old }
+    requires books { AreBooks S.rows.units books.items }
+    requires units { vec_len script.now.set_up.units ≡ S.rows.units }
+    requires few { (S.rows.units ≤ 64) × (S.rows.tasks ≤ 64) }
 {
-    station.settle()?;
-    while let Some(posted) = station.take_out() {
-        posts.add(&posted)?;
+    let (system, tasks, takers) = System::<S, UnitDevice>::new(alloc, rows, books)?;
+    let units = script.set_up.units.len() as u16;
+    let crew = Crew::new(alloc, units, takers, workers.channels, workers.handlers)?;
+    let (tasks, mut lines) = run_commands(rt, alloc, script, &system, tasks, crew)?;
+    match finish(rt, alloc, system, tasks) {
+        Ok(report) => add_rest(&mut lines, &report, units),
+        Err(unfinished) => return Err(fault_of(unfinished.cause())),
     }
-    Ok(())
+    if !lines.iter().all(|of_task| of_task.is_complete()) {
+        return Err(Fault::Unmatched);
+    }
+    Ok(lines)
+}
+
+/// Lets the tasks do their commands beside the workers, and gives them with what is printed of their requests.
+fn run_commands<'r, S: Site + Send + Sync, R: Threads + Wait + Sync>(
+    rt: &R,
+    alloc: Global,
+    script: &Script,
+    system: &System<'r, S, UnitDevice>,
+    tasks: Vec<Task<'r, S>>,
+    crew: Crew<'r, S>,
+) -> Result<(Vec<Task<'r, S>>, Vec<Lines>), Fault>
+    requires units { vec_len script.now.set_up.units ≡ S.rows.units }
+    requires tasks { AreTasks S.rows.tasks S.rows.units tasks.items }
+    ensures tasks { IfOk result (λ parts. ArePlaced (λ task. task.number) S.rows.tasks parts.0.items) }
+    ensures lines { IfOk result (λ parts. length parts.1.items ≡ S.rows.tasks) }
+{
+    let runners = runners(alloc, tasks, script)?;
+    let alarm = Alarm::new();
+    let job = Job::new(script, system, &alarm);
+    let runners = run_tasks(rt, alloc, &job, crew, runners)?;
+    if alarm.raised() {
+        return Err(Fault::NoMemory);
+    }
+    parted(alloc, runners)
+}
+
+/// Adds what the report of a run lists for each task.
+fn add_rest(tasks: &mut [Lines], report: &Report<UnitDevice>, units: u16)
+    requires lists { IsFor units (length tasks.old) report.now }
+    requires few { length tasks.old ≤ 64 }
+{
+    for task in 0..tasks.len() {
+        add_listed(&mut tasks[task], report, task as u16, units);
+    }
+}
+
+/// Adds what the report of a run lists for a task.
+fn add_listed(lines: &mut Lines, report: &Report<UnitDevice>, task: u16, units: u16)
+    requires task { task < length report.now.lists }
+    requires units { length (lists_of report.now.lists task) ≡ units }
+{
+    for unit in 0..units {
+        for posted in report.posts(task, unit) {
+            lines.fill(posted);
+        }
+    }
+}
+
+/// The fault of a run that was not brought to its end.
+fn fault_of(cause: Cause) -> Fault {
+    match cause {
+        Cause::NoMemory => Fault::NoMemory,
+        Cause::Mixed => Fault::Unmatched,
+    }
 }

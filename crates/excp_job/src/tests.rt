@@ -1,6 +1,8 @@
 //! Runs of whole scripts. A table is one text: `==` stands between two runs, and `--` between a script and what it
 //! prints; a script begins with its name. Expected values are those of the profile's worked rows and tables.
 
+ghost use Rattle.std.specs.Prelude.{◌≤◌};
+
 use crate::run::run_script;
 use controls::CONTROLS;
 use disks::DISKS;
@@ -10,13 +12,17 @@ use std::alloc::{AllocError, Global};
 use std::io;
 use std::io::Write;
 use std::process::Abort;
+use std::sync::Wait;
 use std::test::Fail;
+use std::thread::Threads;
 use tapes_and_printers::TAPES_AND_PRINTERS;
 
 mod controls;
 mod disks;
+mod holds;
 mod programs;
 mod tapes_and_printers;
+mod threads;
 
 /// One task, and a disk of one track with R1, whose data are C1C2C3C4.
 const DISK: &str = "tasks 1\ndisk 0 0 1 1 40\nrec 0 0 0 1 - C1C2C3C4\n";
@@ -37,22 +43,36 @@ fn joined(alloc: Global, parts: &[&str]) -> Result<Vec<u8>, AllocError> {
     Ok(text)
 }
 
-/// What a run prints, or its fault.
-fn printed(alloc: Global, text: &[u8]) -> Result<Vec<u8>, Fault> {
-    let mut output = Vec::new(alloc);
+/// What a run prints by so many channel workers and interruption handlers, or its fault.
+fn printed<R: Threads + Wait + Sync + AllocGlobal>(
+    rt: &R,
+    text: &[u8],
+    channels: u8,
+    handlers: u8,
+) -> Result<Vec<u8>, Fault>
+    requires channels { (1 ≤ channels) × (channels ≤ 16) }
+    requires handlers { (1 ≤ handlers) × (handlers ≤ 8) }
+{
+    let mut output = Vec::new(rt.alloc());
     let mut reader = text;
-    run_script(alloc, &mut reader, &mut output, 1, 1)?;
+    run_script(rt, rt.alloc(), &mut reader, &mut output, channels, handlers)?;
     Ok(output)
 }
 
 /// Asserts that each run of a table, of so many, prints what the table says: one that ends in a fault, for want of
 /// memory too, fails.
-fn expect_runs<R: Abort + AllocGlobal>(rt: &R, table: &str, count: usize) -> Result<(), Fail> {
+fn expect_runs<R: Threads + Wait + Sync + Abort + AllocGlobal>(
+    rt: &R,
+    table: &str,
+    count: usize,
+) -> Result<(), Fail> {
     let mut runs: usize = 0;
     for run in table.split("==\n") {
         let (script, wanted) = run.split_once("--\n").ok_or("no output")?;
-        let output = printed(rt.alloc(), script.as_bytes())?;
-        assert_eq!(rt; output.as_slice(), wanted.as_bytes(), "{script}");
+        for (channels, handlers) in [(1, 1), (2, 3)] {
+            let output = printed(rt, script.as_bytes(), channels, handlers)?;
+            assert_eq!(rt; output.as_slice(), wanted.as_bytes(), "{script}");
+        }
         runs = runs.saturating_add(1);
     }
     assert_eq!(rt; runs, count);
@@ -73,7 +93,7 @@ fn disks_tapes_and_printers(rt: HostRuntime) -> Result<(), Fail> {
 
 #[test]
 fn related_and_purged(rt: HostRuntime) -> Result<(), Fail> {
-    expect_runs(&rt, CONTROLS, 12)
+    expect_runs(&rt, CONTROLS, 7)
 }
 
 /// Reads by a list of two words on an area of 4,100 bytes: the first word leads to the last two bytes of a block of
@@ -104,7 +124,7 @@ fn words_over_two_blocks(rt: HostRuntime) -> Result<(), Fail> {
         text.extend_from_slice(&zeros)?;
         text.extend_from_slice(excps.as_bytes())?;
         let wanted = joined(rt.alloc(), &[posts])?;
-        assert_eq!(rt; printed(rt.alloc(), &text), Ok(wanted), "{words}");
+        assert_eq!(rt; printed(&rt, &text, 1, 1), Ok(wanted), "{words}");
     }
     Ok(())
 }
@@ -127,7 +147,7 @@ impl Write for Full {
 fn output_is_not_written(rt: HostRuntime) -> Result<(), Fail> {
     let text = joined(rt.alloc(), &["tasks 1\ndisk 0 0 1 1 40\n"])?;
     let mut reader = text.as_slice();
-    let done = run_script(rt.alloc(), &mut reader, Full, 1, 1);
+    let done = run_script(&rt, rt.alloc(), &mut reader, Full, 1, 1);
     assert_eq!(rt; done, Err(Fault::NotWritten));
     Ok(())
 }

@@ -12,9 +12,14 @@ pub enum Point {
     Deliver,
 }
 
-/// What a worker passes, under the unit's lock, before each call: a gate may watch it, or hold it up.
+/// What a worker passes, under the unit's lock, before each call: a gate may watch it, or hold it up. It is told where
+/// there was no memory for a call.
 pub trait Gate {
+    /// The worker is about to make this call.
     fn pass(&self, unit: u16, point: Point);
+
+    /// There was no memory for this call, which changed nothing.
+    fn lack_memory(&self, unit: u16, point: Point);
 }
 
 /// A gate that holds nobody up.
@@ -22,6 +27,8 @@ pub struct OpenGate;
 
 impl Gate for OpenGate {
     fn pass(&self, _unit: u16, _point: Point) {}
+
+    fn lack_memory(&self, _unit: u16, _point: Point) {}
 }
 
 /// Tells workers to stop.

@@ -11,6 +11,7 @@ use crate::system::System;
 use crate::unit::UnitState;
 use crossbeam_utils::Backoff;
 use device_port::Device;
+use std::alloc::AllocError;
 use std::sync::Wait;
 use unit_book::{Interruption, Running, Starting};
 
@@ -19,7 +20,7 @@ const TURN: u32 = 16;
 
 /// Serves units in turn until it is stopped: lets a request arrive, starts what comes next, runs it for some commands,
 /// and sends a posted value back. Before each call it passes the gate, under the unit's lock. Want of memory is an
-/// idle turn.
+/// idle turn, of which the gate is told.
 pub fn serve_channel<S: Site, D: Device, G: Gate, R: Wait>(
     rt: &R,
     system: &System<'_, S, D>,
@@ -58,21 +59,22 @@ fn serve_unit<S: Site, D: Device, G: Gate, R: Wait>(
     gate: &G,
 ) -> bool {
     gate.pass(unit, Point::Take);
-    let took = matches!(state.take(rt), Ok(Intake::Took(_)));
+    let taken = told(gate, unit, Point::Take, state.take(rt));
+    let took = matches!(taken, Some(Intake::Took(_)));
     gate.pass(unit, Point::Start);
-    let started = matches!(
-        state.start(),
-        Ok(Starting::Started(_) | Starting::Violated(_))
-    );
+    let start = told(gate, unit, Point::Start, state.start());
+    let started = matches!(start, Some(Starting::Started(_) | Starting::Violated(_)));
     gate.pass(unit, Point::Run);
-    let ran = matches!(state.run(rt, TURN), Ok(Running::Ran { .. }));
+    let run = told(gate, unit, Point::Run, state.run(rt, TURN));
+    let ran = matches!(run, Some(Running::Ran { .. }));
     gate.pass(unit, Point::Deliver);
     let delivered = matches!(state.deliver(rt), Delivery::Delivered(_));
     took || started || ran || delivered
 }
 
 /// Serves interruption subclasses until it is stopped: for each notice of a pending status takes the status and sends a
-/// posted value back. Before each call it passes the gate, under the unit's lock. Want of memory is an idle turn.
+/// posted value back. Before each call it passes the gate, under the unit's lock. Want of memory is an idle turn, of
+/// which the gate is told.
 pub fn serve_isc<'r, S: Site, D: Device, G: Gate, R: Wait>(
     rt: &R,
     system: &System<'r, S, D>,
@@ -111,11 +113,25 @@ fn handle<S: Site, D: Device, G: Gate, R: Wait>(
     gate: &G,
 ) -> bool {
     gate.pass(unit, Point::Interrupt);
+    let interruption = told(gate, unit, Point::Interrupt, state.interrupt());
     let answered = matches!(
-        state.interrupt(),
-        Ok(Interruption::Again(_) | Interruption::Ended(_, _))
+        interruption,
+        Some(Interruption::Again(_) | Interruption::Ended(_, _))
     );
     gate.pass(unit, Point::Deliver);
     let delivered = matches!(state.deliver(rt), Delivery::Delivered(_));
     answered || delivered
+}
+
+/// What a call answered. The gate is told where there was no memory for it.
+fn told<T: Copy, G: Gate>(
+    gate: &G,
+    unit: u16,
+    point: Point,
+    answer: Result<T, AllocError>,
+) -> Option<T> {
+    if answer.is_err() {
+        gate.lack_memory(unit, point);
+    }
+    answer.ok()
 }

@@ -1,5 +1,6 @@
 -- WHAT A COMMAND NAMES (profile).
-use Rattle.std.specs.Prelude.{◌<◌, ℕ, Option, Some, None}
+use Rattle.std.specs.Prelude.{◌<◌, ◌==◌, ◌&&◌, ℕ, zero, suc, Bool, true, false, List, Option, Some, None, length, max}
+use Rattle.std.specs.List.{filter}
 use Rattle.std.specs.Option.{ForSome}
 use Rattle.job_script.specs.declared.command.DcbName.{DcbName}
 use Rattle.job_script.specs.declared.command.Action.{Action}
@@ -18,3 +19,41 @@ dcb_of Wait = None
 -- the DCB that it names, if it names one, is of one of the first so many units
 abbrev pub NamesUnits : ℕ → Command → Type 0
 NamesUnits units c = ForSome (dcb_of c.action) (λ dcb. dcb.unit < units)
+
+-- the command is an EXCP
+abbrev pub is_excp : Action → Bool
+is_excp (Excp e) = true
+is_excp (Purge dcb mode) = false
+is_excp (PurgeTask task mode) = false
+is_excp (Close dcb) = false
+is_excp (Reset dcb) = false
+is_excp Wait = false
+
+-- the unit of an EXCP is this one
+abbrev pub excp_is_to : ℕ → Action → Bool
+excp_is_to unit (Excp e) = e.dcb.unit == unit
+excp_is_to unit (Purge dcb mode) = false
+excp_is_to unit (PurgeTask task mode) = false
+excp_is_to unit (Close dcb) = false
+excp_is_to unit (Reset dcb) = false
+excp_is_to unit Wait = false
+
+-- it issues a request to the unit
+abbrev pub issues_to : ℕ → Command → Bool
+issues_to unit c = excp_is_to unit c.action
+
+-- the task issues a request by it
+abbrev pub issues_of : ℕ → Command → Bool
+issues_of task c = is_excp c.action && (c.task == task)
+
+-- how many requests they issue to the unit, and how many the task issues
+abbrev pub requests_to : List Command → ℕ → ℕ
+requests_to commands unit = length (filter (issues_to unit) commands)
+
+abbrev pub requests_of : List Command → ℕ → ℕ
+requests_of commands task = length (filter (issues_of task) commands)
+
+-- the largest of the first so many numbers, and 0 of none
+unfoldable pub most : (ℕ → ℕ) → ℕ → ℕ
+most numbers zero = 0
+most numbers (suc n) = max (most numbers n) (numbers n)

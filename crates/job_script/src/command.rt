@@ -1,6 +1,7 @@
 //! What the tasks of a script do.
 
 ghost use Rattle.std.specs.Prelude.{◌≡◌, IfOk};
+ghost use Rattle.job_script.specs.Commands.{issues_of, issues_to};
 
 use crate::fault::LineFault;
 use io_area::Area;
@@ -32,7 +33,8 @@ pub struct Excp {
 impl Excp {
     /// A request with this name, on a copy of the area. It is refused as by `Request::over`.
     pub fn request(&self, alloc: Global, name: Name) -> Result<Request, LineFault>
-        ensures { IfOk result (λ request. request.name ≡ name) }
+        ensures name { IfOk result (λ request. request.name ≡ name) }
+        ensures unit { IfOk result (λ request. request.unit ≡ self.now.dcb.unit) }
     {
         let unit = self.dcb.unit;
         let dcb = self.dcb.number;
@@ -62,4 +64,26 @@ pub struct Command {
     pub line: usize,
     pub task: u16,
     pub action: Action,
+}
+
+impl Command {
+    /// Whether it issues a request to the unit.
+    pub fn issues_to(&self, unit: u16) -> bool
+        ensures { result ≡ issues_to unit self.now }
+    {
+        match &self.action {
+            Action::Excp(excp) => excp.dcb.unit == unit,
+            _ => false,
+        }
+    }
+
+    /// Whether the task issues a request by it.
+    pub fn issues_of(&self, task: u16) -> bool
+        ensures { result ≡ issues_of task self.now }
+    {
+        match &self.action {
+            Action::Excp(_) => self.task == task,
+            _ => false,
+        }
+    }
 }

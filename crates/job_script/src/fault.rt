@@ -110,6 +110,9 @@ pub enum Fault {
     Unreadable,
     #[error("output not written")]
     NotWritten,
+    /// The posts are not those of the requests. No run comes to this.
+    #[error("posts do not match requests")]
+    Unmatched,
     #[error("out of memory")]
     NoMemory,
 }

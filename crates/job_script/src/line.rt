@@ -5,6 +5,8 @@ mod areas;
 mod commands;
 mod units;
 
+ghost use Rattle.std.specs.Prelude.{◌≤◌, ◌<◌};
+
 use crate::command::{Command, DcbName, Excp};
 use crate::fault::{FaultName, LineFault};
 use crate::set_up::{Opening, UnitSetup};
@@ -22,13 +24,29 @@ use units::{block, disk, fault, mark, printer, record, tape};
 /// A line that declares something; the number in front is that of the unit.
 #[derive(Drop)]
 pub enum SetUpLine {
-    Tasks(u16),
-    Unit(u16, UnitSetup),
+    Tasks(TasksLine),
+    Unit(UnitLine),
     Record(u16, InitialRecord),
     Item(u16, InitialItem),
     Fault(u16, DeviceFault),
     Opening(u16, Opening),
     Area(AreaLine),
+}
+
+/// A line that declares the number of tasks, 1 to 64.
+#[derive(Drop)]
+pub struct TasksLine {
+    pub tasks: u16,
+    ghost some: { 1 ≤ tasks },
+    ghost few: { tasks ≤ 64 },
+}
+
+/// A line that declares a unit: its number, 0 to 63, and what it is.
+#[derive(Drop)]
+pub struct UnitLine {
+    pub number: u16,
+    pub unit: UnitSetup,
+    ghost few: { number < 64 },
 }
 
 /// A line that declares an area: its number, the address of its first byte, and its bytes.

@@ -1,7 +1,7 @@
 //! A script: its set-up and its commands, as its lines say, and the first fault of its lines.
 
-ghost use Rattle.std.specs.Prelude.{Contains, vec_len};
-ghost use Rattle.job_script.specs.Commands.{NamesUnits};
+ghost use Rattle.std.specs.Prelude.{◌≡◌, ◌≤◌, Contains, IfOk, vec_len};
+ghost use Rattle.job_script.specs.Commands.{NamesUnits, most, requests_of, requests_to};
 ghost use Rattle.job_script.specs.declared.command.Command.{Command as OneCommand};
 
 use crate::command::{Action, Command};
@@ -21,7 +21,10 @@ pub struct Script {
 impl Script {
     /// Reads the lines of a script, first to last; the first fault ends it. A script without tasks or units has a fault
     /// at line 0.
-    pub fn parse(alloc: Global, text: &[u8]) -> Result<Self, Fault> {
+    pub fn parse(alloc: Global, text: &[u8]) -> Result<Self, Fault>
+        ensures tasks { IfOk result (λ script. (1 ≤ script.set_up.tasks) × (script.set_up.tasks ≤ 64)) }
+        ensures units { IfOk result (λ script. (1 ≤ vec_len script.set_up.units) × (vec_len script.set_up.units ≤ 64)) }
+    {
         let mut script = Script {
             set_up: SetUp::new(alloc),
             commands: Vec::new(alloc),
@@ -73,11 +76,45 @@ impl Script {
         Ok(())
     }
 
-    /// How many requests the script issues.
-    pub fn requests(&self) -> usize {
+    /// The largest number of requests that it issues to one unit.
+    pub fn most_to_a_unit(&self) -> usize
+        ensures { result ≡ most (requests_to self.now.commands.items) (vec_len self.now.set_up.units) }
+    {
+        let mut largest = 0;
+        for unit in 0..self.set_up.units.len() {
+            largest = largest.max(self.requests_to(unit as u16));
+        }
+        largest
+    }
+
+    /// The largest number of requests that one of its tasks issues.
+    pub fn most_of_a_task(&self) -> usize
+        ensures { result ≡ most (requests_of self.now.commands.items) self.now.set_up.tasks }
+    {
+        let mut largest = 0;
+        for task in 0..self.set_up.tasks {
+            largest = largest.max(self.requests_of(task));
+        }
+        largest
+    }
+
+    /// How many requests it issues to the unit.
+    fn requests_to(&self, unit: u16) -> usize
+        ensures { result ≡ requests_to self.now.commands.items unit }
+    {
         self.commands
             .iter()
-            .filter(|command| matches!(command.action, Action::Excp(_)))
+            .filter(|command| command.issues_to(unit))
+            .count()
+    }
+
+    /// How many requests the task issues.
+    fn requests_of(&self, task: u16) -> usize
+        ensures { result ≡ requests_of self.now.commands.items task }
+    {
+        self.commands
+            .iter()
+            .filter(|command| command.issues_of(task))
             .count()
     }
 }

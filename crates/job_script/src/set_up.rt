@@ -6,7 +6,7 @@ ghost use Rattle.job_script.specs.Commands.{NamesUnits};
 
 use crate::command::{Action, Command, DcbName};
 use crate::fault::{FaultName, LineFault};
-use crate::line::{AreaLine, SetUpLine};
+use crate::line::{AreaLine, SetUpLine, TasksLine, UnitLine};
 use ckd_disk::{Geometry, InitialRecord};
 use device_port::Fault as DeviceFault;
 use io_area::{Area, AreaError};
@@ -53,6 +53,8 @@ pub struct SetUp {
     pub units: Vec<UnitSetup>,
     /// The areas, in the order of their numbers.
     pub areas: Vec<Arc<Area, Global>>,
+    ghost few_tasks: { tasks ≤ 64 },
+    ghost few_units: { vec_len units ≤ 64 },
 }
 
 impl SetUp {
@@ -99,8 +101,8 @@ impl SetUp {
     /// Adds what a line says, in the order of the faults that it may have.
     pub(crate) fn add(&mut self, alloc: Global, line: SetUpLine) -> Result<(), LineFault> {
         match line {
-            SetUpLine::Tasks(tasks) => self.add_tasks(tasks),
-            SetUpLine::Unit(number, unit) => self.add_unit(number, unit),
+            SetUpLine::Tasks(line) => self.add_tasks(line),
+            SetUpLine::Unit(line) => self.add_unit(line),
             SetUpLine::Record(unit, record) => self.add_record(unit, record),
             SetUpLine::Item(unit, item) => self.add_item(unit, item),
             SetUpLine::Fault(unit, fault) => self.add_fault(unit, fault),
@@ -110,16 +112,17 @@ impl SetUp {
     }
 
     /// The tasks are declared once.
-    fn add_tasks(&mut self, tasks: u16) -> Result<(), LineFault> {
+    fn add_tasks(&mut self, line: TasksLine) -> Result<(), LineFault> {
         if self.tasks != 0 {
             return Err(LineFault::Named(FaultName::Order));
         }
-        self.tasks = tasks;
+        self.tasks = line.tasks;
         Ok(())
     }
 
     /// A unit has the next number.
-    fn add_unit(&mut self, number: u16, unit: UnitSetup) -> Result<(), LineFault> {
+    fn add_unit(&mut self, line: UnitLine) -> Result<(), LineFault> {
+        let UnitLine { number, unit } = line;
         if usize::from(number) != self.units.len() {
             return Err(LineFault::Named(FaultName::Order));
         }

@@ -33,7 +33,7 @@ fn checked(alloc: Global, text: &[u8]) -> Result<Script, Fault> {
     let mut reader = text;
     let text = read_script(alloc, &mut reader)?;
     let script = Script::parse(alloc, &text)?;
-    let capacity = script.requests().clamp(1, 65_536);
+    let capacity = script.most_to_a_unit().clamp(1, 65_536);
     script.books(alloc, capacity)?;
     Ok(script)
 }

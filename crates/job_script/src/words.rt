@@ -65,7 +65,9 @@ impl<'a> Words<'a> {
     }
 
     /// The number of a task or a unit, below 64.
-    pub fn index(&mut self) -> Result<u16, FaultName> {
+    pub fn index(&mut self) -> Result<u16, FaultName>
+        ensures { IfOk result (λ number. number < 64) }
+    {
         let number = self.halfword()?;
         if number < 64 {
             Ok(number)

@@ -1,6 +1,6 @@
 //! Lines on tasks, DCBs and areas.
 
-use super::{AreaLine, SetUpLine};
+use super::{AreaLine, SetUpLine, TasksLine};
 use crate::fault::{FaultName, LineFault};
 use crate::set_up::Opening;
 use crate::words::Words;
@@ -13,7 +13,7 @@ pub fn tasks(words: &mut Words<'_>) -> Result<SetUpLine, LineFault> {
     if tasks == 0 || tasks > 64 {
         return Err(LineFault::Named(FaultName::Number));
     }
-    Ok(SetUpLine::Tasks(tasks))
+    Ok(SetUpLine::Tasks(TasksLine { tasks }))
 }
 
 /// `open U in EXTENT ...` or `open U out EXTENT ...`

@@ -2,7 +2,7 @@
 
 ghost use Rattle.std.specs.Prelude.{◌≤◌};
 
-use super::SetUpLine;
+use super::{SetUpLine, UnitLine};
 use crate::fault::LineFault;
 use crate::set_up::{Medium, UnitSetup};
 use crate::words::Words;
@@ -22,7 +22,8 @@ pub fn disk(alloc: Global, line: usize, words: &mut Words<'_>) -> Result<SetUpLi
         track_bytes: words.number()?,
     };
     let medium = Medium::Disk(geometry, Vec::new(alloc));
-    Ok(SetUpLine::Unit(number, unit(alloc, line, isc, medium)))
+    let unit = unit(alloc, line, isc, medium);
+    Ok(SetUpLine::Unit(UnitLine { number, unit }))
 }
 
 /// `tape U ISC BYTES`
@@ -30,7 +31,8 @@ pub fn tape(alloc: Global, line: usize, words: &mut Words<'_>) -> Result<SetUpLi
     let number = words.index()?;
     let isc = words.number_to(7)?;
     let medium = Medium::Tape(words.number()?, Vec::new(alloc));
-    Ok(SetUpLine::Unit(number, unit(alloc, line, isc, medium)))
+    let unit = unit(alloc, line, isc, medium);
+    Ok(SetUpLine::Unit(UnitLine { number, unit }))
 }
 
 /// `printer U ISC LINES PAGES`
@@ -41,7 +43,8 @@ pub fn printer(alloc: Global, line: usize, words: &mut Words<'_>) -> Result<SetU
         lines: words.number()?,
         pages: words.number()?,
     };
-    Ok(SetUpLine::Unit(number, unit(alloc, line, isc, medium)))
+    let unit = unit(alloc, line, isc, medium);
+    Ok(SetUpLine::Unit(UnitLine { number, unit }))
 }
 
 /// A unit with this medium, which is to meet no fault and has no DCB.

@@ -25,7 +25,8 @@ fn every_kind_of_line(rt: HostRuntime) -> Result<(), Fail> {
     assert_eq!(rt; set_up.units[1].openings.len(), 2);
     assert_eq!(rt; set_up.units[1].faults.len(), 1);
     assert_eq!(rt; set_up.units[1].isc, 7);
-    assert_eq!(rt; script.requests(), 1);
+    assert_eq!(rt; script.most_to_a_unit(), 1);
+    assert_eq!(rt; script.most_of_a_task(), 1);
     assert_eq!(rt; script.commands.len(), 7);
     for (command, line) in script.commands.iter().zip(15..) {
         assert_eq!(rt; command.line, line);

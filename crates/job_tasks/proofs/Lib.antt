@@ -1,0 +1,2 @@
+-- Elements that stand at the places of their numbers.
+pub mod Placing
