@@ -16,6 +16,3 @@ pub use crew::{Crew, run_tasks};
 pub use lines::{End, Line, Lines};
 pub use runner::{Job, Runner};
 pub use tasks::{parted, runners};
-
-#[cfg(test)]
-mod tests;
