@@ -1,5 +1,5 @@
-use Rattle.std.proofs.Common.{◌∙◌, refl, subst, sym}
-use Rattle.excp_system.specs.Drained.{ArePlaced}
+use Rattle.std.proofs.Common.{List, ◌∙◌, refl, subst, sym}
+use Rattle.excp_system.specs.Drained.{ArePlaced, Drained}
 use Rattle.excp_system.specs.States.{Locked, TaskState}
 use Rattle.post_ledger.specs.Work.{Works}
 use Rattle.post_ledger.proofs.Pairs.{paired_more, paired_same}
@@ -47,3 +47,7 @@ loop-preserved g c = record {
   count = c.gather_all.ensures.count ∙ c.loop.invariant.count;
   lists = c.gather_all.ensures.lists;
 }
+
+pub returns-then-drained-clause-drained : goal.returns-then-drained-clause-drained
+returns-then-drained-clause-drained g c =
+    subst (λ (q : List (Locked _) × List TaskState). Drained g.D.Device.meaning q.0 q.1) (λ i. (c.as_slice.ensures.value i, c.as_slice-in-loop.ensures.value i)) (c.drained.ensures.0 c.if-drained.true)
