@@ -21,6 +21,7 @@ use std::thread;
 use unit_book::UnitBook;
 
 mod calls;
+mod interleavings;
 mod notices;
 mod side_by_side;
 

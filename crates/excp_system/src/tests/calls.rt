@@ -5,7 +5,7 @@ ghost use Rattle.excp_system.specs.Opening.{AreBooks, AreFresh, site_of};
 
 use super::*;
 use crate::{Delivery, Intake, UnitPurging, UnitState};
-use unit_book::{DcbError, Interruption, Mode, Purging, Running, Starting};
+use unit_book::{Closing, DcbError, Interruption, Mode, Purging, Running, Starting};
 
 /// A call of a task, a hold of a unit, or a purge of a task. Tasks and units are 0 and 1.
 #[derive(Clone, Copy)]
@@ -24,8 +24,11 @@ pub enum Hold {
     Run,
     Interrupt,
     Deliver,
-    /// A purge of DCB 1 with halt.
+    /// Purges of DCB 1, and its close.
+    Quiesce,
     Halt,
+    Close,
+    Settle,
 }
 
 /// What is answered, in words, and the request that it names.
@@ -156,6 +159,14 @@ fn purged(answer: Result<Purging, DcbError>) -> Answer {
     }
 }
 
+fn closed(answer: Result<Closing, DcbError>) -> Answer {
+    match answer {
+        Ok(Closing::Closing(name)) => ("closing", Some(name)),
+        Ok(Closing::Closed) => ("closed", None),
+        Err(_) => ("refused", None),
+    }
+}
+
 fn delivered(answer: Delivery) -> Answer {
     match answer {
         Delivery::Quiet => ("quiet", None),
@@ -174,6 +185,7 @@ fn collected<S: Site, R: Wait>(rt: &R, task: &mut Task<'_, S>) -> Answer {
     match value.code() {
         Code::Ended if read => ("read the block", name),
         Code::Purged if value.csw().address.get() == 0 => ("purged before its start", name),
+        Code::Purged => ("purged", name),
         _ => ("something else", name),
     }
 }
@@ -189,12 +201,18 @@ fn held<S: Site, R: Wait>(
         Hold::Run => ran(unit.run(rt, 16)?),
         Hold::Interrupt => interrupted(unit.interrupt()?),
         Hold::Deliver => delivered(unit.deliver(rt)),
+        Hold::Quiesce => purged(unit.purge(rt, 1, Mode::Quiesce)),
         Hold::Halt => purged(unit.purge(rt, 1, Mode::Halt)),
+        Hold::Close => closed(unit.close(1)),
+        Hold::Settle => {
+            unit.settle()?;
+            ("settled", None)
+        }
     })
 }
 
 /// Does a call, and tells what it answers.
-fn answer<'r, S: Site, R: Wait + AllocGlobal>(
+pub fn answer<'r, S: Site, R: Wait + AllocGlobal>(
     rt: &R,
     system: &System<'r, S, ToyBlock>,
     tasks: &mut [Task<'r, S>],
