@@ -18,8 +18,9 @@ const PASSING_SENSE: u16 = 0x3C00;
 const LASTING_SENSE: u16 = 0xC0FF;
 
 /// Channel-data check and interface-control check at once.
-const BOTH_CHECKS: SubStatus =
-    SubStatus(SubStatus::CHANNEL_DATA_CHECK.0 | SubStatus::INTERFACE_CONTROL_CHECK.0);
+const BOTH_CHECKS: SubStatus = SubStatus(
+    SubStatus::CHANNEL_DATA_CHECK.0 | SubStatus::INTERFACE_CONTROL_CHECK.0,
+);
 
 /// Channel-data check, interface-control check, and both.
 const PASSING_CHECKS: [SubStatus; 3] = [
