@@ -79,6 +79,10 @@ pending_code kind csw sense starts halted covered = if halted then Some Purged e
 
 -- THE TABLE OF DCBS
 
+-- the table has a DCB with this number, counted from 1
+abbrev pub HasRow : List Dcb → ℕ → Type 0
+HasRow table d = (1 ≤ d) × (d ≤ length table)
+
 -- the DCB with a number, counted from 1
 abbrev pub dcb_at : List Dcb → ℕ → Option Dcb
 dcb_at table d = if d == 0 then None else slice_get table (d - 1)

@@ -1,10 +1,14 @@
-use Rattle.std.proofs.Common.{◌≡◌, ◌∷◌, [], Some, Option, reverse, arith, refl, sym, subst, ◌∙◌, length-append}
+use Rattle.std.proofs.Common.{◌≡◌, ◌∷◌, [], Some, Option, reverse, arith, refl, sym, ap, subst, ◌∙◌, length-append}
 use Rattle.request_piece.specs.declared.piece.Name.{Name}
 use Rattle.unit_book.specs.declared.active.Active.{Active}
 use Rattle.unit_book.specs.Fields.{Ties, Rooms}
 use Rattle.unit_book.specs.Legal.{PostsActive}
 use Rattle.unit_book.proofs.ActivePosts.{ties-post, value-is, doom-is}
 use Rattle.unit_book.proofs.Dooms.{doomed-post, due-doomed}
+use Rattle.unit_book.specs.Trace.{request_of}
+use Rattle.request_piece.specs.declared.piece.Piece.{Piece}
+use Rattle.unit_book.proofs.Facts.{active-is}
+use Rattle.unit_book.proofs.Opens.{opened-row, started-opened}
 use Rattle.unit_book.proofs.ledger.Ledger.post.Goals as goal
 
 pub invariant_of-self : goal.invariant_of-self
@@ -73,3 +77,15 @@ returns-clause-dooms g c =
     let piece_is = c.deref.ensures in
     let doom_is = c.doomed_by_post-doom.ensures in
     rw (w, doom_is, piece_is, e, n) d
+
+pub note_post-requires : goal.note_post-requires
+note_post-requires g c =
+    let m = g.D.Device.meaning in
+    let i = c.self.inside in
+    let a = c.in-Some.active in
+    let o : i.active ≡ Some a = sym c.take.ensures.value ∙ c.in-Some.is in
+    let t = subst (λ (x : Option Active). Ties m i.mounted (reverse i.trace.items) i.channel x i.waiting.pieces i.dcbs i.out.items) o c.self.invariant.0 in
+    let opened = started-opened m i.mounted a.piece.value.name (reverse i.trace.items) t.legal (active-is a.piece.value.name (reverse i.trace.items) t.activity.is).0 in
+    let same = ap (λ (r : Piece). r.dcb) t.activity.request in
+    let piece_is = c.deref-2.ensures in
+    rw (piece_is, same) (opened-row m i.mounted (request_of a.piece.value.name (reverse i.trace.items)).dcb (reverse i.trace.items) i.dcbs t.legal t.count opened)

@@ -13,6 +13,7 @@ use Rattle.unit_book.proofs.Facts.{facts, first-waits}
 use Rattle.unit_book.proofs.Same.{fits-free}
 use Rattle.unit_book.proofs.Starts.{first-rest, none-in_field}
 use Rattle.unit_book.proofs.WaitingPosts.{ties-first_post, waiting-value}
+use Rattle.unit_book.proofs.Opens.{first-opened, opened-row}
 use Rattle.unit_book.proofs.ledger.Ledger.post_violated.Goals as goal
 
 pub invariant_of-self : goal.invariant_of-self
@@ -82,3 +83,17 @@ returns-clause-dooms g c =
     let y = c.empty.ensures in
     let doom_is = c.doomed_by_post-doom.ensures ∙ ap (λ (x : Piece). doomed_by_post x ExtentViolated) (c.deref.ensures ∙ sym k) in
     rw (w, y, doom_is, ← n) d
+
+pub note_post-requires : goal.note_post-requires
+note_post-requires g c =
+    let m = g.D.Device.meaning in
+    let i = c.self.inside in
+    let b = c.in-Some.piece.value in
+    let settled = rw (← c.self.view_is) at c.requires.settled in
+    let s = rw (← c.self.view_is) at c.requires.fits in
+    let t = c.self.invariant.0 in
+    let z : Some b ≡ Some s.request = sym (ap (option_map box_value) c.in-Some.is) ∙ c.pop.ensures.first ∙ ap (λ (x : List Piece). slice_get x 0) t.queue ∙ s.first in
+    let e : b ≡ s.request = cc in
+    let opened = first-opened m i.mounted b (reverse i.trace.items) settled (s.first ∙ ap Some (sym e)) in
+    let piece_is = c.deref-2.ensures in
+    rw piece_is (opened-row m i.mounted b.dcb (reverse i.trace.items) i.dcbs t.legal t.count opened)
