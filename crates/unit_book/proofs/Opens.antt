@@ -24,7 +24,8 @@ use Rattle.unit_book.specs.Legal.{Due, ToHalt, ToPost, Free, due, Fits, FitsBy, 
 use Rattle.unit_book.specs.Posts.{posted}
 use Rattle.unit_book.specs.Fields.{HasRow, Ties, dcb_at, dcb_of}
 use Rattle.unit_book.proofs.Lists.{same-true, no_both}
-use Rattle.unit_book.proofs.Facts.{facts, fits-arrive, fits-start, fresh, active-is, first-waits}
+use Rattle.unit_book.proofs.Facts.{fits-arrive, fits-start, fresh, active-is}
+use Rattle.unit_book.proofs.LegalFacts.{facts, first-waits}
 use Rattle.unit_book.proofs.Dooms.{due-doomed}
 use Rattle.unit_book.proofs.Same.{activity-same, fits-free}
 use Rattle.unit_book.proofs.Seeks.{free-start, waits-open}

@@ -28,7 +28,8 @@ use Rattle.unit_book.specs.Posts.{posted}
 use Rattle.unit_book.specs.Book.{running_name_by}
 use Rattle.unit_book.specs.Fields.{StandingTies, Ties, pending_phase, with_area}
 use Rattle.unit_book.proofs.Lists.{same-is, no_both}
-use Rattle.unit_book.proofs.Facts.{facts, NewestIs, newest-ran}
+use Rattle.unit_book.proofs.Facts.{NewestIs}
+use Rattle.unit_book.proofs.LegalFacts.{facts, newest-ran}
 use Rattle.unit_book.proofs.Same.{fits-free}
 use Rattle.unit_book.proofs.Places.{placed-moved}
 

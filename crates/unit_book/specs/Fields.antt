@@ -58,6 +58,10 @@ active_field_count (Some a) = 1
 abbrev pub with_area : Active → Storage → Active
 with_area a m = record a { piece = with_value a.piece (record a.piece.value { area = m }) }
 
+-- a request that is started once more
+abbrev pub started_again : Active → Active
+started_again a = record { piece = a.piece; starts = a.starts + 1; halted = false; covered = false; standing = OnChannel }
+
 -- the active request after a purge
 abbrev pub after_cover : Scope → Mode → Active → Active
 after_cover scope mode a = record a { covered = (covers scope a.piece.value && is_halt mode) || a.covered }

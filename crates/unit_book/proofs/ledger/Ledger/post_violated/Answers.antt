@@ -9,7 +9,7 @@ use Rattle.unit_book.specs.declared.entry.Entry.TheVariants.{Post}
 use Rattle.unit_book.specs.Legal.{FailsCheck, OfFirst}
 use Rattle.unit_book.specs.Selected.{doomed_by_post}
 use Rattle.unit_book.proofs.Dooms.{doomed-post, due-doomed}
-use Rattle.unit_book.proofs.Facts.{facts, first-waits}
+use Rattle.unit_book.proofs.LegalFacts.{facts, first-waits}
 use Rattle.unit_book.proofs.Same.{fits-free}
 use Rattle.unit_book.proofs.Starts.{first-rest, none-in_field}
 use Rattle.unit_book.proofs.WaitingPosts.{ties-first_post, waiting-value}
