@@ -40,8 +40,8 @@ invariant_of-self g c =
       },
     )
 
-pub returns-clause-book : goal.returns-clause-book
-returns-clause-book g c =
+pub returns : goal.returns
+returns g c =
     let m = g.D.Device.meaning in
     let i = c.self.inside in
     let a = c.in-Some.active in
@@ -52,31 +52,21 @@ returns-clause-book g c =
     let s : Some a.piece.value.name ≡ Some c.args.name = sym t.activity.is ∙ fits.active in
     let n : c.args.name ≡ a.piece.value.name = cc in
     let p = subst (λ (x : Name). PostsActive m i.mounted x c.args.csw c.args.sense c.args.code (reverse i.trace.items)) n fits in
-    let e = value-is m i.mounted (reverse i.trace.items) i.channel a i.waiting.pieces i.dcbs i.dcbs i.out.items c.args.csw c.args.sense c.args.code settled t p in
+    let value = value-is m i.mounted (reverse i.trace.items) i.channel a i.waiting.pieces i.dcbs i.dcbs i.out.items c.args.csw c.args.sense c.args.code settled t p in
+    let dooms = doomed-post m i.mounted c.args.name c.args.csw c.args.sense c.args.code (reverse i.trace.items) (due-doomed m i.mounted (reverse i.trace.items) settled) in
+    let same = doom-is m i.mounted (reverse i.trace.items) i.channel a i.waiting.pieces i.dcbs i.out.items c.args.code t in
     let w = c.write.ensures.items in
     let q = c.hand_out.ensures in
     let v = c.posted_from.ensures in
     let h = c.tsch.ensures.state in
     let z = c.take.ensures.after in
-    rw (← c.self.view_is) (rw (w, q, v, h, z, e, ← n) refl)
-
-pub returns-clause-dooms : goal.returns-clause-dooms
-returns-clause-dooms g c =
-    let m = g.D.Device.meaning in
-    let i = c.self.inside in
-    let a = c.in-Some.active in
-    let settled = rw (← c.self.view_is) at c.requires.settled in
-    let fits = rw (← c.self.view_is) at c.requires.fits in
-    let o : i.active ≡ Some a = sym c.take.ensures.value ∙ c.in-Some.is in
-    let t = subst (λ (x : Option Active). Ties m i.mounted (reverse i.trace.items) i.channel x i.waiting.pieces i.dcbs i.out.items) o c.self.invariant.0 in
-    let s : Some a.piece.value.name ≡ Some c.args.name = sym t.activity.is ∙ fits.active in
-    let n : a.piece.value.name ≡ c.args.name = cc in
-    let e = doom-is m i.mounted (reverse i.trace.items) i.channel a i.waiting.pieces i.dcbs i.out.items c.args.code t in
-    let d = doomed-post m i.mounted c.args.name c.args.csw c.args.sense c.args.code (reverse i.trace.items) (due-doomed m i.mounted (reverse i.trace.items) settled) in
-    let w = c.write.ensures.items in
     let piece_is = c.deref.ensures in
     let doom_is = c.doomed_by_post-doom.ensures in
-    rw (w, doom_is, piece_is, e, n) d
+    record {
+      book = rw (← c.self.view_is) (rw (w, q, v, h, z, value, ← n) refl);
+      spare = rw (← c.self.view_is) c.write.ensures.spare;
+      dooms = rw (w, doom_is, piece_is, same, ← n) dooms;
+    }
 
 pub note_post-requires : goal.note_post-requires
 note_post-requires g c =
