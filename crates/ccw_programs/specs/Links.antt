@@ -1,10 +1,12 @@
 -- The CCWs that one command fetches (Principles of Operation, chapter 15).
-use Rattle.std.specs.Prelude.{ℕ, zero, suc, ◌+◌, ◌-◌, ◌%◌, ◌==◌, nat_lt, ◌<◌, ◌≤◌, ◌^◌, Bool, true, false, not, ◌&&◌, if◌then◌else◌, List, [], ◌∷◌, sum_by}
+use Rattle.std.specs.Prelude.{◌≡◌, ℕ, zero, suc, ◌+◌, ◌-◌, ◌%◌, ◌==◌, nat_lt, ◌<◌, ◌≤◌, ◌^◌, Bool, true, false, not, ◌&&◌, if◌then◌else◌, List, [], ◌∷◌, sum_by}
 use Rattle.io_area.specs.Storage.{Storage, lies_in, bytes_at}
 use Rattle.io_images.specs.Bits.{is_on, is_off, chain_data_bit, chain_command_bit, suppress_length_bit, skip_bit, indirect_bit, unusable_flags}
 use Rattle.io_images.specs.Images.{ccw_of}
 use Rattle.io_images.specs.declared.ccw.Ccw.{Ccw}
 use Rattle.ccw_programs.specs.declared.fetch.Link.{Link}
+use Rattle.ccw_programs.specs.declared.fetch.First.{First}
+use Rattle.ccw_programs.specs.declared.fetch.First.TheVariants.{Single, Chained, Failed}
 use Rattle.ccw_programs.specs.declared.fetch.Fetch.{Fetch}
 use Rattle.ccw_programs.specs.declared.fetch.Fetch.TheVariants.{Refused, Transfer, More, Last}
 
@@ -24,19 +26,29 @@ skips ccw = is_on skip_bit ccw.flags.0
 abbrev pub is_indirect : Ccw → Bool
 is_indirect ccw = is_on indirect_bit ccw.flags.0
 
+-- how many values the low four bits of a command have ("Command Code")
+abbrev pub low_values : ℕ
+low_values = 0x10
+
 -- the low four bits of a command
 abbrev pub low_bits : Ccw → ℕ
-low_bits ccw = ccw.command % 0x10
+low_bits ccw = ccw.command % low_values
 
--- transfer in channel ("Transfer in Channel")
+-- the low four bits of a transfer in channel ("Transfer in Channel"), and those of no command
+abbrev pub transfer_bits : ℕ
+transfer_bits = 0x08
+
+abbrev pub invalid_bits : ℕ
+invalid_bits = 0x00
+
 abbrev pub is_transfer : Ccw → Bool
-is_transfer ccw = low_bits ccw == 0x08
+is_transfer ccw = low_bits ccw == transfer_bits
 
 -- a CCW that is no transfer may stand at this place of its chain: the first one has a command that
--- is no zero in its low bits, the reserved flags are off, it has a count, and there are at most 16
+-- is valid in its low bits, the reserved flags are off, it has a count, and there are at most 16
 abbrev pub is_allowed : ℕ → Ccw → Bool
 is_allowed place ccw =
-    not ((place == 0) && (low_bits ccw == 0)) && is_off unusable_flags ccw.flags.0 && not (ccw.count == 0) && nat_lt place 16
+    not ((place == 0) && (low_bits ccw == invalid_bits)) && is_off unusable_flags ccw.flags.0 && not (ccw.count == 0) && nat_lt place 16
 
 -- what a CCW is at this place, where a transfer may come next or not
 abbrev pub kind_of_fetch : Bool → ℕ → Ccw → Fetch
@@ -77,6 +89,16 @@ chain_within m (suc left) may_transfer place at =
 abbrev pub chain : Storage → ℕ → ℕ → Fetched
 chain m at fetches = chain_within m (4096 - fetches) (not (fetches == 0)) 0 at
 
+-- the chain behind its first CCW, which chains data, after so many fetches
+abbrev pub chained : Storage → Link → ℕ → Fetched
+chained m link fetches = behind link (chain_within m (4096 - fetches) true 1 (link.at + 8))
+
+-- how a chain begins
+abbrev pub Begins : Storage → First → Fetched → Type 0
+Begins m (Single link fetches) whole = whole ≡ Whole (link ∷ []) fetches
+Begins m (Chained link fetches) whole = whole ≡ chained m link fetches
+Begins m (Failed at) whole = whole ≡ Broken at
+
 -- the bytes that the CCWs of a chain count
 abbrev pub total_count : List Link → ℕ
 total_count links = sum_by (λ l. l.ccw.count) links
@@ -98,3 +120,8 @@ TellsKind (Last ccw) place = (place < 16) × (1 ≤ ccw.count)
 pub record Sound (link : Link) : Type 0 where
   pub in_storage : link.at + 8 ≤ 2 ^ 24
   pub counted : 1 ≤ link.ccw.count
+
+abbrev pub IsSound : First → Type 0
+IsSound (Single link fetches) = Sound link × (fetches ≤ 4096)
+IsSound (Chained link fetches) = Sound link × (fetches ≤ 4096)
+IsSound (Failed at) = Unit {0}

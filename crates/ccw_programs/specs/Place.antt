@@ -1,6 +1,6 @@
 -- Where a channel program stands between two commands (Principles of Operation, chapters 15 and 16).
 use Rattle.std.specs.Prelude.{ℕ, ◌+◌, ◌%◌, ◌^◌}
-use Rattle.io_images.specs.Bits.{program_check_bit}
+use Rattle.io_images.specs.Bits.{normal_end_status, program_check_bit}
 use Rattle.io_images.specs.declared.csw.Csw.{Csw}
 use Rattle.ccw_programs.specs.declared.context.State.{State}
 use Rattle.ccw_programs.specs.declared.context.State.TheVariants.{Running, Ended}
@@ -29,3 +29,8 @@ stored_address at = (at + 8) % 2 ^ 24
 -- the program has ended with a program check (chapter 16, "Program Check") of the CCW at an address
 abbrev pub checked_place : Place → ℕ → Place
 checked_place place at = ended_place place (record { address = stored_address at; unit = record { 0 = 0 }; sub = record { 0 = program_check_bit }; residual = 0 }) 0
+
+-- THE STATUS AFTER A HALT (profile): channel end and device end, with the CCW address and the residual count
+-- of the last command step done, or the start and 0 if there was none
+abbrev pub halted : Place → Csw
+halted place = record { address = place.address; unit = record { 0 = normal_end_status }; sub = record { 0 = 0 }; residual = place.residual }

@@ -2,9 +2,8 @@
 //! of Operation, chapters 15 and 16).
 
 ghost use Rattle.std.specs.Prelude.{◌≡◌, ◌≤◌, ◌<◌, ◌^◌, ◌+◌, [], ◌∷◌, length, All};
-ghost use Rattle.io_images.specs.Bits.{normal_end_status};
 ghost use Rattle.ccw_programs.specs.Links.{Sound};
-ghost use Rattle.ccw_programs.specs.Place.{Place, start_place, ended_place, checked_place};
+ghost use Rattle.ccw_programs.specs.Place.{Place, start_place, ended_place, checked_place, halted};
 ghost use Rattle.ccw_programs.specs.Step.{acted_place, placed};
 
 use crate::ending::{Ending, ended_in, ending_of, last_of, total_count};
@@ -75,7 +74,7 @@ impl Context {
     /// count of its last command, or its start and 0 (chapter 14, "Halt Subchannel"; that it ends at once is the
     /// profile's).
     pub fn halted(&self) -> Csw
-        ensures { result ≡ record { address = self.now.address; unit = record { 0 = normal_end_status }; sub = record { 0 = 0 }; residual = self.now.residual } }
+        ensures { result ≡ halted self.now }
     {
         Csw {
             address: self.address,

@@ -1,8 +1,8 @@
 //! The CCWs of one command, fetched from storage (Principles of Operation, chapter 15, "Channel-Command Word", "Data
 //! Chaining" and "Transfer in Channel"; which bits may be on, and the limits, are the profile's).
 
-ghost use Rattle.std.specs.Prelude.{◌≡◌, ◌<◌, ◌≤◌, ◌+◌, ◌-◌, ◌==◌, ◌%◌, not, length, [], ◌∷◌, false, MatchResult, IfOk, IfSome, OnOk, All};
-ghost use Rattle.ccw_programs.specs.Links.{Tells, TellsKind, fetch_at, kind_of_fetch, is_transfer, is_allowed, chain, chain_within, Whole, Broken, Sound};
+ghost use Rattle.std.specs.Prelude.{◌≡◌, ◌<◌, ◌≤◌, ◌+◌, ◌-◌, ◌==◌, ◌%◌, length, [], ◌∷◌, false, MatchResult, IfOk, OnOk, All};
+ghost use Rattle.ccw_programs.specs.Links.{Tells, TellsKind, fetch_at, kind_of_fetch, is_transfer, is_allowed, chain, chained, Begins, IsSound, Whole, Broken, Sound};
 ghost use Rattle.io_images.specs.Images.{ccw_of};
 
 use crate::short_list::ShortList;
@@ -25,18 +25,27 @@ pub enum Fetch {
     Last(Ccw),
 }
 
+/// How many values the low four bits of a command have (chapter 15, "Command Code").
+const LOW_VALUES: u8 = 0x10;
+
+/// The low four bits of a transfer in channel.
+const TRANSFER_BITS: u8 = 0x08;
+
+/// The low four bits that are no command.
+const INVALID_BITS: u8 = 0x00;
+
 /// Whether a CCW is a transfer in channel.
 fn is_transfer(ccw: &Ccw) -> bool
     ensures { result ≡ is_transfer ccw.now }
 {
-    ccw.command % 0x10 == 0x08
+    ccw.command % LOW_VALUES == TRANSFER_BITS
 }
 
 /// Whether a CCW that is no transfer may stand at this place of its chain.
 fn is_allowed(place: usize, ccw: &Ccw) -> bool
     ensures { result ≡ is_allowed place ccw.now }
 {
-    !(place == 0 && ccw.command % 0x10 == 0)
+    !(place == 0 && ccw.command % LOW_VALUES == INVALID_BITS)
         && ccw.flags.reserved_off()
         && ccw.count != 0
         && place < 16
@@ -88,50 +97,13 @@ fn read_ccw(image: &[u8]) -> Ccw
     ])
 }
 
-/// The only CCW of a command, and the number of fetches after it.
+/// How the CCWs of a command begin: with the only one, or with one whose data the next CCW continues, each with the
+/// number of fetches after it; or the CCW at an address failed.
 #[derive(Clone, Copy, PartialEq, Eq, Debug)]
-pub struct Single {
-    pub link: Link,
-    pub fetches: u16,
-}
-
-/// Fetches the CCW of a command that has only one, behind one transfer at most. None says nothing.
-#[inline(always)]
-pub(crate) fn fetch_single(area: &Area, start: u32, fetches: u16) -> Option<Single>
-    ensures chain { IfSome result (λ s. chain area.now start fetches ≡ Whole (s.link ∷ []) s.fetches) }
-    ensures sound { IfSome result (λ s. Sound s.link) }
-    ensures fetches { IfSome result (λ s. s.fetches ≤ 4096) }
-{
-    if fetches >= FETCH_LIMIT {
-        return None;
-    }
-    match fetch_at(area, fetches != 0, 0, start) {
-        Fetch::Last(ccw) => Some(Single {
-            link: Link { at: start, ccw },
-            fetches: fetches + 1,
-        }),
-        Fetch::Transfer(to) => fetch_behind(area, to, fetches + 1),
-        Fetch::Refused | Fetch::More(_) => None,
-    }
-}
-
-/// The same behind a transfer.
-#[inline(always)]
-fn fetch_behind(area: &Area, at: u32, fetches: u16) -> Option<Single>
-    ensures chain { IfSome result (λ s. chain_within area.now (4096 - fetches) false 0 at ≡ Whole (s.link ∷ []) s.fetches) }
-    ensures sound { IfSome result (λ s. Sound s.link) }
-    ensures fetches { IfSome result (λ s. s.fetches ≤ 4096) }
-{
-    if fetches >= FETCH_LIMIT {
-        return None;
-    }
-    match fetch_at(area, false, 0, at) {
-        Fetch::Last(ccw) => Some(Single {
-            link: Link { at, ccw },
-            fetches: fetches + 1,
-        }),
-        Fetch::Refused | Fetch::Transfer(_) | Fetch::More(_) => None,
-    }
+pub enum First {
+    Single(Link, u16),
+    Chained(Link, u16),
+    Failed(u32),
 }
 
 /// CCWs that one attempt may fetch.
@@ -140,25 +112,49 @@ pub(crate) const FETCH_LIMIT: u16 = 4096;
 /// The CCWs of one command: at most 16.
 pub type Links = ShortList<Link, 16>;
 
-/// Fetches the CCWs of one command, and gives the number of fetches after it, or tells the address of the
-/// CCW that failed.
-pub(crate) fn fetch_chain(
+/// Fetches the first CCW of a command.
+#[inline(always)]
+pub(crate) fn fetch_first(area: &Area, start: u32, fetches: u16) -> First
+    requires { fetches ≤ 4096 }
+    ensures chain { Begins area.now result (chain area.now start fetches) }
+    ensures sound { IsSound result }
+{
+    let mut at = start;
+    let mut may_transfer = fetches != 0;
+    for done in fetches..FETCH_LIMIT {
+        match fetch_at(area, may_transfer, 0, at) {
+            Fetch::Refused => return First::Failed(at),
+            Fetch::Transfer(to) => {
+                at = to;
+                may_transfer = false;
+            }
+            Fetch::More(ccw) => return First::Chained(Link { at, ccw }, done + 1),
+            Fetch::Last(ccw) => return First::Single(Link { at, ccw }, done + 1),
+        }
+    }
+    First::Failed(at)
+}
+
+/// Fetches the CCWs behind the first one of a command, and gives the number of fetches after them, or tells the
+/// address of the CCW that failed.
+pub(crate) fn fetch_rest(
     area: &Area,
-    start: u32,
+    first: &Link,
     fetches: u16,
     links: &mut Links,
 ) -> Result<u16, u32>
     requires limit { fetches ≤ 4096 }
+    requires first { Sound first.now }
     requires empty { links.old ≡ [] }
     ensures some { OnOk result (1 ≤ length links.new) }
     ensures few { OnOk result (length links.new ≤ 16) }
     ensures sound { OnOk result (All Sound links.new) }
     ensures fetches { IfOk result (λ after. after ≤ 4096) }
-    ensures later { IfOk result (λ after. fetches < after) }
-    ensures chain { MatchResult result (λ after. chain area.now start fetches ≡ Whole links.new after) (λ at. chain area.now start fetches ≡ Broken at) }
+    ensures chain { MatchResult result (λ after. chained area.now first.now fetches ≡ Whole links.new after) (λ at. chained area.now first.now fetches ≡ Broken at) }
 {
-    let mut at = start;
-    let mut may_transfer = fetches != 0;
+    links.push(*first);
+    let mut at = first.at + 8;
+    let mut may_transfer = true;
     for done in fetches..FETCH_LIMIT {
         match fetch_at(area, may_transfer, links.len(), at) {
             Fetch::Refused => return Err(at),

@@ -10,8 +10,8 @@ use crate::fetch::Link;
 use device_port::{Acted, Flow};
 use io_images::{SubStatus, UnitStatus};
 
-/// Whether incorrect length is shown, where the program counts so many bytes from its first CCW on, and ended in
-/// another.
+/// Whether incorrect length is shown, where the program counts so many bytes from the first CCW of the command on, the
+/// device wants so many, and the CCW where the command ended is this one.
 #[inline(always)]
 fn shows_length(flow: Flow, first: &Link, counted: u32, want: u32, ended: &Link) -> bool
     ensures { result ≡ shows_length flow first.now counted want ended.now }
@@ -25,7 +25,8 @@ fn shows_length(flow: Flow, first: &Link, counted: u32, want: u32, ended: &Link)
     }
 }
 
-/// The subchannel status of such a command: an incorrect length is shown beside no other error.
+/// The subchannel status of such a command, by the CCW where it ended: an incorrect length is shown beside no other
+/// error.
 #[inline(always)]
 pub(crate) fn sub_status(
     flow: Flow,

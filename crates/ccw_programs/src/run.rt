@@ -4,13 +4,13 @@
 ghost use Rattle.std.specs.Prelude.{◌≡◌, ◌≤◌, ◌<◌, [], ◌∷◌, length, min, sum, All, false, ◌↔◌};
 ghost use Rattle.io_area.specs.Storage.{SamePlace};
 ghost use Rattle.ccw_programs.specs.Areas.{areas, Parts};
-ghost use Rattle.ccw_programs.specs.Links.{chain, Whole, Sound, is_indirect};
+ghost use Rattle.ccw_programs.specs.Links.{chain, chained, Whole, Sound, is_indirect};
 ghost use Rattle.ccw_programs.specs.Step.{Program, program, step, after, length_of, is_running};
 
 use crate::areas::{data_area, data_areas, part_of};
 use crate::context::{Burst, Context, State};
 use crate::ending::command_code;
-use crate::fetch::{Link, fetch_chain, fetch_single};
+use crate::fetch::{First, Link, fetch_first, fetch_rest};
 use crate::workspace::{Parts, Workspace};
 use device_port::{Chain, Device, Flow, Segment};
 use io_area::Area;
@@ -28,11 +28,19 @@ fn command<D: Device>(
     ensures place { SamePlace area.old area.new }
     ensures step { program context.new device.new area.new ≡ step D.meaning (program context.old device.old area.old) }
 {
-    match fetch_single(area, context.next(), context.fetched()) {
-        Some(single) if !single.link.ccw.flags.is_indirect() => {
-            command_on_one(context, device, area, &single.link, single.fetches);
+    match fetch_first(area, context.next(), context.fetched()) {
+        First::Failed(at) => context.check(at),
+        First::Single(link, fetches) if !link.ccw.flags.is_indirect() => {
+            command_on_one(context, device, area, &link, fetches);
         }
-        _ => command_of_chain(context, device, area, workspace),
+        First::Single(link, fetches) => {
+            let parts = &mut workspace.parts;
+            parts.clear();
+            command_on(context, device, area, &[link], fetches, parts);
+        }
+        First::Chained(link, fetches) => {
+            command_of_chain(context, device, area, &link, fetches, workspace);
+        }
     }
 }
 
@@ -90,23 +98,27 @@ fn act_on_one<D: Device>(
     context.advance_one(flow, link, fetches, acted);
 }
 
-/// One command step, of any chain.
+/// One command step, whose first CCW was fetched and chains data.
 #[inline(never)]
 fn command_of_chain<D: Device>(
     context: &mut Context,
     device: &mut D,
     area: &mut Area,
+    first: &Link,
+    fetches: u16,
     workspace: &mut Workspace,
 )
-    requires { context.old.state ≡ State.Running }
-    ensures bound { context.old.fetched ≤ 4096 }
+    requires running { context.old.state ≡ State.Running }
+    requires fetched { chain area.old context.old.next context.old.fetched ≡ chained area.old first.now fetches }
+    requires sound { Sound first.now }
+    requires fetches { fetches ≤ 4096 }
     ensures place { SamePlace area.old area.new }
     ensures step { program context.new device.new area.new ≡ step D.meaning (program context.old device.old area.old) }
 {
     let Workspace { links, parts } = workspace;
     links.clear();
     parts.clear();
-    match fetch_chain(area, context.next(), context.fetched(), links) {
+    match fetch_rest(area, first, fetches, links) {
         Err(at) => context.check(at),
         Ok(fetches) => command_on(context, device, area, links.as_slice(), fetches, parts),
     }
@@ -180,7 +192,8 @@ pub fn burst<D: Device>(
 }
 
 /// Bursts of these sizes, one after another, until the sizes are used up or the program has ended: as many commands
-/// as one burst of their sum does.
+/// as one burst of their sum does (chapter 15, "Command Chaining"; that a program goes on in bursts is the profile's).
+/// Takes no memory.
 pub fn bursts<D: Device>(
     context: &mut Context,
     device: &mut D,

@@ -16,7 +16,8 @@ pub struct Workspace {
 }
 
 impl Workspace {
-    /// Room that holds nothing.
+    /// Room that holds nothing, for the 16 CCWs of a data chain and the 528 parts of its data (chapter 15, "Data
+    /// Chaining" and "Channel Indirect Data Addressing"; both limits are the profile's). Takes no memory.
     pub fn new() -> Self {
         Workspace {
             links: ShortList::new(Link::default()),

@@ -26,6 +26,11 @@ pub record IsSpot (records : List Record) (spot : Spot) : Type 0 where
   pub there : spot.place < length records
   pub offset : spot.offset ≡ bytes_before records spot.place
 
+-- a spot names the record behind that of another
+pub record IsBehind (records : List Record) (spot next : Spot) : Type 0 where
+  pub is : IsSpot records next
+  pub place : next.place ≡ spot.place + 1
+
 -- the track with another record at a place
 abbrev pub with_record : TrackState → ℕ → Record → TrackState
 with_record track place r = record { size = track.size; records = slice_set track.records place r }

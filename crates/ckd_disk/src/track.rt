@@ -7,7 +7,7 @@ mod stored;
 ghost use Rattle.std.specs.Prelude.{◌≡◌, ℕ, ◌+◌, ◌*◌, ◌<◌, ◌≤◌, ◌^◌, ◌↔◌, IsTrue, IfOk, MatchOption, [], ◌++◌, length};
 ghost use Rattle.device_port.specs.Packed.{Begins};
 ghost use Rattle.ckd_disk.specs.Record.{Fits, record_with, ckd, count_area, packed, size_of, record_at, size_at, IsRecord, record_written};
-ghost use Rattle.ckd_disk.specs.Track.{record_of, bytes_of, bytes_before, IsSpot, with_content, with_key_and_content, with_record_behind, with_last};
+ghost use Rattle.ckd_disk.specs.Track.{record_of, bytes_of, bytes_before, IsSpot, IsBehind, with_content, with_key_and_content, with_record_behind, with_last};
 
 use device_port::{Given, fill_at};
 pub use records::{Records, Stored};
@@ -112,8 +112,7 @@ impl Track {
     /// The record behind a record, unless that is the last one.
     pub fn behind(&self, spot: Spot) -> Option<Spot>
         requires { IsSpot self.now.records spot }
-        ensures { MatchOption result (length self.now.records ≡ spot.place + 1)
-            (λ next. IsSpot self.now.records next × (next.place ≡ spot.place + 1)) }
+        ensures { MatchOption result (length self.now.records ≡ spot.place + 1) (IsBehind self.now.records spot) }
     {
         let count = self.count;
         let place = spot.place + 1;

@@ -3,9 +3,12 @@
 use ckd_disk::{Disk, Geometry, InitialRecord};
 use device_port::{Device, Fault};
 use io_area::Area;
-use io_images::{Address, Seek};
+use io_images::{Address, FileMask, Seek};
 use std::alloc::{AllocError, Global};
 use subchannel::Subchannel;
+
+/// Where storage and the program in it begin.
+const START: u32 = 0x1000;
 
 /// A disk of one track with so many records of so many bytes.
 pub fn disk(alloc: Global, records: u8, bytes: u16) -> Result<Disk, AllocError> {
@@ -50,7 +53,7 @@ impl Channel {
         for _ in program.len()..storage {
             image.push(0)?;
         }
-        match Area::new(alloc, 0x1000, &image) {
+        match Area::new(alloc, START, &image) {
             Ok(area) => Ok(Channel {
                 subchannel: Subchannel::new(disk, 0),
                 area,
@@ -74,7 +77,9 @@ impl Channel {
             Some(disk) if disk.fits(&seek) => {}
             _ => return 0,
         }
-        let _ = self.subchannel.ssch(Address::new(0x1000), &seek, 0x18);
+        let _ = self
+            .subchannel
+            .ssch(Address::new(START), &seek, FileMask::OUTPUT.0);
         let done = self.subchannel.run(&mut self.area, u32::MAX);
         let _ = self.subchannel.tsch();
         match done {

@@ -1,6 +1,6 @@
 //! Whole cycles of a book: a request arrives, is started, run and interrupted, and is taken out.
 
-ghost use Rattle.std.specs.Prelude.{◌≡◌, ◌+◌, ◌∷◌, OnOk, OnErr};
+ghost use Rattle.std.specs.Prelude.{◌≡◌, ◌+◌, ◌∷◌, IfOk, OnOk, OnErr};
 ghost use Rattle.unit_book.specs.Trace.{arrivals, arrived_of};
 
 use crate::channel::disk;
@@ -23,62 +23,58 @@ const IMAGE: [u8; 104] = [
 /// An extent of the one track of the disk.
 const EXTENT: [u8; 16] = [0x18, 0, 0, 0, 0, 0, 0, 0, 0, 0, 0, 0, 0, 0, 0, 1];
 
-/// A book with an open DCB, the number of its last request, and the storage that each request is a copy of.
+/// A book with an open DCB, and the storage that each request is a copy of.
 #[derive(Drop)]
 pub struct Cycles {
     book: UnitBook<Disk>,
-    issued: u32,
     area: Area,
 }
 
 impl Model for Cycles {
-    ghost use Rattle.std.specs.Prelude.{◌≡◌};
     ghost use Rattle.unit_book.specs.Book.{Book};
-    ghost use Rattle.unit_book.specs.Trace.{arrived_of};
     ghost use Rattle.ckd_disk.specs.Disk.{DiskState};
 
     ghost Value = { Book DiskState };
 
     ghost view = { λ c. c.book };
-
-    ghost invariant = { λ c. c.issued ≡ arrived_of 0 c.book.trace };
 }
 
 impl Cycles {
-    /// A book for one request at a time, with DCB 1 open.
-    pub fn new(alloc: Global) -> Result<Self, AllocError> {
+    /// A book for one request at a time, with DCB 1 open, at which nothing arrived.
+    pub fn new(alloc: Global) -> Result<Self, AllocError>
+        ensures { IfOk result (λ c. arrived_of 0 c.trace ≡ 0) }
+    {
         let Ok(area) = Area::new(alloc, 0x1000, &IMAGE) else {
             return Err(AllocError);
         };
         let mut book = UnitBook::new(alloc, disk(alloc, 1, 4)?, 0, 1)?;
         open(&mut book)?;
-        Ok(Cycles {
-            book,
-            issued: 0,
-            area,
-        })
+        Ok(Cycles { book, area })
     }
 
-    /// Does so many cycles and counts those that were posted.
-    pub fn run(&mut self, alloc: Global, count: u32) -> Result<u64, AllocError> {
+    /// Does so many cycles, the first ones of the book, and counts those that were posted.
+    pub fn run(&mut self, alloc: Global, count: u32) -> Result<u64, AllocError>
+        requires { arrived_of 0 self.old.trace ≡ 0 }
+    {
         let mut done: u64 = 0;
-        for _ in 0..count {
-            done = done.saturating_add(self.cycle(alloc)?);
+        for before in 0..count {
+            done = done.saturating_add(self.cycle(alloc, before + 1)?);
         }
         Ok(done)
     }
 
-    fn cycle(&mut self, alloc: Global) -> Result<u64, AllocError> {
-        let Some(seq) = self.issued.checked_add(1) else {
-            return Ok(0);
-        };
+    /// The cycle of the next request.
+    fn cycle(&mut self, alloc: Global, seq: u32) -> Result<u64, AllocError>
+        requires { seq ≡ arrived_of 0 self.old.trace + 1 }
+        ensures { OnOk result (arrived_of 0 self.new.trace ≡ seq) }
+    {
         let name = Name { task: 0, seq };
         let Ok(request) = Request::new(alloc, name, 0, 1, 0x1000, self.area.copy()?) else {
             return Err(AllocError);
         };
         admit(&mut self.book, request)?;
-        self.issued = seq;
-        serve(&mut self.book)
+        let posted = serve(&mut self.book)?;
+        Ok(posted)
     }
 }
 

@@ -3,7 +3,7 @@ pub mod Fans
 pub mod States
 pub mod Notices
 pub mod Calls
-pub mod Holds
+pub mod RowCalls
 pub mod Opening
 pub mod Drained
 pub mod Flows

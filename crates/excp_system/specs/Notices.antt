@@ -26,7 +26,7 @@ module _ {D : Type 0} (s : SiteRows) where
       (new ≡ record old { book = new.book; owes = true })
       × WasFull notifier_of NoFact (end_of (notice_rows s) old.unit old.book.isc old.notified)
 
-  -- a hold that has a notice to send, or none
+  -- a call that has a notice to send, or none
   abbrev pub Notifies : Bool → Locked D → Locked D → Type 0
   Notifies false old new = InBook old new
   Notifies true old new = Sends new.owes old new

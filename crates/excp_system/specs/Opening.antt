@@ -1,5 +1,5 @@
 -- ROWS THAT NOBODY USES YET, and what is made of them (profile).
-use Rattle.std.specs.Prelude.{◌≡◌, ◌≤◌, ℕ, List, [], length, Some, true, slice_get, slice_index_or, replicate}
+use Rattle.std.specs.Prelude.{◌≡◌, ℕ, List, [], length, Some, true, slice_get, slice_index_or, replicate}
 use Rattle.std.specs.List.{list_all}
 use Rattle.unit_book.specs.Book.{Book}
 use Rattle.unit_book.specs.Trace.{is_opening}

@@ -1,5 +1,5 @@
 -- WHAT A UNIT'S LOCK KEEPS, and what a task has (profile).
-use Rattle.std.specs.Prelude.{◌≡◌, ◌<◌, ℕ, Bool, List, [], slice_index_or, length}
+use Rattle.std.specs.Prelude.{◌≡◌, ◌<◌, ℕ, Bool, false, List, [], slice_index_or, length}
 use Rattle.device_port.specs.Meaning.{Meaning}
 use Rattle.request_piece.specs.PostedState.{PostedState}
 use Rattle.request_piece.specs.declared.piece.Piece.{Piece}
@@ -18,6 +18,10 @@ pub record Locked (D : Type 0) : Type 0 where
   pub book : Book D
   pub notified : List Notice
   pub owes : Bool
+
+-- a unit that owes no notice
+abbrev pub owing_nothing : {D : Type 0} → ℕ → Book D → List Notice → Locked D
+owing_nothing unit book notified = record { unit = unit; book = book; notified = notified; owes = false }
 
 -- each of these requests is of one of the tasks, and for this unit
 abbrev pub AreOf : SiteRows → ℕ → List Piece → Type 0

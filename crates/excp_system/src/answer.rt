@@ -1,4 +1,4 @@
-//! What the holds of a unit answer that use a row.
+//! What the calls of a locked unit answer that use a row.
 
 use request_piece::Name;
 

@@ -1,6 +1,6 @@
-//! What lies under a unit's lock. Each call is one hold of it.
+//! What lies under a unit's lock.
 
-mod holds;
+mod book_calls;
 
 ghost use Rattle.std.specs.Prelude.{◌≡◌, ◌<◌, ◌≤◌, ◌++◌, ℕ, false, length, IfOk, OnErr};
 ghost use Rattle.fifo_row.specs.Lists.{of};
@@ -8,10 +8,10 @@ ghost use Rattle.unit_book.specs.Book.{given, occupancy};
 ghost use Rattle.unit_book.specs.Legal.{Legal, Settled};
 ghost use Rattle.unit_book.specs.Posts.{posted};
 ghost use Rattle.unit_book.specs.Trace.{arrivals, arrived_of};
-ghost use Rattle.excp_system.specs.Holds.{Delivers, TakesIn};
+ghost use Rattle.excp_system.specs.RowCalls.{Delivers, TakesIn};
 ghost use Rattle.excp_system.specs.Fans.{sent_to};
 ghost use Rattle.excp_system.specs.Sites.{end_of, for_task, intake_rows, notice_rows, taker_of};
-ghost use Rattle.excp_system.specs.States.{AreOf, IsUnit};
+ghost use Rattle.excp_system.specs.States.{AreOf, IsUnit, owing_nothing};
 
 use crate::answer::{Delivery, Intake};
 use crate::fan::Fan;
@@ -57,8 +57,8 @@ impl<'r, S: Site, D: Device> UnitState<'r, S, D> {
         back: Fan<'r, Returned, PostRows<S>>,
         notice: Sender<'r, Notice>,
     ) -> UnitState<'r, S, D>
-        requires { IsUnit D.meaning S.rows (record { unit = unit; book = book; notified = notice.sent; owes = false }) intake back notice }
-        ensures { result ≡ record { unit = unit; book = book; notified = notice.entry.sent; owes = false } }
+        requires { IsUnit D.meaning S.rows (owing_nothing unit book notice.sent) intake back notice }
+        ensures { result ≡ owing_nothing unit book notice.entry.sent }
     {
         UnitState {
             unit,

@@ -40,13 +40,21 @@ pub record Taking (I : Type 0) : Type 0 where
   pub taken : List I
   pub met : List (ℕ × List I)
 
--- the sender k of a row, which has sent nothing
-abbrev pub fresh_sender : {I : Type 0} → Fresh → ℕ → Sending I
-fresh_sender r k = record { row = r.row; capacity = r.capacity; tag = r.tag; number = k; sent = [] }
+-- a sender that has sent nothing
+abbrev pub first_sending : {I : Type 0} → RowName → ℕ → ℕ → ℕ → Sending I
+first_sending row capacity tag number = record { row = row; capacity = capacity; tag = tag; number = number; sent = [] }
 
--- the taker of a row, which has taken nothing and met nobody
+-- a taker that has taken nothing and met nobody
+abbrev pub first_taking : {I : Type 0} → RowName → ℕ → ℕ → ℕ → Taking I
+first_taking row capacity tag senders = record { row = row; capacity = capacity; tag = tag; senders = senders; taken = []; met = [] }
+
+-- the sender k of a row
+abbrev pub fresh_sender : {I : Type 0} → Fresh → ℕ → Sending I
+fresh_sender r k = first_sending r.row r.capacity r.tag k
+
+-- the taker of a row
 abbrev pub fresh_taker : {I : Type 0} → Fresh → Taking I
-fresh_taker r = record { row = r.row; capacity = r.capacity; tag = r.tag; senders = r.senders; taken = []; met = [] }
+fresh_taker r = first_taking r.row r.capacity r.tag r.senders
 
 -- the ends of a row: its senders by number, and its taker
 pub record Seats {I : Type 0} (senders : List (Sending I)) (taker : Taking I) (row : Fresh) : Type 0 where

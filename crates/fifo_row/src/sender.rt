@@ -1,6 +1,7 @@
 //! The end of a row that sends.
 ghost use Rattle.std.specs.Prelude.{◌≡◌, ◌≤◌, ◌^◌, ◌∷◌, ◌++◌, [], length, suc, IfErr, OnErr, OnOk};
 ghost use Rattle.crossbeam_queue.specs.Passes.{IsPassOf, ruled_capacity};
+ghost use Rattle.fifo_row.specs.Ends.{first_sending};
 ghost use Rattle.fifo_row.specs.Steps.{WasFull};
 ghost use Rattle.fifo_row.specs.Views.{known, sender_view};
 
@@ -59,13 +60,7 @@ impl<'r, I: Item> Sender<'r, I> {
         number: u16,
     ) -> Sender<'r, I>
         requires { IsPassOf queue.now pass × (known pass ≡ sender_view tag number []) }
-        ensures { result ≡ record {
-          row = queue.now.table.shared.table_id;
-          capacity = ruled_capacity queue.now;
-          tag = tag;
-          number = number;
-          sent = [];
-        } }
+        ensures { result ≡ first_sending queue.now.table.shared.table_id (ruled_capacity queue.now) tag number }
     {
         Sender {
             queue,

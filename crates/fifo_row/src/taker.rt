@@ -2,7 +2,7 @@
 ghost use Rattle.std.specs.Prelude.{◌≡◌, ◌<◌, ◌∷◌, ◌++◌, [], length, replicate, IfNone, IfSome};
 ghost use Rattle.crossbeam_queue.specs.Passes.{IsPassOf, ruled_capacity};
 ghost use Rattle.fifo_row.specs.Lists.{Begins, of};
-ghost use Rattle.fifo_row.specs.Ends.{AllEnded, IsNext};
+ghost use Rattle.fifo_row.specs.Ends.{AllEnded, IsNext, first_taking};
 ghost use Rattle.fifo_row.specs.Steps.{WasEmpty};
 ghost use Rattle.fifo_row.specs.Views.{known, taker_view};
 
@@ -56,14 +56,7 @@ impl<'r, I: Item> Taker<'r, I> {
     ) -> Taker<'r, I>
         requires pass { IsPassOf queue.now pass × (known pass ≡ taker_view tag (length counts.items) [] []) }
         requires counts { counts.items ≡ replicate (length counts.items) 0 }
-        ensures { result ≡ record {
-          row = queue.now.table.shared.table_id;
-          capacity = ruled_capacity queue.now;
-          tag = tag;
-          senders = length counts.items;
-          taken = [];
-          met = [];
-        } }
+        ensures { result ≡ first_taking queue.now.table.shared.table_id (ruled_capacity queue.now) tag (length counts.items) }
     {
         Taker {
             queue,

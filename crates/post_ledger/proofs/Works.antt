@@ -23,7 +23,7 @@ use Rattle.fifo_row.specs.Lists.{of}
 use Rattle.fifo_row.proofs.Filters.{of-append, of-snoc_same, of-snoc_other}
 use Rattle.excp_system.proofs.Places.{get_set_other, index_replicate, some_is}
 use Rattle.excp_system.specs.Drained.{ArePlaced}
-use Rattle.excp_system.specs.Holds.{TakesIn}
+use Rattle.excp_system.specs.RowCalls.{TakesIn}
 use Rattle.excp_system.specs.Opening.{AreTasks}
 use Rattle.excp_system.specs.Sites.{SiteRows, unit_of}
 use Rattle.excp_system.specs.States.{Locked, TaskState}

@@ -141,9 +141,9 @@ pub fn finish<'r, S: Site, D: Device, R: Wait>(
 fn go_on<'r, S: Site, D: Device, R: Wait>(
     rt: &R,
     alloc: Global,
-    units: Vec<UnitState<'r, S, D>>,
-    tasks: Vec<Task<'r, S>>,
-    posts: Vec<Posts>,
+    mut units: Vec<UnitState<'r, S, D>>,
+    mut tasks: Vec<Task<'r, S>>,
+    mut posts: Vec<Posts>,
 ) -> Result<Report<D>, Unfinished<'r, S, D>>
     requires units { length units.items ≡ S.rows.units }
     requires tasks { ArePlaced (λ task. task.number) S.rows.tasks tasks.items }
@@ -159,40 +159,15 @@ fn go_on<'r, S: Site, D: Device, R: Wait>(
     ensures works { IfErr result (λ left. WorkOn (Some units.entry.items) left.units) }
     ensures cause { IfErr result (λ left. IsCause S.rows.units left.cause left.units) }
 {
-    if are_placed(units.as_slice()) {
-        return run_out(rt, alloc, units, tasks, posts);
+    if !are_placed(units.as_slice()) {
+        return Err(Unfinished {
+            alloc,
+            cause: Cause::Mixed,
+            units: Units::Free(units),
+            tasks,
+            posts,
+        });
     }
-    Err(Unfinished {
-        alloc,
-        cause: Cause::Mixed,
-        units: Units::Free(units),
-        tasks,
-        posts,
-    })
-}
-
-/// Brings a run whose units are free, each at the place of its number, to its end.
-fn run_out<'r, S: Site, D: Device, R: Wait>(
-    rt: &R,
-    alloc: Global,
-    mut units: Vec<UnitState<'r, S, D>>,
-    mut tasks: Vec<Task<'r, S>>,
-    mut posts: Vec<Posts>,
-) -> Result<Report<D>, Unfinished<'r, S, D>>
-    requires units { ArePlaced (λ unit. unit.unit) S.rows.units units.items }
-    requires tasks { ArePlaced (λ task. task.number) S.rows.tasks tasks.items }
-    requires lists { AreLists S.rows.units S.rows.tasks posts.items }
-    ensures complete { IfOk result (λ report. IsFor S.rows.units S.rows.tasks report) }
-    ensures legal { IfOk result (λ report. AreLegal D.meaning report) }
-    ensures idle { IfOk result (λ report. AreIdle report) }
-    ensures received { IfOk result (λ report. Received report tasks.entry.items) }
-    ensures posted_once { IfOk result (λ report. PostedOnce report tasks.entry.items) }
-    ensures returned { IfOk result (λ report. ReturnedRest D.meaning posts.items report tasks.entry.items) }
-    ensures grew { IfOk result (λ report. GrewInto (Some units.entry.items) report.books) }
-    ensures collects { IfErr result (λ left. Collects S.rows.units tasks.entry.items left.tasks posts.items left.lists) }
-    ensures works { IfErr result (λ left. WorkOn (Some units.entry.items) left.units) }
-    ensures cause { IfErr result (λ left. IsCause S.rows.units left.cause left.units) }
-{
     match make_ready(rt, alloc, &mut units, &mut tasks, &mut posts) {
         Ok(room) => Ok(close(units, tasks, posts, room)),
         Err(AllocError) => Err(Unfinished {

@@ -17,8 +17,17 @@ const PASSING_SENSE: u16 = 0x3C00;
 /// Command reject and intervention required in sense byte 0, and all of sense byte 1.
 const LASTING_SENSE: u16 = 0xC0FF;
 
+/// Channel-data check and interface-control check at once.
+const BOTH_CHECKS: SubStatus = SubStatus(
+    SubStatus::CHANNEL_DATA_CHECK.0 | SubStatus::INTERFACE_CONTROL_CHECK.0,
+);
+
 /// Channel-data check, interface-control check, and both.
-const PASSING_CHECKS: [SubStatus; 3] = [SubStatus(0x08), SubStatus(0x02), SubStatus(0x0A)];
+const PASSING_CHECKS: [SubStatus; 3] = [
+    SubStatus::CHANNEL_DATA_CHECK,
+    SubStatus::INTERFACE_CONTROL_CHECK,
+    BOTH_CHECKS,
+];
 
 /// What becomes of a request whose channel program has ended with this status and sense; `attempt` is
 /// the number of its starts so far (profile).

@@ -1,6 +1,6 @@
 -- The request that an IOB describes, and when there is none.
-use Rattle.std.specs.Prelude.{◌≡◌, ◌≢◌, ℕ, true, false, not}
-use Rattle.io_area.specs.Storage.{Storage, bytes_at}
+use Rattle.std.specs.Prelude.{◌≡◌, ◌≢◌, ℕ, true, false, not, List}
+use Rattle.io_area.specs.Storage.{Storage, bytes_at, lies_in}
 use Rattle.io_images.specs.declared.iob.Iob.{Iob}
 use Rattle.io_images.specs.Images.{iob_of}
 use Rattle.request_piece.specs.declared.error.RequestError.{RequestError}
@@ -12,6 +12,11 @@ use Rattle.request_piece.specs.Places.{is_ecb_place, is_iob_place, is_program_pl
 -- the IOB at a place of the area
 abbrev pub iob_at : Storage → ℕ → Iob
 iob_at area iob = iob_of (bytes_at area iob 40)
+
+-- the image of an IOB at a place of the area
+pub record IsImageAt (area : Storage) (iob : ℕ) (image : List ℕ) : Type 0 where
+  pub lies : lies_in area iob 40 ≡ true
+  pub bytes : image ≡ bytes_at area iob 40
 
 -- the piece with these fields of its IOB
 abbrev pub piece_of : Name → ℕ → ℕ → ℕ → Storage → Iob → Piece

@@ -2,10 +2,10 @@
 
 ghost use Rattle.std.specs.Prelude.{◌≡◌, true, false, IfErr, IfOk, IfSome, MatchOption};
 ghost use Rattle.std.specs.Arc.{arc_value};
-ghost use Rattle.io_area.specs.Storage.{bytes_at, lies_in};
+ghost use Rattle.io_area.specs.Storage.{lies_in};
 ghost use Rattle.io_images.specs.Images.{iob_of};
 ghost use Rattle.request_piece.specs.Places.{Placed, is_ecb_place, is_program_place};
-ghost use Rattle.request_piece.specs.Requests.{NoFault, RequestFault, iob_at, piece_of, request_of};
+ghost use Rattle.request_piece.specs.Requests.{IsImageAt, NoFault, RequestFault, iob_at, piece_of, request_of};
 
 use crate::error::RequestError;
 use crate::issued::Issued;
@@ -226,7 +226,7 @@ pub(crate) fn read_iob(dcb: u16, iob: u32, area: &Area) -> Result<Iob, RequestEr
 
 /// The 40 bytes of an IOB, where they lie in the area.
 pub(crate) fn iob_image(iob: u32, area: &Area) -> Option<[u8; 40]>
-    ensures { MatchOption result (lies_in area.now iob 40 ≡ false) (λ image. (lies_in area.now iob 40 ≡ true) × (image ≡ bytes_at area.now iob 40)) }
+    ensures { MatchOption result (lies_in area.now iob 40 ≡ false) (IsImageAt area.now iob) }
 {
     let mut image = [0; 40];
     image.copy_from_slice(area.get(iob, 40)?);

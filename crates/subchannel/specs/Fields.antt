@@ -18,7 +18,7 @@ phase_with (Some device) phase = phase_told phase
 abbrev pub channel_of : {D : Type 0} → ℕ → Option D → PhaseField → Channel D
 channel_of isc device phase = record { isc = isc; device = device; phase = phase_with device phase }
 
--- a program in progress is running
+-- a program that runs has not ended
 abbrev pub IsRunning : PhaseField → Type 0
 IsRunning field.Idle = Unit {0}
 IsRunning (field.Running place) = place.state ≡ state.Running

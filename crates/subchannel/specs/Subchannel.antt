@@ -1,6 +1,5 @@
 -- A subchannel: its states, and what its instructions do (Principles of Operation, chapter 14).
 use Rattle.std.specs.Prelude.{◌≡◌, ℕ, Bool, true, false, Option, Some, None, min}
-use Rattle.io_images.specs.Bits.{normal_end_status}
 use Rattle.io_images.specs.Images.{no_status}
 use Rattle.io_images.specs.declared.csw.Csw.{Csw}
 use Rattle.io_images.specs.declared.seek.Seek.{Seek}
@@ -9,10 +8,10 @@ use Rattle.device_port.specs.Meaning.{Meaning, fits}
 use Rattle.ccw_programs.specs.declared.context.State.{State}
 use Rattle.ccw_programs.specs.declared.context.State.TheVariants as state
 use Rattle.ccw_programs.specs.declared.context.Burst.{Burst}
-use Rattle.ccw_programs.specs.Place.{Place, start_place}
+use Rattle.ccw_programs.specs.Place.{Place, halted, start_place}
 use Rattle.ccw_programs.specs.Step.{Program, program, after, length_of}
 
--- no device, no function in progress, a channel program in progress, or a status pending
+-- no device, idle, running a channel program, or status pending
 pub data Phase : Type 0 where
   Absent : Phase
   Idle : Phase
@@ -64,11 +63,6 @@ is_pending Idle = false
 is_pending (Running place) = false
 is_pending (Pending csw sense) = true
 
--- THE STATUS AFTER A HALT (profile): channel end and device end, with the CCW address and the residual count
--- of the last command step done, or the start and 0 if there was none
-abbrev pub halted : Place → Csw
-halted place = record { address = place.address; unit = record { 0 = normal_end_status }; sub = record { 0 = 0 }; residual = place.residual }
-
 -- an idle subchannel that is halted shows the empty status (profile)
 abbrev pub halted_phase : Phase → Phase
 halted_phase Absent = Absent
@@ -113,7 +107,7 @@ running_program (Some d) Idle m = None
 running_program (Some d) (Running place) m = Some (program place d m)
 running_program (Some d) (Pending csw sense) m = None
 
--- `run` answers None where no program is in progress, and changes nothing
+-- `run` answers None where no program runs, and changes nothing
 abbrev pub RunsAs : {D : Type 0} → Meaning D → Channel D → Storage → ℕ → Option (Program D) → Option Burst → Channel D → Storage → Type 0
 RunsAs meaning old m max None None new n = (new ≡ old) × (n ≡ m)
 RunsAs meaning old m max None (Some b) new n = ⊥

@@ -1,6 +1,6 @@
 //! A subchannel: START SUBCHANNEL, TEST SUBCHANNEL, HALT SUBCHANNEL and the running of its channel program
-//! (Principles of Operation, chapter 14). Every answer is a function of its state: not operational, idle, a
-//! program in progress, or a status pending.
+//! (Principles of Operation, chapter 14). Every answer is a function of its phase: not operational, idle,
+//! running a program, or status pending.
 #![tactic(auto)]
 
 ghost use Rattle.std.specs.Prelude.{◌≡◌, ◌≤◌, Some, None, MatchOption, min};
@@ -157,8 +157,8 @@ impl<D: Device> Subchannel<D> {
         0
     }
 
-    /// Does up to `max` commands of the program in progress; None where there is none. Its end leaves its status
-    /// pending. Takes no memory.
+    /// Does up to `max` commands of the program that runs; None where none runs. Its end leaves its status pending.
+    /// Takes no memory.
     pub fn run(&mut self, area: &mut Area, max: u32) -> Option<Burst>
         requires { 1 ≤ max }
         ensures runs { RunsAs D.meaning self.old area.old max (running_program self.old.device self.old.phase area.old) result self.new area.new }

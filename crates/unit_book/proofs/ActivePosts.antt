@@ -26,7 +26,8 @@ use Rattle.unit_book.specs.Selected.{doomed_by_post}
 use Rattle.unit_book.specs.Fields.{StandingTies, Ties, dcb_at, dcb_of, noted}
 use Rattle.unit_book.proofs.Lists.{same-true, same-is, no_both, without, none_named, filter-all}
 use Rattle.unit_book.specs.Lists.{Each}
-use Rattle.unit_book.proofs.Facts.{Facts, facts, NewestIs, active-is, active-post, waiting-post, waits, WaitsAmong}
+use Rattle.unit_book.proofs.Facts.{Facts, NewestIs, active-is, active-post, waiting-post, waits, WaitsAmong}
+use Rattle.unit_book.proofs.LegalFacts.{facts}
 use Rattle.unit_book.proofs.Same.{fits-free}
 
 module _ {D : Type 0} (meaning : Meaning D) (mounted : D) where

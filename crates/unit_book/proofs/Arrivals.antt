@@ -18,7 +18,8 @@ use Rattle.unit_book.specs.Legal.{Fits, Legal, due}
 use Rattle.unit_book.specs.Posts.{posted}
 use Rattle.unit_book.specs.Fields.{Ties}
 use Rattle.unit_book.proofs.Lists.{same-true, no_both}
-use Rattle.unit_book.proofs.Facts.{Each-behind, facts, fresh, fits-arrive, waiting-arrive, active-is}
+use Rattle.unit_book.proofs.Facts.{Each-behind, fresh, fits-arrive, waiting-arrive, active-is}
+use Rattle.unit_book.proofs.LegalFacts.{facts}
 use Rattle.unit_book.proofs.Same.{Silent, activity-same}
 
 module _ {D : Type 0} (meaning : Meaning D) (mounted : D) where

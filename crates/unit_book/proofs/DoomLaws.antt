@@ -13,7 +13,8 @@ use Rattle.unit_book.specs.Dcbs.{doomed, is_doomed, is_open, is_opened, is_close
 use Rattle.unit_book.specs.Legal.{Due, ToHalt, ToPost, Free, due, Fits, FitsBy, Legal, StartFits, First, Again}
 use Rattle.unit_book.specs.Laws.{NoDoomedStarts, is_of_name}
 use Rattle.unit_book.proofs.Lists.{same-true, no_both, without}
-use Rattle.unit_book.proofs.Facts.{Facts, facts, active-is, fits-arrive, fits-start, first-waits, fresh}
+use Rattle.unit_book.proofs.Facts.{Facts, active-is, fits-arrive, fits-start, fresh}
+use Rattle.unit_book.proofs.LegalFacts.{facts, first-waits}
 use Rattle.unit_book.proofs.Dooms.{doomed-purged, due-doomed, none-pass}
 use Rattle.unit_book.proofs.Seeks.{free-start, all-at}
 use Rattle.unit_book.proofs.TraceLaws.{not-of, start-unposted}

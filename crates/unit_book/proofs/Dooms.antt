@@ -19,7 +19,8 @@ use Rattle.unit_book.specs.Legal.{Free, due, due_by, doomed_first, is_to_halt, F
 use Rattle.unit_book.specs.Dooms.{all_posted, after_dooms}
 use Rattle.unit_book.specs.Selected.{is_selected, doomed_by_post, DoomedBy}
 use Rattle.unit_book.proofs.Lists.{filter-filter, all-kept, without, without-first, Apart, Apart-filter}
-use Rattle.unit_book.proofs.Facts.{facts, waiting-start, waiting-post, waiting-apart}
+use Rattle.unit_book.proofs.Facts.{waiting-start, waiting-post, waiting-apart}
+use Rattle.unit_book.proofs.LegalFacts.{facts}
 
 module _ {X : Type 0} where
   -- what is never picked leaves nothing

@@ -2,7 +2,6 @@
 use Rattle.std.proofs.Common.{◌≡◌, ℕ, Bool, true, false, ◌&&◌, Option, Some, None, List, [], ◌∷◌, length, refl, sym, ap, ◌∙◌, eqb, inl, inr, subst, if◌then◌else◌}
 use Rattle.std.proofs.lemmas.Bool.{cases_Bool, and_parts}
 use Rattle.std.specs.Prelude.{is_some}
-use Rattle.io_images.specs.declared.csw.Csw.{Csw}
 use Rattle.device_port.specs.Meaning.{Meaning}
 use Rattle.ccw_programs.specs.Place.{Place}
 use Rattle.subchannel.specs.Subchannel.{Channel, Phase, Absent, Idle, Running, Pending, halted_phase}
@@ -21,15 +20,16 @@ use Rattle.unit_book.specs.declared.entry.Entry.{Entry}
 use Rattle.unit_book.specs.declared.entry.Entry.TheVariants.{Opened, Arrive, Start, Ran, Halted, Purge, Close, Reset, Post}
 use Rattle.unit_book.specs.Trace.{waiting, arrivals, active, started, request_of}
 use Rattle.unit_book.specs.Dcbs.{doomed, is_open, is_opened, flag, extents_of}
-use Rattle.unit_book.specs.Media.{attempts, current, active_phase, still_runs, ActivePhase}
+use Rattle.unit_book.specs.Media.{attempts, current, active_phase, still_runs}
 use Rattle.unit_book.specs.Legal.{Fits, FitsBy, Legal, ToHalt, Free, due, due_by, doomed_first, is_to_halt}
 use Rattle.unit_book.specs.Posts.{posted}
 use Rattle.unit_book.specs.Book.{running_name_by}
 use Rattle.unit_book.specs.Controls.{active_of, covered_by, due_after}
-use Rattle.unit_book.specs.Fields.{StandingTies, Ties, dcb_at, dcb_of, shut, unflagged, pending_phase}
-use Rattle.unit_book.proofs.Lists.{same-refl, no_both}
+use Rattle.unit_book.specs.Fields.{StandingTies, Ties, dcb_at, dcb_of, shut, unflagged}
+use Rattle.unit_book.proofs.Lists.{same-refl}
 use Rattle.unit_book.proofs.Dooms.{due-no_halt}
 use Rattle.unit_book.proofs.Same.{activity-same, fits-free}
+use Rattle.unit_book.proofs.Runs.{not-over}
 
 module _ {D : Type 0} (meaning : Meaning D) (mounted : D) where
   -- WHOM A PURGE HALTS
@@ -107,10 +107,6 @@ module _ {D : Type 0} (meaning : Meaning D) (mounted : D) where
       phase_is : phase ≡ Running place
       place_is : place ≡ (current meaning mounted H).place
       standing_is : standing ≡ OnChannel
-
-    not-over : (s : ActivePhase) → still_runs s ≡ true → (b : Bool) (csw : Csw) (sense : ℕ) → s ≡ pending_phase b csw sense → ⊥
-    not-over s g true csw sense e = let k : still_runs s ≡ false = ap still_runs e in no_both (still_runs s) g k
-    not-over s g false csw sense e = let k : still_runs s ≡ false = ap still_runs e in no_both (still_runs s) g k
 
     runs : (phase : Phase) (standing : Standing) → still_runs (active_phase meaning mounted n H) ≡ true → StandingTies meaning mounted H phase a standing → Going phase standing
     runs Absent standing g k = absurd k

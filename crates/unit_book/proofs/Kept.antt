@@ -20,7 +20,8 @@ use Rattle.unit_book.specs.Posts.{posted, posted_value}
 use Rattle.unit_book.specs.Book.{Book, given}
 use Rattle.unit_book.specs.Settle.{Steps, ByStart, ByRun, ByInterrupt, Settles, Stays, Then}
 use Rattle.unit_book.specs.Lists.{Each}
-use Rattle.unit_book.proofs.Facts.{Each-behind, facts}
+use Rattle.unit_book.proofs.Facts.{Each-behind}
+use Rattle.unit_book.proofs.LegalFacts.{facts}
 use Rattle.unit_book.proofs.Lists.{same-refl}
 use Rattle.unit_book.proofs.Outs.{taken-all}
 use Rattle.unit_book.proofs.WorldBooks.{Keeps, Sound, keeps-same, keeps-start, keeps-run, keeps-interrupt}

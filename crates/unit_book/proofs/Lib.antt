@@ -1,5 +1,6 @@
 pub mod Lists
 pub mod Facts
+pub mod LegalFacts
 pub mod TraceLaws
 pub mod Same
 pub mod Arrivals

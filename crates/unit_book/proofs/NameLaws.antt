@@ -11,7 +11,8 @@ use Rattle.unit_book.specs.Trace.{same, starts, arrivals, has_arrived, has_start
 use Rattle.unit_book.specs.Legal.{due, Legal, StartFits, First, Again}
 use Rattle.unit_book.specs.Laws.{OnePlace, FewStarts, waits, is_one, is_active, times}
 use Rattle.unit_book.proofs.Lists.{same-true, same-refl, no_both}
-use Rattle.unit_book.proofs.Facts.{Facts, facts, active-is, fits-start, first-waits}
+use Rattle.unit_book.proofs.Facts.{Facts, active-is, fits-start}
+use Rattle.unit_book.proofs.LegalFacts.{facts, first-waits}
 use Rattle.unit_book.proofs.Restarts.{retry-few}
 use Rattle.unit_book.proofs.Starts.{no-starts}
 

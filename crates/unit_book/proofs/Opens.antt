@@ -18,13 +18,14 @@ use Rattle.unit_book.specs.declared.dcb.Dcb.{Dcb}
 use Rattle.unit_book.specs.declared.entry.Entry.{Entry}
 use Rattle.unit_book.specs.declared.entry.Entry.TheVariants.{Opened, Arrive, Start, Ran, Halted, Purge, Close, Reset, Post}
 use Rattle.unit_book.specs.Trace.{same, opens, has_arrived, has_started, waiting, arrivals, active, started, request_of}
-use Rattle.unit_book.specs.Dcbs.{is_opened, is_closed, opened_count, extents_of, flag}
+use Rattle.unit_book.specs.Dcbs.{is_open, is_opened, is_closed, opened_count, extents_of, flag}
 use Rattle.unit_book.specs.Media.{attempts, stand}
 use Rattle.unit_book.specs.Legal.{Due, ToHalt, ToPost, Free, due, Fits, FitsBy, Legal, StartFits, First, Again, PostFits, OfActive, OfFirst, OpenFits}
 use Rattle.unit_book.specs.Posts.{posted}
-use Rattle.unit_book.specs.Fields.{Ties, dcb_at, dcb_of}
+use Rattle.unit_book.specs.Fields.{HasRow, Ties, dcb_at, dcb_of}
 use Rattle.unit_book.proofs.Lists.{same-true, no_both}
-use Rattle.unit_book.proofs.Facts.{facts, fits-arrive, fits-start, fresh, active-is, first-waits}
+use Rattle.unit_book.proofs.Facts.{fits-arrive, fits-start, fresh, active-is}
+use Rattle.unit_book.proofs.LegalFacts.{facts, first-waits}
 use Rattle.unit_book.proofs.Dooms.{due-doomed}
 use Rattle.unit_book.proofs.Same.{activity-same, fits-free}
 use Rattle.unit_book.proofs.Seeks.{free-start, waits-open}
@@ -83,8 +84,15 @@ module _ {D : Type 0} (meaning : Meaning D) (mounted : D) where
   closed-opened d (Post n c s k ∷ H) l h = closed-opened d H l.1 h
 
   -- the DCB of what waits first, where nothing is due
-  first-opened : (r : Piece) (H : List Entry) → due meaning mounted H ≡ Free → slice_get (waiting H) 0 ≡ Some r → is_opened r.dcb H ≡ true
+  pub first-opened : (r : Piece) (H : List Entry) → due meaning mounted H ≡ Free → slice_get (waiting H) 0 ≡ Some r → is_opened r.dcb H ≡ true
   first-opened r H d s = (and_parts (is_opened r.dcb H) (not (is_closed r.dcb H)) (waits-open meaning mounted r H (due-doomed meaning mounted H d) s)).0
+
+  -- the table of DCBs has the row of an opened one
+  pub opened-row : (d : ℕ) (H : List Entry) (table : List Dcb) → Legal meaning mounted H → length table ≡ opened_count H → is_opened d H ≡ true → HasRow table d
+  opened-row d H table l count o = let few = opened-few d H l o in (few.0, rw count few.1)
+
+  pub open-row : (d : ℕ) (H : List Entry) (table : List Dcb) → Legal meaning mounted H → length table ≡ opened_count H → is_open d H ≡ true → HasRow table d
+  open-row d H table l count o = opened-row d H table l count (and_parts (is_opened d H) (not (is_closed d H)) o).0
 
   start-opened : (n : Name) (H : List Entry) → Legal meaning mounted H → due meaning mounted H ≡ Free → StartFits meaning mounted n H → (has_started n H ≡ true → is_opened (request_of n H).dcb H ≡ true) → is_opened (request_of n H).dcb H ≡ true
   start-opened n H l d (First s) ih =

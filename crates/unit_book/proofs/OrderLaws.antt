@@ -17,7 +17,8 @@ use Rattle.unit_book.specs.Legal.{due, Fits, Legal, StartFits, First, Again}
 use Rattle.unit_book.specs.Laws.{first_starts, StartsInOrder}
 use Rattle.unit_book.specs.Lists.{Each}
 use Rattle.unit_book.proofs.Lists.{same-true, same-refl, no_both, filter-filter, filter-all, without, none_named, Apart, without-first}
-use Rattle.unit_book.proofs.Facts.{Facts, facts, active-is, fits-arrive, fits-start, fresh, fresh-start, fresh-post, first-waits, post-whom, waiting-arrive, waiting-start, waiting-post, waiting-apart, waits, WaitsAmong}
+use Rattle.unit_book.proofs.Facts.{Facts, active-is, fits-arrive, fits-start, fresh, fresh-start, fresh-post, post-whom, waiting-arrive, waiting-start, waiting-post, waiting-apart, waits, WaitsAmong}
+use Rattle.unit_book.proofs.LegalFacts.{facts, first-waits}
 use Rattle.unit_book.proofs.Starts.{first-rest}
 
 -- the arrivals that were started, and those that were started or are not posted

@@ -32,7 +32,8 @@ use Rattle.unit_book.specs.Answers.{Adds, Extends, MayStart, MayFirst, MayAgain,
 use Rattle.unit_book.specs.Controls.{PurgesBy, ClosesBy, covered_by, covers_awaiting, halted_by, after_halt, after_purge, halts_program}
 use Rattle.unit_book.specs.Lists.{Each}
 use Rattle.unit_book.proofs.Lists.{same-refl}
-use Rattle.unit_book.proofs.Facts.{Facts, facts, WaitsAmong, waits, Each-weaker, Each-filter, active-is, active-start, active-post, active-post_waiting}
+use Rattle.unit_book.proofs.Facts.{Facts, WaitsAmong, waits, Each-weaker, Each-filter, active-is, active-start, active-post, active-post_waiting}
+use Rattle.unit_book.proofs.LegalFacts.{facts}
 use Rattle.unit_book.proofs.Same.{phase-same, fits-free}
 use Rattle.unit_book.proofs.Settling.{first-unposted, still-none, posts-none}
 use Rattle.unit_book.proofs.WorldBooks.{running-is}

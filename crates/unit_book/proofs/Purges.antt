@@ -28,7 +28,8 @@ use Rattle.unit_book.specs.Posts.{posted, posted_since, posted_value}
 use Rattle.unit_book.specs.Fields.{Ties}
 use Rattle.unit_book.proofs.Lists.{same-not-sym, no_both, without, none_named, Apart, Apart-filter, all-kept, without-first}
 use Rattle.unit_book.specs.Lists.{Each}
-use Rattle.unit_book.proofs.Facts.{Each-filter, facts, waits, WaitsAmong, waiting-post, waiting-apart, active-post_waiting}
+use Rattle.unit_book.proofs.Facts.{Each-filter, waits, WaitsAmong, waiting-post, waiting-apart, active-post_waiting}
+use Rattle.unit_book.proofs.LegalFacts.{facts}
 use Rattle.unit_book.proofs.Dooms.{doomed-purged, due-no_halt}
 use Rattle.unit_book.proofs.Same.{activity-same}
 use Rattle.unit_book.proofs.Starts.{as-issued}

@@ -22,7 +22,8 @@ use Rattle.unit_book.specs.Posts.{posted, posted_since}
 use Rattle.unit_book.specs.Fields.{Ties}
 use Rattle.unit_book.proofs.Lists.{same-refl, without, none_named, filter-all}
 use Rattle.unit_book.specs.Lists.{Each}
-use Rattle.unit_book.proofs.Facts.{Facts, facts, fresh, fits-arrive, none-named, waits, WaitsAmong, Known, waiting-arrive}
+use Rattle.unit_book.proofs.Facts.{Facts, fresh, fits-arrive, waits, WaitsAmong, Known, waiting-arrive}
+use Rattle.unit_book.proofs.LegalFacts.{facts, none-named}
 use Rattle.unit_book.proofs.Dooms.{filter-agree, due-no_halt, due-doomed}
 use Rattle.unit_book.proofs.Arrivals.{ties-arrive}
 use Rattle.unit_book.proofs.Purges.{Swept, ties-dooms_by, since-is}

@@ -28,7 +28,8 @@ use Rattle.unit_book.specs.Legal.{Again as Restart}
 use Rattle.unit_book.specs.Posts.{posted}
 use Rattle.unit_book.specs.Fields.{StandingTies, Ties, awaits_by, dcb_at, mask_at}
 use Rattle.unit_book.proofs.Lists.{same-refl, without, filter-all}
-use Rattle.unit_book.proofs.Facts.{Facts, facts, NewestIs, active-is, active-start, waiting-start, waits}
+use Rattle.unit_book.proofs.Facts.{Facts, NewestIs, active-is, active-start, waiting-start, waits}
+use Rattle.unit_book.proofs.LegalFacts.{facts}
 use Rattle.unit_book.proofs.Same.{fits-free}
 use Rattle.unit_book.proofs.ActivePosts.{area-current, none-waits}
 use Rattle.unit_book.proofs.Seeks.{seeks, fits-device}

@@ -1,6 +1,7 @@
 -- The program of the active request runs: the fields stay those of the trace.
-use Rattle.std.proofs.Common.{◌≡◌, ℕ, ◌≤◌, Bool, true, false, Option, Some, None, List, ◌∷◌, refl, sym, ap, ◌∙◌, arith, subst}
-use Rattle.std.specs.Prelude.{min}
+use Rattle.std.proofs.Common.{◌≡◌, ℕ, ◌≤◌, Bool, true, false, Some, None, List, ◌∷◌, refl, sym, ap, ◌∙◌, arith, subst, if◌then◌else◌}
+use Rattle.std.specs.Prelude.{min, is_some}
+use Rattle.io_images.specs.declared.csw.Csw.{Csw}
 use Rattle.io_area.specs.Storage.{Storage, SamePlace}
 use Rattle.device_port.specs.Meaning.{Meaning}
 use Rattle.ccw_programs.specs.Place.{Place}
@@ -20,15 +21,22 @@ use Rattle.unit_book.specs.declared.dcb.Dcb.{Dcb}
 use Rattle.unit_book.specs.declared.entry.Entry.{Entry}
 use Rattle.unit_book.specs.declared.entry.Entry.TheVariants.{Ran}
 use Rattle.unit_book.specs.Trace.{same, waiting, arrivals, active, started, request_of, is_halted}
-use Rattle.unit_book.specs.Media.{attempts, stand, newest, current, active_phase, active_phase_by, still_runs, StillRunning, device, beginning}
+use Rattle.unit_book.specs.Media.{attempts, stand, newest, current, ActivePhase, active_phase, active_phase_by, still_runs, StillRunning, device, beginning}
 use Rattle.unit_book.specs.Dcbs.{extents_of, flag}
 use Rattle.unit_book.specs.Legal.{Legal, due, Free}
 use Rattle.unit_book.specs.Posts.{posted}
-use Rattle.unit_book.specs.Fields.{StandingTies, Ties, with_area}
-use Rattle.unit_book.proofs.Lists.{same-is}
-use Rattle.unit_book.proofs.Facts.{facts, NewestIs, newest-ran}
+use Rattle.unit_book.specs.Book.{running_name_by}
+use Rattle.unit_book.specs.Fields.{StandingTies, Ties, pending_phase, with_area}
+use Rattle.unit_book.proofs.Lists.{same-is, no_both}
+use Rattle.unit_book.proofs.Facts.{NewestIs}
+use Rattle.unit_book.proofs.LegalFacts.{facts, newest-ran}
 use Rattle.unit_book.proofs.Same.{fits-free}
 use Rattle.unit_book.proofs.Places.{placed-moved}
+
+-- what still runs has no status pending
+pub not-over : (s : ActivePhase) → still_runs s ≡ true → (b : Bool) (csw : Csw) (sense : ℕ) → s ≡ pending_phase b csw sense → ⊥
+not-over s g true csw sense e = let k : still_runs s ≡ false = ap still_runs e in no_both (still_runs s) g k
+not-over s g false csw sense e = let k : still_runs s ≡ false = ap still_runs e in no_both (still_runs s) g k
 
 module _ {D : Type 0} (meaning : Meaning D) (mounted : D) where
   runs-running : (b : Bool) (place : Place) (state : State) → active_phase_by b place state ≡ StillRunning → (b ≡ false) × (state ≡ Runs)
@@ -60,10 +68,31 @@ module _ {D : Type 0} (meaning : Meaning D) (mounted : D) where
   abbrev pub ran : ℕ → Program D → Channel D
   ran isc p = record { isc = isc; device = Some p.device; phase = phase_of p.place p.place.state }
 
-  -- where no program runs nothing changes
-  pub quiet-same : (old new : Channel D) (m n : Storage) (max : ℕ) (p : Option (Program D)) → RunsAs meaning old m max p None new n → (new ≡ old) × (n ≡ m)
-  quiet-same old new m n max None r = r
-  quiet-same old new m n max (Some p) r = absurd r
+  -- where a program runs there is an active request
+  pub runs-active : (H : List Entry) → active H ≡ None → is_some (running_name_by meaning mounted H (active H)) ≡ true → ⊥
+  runs-active H none runs = let k = rw none at runs in absurd cc
+
+  -- and a burst of it
+  pub runs-burst : (H : List Entry) (channel new : Channel D) (a : Active) (waiters : List Piece) (table : List Dcb) (left : List PostedState) (max : ℕ) (area : Storage) →
+      Ties meaning mounted H channel (Some a) waiters table left → is_some (running_name_by meaning mounted H (active H)) ≡ true →
+      RunsAs meaning channel a.piece.value.area max (running_program channel.device channel.phase a.piece.value.area) None new area → ⊥
+  runs-burst H channel new a waiters table left max area t runs r =
+      by_phase channel.phase a.standing t.activity.standing
+      (subst (λ x. RunsAs meaning channel a.piece.value.area max (running_program x channel.phase a.piece.value.area) None new area) t.device r) where
+        still : still_runs (active_phase meaning mounted a.piece.value.name H) ≡ true
+        still = let k = rw (t.activity.is) at runs in by_bool (still_runs (active_phase meaning mounted a.piece.value.name H)) k where
+          by_bool : (b : Bool) → is_some (if b then Some a.piece.value.name else None) ≡ true → b ≡ true
+          by_bool true e = refl
+          by_bool false e = absurd cc
+
+        by_phase : (phase : Phase) (standing : Standing) → StandingTies meaning mounted H phase a standing →
+            RunsAs meaning channel a.piece.value.area max (running_program (Some (device meaning mounted H)) phase a.piece.value.area) None new area → ⊥
+        by_phase Absent standing d k = absurd d
+        by_phase Idle OnChannel d k = absurd d
+        by_phase Idle (AwaitsRestart csw sense) d k = not-over (active_phase meaning mounted a.piece.value.name H) still false csw sense d.0
+        by_phase (Running place) standing d k = absurd k
+        by_phase (Pending csw sense) OnChannel d k = not-over (active_phase meaning mounted a.piece.value.name H) still a.halted csw sense d
+        by_phase (Pending csw sense) (AwaitsRestart c s) d k = absurd d
 
   module _ (H : List Entry) (channel new : Channel D) (a : Active) (waiters : List Piece) (table : List Dcb) (left : List PostedState) (max : ℕ) (b : Burst) (area : Storage)
       (settled : due meaning mounted H ≡ Free) (asked : 1 ≤ max) (t : Ties meaning mounted H channel (Some a) waiters table left) where

@@ -20,7 +20,8 @@ use Rattle.unit_book.specs.Dcbs.{is_opened, is_closed, is_open, extents_of, doom
 use Rattle.unit_book.specs.Media.{Attempt, attempts, stand, device, beginning}
 use Rattle.unit_book.specs.Legal.{Due, ToHalt, ToPost, Free, due, FitsBy, Legal, StartFits, First, Again, passes}
 use Rattle.unit_book.proofs.Lists.{same-true, no_both}
-use Rattle.unit_book.proofs.Facts.{facts, fits-arrive, fits-start, fresh, active-is, first-waits}
+use Rattle.unit_book.proofs.Facts.{fits-arrive, fits-start, fresh, active-is}
+use Rattle.unit_book.proofs.LegalFacts.{facts, first-waits}
 use Rattle.unit_book.proofs.Dooms.{none-pass, due-doomed}
 
 -- a track not after the end of an extent is on a cylinder of the disk

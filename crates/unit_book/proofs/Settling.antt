@@ -33,7 +33,8 @@ use Rattle.unit_book.specs.Book.{Book, active_count, is_pending}
 use Rattle.unit_book.specs.Answers.{StartsBook, RunsBook, InterruptsBook, MayStart, MayFirst, MayAgain}
 use Rattle.unit_book.specs.Settle.{AddsService, Settles, Stays, Then, Steps, ByStart, ByRun, ByInterrupt, distance, is_service, starts_left, unposted}
 use Rattle.unit_book.proofs.Lists.{same-refl, no_both, all-append, all-filter, without}
-use Rattle.unit_book.proofs.Facts.{facts, NewestIs, active-is, active-start, active-post, waiting-start, waiting-post}
+use Rattle.unit_book.proofs.Facts.{NewestIs, active-is, active-start, active-post, waiting-start, waiting-post}
+use Rattle.unit_book.proofs.LegalFacts.{facts}
 use Rattle.unit_book.proofs.Dooms.{length-filter_le}
 use Rattle.unit_book.proofs.Restarts.{retry-few}
 use Rattle.unit_book.proofs.Runs.{current-ran}

@@ -26,7 +26,8 @@ use Rattle.unit_book.specs.Posts.{posted}
 use Rattle.unit_book.specs.Lists.{Each}
 use Rattle.unit_book.specs.Fields.{ActivityTies, Ties, dcb_at, dcb_of, mask_at, extents_at}
 use Rattle.unit_book.proofs.Lists.{same-true, same-refl, same-is, no_both, without, without-first, Apart}
-use Rattle.unit_book.proofs.Facts.{facts, active-start, waiting-start, waiting-apart, first-waits, fits-start}
+use Rattle.unit_book.proofs.Facts.{active-start, waiting-start, waiting-apart, fits-start}
+use Rattle.unit_book.proofs.LegalFacts.{facts, first-waits}
 use Rattle.unit_book.proofs.Same.{fits-free}
 use Rattle.unit_book.proofs.TraceLaws.{start-unposted}
 

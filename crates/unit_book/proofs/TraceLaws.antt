@@ -14,7 +14,8 @@ use Rattle.unit_book.specs.Legal.{Due, ToHalt, ToPost, Free, due, due_by, doomed
 use Rattle.unit_book.specs.Dcbs.{doomed}
 use Rattle.unit_book.specs.Laws.{is_of_name}
 use Rattle.unit_book.proofs.Lists.{same-true, same-refl, no_both}
-use Rattle.unit_book.proofs.Facts.{Facts, facts, active-is, first-waits, fits-arrive, fits-start, fits-ran, fresh, post-whom, WaitsAmong}
+use Rattle.unit_book.proofs.Facts.{Facts, active-is, fits-arrive, fits-start, fits-ran, fresh, post-whom, WaitsAmong}
+use Rattle.unit_book.proofs.LegalFacts.{facts, first-waits}
 
 module _ {D : Type 0} (meaning : Meaning D) (mounted : D) where
   -- what is active is not posted

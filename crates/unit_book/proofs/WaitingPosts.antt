@@ -19,7 +19,8 @@ use Rattle.unit_book.specs.Legal.{Fits, Legal}
 use Rattle.unit_book.specs.Posts.{posted, posted_value}
 use Rattle.unit_book.specs.Fields.{Ties, dcb_at, noted}
 use Rattle.unit_book.proofs.Lists.{without, without-first, Apart}
-use Rattle.unit_book.proofs.Facts.{facts, waits-at, waiting-post, waiting-apart, active-post_waiting}
+use Rattle.unit_book.proofs.Facts.{waiting-post, waiting-apart, active-post_waiting}
+use Rattle.unit_book.proofs.LegalFacts.{facts, waits-at}
 use Rattle.unit_book.proofs.Same.{activity-same}
 use Rattle.unit_book.proofs.ActivePosts.{dcb-post}
 use Rattle.unit_book.proofs.Starts.{as-issued, first-rest, placed-rest}

@@ -13,7 +13,8 @@ use Rattle.unit_book.specs.declared.entry.Entry.{Entry}
 use Rattle.unit_book.specs.Trace.{arrivals, arrived_of, has_arrived, has_started}
 use Rattle.unit_book.specs.Laws.{first_starts}
 use Rattle.unit_book.specs.World.{World, requests_of}
-use Rattle.unit_book.proofs.Facts.{Facts, facts, fresh-start}
+use Rattle.unit_book.proofs.Facts.{Facts, fresh-start}
+use Rattle.unit_book.proofs.LegalFacts.{facts}
 use Rattle.unit_book.proofs.Dooms.{filters-commute}
 use Rattle.unit_book.proofs.OrderLaws.{starts-in-order}
 use Rattle.unit_book.proofs.WorldSteps.{Kept}

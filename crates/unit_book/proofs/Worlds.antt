@@ -14,7 +14,8 @@ use Rattle.unit_book.specs.Laws.{times}
 use Rattle.unit_book.specs.World.{World, IsOpening, IsFinished, Reaches, requests_of}
 use Rattle.unit_book.specs.WorldLaws.{FinishedOnce, posts_of, KeepsRequests, WorldLaws}
 use Rattle.unit_book.proofs.Lists.{no_both}
-use Rattle.unit_book.proofs.Facts.{Known, Each-filter, Each-weaker, facts}
+use Rattle.unit_book.proofs.Facts.{Known, Each-filter, Each-weaker}
+use Rattle.unit_book.proofs.LegalFacts.{facts}
 use Rattle.unit_book.proofs.TraceLaws.{not-of, posts-last}
 use Rattle.unit_book.proofs.NameLaws.{one-place, few-starts}
 use Rattle.unit_book.proofs.OrderLaws.{starts-in-order}

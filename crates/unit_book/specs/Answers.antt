@@ -74,11 +74,14 @@ module _ {D : Type 0} (meaning : Meaning D) where
     pub fits : OpenFits meaning old.mounted dcb extents old.trace
     pub adds : Adds old (Opened dcb input extents) new
 
+  -- extents that may be opened at this book
+  abbrev pub takes : Book D → List Extent → Bool
+  takes b extents = takes_extents (meaning.kind b.mounted) (meaning.cylinders b.mounted) (meaning.heads b.mounted) extents
+
   -- when a DCB is not opened, the first reason in this order
   abbrev pub OpenRefused : Book D → List Extent → OpenError → Type 0
   OpenRefused b extents opening.TooManyDcbs = opened_count b.trace ≡ 65535
-  OpenRefused b extents opening.BadExtent =
-      (opened_count b.trace < 65535) × (takes_extents (meaning.kind b.mounted) (meaning.cylinders b.mounted) (meaning.heads b.mounted) extents ≡ false)
+  OpenRefused b extents opening.BadExtent = (opened_count b.trace < 65535) × (takes b extents ≡ false)
   OpenRefused b extents opening.NoMemory = OpenFits meaning b.mounted (opened_count b.trace + 1) extents b.trace
 
   -- what a start comes to

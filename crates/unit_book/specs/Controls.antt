@@ -19,7 +19,7 @@ use Rattle.unit_book.specs.declared.entry.Mode.{Mode}
 use Rattle.unit_book.specs.declared.entry.Entry.{Entry}
 use Rattle.unit_book.specs.declared.entry.Entry.TheVariants.{Halted, Purge, Close, Post}
 use Rattle.unit_book.specs.Trace.{is_halt, active, request_of}
-use Rattle.unit_book.specs.Dcbs.{is_opened, is_open}
+use Rattle.unit_book.specs.Dcbs.{doomed, is_opened, is_open}
 use Rattle.unit_book.specs.Legal.{Due, ToHalt, ToPost, Free, due, doomed_first, PostsActive}
 use Rattle.unit_book.specs.Dooms.{after_dooms}
 use Rattle.unit_book.specs.Book.{Book, running_name}
@@ -52,6 +52,10 @@ halted_by Free H = H
 abbrev pub due_after : Option Name → List Piece → Due
 due_after None rs = doomed_first rs
 due_after (Some n) rs = ToHalt n
+
+-- whom a purge halts: its Halted is due, or nobody's
+abbrev pub PurgeHalts : {D : Type 0} → Meaning D → D → Scope → Mode → List Entry → Option Name → Type 0
+PurgeHalts meaning mounted scope mode H name = due meaning mounted (Purge scope mode ∷ H) ≡ due_after name (doomed (Purge scope mode ∷ H))
 
 -- a purge with Halt covers the active request, which awaits its restart
 abbrev pub covers_awaiting : {D : Type 0} → Book D → Scope → Mode → Bool

@@ -58,6 +58,10 @@ active_field_count (Some a) = 1
 abbrev pub with_area : Active → Storage → Active
 with_area a m = record a { piece = with_value a.piece (record a.piece.value { area = m }) }
 
+-- a request that is started once more
+abbrev pub started_again : Active → Active
+started_again a = record { piece = a.piece; starts = a.starts + 1; halted = false; covered = false; standing = OnChannel }
+
 -- the active request after a purge
 abbrev pub after_cover : Scope → Mode → Active → Active
 after_cover scope mode a = record a { covered = (covers scope a.piece.value && is_halt mode) || a.covered }
@@ -78,6 +82,10 @@ abbrev pub pending_code : Kind → Csw → ℕ → ℕ → Bool → Bool → Opt
 pending_code kind csw sense starts halted covered = if halted then Some Purged else ended_code (verdict kind csw sense starts) covered
 
 -- THE TABLE OF DCBS
+
+-- the table has a DCB with this number, counted from 1
+abbrev pub HasRow : List Dcb → ℕ → Type 0
+HasRow table d = (1 ≤ d) × (d ≤ length table)
 
 -- the DCB with a number, counted from 1
 abbrev pub dcb_at : List Dcb → ℕ → Option Dcb

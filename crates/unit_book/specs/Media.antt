@@ -5,9 +5,8 @@ use Rattle.io_images.specs.declared.csw.Csw.{Csw}
 use Rattle.device_port.specs.Meaning.{Meaning}
 use Rattle.ccw_programs.specs.declared.context.State.{State}
 use Rattle.ccw_programs.specs.declared.context.State.TheVariants.{Running, Ended}
-use Rattle.ccw_programs.specs.Place.{Place}
+use Rattle.ccw_programs.specs.Place.{Place, halted}
 use Rattle.ccw_programs.specs.Step.{Program, begun, after}
-use Rattle.subchannel.specs.Subchannel.{halted}
 use Rattle.request_piece.specs.declared.piece.Name.{Name}
 use Rattle.request_piece.specs.declared.piece.Piece.{Piece}
 use Rattle.unit_book.specs.declared.entry.Entry.{Entry}

@@ -3,7 +3,7 @@
 ghost use Rattle.std.specs.Prelude.{◌≡◌, ◌+◌, ◌<◌, ◌≤◌, false, true};
 ghost use Rattle.io_area.specs.Storage.{SamePlace};
 ghost use Rattle.subchannel.specs.Subchannel.{RunsAs, running_program};
-ghost use Rattle.unit_book.specs.Fields.{after_cover, awaits_by, kept_by, pending_code, with_area};
+ghost use Rattle.unit_book.specs.Fields.{after_cover, awaits_by, kept_by, pending_code, started_again, with_area};
 
 use crate::entry::Mode;
 use ccw_programs::Burst;
@@ -54,7 +54,7 @@ impl Active {
     /// The request, started once more.
     pub fn restarted(self) -> Self
         requires { self.starts ≤ 10 }
-        ensures { result ≡ record { piece = self.piece; starts = self.starts + 1; halted = false; covered = false; standing = Standing.OnChannel } }
+        ensures { result ≡ started_again self }
     {
         Active {
             piece: self.piece,

@@ -3,7 +3,7 @@
 ghost use Rattle.std.specs.Prelude.{◌≡◌, ◌+◌, ◌==◌, ◌&&◌, ℕ, [], ◌∷◌, ◌++◌, length, OnOk, OnErr, true, false};
 ghost use Rattle.std.specs.Option.{option_copied};
 ghost use Rattle.io_images.specs.Codes.{is_error};
-ghost use Rattle.unit_book.specs.Fields.{dcb_at, mask_at, extents_at, noted, shut, unflagged};
+ghost use Rattle.unit_book.specs.Fields.{HasRow, dcb_at, mask_at, extents_at, noted, shut, unflagged};
 
 use crate::extents::Extents;
 use io_images::{Code, Extent, FileMask};
@@ -99,46 +99,33 @@ impl DcbTable {
         }
     }
 
-    /// Notes at the DCB of a request, if there is one, that it was posted.
+    /// Notes at the DCB of a request that it was posted.
     pub fn note_post(&mut self, piece: &Piece, code: Code)
+        requires { HasRow self.old piece.now.dcb }
         ensures dcbs { (d : ℕ) → dcb_at self.new d ≡ noted (is_error code && piece.now.related && (piece.now.dcb == d)) (dcb_at self.old d) }
         ensures count { length self.new ≡ length self.old }
     {
-        if !code.is_error() || !piece.related || piece.dcb == 0 {
-            return;
-        }
-        let at = usize::from(piece.dcb) - 1;
-        if at < self.rows.len() {
-            flag(&mut self.rows[at]);
+        if code.is_error() && piece.related {
+            flag(&mut self.rows[usize::from(piece.dcb) - 1]);
         }
     }
 
-    /// Closes the DCB with this number, if there is one.
+    /// Closes the DCB with this number.
     pub fn close(&mut self, dcb: u16)
+        requires { HasRow self.old dcb }
         ensures dcbs { (d : ℕ) → dcb_at self.new d ≡ shut (dcb == d) (dcb_at self.old d) }
         ensures count { length self.new ≡ length self.old }
     {
-        if dcb == 0 {
-            return;
-        }
-        let at = usize::from(dcb) - 1;
-        if at < self.rows.len() {
-            close(&mut self.rows[at]);
-        }
+        close(&mut self.rows[usize::from(dcb) - 1]);
     }
 
-    /// Clears the error flag of the DCB with this number, if there is one.
+    /// Clears the error flag of the DCB with this number.
     pub fn reset(&mut self, dcb: u16)
+        requires { HasRow self.old dcb }
         ensures dcbs { (d : ℕ) → dcb_at self.new d ≡ unflagged (dcb == d) (dcb_at self.old d) }
         ensures count { length self.new ≡ length self.old }
     {
-        if dcb == 0 {
-            return;
-        }
-        let at = usize::from(dcb) - 1;
-        if at < self.rows.len() {
-            unflag(&mut self.rows[at]);
-        }
+        unflag(&mut self.rows[usize::from(dcb) - 1]);
     }
 }
 

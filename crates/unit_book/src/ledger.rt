@@ -196,7 +196,10 @@ struct Parts<D: Device> {
 
 impl<D: Device> Parts<D> {
     fn new(alloc: Global, device: &D, capacity: usize) -> Result<Self, AllocError>
-        ensures { IfOk result (λ p. p ≡ record { mounted = device.now; waiting = queue [] capacity; swept = queue [] capacity; out = buffer [] capacity }) }
+        ensures mounted { IfOk result (λ p. p.mounted ≡ device.now) }
+        ensures waiting { IfOk result (λ p. p.waiting ≡ queue [] capacity) }
+        ensures swept { IfOk result (λ p. p.swept ≡ queue [] capacity) }
+        ensures out { IfOk result (λ p. p.out ≡ buffer [] capacity) }
     {
         Ok(Parts {
             mounted: device.copy()?,

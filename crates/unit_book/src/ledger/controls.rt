@@ -2,7 +2,7 @@
 
 ghost use Rattle.std.specs.Prelude.{◌≡◌, ◌≤◌, ◌+◌, ◌∷◌, true, false, Some, length};
 ghost use Rattle.unit_book.specs.Answers.{Adds};
-ghost use Rattle.unit_book.specs.Controls.{active_of, after_halt, covers_awaiting, due_after, PurgesAwaiting};
+ghost use Rattle.unit_book.specs.Controls.{active_of, after_halt, covers_awaiting, PurgeHalts, PurgesAwaiting};
 ghost use Rattle.unit_book.specs.Dcbs.{doomed, is_open};
 ghost use Rattle.unit_book.specs.Legal.{CanPurge, Settled, ToHalt, due, doomed_first};
 ghost use Rattle.unit_book.specs.Selected.{DoomedBy};
@@ -46,7 +46,7 @@ impl<D: Device> Ledger<D> {
 
     /// Whom a purge halts.
     fn to_halt(&self, scope: Scope, mode: Mode) -> Option<Name>
-        ensures { due D.meaning self.now.mounted (Entry.Purge scope mode ∷ self.now.trace) ≡ due_after result (doomed (Entry.Purge scope mode ∷ self.now.trace)) }
+        ensures { PurgeHalts D.meaning self.now.mounted scope mode self.now.trace result }
     {
         match mode {
             Mode::Quiesce => None,
@@ -56,7 +56,7 @@ impl<D: Device> Ledger<D> {
 
     /// Whom a purge with Halt halts.
     fn running_of(&self, scope: Scope) -> Option<Name>
-        ensures { due D.meaning self.now.mounted (Entry.Purge scope Mode.Halt ∷ self.now.trace) ≡ due_after result (doomed (Entry.Purge scope Mode.Halt ∷ self.now.trace)) }
+        ensures { PurgeHalts D.meaning self.now.mounted scope Mode.Halt self.now.trace result }
     {
         if !self.is_running() {
             return None;

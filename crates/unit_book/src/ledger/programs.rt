@@ -1,10 +1,11 @@
 //! Starts of requests, and the commands of their programs.
 
-ghost use Rattle.std.specs.Prelude.{◌≡◌, ◌≤◌, ◌+◌, true, false, not, None};
+ghost use Rattle.std.specs.Prelude.{◌≡◌, ◌≤◌, ◌+◌, true, false, not, None, is_some};
 ghost use Rattle.ccw_programs.specs.Step.{is_running};
 ghost use Rattle.subchannel.specs.Subchannel.{Fits, started};
 ghost use Rattle.unit_book.specs.Legal.{Settled, StartsFirst, StartsAgain};
 ghost use Rattle.unit_book.specs.Answers.{IsNext, RunsBook, StartsOne};
+ghost use Rattle.unit_book.specs.Book.{running_name};
 ghost use Rattle.unit_book.specs.Trace.{active};
 
 use crate::active::{Active, Standing};
@@ -107,14 +108,14 @@ impl<D: Device> Ledger<D> {
         requires some { 1 ≤ max }
         requires spare { 1 ≤ self.old.spare }
         requires settled { Settled D.meaning self.old.mounted self.old.trace }
+        requires runs { is_some (running_name D.meaning self.old) ≡ true }
         ensures { RunsBook D.meaning self.old max result self.new }
     {
         let Some(mut active) = self.active.take() else {
-            return Running::Quiet;
+            unreachable!();
         };
         let Some(burst) = active.run(&mut self.channel, max) else {
-            self.active = Some(active);
-            return Running::Quiet;
+            unreachable!();
         };
         let commands = burst.commands;
         write(&mut self.trace, Entry::Ran(active.name(), commands));

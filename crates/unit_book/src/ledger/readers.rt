@@ -2,9 +2,9 @@
 
 ghost use Rattle.std.specs.Prelude.{◌≡◌, ◌≤◌, ◌<◌, IsTrue, ◌↔◌, reverse, length, is_some, false};
 ghost use Rattle.request_piece.specs.declared.piece.Piece.{Piece};
+ghost use Rattle.unit_book.specs.Answers.{takes};
 ghost use Rattle.unit_book.specs.Book.{running_name, occupancy, is_pending};
 ghost use Rattle.unit_book.specs.Dcbs.{dcb_state, flag, is_refused, opened_count};
-ghost use Rattle.unit_book.specs.Extents.{takes_extents};
 ghost use Rattle.unit_book.specs.Media.{device};
 ghost use Rattle.unit_book.specs.Trace.{waiting};
 
@@ -104,7 +104,7 @@ impl<D: Device> Ledger<D> {
 
     /// Whether a DCB may be opened with these extents.
     pub fn takes_extents(&self, extents: &[Extent]) -> bool
-        ensures { result ≡ takes_extents (D.meaning.kind self.now.mounted) (D.meaning.cylinders self.now.mounted) (D.meaning.heads self.now.mounted) extents.now }
+        ensures { result ≡ takes D.meaning self.now extents.now }
     {
         let mounted = &self.mounted;
         takes_extents(

@@ -1,4 +1,4 @@
-use Rattle.std.proofs.Common.{sym, ◌≡◌}
+use Rattle.std.proofs.Common.{sym, ◌≡◌, ◌∙◌}
 use Rattle.ccw_programs.specs.Links.{chain, Broken}
 use Rattle.ccw_programs.specs.Step.{program}
 use Rattle.ccw_programs.proofs.Steps.{step-broken}
@@ -6,6 +6,5 @@ use Rattle.ccw_programs.proofs.run.command_of_chain.Goals as goal
 
 pub returns-in-Err-clause-step : goal.returns-in-Err-clause-step
 returns-in-Err-clause-step g c =
-    let fetched : chain c.args.area.now c.args.context.now.next c.args.context.now.fetched ≡ Broken c.in-Err.at =
-    rw (← c.next.ensures, ← c.fetched.ensures.value) c.in-Err.ensures.chain in
-    rw c.check.ensures (sym (step-broken g.D.Device.meaning (program c.args.context.now c.args.device.now c.args.area.now) c.requires _ fetched))
+    let failed : chain c.args.area.now c.args.context.now.next c.args.context.now.fetched ≡ Broken c.in-Err.at = c.requires.fetched ∙ c.in-Err.ensures.chain in
+    rw c.check.ensures (sym (step-broken g.D.Device.meaning (program c.args.context.now c.args.device.now c.args.area.now) c.requires.running _ failed))

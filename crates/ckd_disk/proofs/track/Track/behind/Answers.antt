@@ -15,4 +15,4 @@ returns-then-place-count c =
 pub returns : goal.returns
 returns c =
     let b = bounds c.args.self.now c.self.inside.bytes.items c.self.inside.used c.self.inside.count c.self.invariant c.self.view_is in
-    (record { there = omega (arith, b.counted, c.requires.there); offset = c.end_of.ensures.end }, omega arith)
+    record { is = record { there = omega (arith, b.counted, c.requires.there); offset = c.end_of.ensures.end }; place = omega arith }

@@ -7,7 +7,7 @@ use Rattle.fifo_row.specs.Lists.{of}
 use Rattle.fifo_row.specs.Steps.{WasFull}
 use Rattle.excp_system.specs.Sites.{NoFact, post_rows, unit_of, for_task, end_of}
 use Rattle.excp_system.specs.Fans.{sent_to}
-use Rattle.excp_system.specs.Holds.{IsFirst}
+use Rattle.excp_system.specs.RowCalls.{IsFirst}
 use Rattle.excp_system.specs.States.{Locked}
 use Rattle.excp_system.proofs.Units.{first-is, unit-delivers}
 use Rattle.excp_system.proofs.unit.UnitState.deliver.Goals as goal

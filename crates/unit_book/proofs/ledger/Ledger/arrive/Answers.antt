@@ -2,7 +2,7 @@ use Rattle.std.proofs.Common.{◌∷◌, [], reverse, arith, length-append, refl
 use Rattle.std.proofs.lemmas.List.{append-nil}
 use Rattle.unit_book.specs.declared.entry.Entry.TheVariants.{Arrive}
 use Rattle.unit_book.proofs.Arrivals.{ties-arrive}
-use Rattle.unit_book.proofs.Facts.{facts}
+use Rattle.unit_book.proofs.LegalFacts.{facts}
 use Rattle.unit_book.proofs.Purges.{dooms-none, since-arrive}
 use Rattle.unit_book.proofs.Refusals.{settled-arrive}
 use Rattle.unit_book.proofs.Same.{room-of}

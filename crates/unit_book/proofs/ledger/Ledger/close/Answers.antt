@@ -2,6 +2,7 @@ use Rattle.std.proofs.Common.{◌∷◌, reverse, refl}
 use Rattle.unit_book.specs.declared.entry.Entry.TheVariants.{Close}
 use Rattle.unit_book.proofs.Controls.{doomed-close, doomed-close_few}
 use Rattle.unit_book.proofs.Dooms.{due-doomed, due-no_halt}
+use Rattle.unit_book.proofs.Opens.{open-row}
 use Rattle.unit_book.proofs.Halts.{ties-close}
 use Rattle.unit_book.proofs.ledger.Ledger.close.Goals as goal
 
@@ -36,3 +37,10 @@ returns-clause-few g c =
     let i = c.self.inside in
     let w = c.write.ensures.items in
     rw (← c.self.view_is) (rw w (doomed-close_few m i.mounted c.args.dcb (reverse i.trace.items)))
+
+pub close-requires : goal.close-requires
+close-requires g c =
+    let i = c.self.inside in
+    let t = c.self.invariant.0 in
+    let can = rw (← c.self.view_is) at c.requires.can in
+    open-row g.D.Device.meaning i.mounted c.args.dcb (reverse i.trace.items) i.dcbs t.legal t.count can

@@ -9,10 +9,11 @@ use Rattle.unit_book.specs.declared.entry.Entry.TheVariants.{Post}
 use Rattle.unit_book.specs.Legal.{FailsCheck, OfFirst}
 use Rattle.unit_book.specs.Selected.{doomed_by_post}
 use Rattle.unit_book.proofs.Dooms.{doomed-post, due-doomed}
-use Rattle.unit_book.proofs.Facts.{facts, first-waits}
+use Rattle.unit_book.proofs.LegalFacts.{facts, first-waits}
 use Rattle.unit_book.proofs.Same.{fits-free}
 use Rattle.unit_book.proofs.Starts.{first-rest, none-in_field}
 use Rattle.unit_book.proofs.WaitingPosts.{ties-first_post, waiting-value}
+use Rattle.unit_book.proofs.Opens.{first-opened, opened-row}
 use Rattle.unit_book.proofs.ledger.Ledger.post_violated.Goals as goal
 
 pub invariant_of-self : goal.invariant_of-self
@@ -46,27 +47,8 @@ invariant_of-self g c =
       },
     )
 
-pub returns-clause-book : goal.returns-clause-book
-returns-clause-book g c =
-    let m = g.D.Device.meaning in
-    let i = c.self.inside in
-    let b = c.in-Some.piece.value in
-    let s = rw (← c.self.view_is) at c.requires.fits in
-    let t = c.self.invariant.0 in
-    let z : Some b ≡ Some s.request = sym (ap (option_map box_value) c.in-Some.is) ∙ c.pop.ensures.first ∙ ap (λ (x : List Piece). slice_get x 0) t.queue ∙ s.first in
-    let e : b ≡ s.request = cc in
-    let n : b.name ≡ c.args.name = ap (λ (x : Piece). x.name) e ∙ s.name in
-    let k = waiting-value m i.mounted b no_status 0 ExtentViolated (reverse i.trace.items) i.channel i.active i.waiting.pieces i.dcbs i.dcbs i.out.items t 0 (s.first ∙ ap Some (sym e)) in
-    let none = (none-in_field m i.mounted (reverse i.trace.items) i.channel.phase i.active s.none t.activity).1 in
-    let w = c.write.ensures.items in
-    let y = c.empty.ensures in
-    let x = c.empty-2.ensures in
-    let q = c.hand_out.ensures in
-    let v = c.posted_from.ensures in
-    rw (← c.self.view_is) (rw (w, y, q, v, x, k, ← n, none) refl)
-
-pub returns-clause-dooms : goal.returns-clause-dooms
-returns-clause-dooms g c =
+pub returns : goal.returns
+returns g c =
     let m = g.D.Device.meaning in
     let i = c.self.inside in
     let b = c.in-Some.piece.value in
@@ -76,9 +58,33 @@ returns-clause-dooms g c =
     let z : Some b ≡ Some s.request = sym (ap (option_map box_value) c.in-Some.is) ∙ c.pop.ensures.first ∙ ap (λ (x : List Piece). slice_get x 0) t.queue ∙ s.first in
     let e : b ≡ s.request = cc in
     let n : b.name ≡ c.args.name = ap (λ (x : Piece). x.name) e ∙ s.name in
-    let k = (first-waits m i.mounted b (reverse i.trace.items) (facts m i.mounted (reverse i.trace.items) t.legal) (s.first ∙ ap Some (sym e))).known.0 in
-    let d = doomed-post m i.mounted b.name no_status 0 ExtentViolated (reverse i.trace.items) (due-doomed m i.mounted (reverse i.trace.items) settled) in
+    let there = s.first ∙ ap Some (sym e) in
+    let value = waiting-value m i.mounted b no_status 0 ExtentViolated (reverse i.trace.items) i.channel i.active i.waiting.pieces i.dcbs i.dcbs i.out.items t 0 there in
+    let none = (none-in_field m i.mounted (reverse i.trace.items) i.channel.phase i.active s.none t.activity).1 in
+    let issued = (first-waits m i.mounted b (reverse i.trace.items) (facts m i.mounted (reverse i.trace.items) t.legal) there).known.0 in
+    let dooms = doomed-post m i.mounted b.name no_status 0 ExtentViolated (reverse i.trace.items) (due-doomed m i.mounted (reverse i.trace.items) settled) in
     let w = c.write.ensures.items in
     let y = c.empty.ensures in
-    let doom_is = c.doomed_by_post-doom.ensures ∙ ap (λ (x : Piece). doomed_by_post x ExtentViolated) (c.deref.ensures ∙ sym k) in
-    rw (w, y, doom_is, ← n) d
+    let x = c.empty-2.ensures in
+    let q = c.hand_out.ensures in
+    let v = c.posted_from.ensures in
+    let doom_is = c.doomed_by_post-doom.ensures ∙ ap (λ (x : Piece). doomed_by_post x ExtentViolated) (c.deref.ensures ∙ sym issued) in
+    record {
+      book = rw (← c.self.view_is) (rw (w, y, q, v, x, value, ← n, none) refl);
+      spare = rw (← c.self.view_is) c.write.ensures.spare;
+      dooms = rw (w, y, doom_is, ← n) dooms;
+    }
+
+pub note_post-requires : goal.note_post-requires
+note_post-requires g c =
+    let m = g.D.Device.meaning in
+    let i = c.self.inside in
+    let b = c.in-Some.piece.value in
+    let settled = rw (← c.self.view_is) at c.requires.settled in
+    let s = rw (← c.self.view_is) at c.requires.fits in
+    let t = c.self.invariant.0 in
+    let z : Some b ≡ Some s.request = sym (ap (option_map box_value) c.in-Some.is) ∙ c.pop.ensures.first ∙ ap (λ (x : List Piece). slice_get x 0) t.queue ∙ s.first in
+    let e : b ≡ s.request = cc in
+    let opened = first-opened m i.mounted b (reverse i.trace.items) settled (s.first ∙ ap Some (sym e)) in
+    let piece_is = c.deref-2.ensures in
+    rw piece_is (opened-row m i.mounted b.dcb (reverse i.trace.items) i.dcbs t.legal t.count opened)

@@ -18,30 +18,19 @@ use Rattle.unit_book.proofs.Purges.{length-filters}
 use Rattle.unit_book.proofs.Awaiting.{kept-is, ties-awaiting, settled-awaiting, since-awaiting, after-is, fits-purged}
 use Rattle.unit_book.proofs.ledger.Ledger.purge_awaiting.Goals as goal
 
-pub post_all-requires-clause-spare : goal.post_all-requires-clause-spare
-post_all-requires-clause-spare g c =
+pub post_all-requires : goal.post_all-requires
+post_all-requires g c =
     let i = c.self.inside in
     let p = covers c.args.scope in
     let spare = rw (← c.self.view_is) at c.requires.spare in
     let room = c.self.invariant.1 in
     let sw = c.sweep.ensures.swept ∙ ap (λ (x : Queue). queue (x.pieces ++ filter p i.waiting.pieces) x.capacity) room.swept_is in
-    rw sw (omega (arith, spare, c.write.ensures.spare, length-filters p i.waiting.pieces, ap length c.self.invariant.0.queue))
-
-pub post_all-requires-clause-room : goal.post_all-requires-clause-room
-post_all-requires-clause-room g c =
-    let i = c.self.inside in
-    let p = covers c.args.scope in
-    let room = c.self.invariant.1 in
-    let sw = c.sweep.ensures.swept ∙ ap (λ (x : Queue). queue (x.pieces ++ filter p i.waiting.pieces) x.capacity) room.swept_is in
-    rw sw (omega (arith, room.occupancy, length-filters p i.waiting.pieces))
-
-pub post_all-requires-clause-placed : goal.post_all-requires-clause-placed
-post_all-requires-clause-placed g c =
-    let i = c.self.inside in
-    let p = covers c.args.scope in
-    let room = c.self.invariant.1 in
-    let sw = c.sweep.ensures.swept ∙ ap (λ (x : Queue). queue (x.pieces ++ filter p i.waiting.pieces) x.capacity) room.swept_is in
-    rw sw (Each-filter Placed p i.waiting.pieces c.self.invariant.0.placed)
+    let few = length-filters p i.waiting.pieces in
+    record {
+      spare = rw sw (omega (arith, spare, c.write.ensures.spare, few, ap length c.self.invariant.0.queue));
+      room = rw sw (omega (arith, room.occupancy, few));
+      placed = rw sw (Each-filter Placed p i.waiting.pieces c.self.invariant.0.placed);
+    }
 
 pub write-requires-2 : goal.write-requires-2
 write-requires-2 g c =

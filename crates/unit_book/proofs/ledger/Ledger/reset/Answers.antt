@@ -1,5 +1,6 @@
 use Rattle.std.proofs.Common.{reverse}
 use Rattle.unit_book.proofs.Controls.{settled-reset}
+use Rattle.unit_book.proofs.Opens.{open-row}
 use Rattle.unit_book.proofs.Halts.{ties-reset}
 use Rattle.unit_book.proofs.ledger.Ledger.reset.Goals as goal
 
@@ -20,3 +21,10 @@ returns-clause-settled g c =
     let settled = rw (← c.self.view_is) at c.requires.settled in
     let w = c.write.ensures.items in
     rw w (settled-reset m i.mounted c.args.dcb (reverse i.trace.items) settled)
+
+pub reset-requires : goal.reset-requires
+reset-requires g c =
+    let i = c.self.inside in
+    let t = c.self.invariant.0 in
+    let can = rw (← c.self.view_is) at c.requires.can in
+    open-row g.D.Device.meaning i.mounted c.args.dcb (reverse i.trace.items) i.dcbs t.legal t.count can

@@ -1,24 +1,33 @@
-use Rattle.std.proofs.Common.{◌≡◌, Some, Option, not, reverse, refl, sym, ap, subst, ◌∙◌}
+use Rattle.std.proofs.Common.{◌≡◌, Some, None, Option, not, reverse, refl, sym, ap, subst, ◌∙◌}
 use Rattle.ccw_programs.specs.declared.context.Burst.{Burst}
 use Rattle.subchannel.specs.Subchannel.{Channel, RunsAs, running_program}
 use Rattle.unit_book.specs.declared.active.Active.{Active}
-use Rattle.unit_book.specs.Fields.{Ties, Rooms, with_area}
-use Rattle.unit_book.proofs.Runs.{ties-ran, told, quiet-same}
+use Rattle.unit_book.specs.Fields.{ActivityTies, Ties, Rooms}
+use Rattle.unit_book.proofs.Runs.{ties-ran, told, runs-active, runs-burst}
 use Rattle.unit_book.proofs.ledger.Ledger.run.Goals as goal
 
-pub invariant_of-self-in_default-run : goal.invariant_of-self-in_default-run
-invariant_of-self-in_default-run g c =
+pub unreachable-requires : goal.unreachable-requires
+unreachable-requires g c =
+    let m = g.D.Device.meaning in
+    let i = c.self.inside in
+    let runs = rw (← c.self.view_is) at c.requires.runs in
+    let o : i.active ≡ None = sym c.take.ensures.value ∙ c.in_default.is in
+    let t = subst (λ (x : Option Active). ActivityTies m i.mounted (reverse i.trace.items) i.channel.phase x) o c.self.invariant.0.activity in
+    absurd (runs-active m i.mounted (reverse i.trace.items) t.0 runs)
+
+pub unreachable-requires-in_default-run : goal.unreachable-requires-in_default-run
+unreachable-requires-in_default-run g c =
     let m = g.D.Device.meaning in
     let i = c.self.inside in
     let a = c.in-Some.active in
+    let runs = rw (← c.self.view_is) at c.requires.runs in
     let o : i.active ≡ Some a = sym c.take.ensures.value ∙ c.in-Some.is in
-    let e = quiet-same m i.mounted i.channel c.run.new.channel a.piece.value.area c.run.new.self.piece.value.area c.args.max (running_program i.channel.device i.channel.phase a.piece.value.area) c.in_default-run.ensures.ran in
-    let s : c.run.new.self ≡ a = c.run.ensures.same ∙ ap (with_area a) e.1 in
-    let h = e.0 in
-    rw (s, h, ← o) c.self.invariant
+    let t = subst (λ (x : Option Active). Ties m i.mounted (reverse i.trace.items) i.channel x i.waiting.pieces i.dcbs i.out.items) o c.self.invariant.0 in
+    let r = subst (λ (x : Option Burst). RunsAs m i.channel a.piece.value.area c.args.max (running_program i.channel.device i.channel.phase a.piece.value.area) x c.run.new.channel c.run.new.self.piece.value.area) c.in_default-run.is c.run.ensures.ran in
+    absurd (runs-burst m i.mounted (reverse i.trace.items) i.channel c.run.new.channel a i.waiting.pieces i.dcbs i.out.items c.args.max c.run.new.self.piece.value.area t runs r)
 
-pub invariant_of-self-2 : goal.invariant_of-self-2
-invariant_of-self-2 g c =
+pub invariant_of-self : goal.invariant_of-self
+invariant_of-self g c =
     let m = g.D.Device.meaning in
     let i = c.self.inside in
     let a = c.in-Some.active in

@@ -1,4 +1,4 @@
--- WHAT A HOLD OF A UNIT'S LOCK that uses a row does, and answers (profile). The other holds are the calls of its book.
+-- WHAT A CALL OF A LOCKED UNIT that uses a row does, and answers (profile). The other calls are those of its book.
 use Rattle.std.specs.Prelude.{◌≡◌, ◌<◌, ◌≤◌, ◌+◌, [], ◌∷◌, ◌++◌, Some, slice_get, drop}
 use Rattle.device_port.specs.Meaning.{Meaning}
 use Rattle.request_piece.specs.PostedState.{PostedState}

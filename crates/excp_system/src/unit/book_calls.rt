@@ -1,4 +1,4 @@
-//! The holds of a unit that are the calls of its book.
+//! The calls of a locked unit that are those of its book.
 
 ghost use Rattle.std.specs.Prelude.{◌≡◌, ◌≤◌, ◌||◌, ◌&&◌, true, [], not, is_ok, IfErr, IfOk, OnErr, OnOk};
 ghost use Rattle.unit_book.specs.Answers.{Adds, InterruptsBook, OpenRefused, OpensBook, RunsBook, StartsBook};
