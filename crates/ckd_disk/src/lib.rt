@@ -16,6 +16,3 @@ mod walk;
 pub use disk::Disk;
 pub use mount::{Geometry, InitialRecord};
 pub use track::{Records, Stored};
-
-#[cfg(test)]
-mod tests;

@@ -22,6 +22,3 @@ pub use faults::{Fault, FaultScript, is_script};
 pub use given::Given;
 pub use image::{fill_at, put_at};
 pub use kind::{Flow, Kind};
-
-#[cfg(test)]
-mod tests;

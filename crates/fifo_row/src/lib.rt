@@ -16,6 +16,3 @@ pub use row::Row;
 pub use sender::{Full, Sender};
 pub use taker::Taker;
 pub use view::View;
-
-#[cfg(test)]
-mod tests;

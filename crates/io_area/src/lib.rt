@@ -6,6 +6,3 @@ mod error;
 
 pub use area::Area;
 pub use error::AreaError;
-
-#[cfg(test)]
-mod tests;

@@ -29,6 +29,3 @@ pub use iob::Iob;
 pub use seek::Seek;
 pub use status::{SubStatus, UnitStatus};
 pub use word::AddressWord;
-
-#[cfg(test)]
-mod tests;

@@ -13,6 +13,3 @@ mod printer;
 pub use paper::Position;
 pub use printed_line::PrintedLine;
 pub use printer::Printer;
-
-#[cfg(test)]
-mod tests;

@@ -6,6 +6,3 @@ mod table;
 
 pub use answer::Verdict;
 pub use table::{MAX_RETRIES, verdict};
-
-#[cfg(test)]
-mod tests;

@@ -15,6 +15,3 @@ pub use piece::{Name, Piece};
 pub use posted::Posted;
 pub use request::Request;
 pub use scope::Scope;
-
-#[cfg(test)]
-mod tests;

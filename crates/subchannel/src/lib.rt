@@ -185,6 +185,3 @@ impl<D: Device> Subchannel<D> {
         self.device.is_some() && matches!(&self.phase, Phase::Pending(_, _))
     }
 }
-
-#[cfg(test)]
-mod tests;

@@ -16,6 +16,3 @@ mod tape;
 pub use mount::InitialItem;
 pub use stored::{Items, Stored};
 pub use tape::Tape;
-
-#[cfg(test)]
-mod tests;

@@ -6,6 +6,3 @@ mod selection;
 
 pub use queue::WaitQueue;
 pub use selection::Selection;
-
-#[cfg(test)]
-mod tests;

@@ -1,14 +1,13 @@
 //! Tapes read, written and spaced over, and mounting refused.
 
-use super::{InitialItem, Tape};
-use device_port::{
-    Acted, COMMAND_REJECT, Chain, Device, EQUIPMENT_CHECK, Fault, Flow, Kind, MountError, Segment,
-};
+use crate::devices::{act, holds, late_fault, unit_check};
+use device_port::{Acted, COMMAND_REJECT, Device, EQUIPMENT_CHECK, Fault, Flow, Kind, MountError};
 use io_area::Area;
-use io_images::{Seek, SubStatus, UnitStatus};
+use io_images::Seek;
 use std::alloc::{AllocError, Global};
 use std::process::Abort;
 use std::test::Fail;
+use tape_unit::{InitialItem, Tape};
 
 /// A sense that only a fault gives.
 const DATA_CHECK: u16 = 0x0800;
@@ -28,36 +27,6 @@ fn storage(rt: &impl Abort, alloc: Global, bytes: &[u8]) -> Result<Area, Fail> {
     let mut area = Area::new(alloc, 0x1050, &[0; 32])?;
     assert!(rt; area.put(0x1060, bytes));
     Ok(area)
-}
-
-/// Whether storage has these bytes at X'1060'.
-fn holds(area: &Area, bytes: &[u8]) -> bool {
-    match area.get(0x1060, bytes.len()) {
-        Some(found) => found == bytes,
-        None => false,
-    }
-}
-
-/// A command on one part of storage, which lies there whichever way the data goes.
-fn act(
-    rt: &impl Abort,
-    tape: &mut Tape,
-    area: &mut Area,
-    command: u8,
-    address: u32,
-    count: u16,
-) -> Acted {
-    let len = u32::from(count);
-    assert!(rt; len >= 1 && len <= address);
-    assert!(rt; area.get(address, usize::from(count)).is_some());
-    assert!(rt; area.get(address + 1 - len, usize::from(count)).is_some());
-    let parts = [Segment {
-        address,
-        count,
-        skip: false,
-    }];
-    let chain = Chain::of(&parts);
-    tape.act(command, &chain, area)
 }
 
 /// Whether a tape has these items, the empty one being a tape mark.
@@ -88,7 +57,7 @@ fn reads_a_block_a_mark_and_the_end(rt: HostRuntime) -> Result<(), Fail> {
     for acted in expected {
         assert_eq!(rt; act(&rt, &mut tape, &mut area, 0x02, 0x1060, 3), acted);
     }
-    assert!(rt; holds(&area, &[0xC1, 0xC2, 0xC3]));
+    assert!(rt; holds(&area, 0x1060, &[0xC1, 0xC2, 0xC3]));
     Ok(())
 }
 
@@ -101,7 +70,7 @@ fn reads_backward(rt: HostRuntime) -> Result<(), Fail> {
         act(&rt, &mut tape, &mut area, 0x0C, 0x1062, 3),
         Acted::normal_end(3)
     );
-    assert!(rt; holds(&area, &[0xC1, 0xC2, 0xC3]));
+    assert!(rt; holds(&area, 0x1060, &[0xC1, 0xC2, 0xC3]));
     assert_eq!(rt;
         act(&rt, &mut tape, &mut area, 0x0C, 0x1062, 3),
         Acted::rejected()
@@ -208,24 +177,19 @@ fn spaces_over_blocks_and_files(rt: HostRuntime) -> Result<(), Fail> {
 
 #[test]
 fn meets_a_fault(rt: HostRuntime) -> Result<(), Fail> {
-    let fault = Fault {
-        ordinal: 1,
-        unit: UnitStatus::new(0x0E),
-        sub: SubStatus::new(0),
-        sense: DATA_CHECK,
-    };
+    let fault = unit_check(1, DATA_CHECK);
     let mut tape = fixture(rt.alloc(), &[fault])?;
     let mut area = storage(&rt, rt.alloc(), &[])?;
     assert_eq!(rt;
         act(&rt, &mut tape, &mut area, 0x02, 0x1060, 3),
         Acted::unit_check(DATA_CHECK)
     );
-    assert!(rt; holds(&area, &[0, 0, 0]));
+    assert!(rt; holds(&area, 0x1060, &[0, 0, 0]));
     assert_eq!(rt;
         act(&rt, &mut tape, &mut area, 0x02, 0x1060, 3),
         Acted::normal_end(3)
     );
-    assert!(rt; holds(&area, &[0xC1, 0xC2, 0xC3]));
+    assert!(rt; holds(&area, 0x1060, &[0xC1, 0xC2, 0xC3]));
     Ok(())
 }
 
@@ -241,7 +205,7 @@ fn is_a_device(rt: HostRuntime) -> Result<(), Fail> {
         act(&rt, &mut tape, &mut area, 0x04, 0x1060, 2),
         Acted::sense()
     );
-    assert!(rt; holds(&area, &[0, 0]));
+    assert!(rt; holds(&area, 0x1060, &[0, 0]));
     let flows = [
         (0x01, Flow::Out),
         (0x02, Flow::Input),
@@ -258,12 +222,7 @@ fn is_a_device(rt: HostRuntime) -> Result<(), Fail> {
 /// Mounting is refused with the first reason.
 #[test]
 fn mount_is_refused(rt: HostRuntime) -> Result<(), Fail> {
-    let no_fault = Fault {
-        ordinal: 0,
-        unit: UnitStatus::new(0x0E),
-        sub: SubStatus::new(0),
-        sense: 0,
-    };
+    let no_fault = unit_check(0, 0);
     let long = vec![in rt.alloc(); 0; 65_536]?;
     let cases: [(&[u8], u64, &[Fault], MountError); 6] = [
         (&[], 3, &[no_fault], MountError::BadGeometry),
@@ -283,28 +242,22 @@ fn mount_is_refused(rt: HostRuntime) -> Result<(), Fail> {
     Ok(())
 }
 
-/// Mounting and copying are refused at each of their growths, and no command takes memory: run it with each
-/// allocation refused in turn.
+fn two_items(alloc: Global) -> Result<[InitialItem; 2], AllocError> {
+    Ok([block(alloc, &[5])?, InitialItem::Mark])
+}
+
+/// A tape of the most bytes with a block and a tape mark, and a fault that no command comes to.
+fn longest(alloc: Global) -> Result<Tape, MountError> {
+    let items = two_items(alloc).map_err(|_| MountError::NoMemory)?;
+    Tape::mount(alloc, &items, 16_777_216, &[late_fault()])
+}
+
+/// Each command that is none of a tape is rejected, and a copy answers as the tape does.
 #[test]
-fn every_command_without_memory(rt: HostRuntime) -> Result<(), Fail> {
+fn every_command(rt: HostRuntime) -> Result<(), Fail> {
     let mut area = storage(&rt, rt.alloc(), &[])?;
-    let items = vec![in rt.alloc(); block(rt.alloc(), &[5])?, InitialItem::Mark]?;
-    let later = Fault {
-        ordinal: 1000,
-        unit: UnitStatus::new(0),
-        sub: SubStatus::new(8),
-        sense: 0,
-    };
-    let mut tape = match Tape::mount(rt.alloc(), &items, 16_777_216, &[later]) {
-        Ok(tape) => tape,
-        Err(error) => {
-            assert_eq!(rt; error, MountError::NoMemory);
-            return Ok(());
-        }
-    };
-    let Ok(mut copy) = tape.copy() else {
-        return Ok(());
-    };
+    let mut tape = longest(rt.alloc())?;
+    let mut copy = tape.copy()?;
     for command in 0..=255 {
         let acted = act(&rt, &mut tape, &mut area, command, 0x1060, 1);
         let listed = matches!(
@@ -320,4 +273,12 @@ fn every_command_without_memory(rt: HostRuntime) -> Result<(), Fail> {
         assert!(rt; listed || tape.flow(command) == Flow::None);
     }
     Ok(())
+}
+
+/// Where there is no memory for a mounting, no other reason is told: run it with each allocation refused in turn.
+#[test]
+fn mount_without_memory(rt: HostRuntime) {
+    if let Err(error) = longest(rt.alloc()) {
+        assert_eq!(rt; error, MountError::NoMemory);
+    }
 }

@@ -1,5 +1,5 @@
 use Rattle.std.proofs.Common.{◌≡◌}
-use Rattle.fifo_row.proofs.tests.take_next.Given as goal
+use Rattle.component_tests.proofs.rows.take_next.Given as goal
 
 abbrev pub invariant-loop : goal.invariant-loop
 invariant-loop g l = l.taker ≡ l.fn.taker

@@ -1,4 +1,4 @@
-use Rattle.fifo_row.proofs.tests.two_senders_and_a_taker.Given as goal
+use Rattle.component_tests.proofs.rows.two_senders_and_a_taker.Given as goal
 
 -- the row of these ends
 abbrev pub ghosts-exchange : goal.ghosts-exchange

@@ -3,10 +3,11 @@
 ghost use Rattle.std.specs.Prelude.{◌≡◌, ◌∷◌, [], true, false, IfOk};
 ghost use Rattle.device_port.specs.Faults.{is_script};
 
-use crate::toy::ToyBlock;
-use crate::{Acted, Chain, Device, Fault, Flow, Kind, Segment, is_script};
+use crate::devices::{holds, unit_check};
+use device_port::toy::ToyBlock;
+use device_port::{Acted, Chain, Device, Fault, Flow, Kind, Segment, is_script};
 use io_area::Area;
-use io_images::{Seek, SubStatus, UnitStatus};
+use io_images::Seek;
 use std::test::Fail;
 
 /// Two parts, one of three bytes and one of two with SKIP.
@@ -27,14 +28,6 @@ fn two_parts(first: u32, second: u32) -> [Segment; 2]
     ]
 }
 
-/// Whether storage from X'1000' on is these bytes.
-fn holds(area: &Area, bytes: &[u8]) -> bool {
-    match area.get(0x1000, bytes.len()) {
-        Some(found) => found == bytes,
-        None => false,
-    }
-}
-
 #[test]
 fn moves_through_two_parts(rt: HostRuntime) -> Result<(), Fail> {
     let mut area = Area::new(rt.alloc(), 0x1000, &[0, 0, 0, 0, 0, 7, 7, 0])?;
@@ -46,23 +39,18 @@ fn moves_through_two_parts(rt: HostRuntime) -> Result<(), Fail> {
         block.act(0x02, &Chain::of(&two_parts(0x1000, 0x1005)), &mut area),
         Acted::normal_end(4)
     );
-    assert!(rt; holds(&area, &[1, 2, 3, 0, 0, 7, 7, 0]));
+    assert!(rt; holds(&area, 0x1000, &[1, 2, 3, 0, 0, 7, 7, 0]));
     // outward: SKIP is ignored
     let _ = block.act(0x01, &Chain::of(&two_parts(0x1000, 0x1005)), &mut area);
     // downward: the last byte of 1, 2, 3, 7 stands at the first address, and SKIP keeps the 1 out
     let _ = block.act(0x0C, &Chain::of(&two_parts(0x1007, 0x1001)), &mut area);
-    assert!(rt; holds(&area, &[1, 2, 3, 0, 0, 2, 3, 7]));
+    assert!(rt; holds(&area, 0x1000, &[1, 2, 3, 0, 0, 2, 3, 7]));
     Ok(())
 }
 
 #[test]
 fn meets_a_fault_once(rt: HostRuntime) -> Result<(), Fail> {
-    let fault = Fault {
-        ordinal: 2,
-        unit: UnitStatus::new(0x0E),
-        sub: SubStatus::new(0),
-        sense: 0x1000,
-    };
+    let fault = unit_check(2, 0x1000);
     let script = [fault];
     assert!(rt; is_script(&script) && !is_script(&[fault, fault]));
     let mut block = ToyBlock::mount(rt.alloc(), Kind::Disk, [1, 2, 3, 4], &script)?;

@@ -1,6 +1,6 @@
 //! The limits of an area, and bytes read and written at its ends.
 
-use crate::{Area, AreaError};
+use io_area::{Area, AreaError};
 use std::test::Fail;
 
 #[test]

@@ -2,7 +2,7 @@
 
 ghost use Rattle.std.specs.Prelude.{◌≡◌, ◌+◌, length};
 
-use crate::{Full, Item, Row, Sender, Taker};
+use fifo_row::{Full, Item, Row, Sender, Taker};
 use std::marker::Brand;
 use std::sync::Wait;
 use std::test::Fail;

@@ -1,10 +1,10 @@
 //! Images read and written, against bytes worked out by hand.
 
-use crate::{
+use bitflags::Flags;
+use io_images::{
     Address, AddressWord, Ccw, CcwFlags, Code, Csw, Ecb, Extent, FileMask, Iob, Seek, SubStatus,
     UnitStatus,
 };
-use bitflags::Flags;
 
 #[test]
 fn ccw_keeps_its_ignored_byte(rt: HostRuntime) {

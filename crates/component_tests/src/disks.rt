@@ -1,12 +1,13 @@
 //! Records read, searched and written, and mounting refused.
 
-use super::{Disk, Geometry, InitialRecord};
+use crate::devices::{act, holds, late_fault, unit_check};
+use ckd_disk::{Disk, Geometry, InitialRecord};
 use device_port::{
-    Acted, COMMAND_REJECT, Chain, Device, FILE_PROTECTED, Fault, Flow, INVALID_TRACK_FORMAT,
-    MountError, NO_RECORD_FOUND, Segment,
+    Acted, COMMAND_REJECT, Device, FILE_PROTECTED, Fault, Flow, INVALID_TRACK_FORMAT, MountError,
+    NO_RECORD_FOUND,
 };
 use io_area::Area;
-use io_images::{Seek, SubStatus, UnitStatus};
+use io_images::Seek;
 use std::alloc::{AllocError, Global};
 use std::process::Abort;
 use std::test::Fail;
@@ -44,39 +45,6 @@ fn fixture(alloc: Global, key: &[u8], content: &[u8], faults: &[Fault]) -> Resul
     Ok(Disk::mount(alloc, geometry(1, 1, 40), &records, faults)?)
 }
 
-/// Storage from X'1050' on.
-fn storage(alloc: Global, bytes: &[u8]) -> Result<Area, Fail> {
-    Ok(Area::new(alloc, 0x1050, bytes)?)
-}
-
-/// Whether storage has these bytes at X'1050'.
-fn holds(area: &Area, bytes: &[u8]) -> bool {
-    match area.get(0x1050, bytes.len()) {
-        Some(found) => found == bytes,
-        None => false,
-    }
-}
-
-/// A command on one part of storage.
-fn act(
-    rt: &impl Abort,
-    disk: &mut Disk,
-    area: &mut Area,
-    command: u8,
-    address: u32,
-    count: u16,
-) -> Acted {
-    assert!(rt; count >= 1);
-    assert!(rt; area.get(address, usize::from(count)).is_some());
-    let parts = [Segment {
-        address,
-        count,
-        skip: false,
-    }];
-    let chain = Chain::of(&parts);
-    disk.act(command, &chain, area)
-}
-
 /// Searches from the index point on until the CCHHR at X'1050' is found: that of R1.
 fn find(rt: &impl Abort, disk: &mut Disk, area: &mut Area) {
     assert_eq!(rt; act(rt, disk, area, 0x31, 0x1050, 5), Acted::normal_end(5));
@@ -108,13 +76,13 @@ fn reads(rt: HostRuntime) -> Result<(), Fail> {
         (0x1E, 14, [0, 0, 0, 0, 1, 2, 0, 4]),
     ];
     for (command, want, bytes) in cases {
-        let mut area = storage(rt.alloc(), &[0xFF; 8])?;
+        let mut area = Area::new(rt.alloc(), 0x1050, &[0xFF; 8])?;
         set_mask(&rt, &mut disk, 0, 0x58);
         assert_eq!(rt;
             act(&rt, &mut disk, &mut area, command, 0x1050, 8),
             Acted::normal_end(want)
         );
-        assert!(rt; holds(&area, &bytes), "{command}");
+        assert!(rt; holds(&area, 0x1050, &bytes), "{command}");
     }
     Ok(())
 }
@@ -122,7 +90,7 @@ fn reads(rt: HostRuntime) -> Result<(), Fail> {
 #[test]
 fn searches_a_key(rt: HostRuntime) -> Result<(), Fail> {
     let mut disk = fixture(rt.alloc(), &[0xD1, 0xD2], &[0xC1, 0xC2, 0xC3, 0xC4], &[])?;
-    let mut area = storage(rt.alloc(), &[0xD1, 0xD2])?;
+    let mut area = Area::new(rt.alloc(), 0x1050, &[0xD1, 0xD2])?;
     set_mask(&rt, &mut disk, 0, 0x58);
     assert_eq!(rt;
         act(&rt, &mut disk, &mut area, 0x29, 0x1050, 2),
@@ -132,19 +100,19 @@ fn searches_a_key(rt: HostRuntime) -> Result<(), Fail> {
         act(&rt, &mut disk, &mut area, 0x06, 0x1050, 2),
         Acted::normal_end(4)
     );
-    assert!(rt; holds(&area, &[0xC1, 0xC2]));
+    assert!(rt; holds(&area, 0x1050, &[0xC1, 0xC2]));
     assert_eq!(rt;
         act(&rt, &mut disk, &mut area, 0x04, 0x1050, 2),
         Acted::normal_end(2)
     );
-    assert!(rt; holds(&area, &[0, 0]));
+    assert!(rt; holds(&area, 0x1050, &[0, 0]));
     Ok(())
 }
 
 #[test]
 fn no_record_found(rt: HostRuntime) -> Result<(), Fail> {
     let mut disk = fixture(rt.alloc(), &[], &[0xC1, 0xC2, 0xC3, 0xC4], &[])?;
-    let mut area = storage(rt.alloc(), &[0, 0, 0, 0, 9])?;
+    let mut area = Area::new(rt.alloc(), 0x1050, &[0, 0, 0, 0, 9])?;
     for _ in 0..4 {
         assert_eq!(rt;
             act(&rt, &mut disk, &mut area, 0x31, 0x1050, 5),
@@ -159,7 +127,7 @@ fn no_record_found(rt: HostRuntime) -> Result<(), Fail> {
 #[test]
 fn empty_data_is_unit_exception(rt: HostRuntime) -> Result<(), Fail> {
     let mut disk = fixture(rt.alloc(), &[], &[], &[])?;
-    let mut area = storage(rt.alloc(), &[0, 0, 0, 0, 1])?;
+    let mut area = Area::new(rt.alloc(), 0x1050, &[0, 0, 0, 0, 1])?;
     find(&rt, &mut disk, &mut area);
     assert_eq!(rt;
         act(&rt, &mut disk, &mut area, 0x06, 0x1050, 4),
@@ -168,60 +136,85 @@ fn empty_data_is_unit_exception(rt: HostRuntime) -> Result<(), Fail> {
     Ok(())
 }
 
+/// A find of R1 and then a command, which is to answer this.
+fn expect_found(
+    rt: &impl Abort,
+    disk: &mut Disk,
+    area: &mut Area,
+    command: u8,
+    address: u32,
+    count: u16,
+    acted: Acted,
+) {
+    find(rt, disk, area);
+    assert_eq!(rt; act(rt, disk, area, command, address, count), acted);
+}
+
+/// Writes are rejected behind the input mask, and without a search.
 #[test]
-fn writes(rt: HostRuntime) -> Result<(), Fail> {
+fn rejected_writes(rt: HostRuntime) -> Result<(), Fail> {
     let mut disk = fixture(rt.alloc(), &[0xD1], &[0xC1, 0xC2, 0xC3], &[])?;
-    let mut area = storage(
-        rt.alloc(),
-        &[
-            0, 0, 0, 0, 1, 0xE1, 0xE2, 0xE3, 0, 0, 0, 0, 2, 0, 0, 5, 1, 2, 3, 4, 5,
-        ],
-    )?;
+    let mut area = Area::new(rt.alloc(), 0x1050, &[0, 0, 0, 0, 1, 0xE1, 0xE2, 0xE3])?;
     let rejected = Acted::unit_check(COMMAND_REJECT);
     set_mask(&rt, &mut disk, 0, 0x58);
-    find(&rt, &mut disk, &mut area);
-    assert_eq!(rt; act(&rt, &mut disk, &mut area, 0x05, 0x1055, 3), rejected);
+    expect_found(&rt, &mut disk, &mut area, 0x05, 0x1055, 3, rejected);
     set_mask(&rt, &mut disk, 0, 0x18);
     assert_eq!(rt; act(&rt, &mut disk, &mut area, 0x05, 0x1055, 3), rejected);
-    find(&rt, &mut disk, &mut area);
-    assert_eq!(rt;
-        act(&rt, &mut disk, &mut area, 0x05, 0x1055, 2),
-        Acted::normal_end(3)
-    );
-    find(&rt, &mut disk, &mut area);
-    assert_eq!(rt;
-        act(&rt, &mut disk, &mut area, 0x0D, 0x1056, 2),
-        Acted::normal_end(4)
-    );
-    find(&rt, &mut disk, &mut area);
-    let full = Acted::unit_check(INVALID_TRACK_FORMAT);
-    assert_eq!(rt; act(&rt, &mut disk, &mut area, 0x1D, 0x1058, 13), full);
-    assert!(rt; area.put(0x105F, &[4]));
-    find(&rt, &mut disk, &mut area);
-    assert_eq!(rt;
-        act(&rt, &mut disk, &mut area, 0x1D, 0x1058, 11),
-        Acted::normal_end(12)
-    );
+    Ok(())
+}
+
+/// The disk behind a write of data, of key and data, of a record that the track has no room for, and of one that it has.
+fn written(rt: &impl Abort, alloc: Global) -> Result<Disk, Fail> {
+    let mut disk = fixture(alloc, &[0xD1], &[0xC1, 0xC2, 0xC3], &[])?;
+    let mut area = Area::new(
+        alloc,
+        0x1050,
+        &[
+            0, 0, 0, 0, 1, 0xE1, 0xE2, 0xE3, 0, 0, 0, 0, 2, 0, 0, 5, 1, 2, 3, 4, 5, 0, 0, 0, 0, 0,
+            2, 0, 0, 4, 1, 2, 3,
+        ],
+    )?;
+    let writes = [
+        (0x05, 0x1055, 2, Acted::normal_end(3)),
+        (0x0D, 0x1056, 2, Acted::normal_end(4)),
+        (0x1D, 0x1058, 13, Acted::unit_check(INVALID_TRACK_FORMAT)),
+        (0x1D, 0x1066, 11, Acted::normal_end(12)),
+    ];
+    set_mask(rt, &mut disk, 0, 0x18);
+    for (command, address, count, acted) in writes {
+        expect_found(rt, &mut disk, &mut area, command, address, count, acted);
+    }
+    Ok(disk)
+}
+
+/// Asserts that the one track of a disk has these records: their numbers, keys and data.
+fn expect_records(
+    rt: &impl Abort,
+    disk: &Disk,
+    expected: &[(u8, &[u8], &[u8])],
+) -> Result<(), Fail> {
+    assert!(rt; disk.cylinders() == 1 && disk.heads() == 1);
+    let mut records = disk.records(0, 0);
+    for (number, key, content) in expected {
+        let found = records.next().ok_or("a record")?;
+        assert_eq!(rt; found.id(), [0, 0, 0, 0, *number].as_slice());
+        assert_eq!(rt; (found.key(), found.content()), (*key, *content));
+    }
+    assert!(rt; records.next().is_none());
+    Ok(())
+}
+
+#[test]
+fn writes(rt: HostRuntime) -> Result<(), Fail> {
+    let disk = written(&rt, rt.alloc())?;
     let expected: [(u8, &[u8], &[u8]); 3] = [
         (0, &[], &[0, 0, 0, 0, 0, 0, 0, 0]),
         (1, &[0xE2], &[0xE3, 0, 0]),
         (2, &[], &[1, 2, 3, 0]),
     ];
-    assert!(rt; disk.cylinders() == 1 && disk.heads() == 1);
-    let copy = disk.copy()?;
-    assert!(rt; copy.cylinders() == 1 && copy.heads() == 1);
-    for medium in [&disk, &copy] {
-        assert!(rt; medium.cylinders() == 1 && medium.heads() == 1);
-        let mut records = medium.records(0, 0);
-        for (number, key, content) in expected {
-            let found = records.next().ok_or("a record")?;
-            assert_eq!(rt; found.id(), [0, 0, 0, 0, number].as_slice());
-            assert_eq!(rt; found.key(), key);
-            assert_eq!(rt; found.content(), content);
-        }
-        assert!(rt; records.next().is_none());
-        assert!(rt; medium.records(0, 1).next().is_none() && medium.records(1, 0).next().is_none());
-    }
+    expect_records(&rt, &disk, &expected)?;
+    expect_records(&rt, &disk.copy()?, &expected)?;
+    assert!(rt; disk.records(0, 1).next().is_none() && disk.records(1, 0).next().is_none());
     Ok(())
 }
 
@@ -229,7 +222,7 @@ fn writes(rt: HostRuntime) -> Result<(), Fail> {
 fn seeks(rt: HostRuntime) -> Result<(), Fail> {
     let records = vec![in rt.alloc(); record(rt.alloc(), 1, 1, &[], &[0xC1])?]?;
     let mut disk = Disk::mount(rt.alloc(), geometry(2, 2, 40), &records, &[])?;
-    let mut area = storage(rt.alloc(), &[0, 0, 0, 1, 0, 0])?;
+    let mut area = Area::new(rt.alloc(), 0x1050, &[0, 0, 0, 1, 0, 0])?;
     set_mask(&rt, &mut disk, 0, 0x18);
     let protected = Acted::unit_check(FILE_PROTECTED);
     assert_eq!(rt; act(&rt, &mut disk, &mut area, 0x07, 0x1050, 6), protected);
@@ -242,7 +235,7 @@ fn seeks(rt: HostRuntime) -> Result<(), Fail> {
         act(&rt, &mut disk, &mut area, 0x06, 0x1050, 1),
         Acted::normal_end(1)
     );
-    assert!(rt; holds(&area, &[0xC1]));
+    assert!(rt; holds(&area, 0x1050, &[0xC1]));
     let rejected = Acted::unit_check(COMMAND_REJECT);
     assert_eq!(rt; act(&rt, &mut disk, &mut area, 0x07, 0x1050, 6), rejected);
     Ok(())
@@ -250,14 +243,9 @@ fn seeks(rt: HostRuntime) -> Result<(), Fail> {
 
 #[test]
 fn faults(rt: HostRuntime) -> Result<(), Fail> {
-    let fault = Fault {
-        ordinal: 2,
-        unit: UnitStatus::new(0x0E),
-        sub: SubStatus::new(0),
-        sense: EQUIPMENT_CHECK,
-    };
+    let fault = unit_check(2, EQUIPMENT_CHECK);
     let mut disk = fixture(rt.alloc(), &[], &[0xC1], &[fault])?;
-    let mut area = storage(rt.alloc(), &[0, 0, 0, 0, 1])?;
+    let mut area = Area::new(rt.alloc(), 0x1050, &[0, 0, 0, 0, 1])?;
     assert_eq!(rt;
         act(&rt, &mut disk, &mut area, 0x03, 0x1050, 1),
         Acted::normal_end(0)
@@ -271,12 +259,7 @@ fn faults(rt: HostRuntime) -> Result<(), Fail> {
 /// Mounting is refused with the first reason.
 #[test]
 fn mount_is_refused(rt: HostRuntime) -> Result<(), Fail> {
-    let no_fault = Fault {
-        ordinal: 0,
-        unit: UnitStatus::new(0x0E),
-        sub: SubStatus::new(0),
-        sense: 0,
-    };
+    let no_fault = unit_check(0, 0);
     let big = 9_999_999_999;
     let cases: [(Geometry, u16, u8, &[Fault], MountError); 6] = [
         (
@@ -304,28 +287,22 @@ fn mount_is_refused(rt: HostRuntime) -> Result<(), Fail> {
     Ok(())
 }
 
-/// Mounting and copying are refused at each of their growths, and no command takes memory: run it with each
-/// allocation refused in turn.
+fn one_record(alloc: Global) -> Result<[InitialRecord; 1], AllocError> {
+    Ok([record(alloc, 0, 1, &[0xD1], &[0xC1])?])
+}
+
+/// A disk of two tracks with one record, and a fault that no command comes to.
+fn two_tracks(alloc: Global) -> Result<Disk, MountError> {
+    let records = one_record(alloc).map_err(|_| MountError::NoMemory)?;
+    Disk::mount(alloc, geometry(1, 2, 40), &records, &[late_fault()])
+}
+
+/// Each command that is none of a disk is rejected, and a copy answers as the disk does.
 #[test]
-fn every_command_without_memory(rt: HostRuntime) -> Result<(), Fail> {
-    let mut area = storage(rt.alloc(), &[0; 16])?;
-    let records = vec![in rt.alloc(); record(rt.alloc(), 0, 1, &[0xD1], &[0xC1])?]?;
-    let later = Fault {
-        ordinal: 1000,
-        unit: UnitStatus::new(0),
-        sub: SubStatus::new(8),
-        sense: 0,
-    };
-    let mut disk = match Disk::mount(rt.alloc(), geometry(1, 2, 40), &records, &[later]) {
-        Ok(disk) => disk,
-        Err(error) => {
-            assert_eq!(rt; error, MountError::NoMemory);
-            return Ok(());
-        }
-    };
-    let Ok(mut copy) = disk.copy() else {
-        return Ok(());
-    };
+fn every_command(rt: HostRuntime) -> Result<(), Fail> {
+    let mut area = Area::new(rt.alloc(), 0x1050, &[0; 16])?;
+    let mut disk = two_tracks(rt.alloc())?;
+    let mut copy = disk.copy()?;
     for command in 0..=255 {
         let acted = act(&rt, &mut disk, &mut area, command, 0x1050, 8);
         let listed = matches!(
@@ -344,4 +321,12 @@ fn every_command_without_memory(rt: HostRuntime) -> Result<(), Fail> {
         assert!(rt; listed || disk.flow(command) == Flow::None);
     }
     Ok(())
+}
+
+/// Where there is no memory for a mounting, no other reason is told: run it with each allocation refused in turn.
+#[test]
+fn mount_without_memory(rt: HostRuntime) {
+    if let Err(error) = two_tracks(rt.alloc()) {
+        assert_eq!(rt; error, MountError::NoMemory);
+    }
 }

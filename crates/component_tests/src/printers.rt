@@ -1,13 +1,11 @@
 //! Lines printed, paper moved, and mounting refused.
 
-use super::{Position, Printer};
-use device_port::{
-    Acted, Chain, Device, Fault, Flow, INTERVENTION_REQUIRED, Kind, MountError, Segment,
-};
+use crate::devices::{act, holds, late_fault, unit_check};
+use device_port::{Acted, Device, Flow, INTERVENTION_REQUIRED, Kind, MountError};
 use io_area::Area;
-use io_images::{Seek, SubStatus, UnitStatus};
+use io_images::Seek;
+use line_printer::{Position, Printer};
 use std::alloc::Global;
-use std::process::Abort;
 use std::test::Fail;
 
 /// A sense that only a fault gives.
@@ -19,30 +17,12 @@ fn at(page: u16, line: u8) -> Position {
     Position { page, line }
 }
 
-/// Storage from X'1060' on.
-fn storage(alloc: Global, bytes: &[u8]) -> Result<Area, Fail> {
-    Ok(Area::new(alloc, 0x1060, bytes)?)
-}
-
-/// A command on storage from X'1060' on.
-fn act(rt: &impl Abort, printer: &mut Printer, area: &mut Area, command: u8, count: u16) -> Acted {
-    assert!(rt; count >= 1);
-    assert!(rt; area.get(0x1060, usize::from(count)).is_some());
-    let parts = [Segment {
-        address: 0x1060,
-        count,
-        skip: false,
-    }];
-    let chain = Chain::of(&parts);
-    printer.act(command, &chain, area)
-}
-
 #[test]
 fn prints_a_line(rt: HostRuntime) -> Result<(), Fail> {
     let mut printer = Printer::mount(rt.alloc(), 10, 2, &[])?;
-    let mut area = storage(rt.alloc(), &LINE)?;
+    let mut area = Area::new(rt.alloc(), 0x1060, &LINE)?;
     assert_eq!(rt;
-        act(&rt, &mut printer, &mut area, 0x09, 4),
+        act(&rt, &mut printer, &mut area, 0x09, 0x1060, 4),
         Acted::normal_end(4)
     );
     assert_eq!(rt; printer.position(), at(1, 2));
@@ -61,9 +41,9 @@ fn prints_a_line(rt: HostRuntime) -> Result<(), Fail> {
 #[test]
 fn prints_132_columns(rt: HostRuntime) -> Result<(), Fail> {
     let mut printer = Printer::mount(rt.alloc(), 10, 2, &[])?;
-    let mut area = storage(rt.alloc(), &[0xC1; 136])?;
+    let mut area = Area::new(rt.alloc(), 0x1060, &[0xC1; 136])?;
     assert_eq!(rt;
-        act(&rt, &mut printer, &mut area, 0x01, 133),
+        act(&rt, &mut printer, &mut area, 0x01, 0x1060, 133),
         Acted::normal_end(132)
     );
     let line = printer.printed().next().ok_or("a line")?;
@@ -74,7 +54,7 @@ fn prints_132_columns(rt: HostRuntime) -> Result<(), Fail> {
 
 #[test]
 fn moves_the_paper(rt: HostRuntime) -> Result<(), Fail> {
-    let mut area = storage(rt.alloc(), &LINE)?;
+    let mut area = Area::new(rt.alloc(), 0x1060, &LINE)?;
     let moves = [
         (0x01, 4, at(1, 1)),
         (0x09, 4, at(1, 2)),
@@ -90,7 +70,7 @@ fn moves_the_paper(rt: HostRuntime) -> Result<(), Fail> {
     for (command, want, position) in moves {
         let mut printer = Printer::mount(rt.alloc(), 1, 2, &[])?;
         assert_eq!(rt;
-            act(&rt, &mut printer, &mut area, command, 4),
+            act(&rt, &mut printer, &mut area, command, 0x1060, 4),
             Acted::normal_end(want),
             "{command}"
         );
@@ -103,14 +83,20 @@ fn moves_the_paper(rt: HostRuntime) -> Result<(), Fail> {
 #[test]
 fn wants_paper(rt: HostRuntime) -> Result<(), Fail> {
     let mut printer = Printer::mount(rt.alloc(), 10, 2, &[])?;
-    let mut area = storage(rt.alloc(), &LINE)?;
+    let mut area = Area::new(rt.alloc(), 0x1060, &LINE)?;
     let no_paper = Acted::unit_check(INTERVENTION_REQUIRED);
     for _ in 0..22 {
-        let _ = act(&rt, &mut printer, &mut area, 0x1B, 4);
+        let _ = act(&rt, &mut printer, &mut area, 0x1B, 0x1060, 4);
     }
     assert_eq!(rt; printer.position(), at(2, 1));
-    assert_eq!(rt; act(&rt, &mut printer, &mut area, 0x8B, 4), no_paper);
-    assert_eq!(rt; act(&rt, &mut printer, &mut area, 0x89, 4), no_paper);
+    assert_eq!(rt;
+        act(&rt, &mut printer, &mut area, 0x8B, 0x1060, 4),
+        no_paper
+    );
+    assert_eq!(rt;
+        act(&rt, &mut printer, &mut area, 0x89, 0x1060, 4),
+        no_paper
+    );
     assert!(rt; printer.printed().next().is_none());
     assert_eq!(rt; printer.position(), at(2, 1));
     Ok(())
@@ -120,18 +106,18 @@ fn wants_paper(rt: HostRuntime) -> Result<(), Fail> {
 #[test]
 fn overprints_until_the_list_is_full(rt: HostRuntime) -> Result<(), Fail> {
     let mut printer = Printer::mount(rt.alloc(), 2, 2, &[])?;
-    let mut area = storage(rt.alloc(), &LINE)?;
+    let mut area = Area::new(rt.alloc(), 0x1060, &LINE)?;
     for _ in 0..2 {
         assert_eq!(rt;
-            act(&rt, &mut printer, &mut area, 0x01, 4),
+            act(&rt, &mut printer, &mut area, 0x01, 0x1060, 4),
             Acted::normal_end(4)
         );
     }
     let full = Acted::unit_check(INTERVENTION_REQUIRED);
-    assert_eq!(rt; act(&rt, &mut printer, &mut area, 0x01, 4), full);
+    assert_eq!(rt; act(&rt, &mut printer, &mut area, 0x01, 0x1060, 4), full);
     assert_eq!(rt; printer.printed().len(), 2);
     assert_eq!(rt;
-        act(&rt, &mut printer, &mut area, 0x0B, 4),
+        act(&rt, &mut printer, &mut area, 0x0B, 0x1060, 4),
         Acted::normal_end(0)
     );
     Ok(())
@@ -139,19 +125,14 @@ fn overprints_until_the_list_is_full(rt: HostRuntime) -> Result<(), Fail> {
 
 #[test]
 fn meets_a_fault(rt: HostRuntime) -> Result<(), Fail> {
-    let fault = Fault {
-        ordinal: 1,
-        unit: UnitStatus::new(0x0E),
-        sub: SubStatus::new(0),
-        sense: EQUIPMENT_CHECK,
-    };
+    let fault = unit_check(1, EQUIPMENT_CHECK);
     let mut printer = Printer::mount(rt.alloc(), 10, 2, &[fault])?;
-    let mut area = storage(rt.alloc(), &LINE)?;
+    let mut area = Area::new(rt.alloc(), 0x1060, &LINE)?;
     let met = Acted::unit_check(EQUIPMENT_CHECK);
-    assert_eq!(rt; act(&rt, &mut printer, &mut area, 0x09, 4), met);
+    assert_eq!(rt; act(&rt, &mut printer, &mut area, 0x09, 0x1060, 4), met);
     assert_eq!(rt; printer.position(), at(1, 1));
     assert_eq!(rt;
-        act(&rt, &mut printer, &mut area, 0x09, 4),
+        act(&rt, &mut printer, &mut area, 0x09, 0x1060, 4),
         Acted::normal_end(4)
     );
     Ok(())
@@ -160,18 +141,18 @@ fn meets_a_fault(rt: HostRuntime) -> Result<(), Fail> {
 #[test]
 fn is_a_device(rt: HostRuntime) -> Result<(), Fail> {
     let mut printer = Printer::mount(rt.alloc(), 1, 1, &[])?;
-    let mut area = storage(rt.alloc(), &LINE)?;
+    let mut area = Area::new(rt.alloc(), 0x1060, &LINE)?;
     let seek = Seek::default();
     assert!(rt;
         printer.kind() == Kind::Printer && printer.cylinders() == 0 && printer.heads() == 0
     );
     assert!(rt; printer.fits(&seek));
     printer.prefix(&seek, 0x58);
-    assert_eq!(rt; act(&rt, &mut printer, &mut area, 0x04, 2), Acted::sense());
-    match area.get(0x1060, 4) {
-        Some(found) => assert_eq!(rt; found, [0, 0, 0xC3, 0xC4].as_slice()),
-        None => assert!(rt; false),
-    }
+    assert_eq!(rt;
+        act(&rt, &mut printer, &mut area, 0x04, 0x1060, 2),
+        Acted::sense()
+    );
+    assert!(rt; holds(&area, 0x1060, &[0, 0, 0xC3, 0xC4]));
     let flows = [
         (0x01, Flow::Out),
         (0x04, Flow::Input),
@@ -187,12 +168,7 @@ fn is_a_device(rt: HostRuntime) -> Result<(), Fail> {
 /// Mounting is refused with the first reason.
 #[test]
 fn mount_is_refused(rt: HostRuntime) -> Result<(), Fail> {
-    let no_fault = Fault {
-        ordinal: 0,
-        unit: UnitStatus::new(0x0E),
-        sub: SubStatus::new(0),
-        sense: 0,
-    };
+    let no_fault = unit_check(0, 0);
     let cases: [(u64, u64, MountError); 5] = [
         (0, 1, MountError::BadGeometry),
         (100_001, 1, MountError::BadGeometry),
@@ -209,29 +185,19 @@ fn mount_is_refused(rt: HostRuntime) -> Result<(), Fail> {
     Ok(())
 }
 
-/// Mounting and copying are refused at each of their growths, and no command takes memory: run it with each
-/// allocation refused in turn.
+/// A printer of the most lines and pages, and a fault that no command comes to.
+fn largest(alloc: Global) -> Result<Printer, MountError> {
+    Printer::mount(alloc, 100_000, 10_000, &[late_fault()])
+}
+
+/// Each command that is none of a printer is rejected, and a copy answers as the printer does.
 #[test]
-fn every_command_without_memory(rt: HostRuntime) -> Result<(), Fail> {
-    let mut area = storage(rt.alloc(), &LINE)?;
-    let later = Fault {
-        ordinal: 1000,
-        unit: UnitStatus::new(0),
-        sub: SubStatus::new(8),
-        sense: 0,
-    };
-    let mut printer = match Printer::mount(rt.alloc(), 100_000, 10_000, &[later]) {
-        Ok(printer) => printer,
-        Err(error) => {
-            assert_eq!(rt; error, MountError::NoMemory);
-            return Ok(());
-        }
-    };
-    let Ok(mut copy) = printer.copy() else {
-        return Ok(());
-    };
+fn every_command(rt: HostRuntime) -> Result<(), Fail> {
+    let mut area = Area::new(rt.alloc(), 0x1060, &LINE)?;
+    let mut printer = largest(rt.alloc())?;
+    let mut copy = printer.copy()?;
     for command in 0..=255 {
-        let acted = act(&rt, &mut printer, &mut area, command, 4);
+        let acted = act(&rt, &mut printer, &mut area, command, 0x1060, 4);
         let listed = matches!(
             command,
             1 | 3 | 4 | 9 | 0x0B | 0x11 | 0x13 | 0x19 | 0x1B | 0x89 | 0x8B
@@ -239,10 +205,18 @@ fn every_command_without_memory(rt: HostRuntime) -> Result<(), Fail> {
         assert!(rt; listed || acted == Acted::rejected(), "{command}");
         assert_eq!(rt;
             acted,
-            act(&rt, &mut copy, &mut area, command, 4),
+            act(&rt, &mut copy, &mut area, command, 0x1060, 4),
             "{command}"
         );
         assert!(rt; listed || printer.flow(command) == Flow::None);
     }
     Ok(())
+}
+
+/// Where there is no memory for a mounting, no other reason is told: run it with each allocation refused in turn.
+#[test]
+fn mount_without_memory(rt: HostRuntime) {
+    if let Err(error) = largest(rt.alloc()) {
+        assert_eq!(rt; error, MountError::NoMemory);
+    }
 }

@@ -1,8 +1,8 @@
 //! Places of the control blocks, what a request says, and what a post writes.
 
-use crate::{Name, Posted, Request, RequestError, Scope};
 use io_area::Area;
 use io_images::{Address, Code, Csw, SubStatus, UnitStatus};
+use request_piece::{Name, Posted, Request, RequestError, Scope};
 use std::process::Abort;
 use std::test::Fail;
 

@@ -1,8 +1,8 @@
 //! The table of verdicts.
 
-use crate::{Verdict, verdict};
 use device_port::Kind;
 use io_images::{Address, Code, Csw, SubStatus, UnitStatus};
+use recovery::{Verdict, verdict};
 
 /// The verdict on a disk's, tape's or printer's program with this unit and subchannel status.
 fn verdict_on(kind: Kind, status: (u8, u8), sense: u16, attempt: u32) -> Verdict {

@@ -1,12 +1,12 @@
 //! Both orders of the ring, through pushes, pops and sweeps.
 
-use crate::{Selection, WaitQueue};
 use io_area::Area;
 use io_images::{Address, Seek};
 use request_piece::{Name, Piece, Scope};
 use std::alloc::Global;
 use std::process::Abort;
 use std::test::Fail;
+use unit_queue::{Selection, WaitQueue};
 
 /// A request with this number, of the task and DCB, over no storage.
 fn piece(alloc: Global, seq: u32, task: u16, dcb: u16, related: bool) -> Result<Box<Piece>, Fail> {

@@ -1,0 +1,30 @@
+//! Tests of each component by itself, from storage to scripts, through its public calls.
+//!
+//! They say what no contract does: values worked out by hand from the standards, that a call succeeds where there is
+//! memory, and that only want of memory is told where there is none.
+#![tactic(auto)]
+
+#[cfg(test)]
+mod areas;
+#[cfg(test)]
+mod chains;
+#[cfg(test)]
+mod devices;
+#[cfg(test)]
+mod disks;
+#[cfg(test)]
+mod images;
+#[cfg(test)]
+mod printers;
+#[cfg(test)]
+mod queues;
+#[cfg(test)]
+mod requests;
+#[cfg(test)]
+mod rows;
+#[cfg(test)]
+mod subchannels;
+#[cfg(test)]
+mod tapes;
+#[cfg(test)]
+mod verdicts;
