@@ -14,3 +14,6 @@ mod runner;
 mod tasks;
 
 pub use run::run_script;
+
+#[cfg(test)]
+mod tests;
