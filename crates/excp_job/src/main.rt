@@ -3,13 +3,11 @@
 #![tactic(auto)]
 
 mod arguments;
-mod output;
-mod run;
 
 use arguments::Workers;
 use clap::error::ErrorKind;
+use job_run::run_script;
 use job_script::Fault;
-use run::run_script;
 use std::alloc::AllocError;
 use std::env;
 use std::process::ExitCode;
@@ -59,6 +57,3 @@ fn ended_by(rt: &HostRuntime, fault: Fault) -> u8 {
     let _ = eprintln!(rt; "excp_job: {fault}");
     fault.status()
 }
-
-#[cfg(test)]
-mod tests;

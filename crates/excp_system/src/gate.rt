@@ -18,8 +18,9 @@ pub trait Gate {
     /// The worker is about to make this call.
     fn pass(&self, unit: u16, point: Point);
 
-    /// There was no memory for this call, which changed nothing.
-    fn lack_memory(&self, unit: u16, point: Point);
+    /// There was no memory for this call, which changed nothing but that a notice may be owed. Where a gate does not say
+    /// otherwise, nothing is done.
+    fn lack_memory(&self, _unit: u16, _point: Point) {}
 }
 
 /// A gate that holds nobody up.
@@ -27,8 +28,6 @@ pub struct OpenGate;
 
 impl Gate for OpenGate {
     fn pass(&self, _unit: u16, _point: Point) {}
-
-    fn lack_memory(&self, _unit: u16, _point: Point) {}
 }
 
 /// Tells workers to stop.
@@ -53,11 +52,5 @@ impl Stop {
     /// Whether workers are to end.
     pub fn raised(&self) -> bool {
         self.raised.load(Ordering::SeqCst)
-    }
-}
-
-impl Default for Stop {
-    fn default() -> Stop {
-        Stop::new()
     }
 }

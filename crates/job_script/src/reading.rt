@@ -35,5 +35,5 @@ pub fn read_script<R: Read>(alloc: Global, reader: &mut R) -> Result<Vec<u8>, Fa
             return Err(Fault::TooLong);
         }
     }
-    Err(Fault::TooLong)
+    unreachable!()
 }

@@ -1,9 +1,10 @@
 //! The books of the units that a script declares: the units are mounted, their DCBs opened, and the requests tried.
 
-ghost use Rattle.std.specs.Prelude.{◌≡◌, ◌≤◌, All, IfOk, vec_len};
+ghost use Rattle.std.specs.Prelude.{◌≡◌, ◌≤◌, All, IfOk, OnOk, vec_len};
 ghost use Rattle.job_script.specs.Books.{IsFresh};
+ghost use Rattle.job_script.specs.Commands.{CanBeDone, CanIssue};
 
-use crate::command::{Action, Excp};
+use crate::command::{Action, Command, Excp};
 use crate::fault::{Fault, FaultName, LineFault};
 use crate::script::Script;
 use crate::set_up::{Medium, UnitSetup};
@@ -25,6 +26,7 @@ impl Script {
         requires few { capacity ≤ 65536 }
         ensures count { IfOk result (λ books. vec_len books ≡ vec_len self.now.set_up.units) }
         ensures fresh { IfOk result (λ books. All IsFresh books.items) }
+        ensures requests { OnOk result (All CanBeDone self.now.commands.items) }
     {
         let mut books = Vec::new(alloc);
         let mut first = None;
@@ -43,12 +45,12 @@ impl Script {
     }
 
     /// Tries each request in the order of their lines.
-    fn try_requests(&self) -> Result<(), Fault> {
+    fn try_requests(&self) -> Result<(), Fault>
+        ensures { OnOk result (All CanBeDone self.now.commands.items) }
+    {
         for command in &self.commands {
-            if let Action::Excp(excp) = &command.action {
-                if let Err(fault) = excp.check() {
-                    return Err(fault.at(command.line));
-                }
+            if let Err(fault) = command.check() {
+                return Err(fault.at(command.line));
             }
         }
         Ok(())
@@ -108,9 +110,23 @@ fn earlier(found: Option<(usize, LineFault)>, other: (usize, LineFault)) -> (usi
     }
 }
 
+impl Command {
+    /// A request can be made, if it issues one.
+    fn check(&self) -> Result<(), LineFault>
+        ensures { OnOk result (CanBeDone self.now) }
+    {
+        match &self.action {
+            Action::Excp(excp) => excp.check(),
+            _ => Ok(()),
+        }
+    }
+}
+
 impl Excp {
     /// A request can be made of its area, in which the bytes that are shown lie.
-    fn check(&self) -> Result<(), LineFault> {
+    fn check(&self) -> Result<(), LineFault>
+        ensures { OnOk result (CanIssue self.now) }
+    {
         Request::check(self.dcb.number, self.iob, &self.area)?;
         match self.area.get(self.show, self.len as usize) {
             Some(_) => Ok(()),

@@ -1,3 +1,0 @@
--- The books of a script, and worked channel programs.
-pub mod Books
-pub mod Rows

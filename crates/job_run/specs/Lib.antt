@@ -1,0 +1,3 @@
+-- Who serves what, and when all that a task prints is known.
+pub mod Complete
+pub mod Shares

@@ -1,0 +1,197 @@
+//! Workers and tasks in threads.
+
+ghost use Rattle.std.specs.Prelude.{◌≡◌, ◌<◌, ◌≤◌, IfOk};
+ghost use Rattle.std.specs.List.{All};
+ghost use Rattle.excp_system.specs.Drained.{ArePlaced};
+ghost use Rattle.job_run.specs.Shares.{AreShared, below, share_of};
+
+use crate::alarm::Alarm;
+use crate::runner::{Job, Runner};
+use excp_system::{IscTaker, Site, Stop, System, serve_channel, serve_isc};
+use std::alloc::{AllocError, Global};
+use std::marker::PhantomData;
+use std::sync::Wait;
+use std::thread;
+use std::thread::{Scope, Threads};
+use unit_device::UnitDevice;
+
+/// How many channel workers (1 to 16) and interruption handlers (1 to 8) serve the units.
+#[derive(Clone, Copy)]
+pub(crate) struct Workers {
+    pub channels: u8,
+    pub handlers: u8,
+    ghost channels_fit: { (1 ≤ channels) × (channels ≤ 16) },
+    ghost handlers_fit: { (1 ≤ handlers) × (handlers ≤ 8) },
+}
+
+/// The units that one channel worker serves.
+#[derive(Drop)]
+struct Channel<S: Site> {
+    units: Vec<u16>,
+    of: PhantomData<S>,
+    ghost of_the_site: { All (λ unit. unit < S.rows.units) units.items },
+}
+
+impl<S: Site> Channel<S> {
+    /// The units that worker `number` of `count` serves: those whose number has that remainder.
+    fn new(alloc: Global, units: u16, count: u16, number: u16) -> Result<Channel<S>, AllocError>
+        requires units { units ≡ S.rows.units }
+        requires count { 0 < count }
+        ensures { IfOk result (λ channel. channel.units.items ≡ share_of (λ unit. unit) count number (below units)) }
+    {
+        let mut served = Vec::new(alloc);
+        for unit in 0..units {
+            if unit % count == number {
+                served.push(unit)?;
+            }
+        }
+        Ok(Channel {
+            units: served,
+            of: PhantomData,
+        })
+    }
+}
+
+/// The workers of a system: each channel worker with its units, and each handler with the ends of the notice rows of
+/// its subclasses.
+#[derive(Drop)]
+pub(crate) struct Crew<'r, S: Site> {
+    channels: Vec<Channel<S>>,
+    handlers: Vec<Vec<IscTaker<'r, S>>>,
+}
+
+impl<'r, S: Site> Crew<'r, S> {
+    /// So many channel workers and handlers: worker c serves the units u with u mod channels = c, and handler h the
+    /// subclasses i with i mod handlers = h.
+    pub fn new(
+        alloc: Global,
+        units: u16,
+        takers: Vec<IscTaker<'r, S>>,
+        workers: Workers,
+    ) -> Result<Crew<'r, S>, AllocError>
+        requires units { units ≡ S.rows.units }
+        ensures channels { IfOk result (λ crew. AreShared (λ channel. channel.units.items) (λ unit. unit) workers.channels (below units) crew.channels.items) }
+        ensures handlers { IfOk result (λ crew. AreShared (λ handler. handler.items) (λ taker. taker.isc) workers.handlers takers.entry.items crew.handlers.items) }
+    {
+        let channels = channel_workers(alloc, units, u16::from(workers.channels))?;
+        let handlers = handlers_of(alloc, takers, usize::from(workers.handlers))?;
+        Ok(Crew { channels, handlers })
+    }
+}
+
+/// So many channel workers, with their units.
+fn channel_workers<S: Site>(
+    alloc: Global,
+    units: u16,
+    count: u16,
+) -> Result<Vec<Channel<S>>, AllocError>
+    requires units { units ≡ S.rows.units }
+    requires count { 0 < count }
+    ensures { IfOk result (λ channels. AreShared (λ channel. channel.units.items) (λ unit. unit) count (below units) channels.items) }
+{
+    let mut channels = Vec::with_capacity(alloc, usize::from(count))?;
+    for number in 0..count {
+        channels.push(Channel::new(alloc, units, count, number)?)?;
+    }
+    Ok(channels)
+}
+
+/// The ends of the notice rows that each of so many handlers serves.
+fn handlers_of<'r, S: Site>(
+    alloc: Global,
+    takers: Vec<IscTaker<'r, S>>,
+    count: usize,
+) -> Result<Vec<Vec<IscTaker<'r, S>>>, AllocError>
+    requires { 0 < count }
+    ensures { IfOk result (λ handlers. AreShared (λ handler. handler.items) (λ taker. taker.isc) count takers.entry.items handlers.items) }
+{
+    let mut handlers = Vec::with_capacity(alloc, count)?;
+    for _ in 0..count {
+        handlers.push(Vec::new(alloc))?;
+    }
+    for taker in takers {
+        let place = usize::from(taker.isc()) % count;
+        handlers[place].push(taker)?;
+    }
+    Ok(handlers)
+}
+
+/// Serves the subclasses of one handler.
+fn serve_handler<'r, S: Site, R: Wait>(
+    rt: &R,
+    system: &System<'r, S, UnitDevice>,
+    mut takers: Vec<IscTaker<'r, S>>,
+    alarm: &Alarm,
+    stop: &Stop,
+) {
+    serve_isc(rt, system, takers.as_mut_slice(), alarm, stop);
+}
+
+/// Starts the workers, each on a thread of its own.
+fn start<'s, 'r, S: Site + Send + Sync, R: Threads + Wait + Sync, E>(
+    rt: &'s R,
+    scope: &Scope<'s, E>,
+    system: &'s System<'r, S, UnitDevice>,
+    channels: &'s [Channel<S>],
+    handlers: Vec<Vec<IscTaker<'r, S>>>,
+    alarm: &'s Alarm,
+    stop: &'s Stop,
+) -> Result<(), AllocError> {
+    for channel in channels {
+        scope.spawn(move || serve_channel(rt, system, channel.units.as_slice(), alarm, stop))?;
+    }
+    for takers in handlers {
+        scope.spawn(move || serve_handler(rt, system, takers, alarm, stop))?;
+    }
+    Ok(())
+}
+
+/// Runs all tasks, each on a thread of its own where one can be made.
+fn run_each<'r, S: Site + Send + Sync, R: Threads + Wait + Sync>(
+    rt: &R,
+    alloc: Global,
+    job: &Job<'_, '_, S>,
+    runners: &mut [Runner<'r, S>],
+)
+    requires { ArePlaced (λ runner. runner.task.number) S.rows.tasks runners.old }
+    ensures { ArePlaced (λ runner. runner.task.number) S.rows.tasks runners.new }
+{
+    let count = runners.len();
+    if count > 0 {
+        thread::for_each_mut(rt, runners, count, &|_, runner| runner.run(rt, alloc, job));
+    }
+}
+
+/// Runs all tasks beside the workers, and stops and joins these. Where a worker cannot be started no task runs.
+pub(crate) fn run_tasks<'r, S: Site + Send + Sync, R: Threads + Wait + Sync>(
+    rt: &R,
+    alloc: Global,
+    job: &Job<'_, 'r, S>,
+    crew: Crew<'r, S>,
+    runners: Vec<Runner<'r, S>>,
+) -> Result<Vec<Runner<'r, S>>, AllocError>
+    requires { ArePlaced (λ runner. runner.task.number) S.rows.tasks runners.items }
+    ensures { IfOk result (λ after. ArePlaced (λ runner. runner.task.number) S.rows.tasks after.items) }
+{
+    let Crew { channels, handlers } = crew;
+    let channels = channels.as_slice();
+    let stop = Stop::new();
+    let stop = &stop;
+    thread::scope(
+        thread::scope_env(),
+        rt,
+        move |scope| -> Result<Vec<Runner<'_, S>>, AllocError>
+            requires { ArePlaced (λ runner. runner.task.number) S.rows.tasks runners.items }
+            ensures { IfOk result (λ after. ArePlaced (λ runner. runner.task.number) S.rows.tasks after.items) }
+        {
+            let mut runners = runners;
+            let started = start(rt, scope, job.system, channels, handlers, job.alarm, stop);
+            if started.is_ok() {
+                run_each(rt, alloc, job, runners.as_mut_slice());
+            }
+            stop.raise();
+            started?;
+            Ok(runners)
+        },
+    )
+}

@@ -1,0 +1,145 @@
+//! The run of a script: its tasks on threads of their own, beside channel workers and interruption handlers.
+
+ghost use Rattle.std.specs.Prelude.{◌≡◌, ◌≤◌, ◌<◌, ◌+◌, All, IfOk, length, vec_len};
+ghost use Rattle.job_script.specs.Commands.{CanBeDone};
+ghost use Rattle.job_script.specs.Reading.{ReadsAtMost};
+ghost use Rattle.job_run.specs.Complete.{IsComplete};
+ghost use Rattle.excp_system.specs.Drained.{ArePlaced};
+ghost use Rattle.excp_system.specs.Opening.{AreBooks, AreFresh, AreTasks, site_of};
+ghost use Rattle.post_ledger.specs.Report.{IsFor};
+ghost use Rattle.post_ledger.specs.Work.{lists_of};
+
+use crate::alarm::Alarm;
+use crate::crew::{Crew, Workers, run_tasks};
+use crate::lines::Lines;
+use crate::output::write;
+use crate::runner::Job;
+use crate::tasks::{parted, runners};
+use excp_system::{Rows, Site, System, Task};
+use job_script::{Fault, LIMIT, Script, read_script};
+use post_ledger::{Report, finish};
+use std::alloc::Global;
+use std::io::{Read, Write};
+use std::marker::Brand;
+use std::sync::Wait;
+use std::thread::Threads;
+use unit_book::UnitBook;
+use unit_device::UnitDevice;
+
+/// The most requests that a row or a book holds (profile).
+const MOST_HELD: usize = 65_536;
+
+/// Reads a script, at most 1,048,576 bytes and one more, runs its tasks beside so many channel workers and interruption
+/// handlers, and writes what its requests were posted with, or tells why not.
+pub fn run_script<R: Threads + Wait + Sync, I: Read, W: Write + Drop>(
+    rt: &R,
+    alloc: Global,
+    reader: &mut I,
+    writer: W,
+    channels: u8,
+    handlers: u8,
+) -> Result<(), Fault>
+    requires channels { (1 ≤ channels) × (channels ≤ 16) }
+    requires handlers { (1 ≤ handlers) × (handlers ≤ 8) }
+    ensures { ReadsAtMost (LIMIT + 1) (I.remaining reader.old) (I.remaining reader.new) }
+{
+    let text = read_script(alloc, reader)?;
+    let script = Script::parse(alloc, &text)?;
+    let workers = Workers { channels, handlers };
+    let lines = lines(rt, alloc, &script, workers)?;
+    write(alloc, &lines, writer)
+}
+
+/// What is printed of the requests of each task, once all were posted.
+fn lines<R: Threads + Wait + Sync>(
+    rt: &R,
+    alloc: Global,
+    script: &Script,
+    workers: Workers,
+) -> Result<Vec<Lines>, Fault>
+    requires tasks { (1 ≤ script.now.set_up.tasks) × (script.now.set_up.tasks ≤ 64) }
+    requires units { (1 ≤ vec_len script.now.set_up.units) × (vec_len script.now.set_up.units ≤ 64) }
+    ensures { IfOk result (λ lines. All IsComplete lines.items) }
+{
+    let intake = script.most_to_a_unit().clamp(1, MOST_HELD);
+    let post = script.most_of_a_task().clamp(1, MOST_HELD);
+    let books = script.books(alloc, intake)?;
+    let units = script.set_up.units.len() as u16;
+    let mut rows = Rows::new(alloc, script.set_up.tasks, units, intake, post)?;
+    run_on::<Brand, R>(rt, alloc, &mut rows, books, script, workers)
+}
+
+/// Runs a script on a system of these rows and books, to its end.
+pub(crate) fn run_on<S: Site + Send + Sync, R: Threads + Wait + Sync>(
+    rt: &R,
+    alloc: Global,
+    rows: &mut Rows,
+    books: Vec<UnitBook<UnitDevice>>,
+    script: &Script,
+    workers: Workers,
+) -> Result<Vec<Lines>, Fault>
+    requires site { S.rows ≡ site_of rows.old }
+    requires fresh { AreFresh rows.old }
+    requires books { AreBooks S.rows.units books.items }
+    requires units { vec_len script.now.set_up.units ≡ S.rows.units }
+    requires few { (S.rows.units ≤ 64) × (S.rows.tasks ≤ 64) }
+    requires requests { All CanBeDone script.now.commands.items }
+    ensures { IfOk result (λ lines. All IsComplete lines.items) }
+{
+    let (system, tasks, takers) = System::<S, UnitDevice>::new(alloc, rows, books)?;
+    let units = script.set_up.units.len() as u16;
+    let crew = Crew::new(alloc, units, takers, workers)?;
+    let alarm = Alarm::new();
+    let job = Job::new(script, &system, &alarm);
+    let (tasks, mut lines) = run_commands(rt, alloc, &job, tasks, crew)?;
+    match finish(rt, alloc, system, tasks) {
+        Ok(report) => add_rest(&mut lines, &report, units),
+        Err(_) => return Err(Fault::NoMemory),
+    }
+    if !lines.iter().all(|of_task| of_task.is_complete()) {
+        return Err(Fault::Unmatched);
+    }
+    Ok(lines)
+}
+
+/// Lets the tasks do their commands beside the workers, and gives them with what is printed of their requests.
+pub(crate) fn run_commands<'r, S: Site + Send + Sync, R: Threads + Wait + Sync>(
+    rt: &R,
+    alloc: Global,
+    job: &Job<'_, 'r, S>,
+    tasks: Vec<Task<'r, S>>,
+    crew: Crew<'r, S>,
+) -> Result<(Vec<Task<'r, S>>, Vec<Lines>), Fault>
+    requires { AreTasks S.rows.tasks S.rows.units tasks.items }
+    ensures tasks { IfOk result (λ parts. ArePlaced (λ task. task.number) S.rows.tasks parts.0.items) }
+    ensures lines { IfOk result (λ parts. length parts.1.items ≡ S.rows.tasks) }
+{
+    let runners = runners(alloc, tasks, job.script)?;
+    let runners = run_tasks(rt, alloc, job, crew, runners)?;
+    if job.alarm.raised() {
+        return Err(Fault::NoMemory);
+    }
+    parted(alloc, runners)
+}
+
+/// Adds what the report of a run lists for each task.
+fn add_rest(tasks: &mut [Lines], report: &Report<UnitDevice>, units: u16)
+    requires lists { IsFor units (length tasks.old) report.now }
+    requires few { length tasks.old ≤ 64 }
+{
+    for task in 0..tasks.len() {
+        add_listed(&mut tasks[task], report, task as u16, units);
+    }
+}
+
+/// Adds what the report of a run lists for a task.
+fn add_listed(lines: &mut Lines, report: &Report<UnitDevice>, task: u16, units: u16)
+    requires task { task < length report.now.lists }
+    requires units { length (lists_of report.now.lists task) ≡ units }
+{
+    for unit in 0..units {
+        for posted in report.posts(task, unit) {
+            lines.fill(posted);
+        }
+    }
+}

@@ -1,0 +1,284 @@
+//! What one task does.
+
+ghost use Rattle.std.specs.Prelude.{◌≡◌, ◌<◌, All, vec_len, IfOk};
+ghost use Rattle.excp_system.specs.Calls.{next_name};
+ghost use Rattle.job_script.specs.Commands.{CanBeDone, CanIssue, NamesUnits};
+
+use crate::alarm::Alarm;
+use crate::lines::Lines;
+use crossbeam_utils::Backoff;
+use excp_system::{Site, System, Task, UnitPurging};
+use fifo_row::Full;
+use job_script::{Action, Command, DcbName, Excp, Fault, FaultName, LineFault, Script};
+use std::alloc::{AllocError, Global};
+use std::sync::Wait;
+use unit_book::{DcbError, Mode};
+use unit_device::UnitDevice;
+
+/// What the tasks of a run share: the script, the system of its units, and whether a worker met want of memory.
+#[derive(Drop)]
+pub(crate) struct Job<'a, 'r, S: Site> {
+    pub(crate) script: &'a Script,
+    pub(crate) system: &'a System<'r, S, UnitDevice>,
+    pub(crate) alarm: &'a Alarm,
+    ghost units_are: { vec_len script.now.set_up.units ≡ S.rows.units },
+    ghost requests_can_be_made: { All CanBeDone script.now.commands.items },
+}
+
+impl<'a, 'r, S: Site> Job<'a, 'r, S> {
+    /// The job of a script, whose requests can be made, on the system of its units.
+    pub fn new(
+        script: &'a Script,
+        system: &'a System<'r, S, UnitDevice>,
+        alarm: &'a Alarm,
+    ) -> Job<'a, 'r, S>
+        requires units { vec_len script.now.set_up.units ≡ S.rows.units }
+        requires requests { All CanBeDone script.now.commands.items }
+    {
+        Job {
+            script,
+            system,
+            alarm,
+        }
+    }
+}
+
+/// A task, what is printed of its requests, how many of them it has not collected yet, and why it ended before its
+/// last command.
+#[derive(Drop)]
+pub(crate) struct Runner<'r, S: Site> {
+    pub task: Task<'r, S>,
+    lines: Lines,
+    awaited: usize,
+    fault: Option<Fault>,
+}
+
+impl<'r, S: Site> Runner<'r, S> {
+    /// The task with what is printed of the requests that the script issues by it.
+    pub fn new(
+        alloc: Global,
+        task: Task<'r, S>,
+        script: &Script,
+    ) -> Result<Runner<'r, S>, AllocError>
+        ensures { IfOk result (λ runner. runner.task ≡ task.entry) }
+    {
+        let lines = lines_of(alloc, script, task.number())?;
+        Ok(Runner {
+            task,
+            lines,
+            awaited: 0,
+            fault: None,
+        })
+    }
+
+    /// The task, and what is printed of its requests; or why it ended before its last command.
+    pub fn into_parts(self) -> Result<(Task<'r, S>, Lines), Fault>
+        ensures { IfOk result (λ parts. parts.0 ≡ self.entry.task) }
+    {
+        match self.fault {
+            None => Ok((self.task, self.lines)),
+            Some(fault) => Err(fault),
+        }
+    }
+
+    /// Does the commands of the task, in order, up to the first fault, and waits until all its requests were posted.
+    pub fn run<R: Wait>(&mut self, rt: &R, alloc: Global, job: &Job<'_, '_, S>)
+        ensures { self.new.task.number ≡ self.old.task.number }
+    {
+        let done = self.commands(rt, alloc, job);
+        let collected = self.collect(rt, job.alarm);
+        self.fault = match (done, collected) {
+            (Err(fault), _) => Some(fault),
+            (Ok(()), Err(AllocError)) => Some(Fault::NoMemory),
+            (Ok(()), Ok(())) => None,
+        };
+    }
+
+    /// Does the commands of the task, in order, up to the first fault.
+    fn commands<R: Wait>(
+        &mut self,
+        rt: &R,
+        alloc: Global,
+        job: &Job<'_, '_, S>,
+    ) -> Result<(), Fault>
+        ensures { self.new.task.number ≡ self.old.task.number }
+    {
+        let number = self.task.number();
+        for command in &job.script.commands {
+            if command.task == number {
+                if let Err(fault) = self.command(rt, alloc, job, command) {
+                    return Err(fault.at(command.line));
+                }
+            }
+        }
+        Ok(())
+    }
+
+    /// Does one command.
+    fn command<R: Wait>(
+        &mut self,
+        rt: &R,
+        alloc: Global,
+        job: &Job<'_, '_, S>,
+        command: &Command,
+    ) -> Result<(), LineFault>
+        requires units { NamesUnits S.rows.units command.now }
+        requires request { CanBeDone command.now }
+        ensures { self.new.task.number ≡ self.old.task.number }
+    {
+        match &command.action {
+            Action::Excp(excp) => self.issue(rt, alloc, job.alarm, excp)?,
+            Action::Purge(dcb, mode) => purge(rt, job.system, *dcb, *mode)?,
+            Action::PurgeTask(task, mode) => purge_task(rt, job.system, *task, *mode)?,
+            Action::Close(dcb) => close(rt, job.system, *dcb)?,
+            Action::Reset(dcb) => reset(rt, job.system, *dcb)?,
+            Action::Wait => self.collect(rt, job.alarm)?,
+        }
+        Ok(())
+    }
+
+    /// Issues a request. Where the row of its unit is full it collects what was posted, and tries again.
+    fn issue<R: Wait>(
+        &mut self,
+        rt: &R,
+        alloc: Global,
+        alarm: &Alarm,
+        excp: &Excp,
+    ) -> Result<(), LineFault>
+        requires unit { excp.now.dcb.unit < S.rows.units }
+        requires request { CanIssue excp.now }
+        ensures { self.new.task.number ≡ self.old.task.number }
+    {
+        let Some(name) = self.task.name(excp.dcb.unit) else {
+            return Err(LineFault::Named(FaultName::Request));
+        };
+        let mut request = excp.request(alloc, name)?;
+        let idle = Backoff::new();
+        for _ in rt.forever() {
+            match self.task.excp(rt, request) {
+                Ok(()) => {
+                    self.awaited = self.awaited.saturating_add(1);
+                    return Ok(());
+                }
+                Err(Full(again)) => request = again,
+            }
+            self.collect_next(rt, alarm, &idle)?;
+        }
+        unreachable!()
+    }
+
+    /// Collects the posts of all requests that it has issued.
+    fn collect<R: Wait>(&mut self, rt: &R, alarm: &Alarm) -> Result<(), AllocError>
+        ensures { self.new.task.number ≡ self.old.task.number }
+    {
+        let idle = Backoff::new();
+        for _ in rt.forever() {
+            if self.awaited == 0 {
+                return Ok(());
+            }
+            self.collect_next(rt, alarm, &idle)?;
+        }
+        unreachable!()
+    }
+
+    /// Collects the next post. Where there is none it gives way to others, or ends where a worker met want of memory.
+    fn collect_next<R: Wait>(
+        &mut self,
+        rt: &R,
+        alarm: &Alarm,
+        idle: &Backoff,
+    ) -> Result<(), AllocError>
+        ensures number { self.new.task.number ≡ self.old.task.number }
+        ensures sent { self.new.task.sent ≡ self.old.task.sent }
+    {
+        match self.task.take_post(rt) {
+            Some(posted) => {
+                self.lines.fill(&posted);
+                self.awaited = self.awaited.saturating_sub(1);
+                idle.reset();
+            }
+            None if alarm.raised() => return Err(AllocError),
+            None => idle.snooze(),
+        }
+        Ok(())
+    }
+}
+
+/// What is printed of the requests that the script issues by a task.
+fn lines_of(alloc: Global, script: &Script, task: u16) -> Result<Lines, AllocError> {
+    let mut lines = Lines::new(alloc, script.set_up.units.len())?;
+    for command in &script.commands {
+        if command.task == task {
+            expect(alloc, &mut lines, command)?;
+        }
+    }
+    Ok(lines)
+}
+
+/// Adds the line of the request that a command issues, if it issues one.
+fn expect(alloc: Global, lines: &mut Lines, command: &Command) -> Result<(), AllocError>
+    requires { NamesUnits (vec_len lines.old.units) command.now }
+    ensures { vec_len lines.new.units ≡ vec_len lines.old.units }
+{
+    if let Action::Excp(excp) = &command.action {
+        lines.expect(alloc, excp.dcb.unit, excp.show, excp.len as usize)?;
+    }
+    Ok(())
+}
+
+/// Purges the requests of a DCB.
+fn purge<S: Site, R: Wait>(
+    rt: &R,
+    system: &System<'_, S, UnitDevice>,
+    dcb: DcbName,
+    mode: Mode,
+) -> Result<(), DcbError>
+    requires { dcb.unit < S.rows.units }
+{
+    system
+        .lock_of(dcb.unit)
+        .lock(rt)
+        .purge(rt, dcb.number, mode)?;
+    Ok(())
+}
+
+/// Purges the requests of a task on all units.
+fn purge_task<S: Site, R: Wait>(
+    rt: &R,
+    system: &System<'_, S, UnitDevice>,
+    task: u16,
+    mode: Mode,
+) -> Result<(), AllocError> {
+    for answer in system.purge_task(rt, task, mode)? {
+        if answer == UnitPurging::Refused {
+            return Err(AllocError);
+        }
+    }
+    Ok(())
+}
+
+/// Closes a DCB.
+fn close<S: Site, R: Wait>(
+    rt: &R,
+    system: &System<'_, S, UnitDevice>,
+    dcb: DcbName,
+) -> Result<(), DcbError>
+    requires { dcb.unit < S.rows.units }
+{
+    system.lock_of(dcb.unit).lock(rt).close(dcb.number)?;
+    Ok(())
+}
+
+/// Clears the error flag of a DCB; one that is not open is passed over.
+fn reset<S: Site, R: Wait>(
+    rt: &R,
+    system: &System<'_, S, UnitDevice>,
+    dcb: DcbName,
+) -> Result<(), AllocError>
+    requires { dcb.unit < S.rows.units }
+{
+    match system.lock_of(dcb.unit).lock(rt).reset(dcb.number) {
+        Ok(()) | Err(DcbError::NoSuchDcb) => Ok(()),
+        Err(DcbError::NoMemory) => Err(AllocError),
+    }
+}

@@ -1,2 +1,0 @@
--- Elements that stand at the places of their numbers.
-pub mod Placing

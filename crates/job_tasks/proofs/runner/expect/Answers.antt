@@ -1,6 +1,0 @@
-use Rattle.std.proofs.Common.{ap}
-use Rattle.job_script.specs.Commands.{dcb_of}
-use Rattle.job_tasks.proofs.runner.expect.Goals as goal
-
-pub expect-requires : goal.expect-requires
-expect-requires c = c.requires c.in-Excp.excp.dcb (ap dcb_of c.in-Excp.is)

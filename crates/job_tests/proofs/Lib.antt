@@ -1,0 +1,2 @@
+-- Worked channel programs.
+pub mod Rows

@@ -1,0 +1,98 @@
+//! Purges of programs that go on and of requests that wait: what is printed is one of a few things, and a run is
+//! repeated until a purge has met both.
+
+use super::*;
+use std::alloc::AllocError;
+
+/// Two tasks, and two disks on subclasses 3 and 6, the first with two DCBs. Areas 0 and 1, for DCBs 1 and 2, are a
+/// no-operation and a transfer back to it, up to the fetch limit; area 2 does a third more commands.
+const LOOPS: &str = "tasks 2
+disk 0 3 1 1 40
+disk 1 6 1 1 40
+open 0 out 18000000000000000000000000000001
+open 0 out 18000000000000000000000000000001
+open 1 out 18000000000000000000000000000001
+area 0 001000 4200000000001028 0000000000000000 0000103000000001 0000000000000000 0000000000000001 0000000000000000 0300000060000001 0800103000000000
+area 1 001000 4200000000001028 0000000000000000 0000103000000002 0000000000000000 0000000000000001 0000000000000000 0300000060000001 0800103000000000
+area 2 001000 4200000000001028 0000000000000000 0000103000000001 0000000000000000 0000000000000001 0000000000000000 0300000060000001 0300000060000001 0800103000000000
+";
+
+/// How often each DCB of unit 0 is used.
+const PAIRS: usize = 5;
+
+/// How a request is printed that was not purged, one that waited, and one that was halted.
+const ENDED: &str = "41 001038 0020 0000 0000 -";
+
+const WAITED: &str = "48 000000 0000 0000 0000 -";
+
+const HALTED: &str = "48 001038 0C00 0001 0000 -";
+
+const HALTED_AT_ITS_START: &str = "48 001030 0C00 0000 0000 -";
+
+/// Task 1 issues requests to unit 0, for DCBs 2 and 1 in turn. Task 0 issues one to unit 1, waits for it, and purges: by
+/// then the second request of task 1 may be under way.
+fn script(alloc: Global, purge: &str) -> Result<String, AllocError> {
+    let mut text = String::from_str(alloc, LOOPS)?;
+    for _ in 0..PAIRS {
+        text.push_str("excp 1 0 2 001000 1 001000 0\nexcp 1 0 1 001000 0 001000 0\n")?;
+    }
+    text.push_str("excp 0 1 1 001000 2 001000 0\nwait 0\n")?;
+    text.push_str(purge)?;
+    Ok(text)
+}
+
+/// How each request of task 1 is printed, in order of number, if each is, and the one of task 0 is not purged.
+fn ends<'a>(alloc: Global, output: &'a str) -> Result<Option<Vec<&'a str>>, AllocError> {
+    let mut ends = Vec::new(alloc);
+    let mut lines = output.lines();
+    if lines.next() != Some("post 0 1 1 41 001040 0020 0000 0000 -") {
+        return Ok(None);
+    }
+    for number in 1..=2 * PAIRS {
+        let start = format!(in alloc; "post 1 0 {number} ")?;
+        match lines.next().and_then(|line| line.strip_prefix(&start)) {
+            Some(end) => ends.push(end)?,
+            None => return Ok(None),
+        }
+    }
+    Ok(Some(ends))
+}
+
+/// Whether these are all ends of requests of which a purge may have met those of DCB 1, or of both; a request is halted
+/// where the purge halts.
+fn are_allowed(ends: &[&str], both: bool, halts: bool) -> bool {
+    (1..).zip(ends).all(|(number, end)| match *end {
+        ENDED => true,
+        WAITED => both || number % 2 == 0,
+        HALTED | HALTED_AT_ITS_START => halts && (both || number % 2 == 0),
+        _ => false,
+    })
+}
+
+/// Runs until a purge has met a request that waits, and an active one where it halts.
+fn expect_purge<R: Threads + Wait + Sync + Abort + AllocGlobal>(
+    rt: &R,
+    purge: &str,
+    both: bool,
+    halts: bool,
+) -> Result<(), Fail> {
+    let script = script(rt.alloc(), purge)?;
+    for _ in 0..40 {
+        let output = String::from_utf8(printed(rt, script.as_bytes(), 1, 1)?)?;
+        let ends = ends(rt.alloc(), &output)?.ok_or("no post")?;
+        assert!(rt; are_allowed(&ends, both, halts), "{purge}{output}");
+        let waited = ends.contains(&WAITED);
+        if waited && (!halts || ends.contains(&HALTED)) {
+            return Ok(());
+        }
+    }
+    Err(Fail::from("nothing was purged"))
+}
+
+#[test]
+fn purges_meet_waiting_and_active(rt: HostRuntime) -> Result<(), Fail> {
+    expect_purge(&rt, "purge 0 0 1 halt\n", false, true)?;
+    expect_purge(&rt, "purge 0 0 1 quiesce\n", false, false)?;
+    expect_purge(&rt, "purgetask 0 1 halt\n", true, true)?;
+    expect_purge(&rt, "purgetask 0 1 quiesce\n", true, false)
+}
