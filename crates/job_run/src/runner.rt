@@ -15,6 +15,10 @@ use std::sync::Wait;
 use unit_book::{DcbError, Mode};
 use unit_device::UnitDevice;
 
+/// The most requests that a task has under way, so that the storage of a run does not grow with all its requests
+/// (profile).
+const MOST_UNDER_WAY: usize = 256;
+
 /// What the tasks of a run share: the script, the system of its units, and whether a worker met want of memory.
 #[derive(Drop)]
 pub(crate) struct Job<'a, 'r, S: Site> {
@@ -137,7 +141,8 @@ impl<'r, S: Site> Runner<'r, S> {
         Ok(())
     }
 
-    /// Issues a request. Where the row of its unit is full it collects what was posted, and tries again.
+    /// Issues a request. Where as many as may be are under way, or the row of its unit is full, it collects what was
+    /// posted, and tries again.
     fn issue<R: Wait>(
         &mut self,
         rt: &R,
@@ -155,12 +160,14 @@ impl<'r, S: Site> Runner<'r, S> {
         let mut request = excp.request(alloc, name)?;
         let idle = Backoff::new();
         for _ in rt.forever() {
-            match self.task.excp(rt, request) {
-                Ok(()) => {
-                    self.awaited = self.awaited.saturating_add(1);
-                    return Ok(());
+            if self.awaited < MOST_UNDER_WAY {
+                match self.task.excp(rt, request) {
+                    Ok(()) => {
+                        self.awaited = self.awaited.saturating_add(1);
+                        return Ok(());
+                    }
+                    Err(Full(again)) => request = again,
                 }
-                Err(Full(again)) => request = again,
             }
             self.collect_next(rt, alarm, &idle)?;
         }

@@ -18,7 +18,7 @@ area 2 001000 4200000000001028 0000000000000000 0000103000000001 000000000000000
 ";
 
 /// How often each DCB of unit 0 is used.
-const PAIRS: usize = 5;
+const PAIRS: usize = 20;
 
 /// How a request is printed that was not purged, one that waited, and one that was halted.
 const ENDED: &str = "41 001038 0020 0000 0000 -";
@@ -77,7 +77,7 @@ fn expect_purge<R: Threads + Wait + Sync + Abort + AllocGlobal>(
     halts: bool,
 ) -> Result<(), Fail> {
     let script = script(rt.alloc(), purge)?;
-    for _ in 0..40 {
+    for _ in 0..400 {
         let output = String::from_utf8(printed(rt, script.as_bytes(), 1, 1)?)?;
         let ends = ends(rt.alloc(), &output)?.ok_or("no post")?;
         assert!(rt; are_allowed(&ends, both, halts), "{purge}{output}");
