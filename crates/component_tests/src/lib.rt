@@ -1,4 +1,4 @@
-//! Tests of each component by itself, from storage to rows between threads, through its public calls.
+//! Tests of each component by itself, from storage to scripts, through its public calls.
 //!
 //! They say what no contract does: values worked out by hand from the standards, that a call succeeds where there is
 //! memory, and that only want of memory is told where there is none.
@@ -22,6 +22,8 @@ mod queues;
 mod requests;
 #[cfg(test)]
 mod rows;
+#[cfg(test)]
+mod scripts;
 #[cfg(test)]
 mod subchannels;
 #[cfg(test)]

@@ -32,6 +32,3 @@ pub use system::System;
 pub use task::Task;
 pub use unit::UnitState;
 pub use workers::{serve_channel, serve_isc};
-
-#[cfg(test)]
-mod tests;

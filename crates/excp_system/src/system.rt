@@ -1,8 +1,5 @@
 //! Units under locks.
 
-#[cfg(test)]
-mod tests;
-
 ghost use Rattle.std.specs.Prelude.{◌≡◌, ◌<◌, ◌≤◌, IfErr, IfOk, vec_capacity, vec_len};
 ghost use Rattle.excp_system.specs.Opening.{AreBooks, AreFans, AreFresh, AreHandlers, AreTakers, AreTasks, site_of};
 ghost use Rattle.excp_system.specs.Sites.{intake_rows, notice_rows, post_rows};

@@ -19,6 +19,3 @@ pub use fault::{Fault, FaultName, LineFault};
 pub use reading::{LIMIT, read_script};
 pub use script::Script;
 pub use set_up::{Medium, Opening, SetUp, UnitSetup};
-
-#[cfg(test)]
-mod tests;

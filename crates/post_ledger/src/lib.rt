@@ -18,6 +18,3 @@ mod unfinished;
 pub use cause::Cause;
 pub use report::Report;
 pub use unfinished::{Unfinished, finish};
-
-#[cfg(test)]
-mod tests;

@@ -1,0 +1,218 @@
+//! Runs that end with nothing under way, with requests on their way, and with one that was started.
+
+ghost use Rattle.std.specs.Prelude.{◌≡◌, ◌<◌, IfOk};
+ghost use Rattle.excp_system.specs.Drained.{ArePlaced};
+ghost use Rattle.excp_system.specs.Opening.{AreBooks, AreFresh, site_of};
+ghost use Rattle.post_ledger.specs.Report.{IsFor};
+
+use super::*;
+use crate::fixtures::is_undisturbed;
+use crate::units::calls::{Hold, held};
+
+/// What a run comes to before its end: so many requests issued to unit 0, and what is done there with them.
+#[derive(Clone, Copy)]
+struct Run {
+    issued: u32,
+    holds: &'static [Hold],
+}
+
+/// What the report lists for the task at unit 0: a run that purged what is left would list code 48.
+type Listed = &'static [(u32, Code, u8)];
+
+const NONE: Listed = &[];
+
+const THREE: Listed = &[
+    (1, Code::Ended, 0xC1),
+    (2, Code::Ended, 0xC1),
+    (3, Code::Ended, 0xC1),
+];
+
+/// Nothing was served, or two of the requests were taken and the first has done one of its commands.
+const RUNS: [(Run, Listed); 3] = [
+    (
+        Run {
+            issued: 0,
+            holds: &[],
+        },
+        NONE,
+    ),
+    (
+        Run {
+            issued: 3,
+            holds: &[],
+        },
+        THREE,
+    ),
+    (
+        Run {
+            issued: 3,
+            holds: &[Hold::Take, Hold::Take, Hold::Start, Hold::Step],
+        },
+        THREE,
+    ),
+];
+
+/// The first data byte of the last record of a disk.
+fn last_data(disk: &Disk) -> u8 {
+    let mut last = 0;
+    for record in disk.records(0, 0) {
+        last = record.content().first().copied().unwrap_or(0);
+    }
+    last
+}
+
+/// The data of the disk of each unit, as it was mounted, and whether nobody purged, closed or reset it.
+fn media(alloc: Global, report: &Report<Disk>) -> Result<Vec<(u8, bool)>, AllocError> {
+    let mut media = Vec::new(alloc);
+    for book in report.units() {
+        media.push((last_data(book.mounted()), is_undisturbed(book.trace())))?;
+    }
+    Ok(media)
+}
+
+/// The task issues so many requests to unit 0.
+fn issue_some<S: Site, R: Wait>(
+    rt: &R,
+    alloc: Global,
+    tasks: &mut Vec<Task<'_, S>>,
+    count: u32,
+) -> Result<(), AllocError>
+    requires tasks { ArePlaced (λ task. task.number) S.rows.tasks tasks.old.items }
+    requires one { S.rows.tasks ≡ 1 }
+    requires units { 0 < S.rows.units }
+    ensures { ArePlaced (λ task. task.number) S.rows.tasks tasks.new.items }
+{
+    for _ in 0..count {
+        let task = &mut tasks[0];
+        issue(rt, alloc, task, 0, Kind::Disk)?.map_err(|_| AllocError)?;
+    }
+    Ok(())
+}
+
+/// Does these holds of unit 0.
+fn serve<S: Site, R: Wait>(
+    rt: &R,
+    system: &System<'_, S, Disk>,
+    holds: &[Hold],
+) -> Result<(), AllocError>
+    requires { 0 < S.rows.units }
+{
+    let mut unit = system.lock_of(0).lock(rt);
+    for hold in holds {
+        held(rt, &mut unit, *hold)?;
+    }
+    Ok(())
+}
+
+/// A run that is about to end: its system and its one task.
+fn begun<'r, S: Site, R: Wait>(
+    rt: &R,
+    alloc: Global,
+    rows: &'r mut Rows,
+    books: Vec<UnitBook<Disk>>,
+    run: Run,
+) -> Result<(System<'r, S, Disk>, Vec<Task<'r, S>>), AllocError>
+    requires site { S.rows ≡ site_of rows.old }
+    requires fresh { AreFresh rows.old }
+    requires books { AreBooks S.rows.units books.items }
+    requires tasks { S.rows.tasks ≡ 1 }
+    requires units { S.rows.units ≡ 2 }
+    ensures { IfOk result (λ run. ArePlaced (λ task. task.number) S.rows.tasks run.1.items) }
+{
+    let (system, mut tasks, _) = System::<S, Disk>::new(alloc, rows, books)?;
+    issue_some(rt, alloc, &mut tasks, run.issued)?;
+    serve(rt, &system, run.holds)?;
+    Ok((system, tasks))
+}
+
+/// The report of a run that ends at once.
+fn ended<S: Site, R: Wait>(
+    rt: &R,
+    alloc: Global,
+    rows: &mut Rows,
+    books: Vec<UnitBook<Disk>>,
+    run: Run,
+) -> Result<Report<Disk>, AllocError>
+    requires site { S.rows ≡ site_of rows.old }
+    requires fresh { AreFresh rows.old }
+    requires books { AreBooks S.rows.units books.items }
+    requires tasks { S.rows.tasks ≡ 1 }
+    requires units { S.rows.units ≡ 2 }
+    ensures { IfOk result (λ report. IsFor 2 1 report) }
+{
+    let (system, tasks) = begun::<S, _>(rt, alloc, rows, books, run)?;
+    match finish(rt, alloc, system, tasks) {
+        Ok(report) => Ok(report),
+        Err(_) => Err(AllocError),
+    }
+}
+
+/// The report of a run that is resumed as often as there is no memory for its end.
+fn resumed<S: Site, R: Wait + Abort>(
+    rt: &R,
+    alloc: Global,
+    rows: &mut Rows,
+    books: Vec<UnitBook<Disk>>,
+    run: Run,
+) -> Result<Report<Disk>, AllocError>
+    requires site { S.rows ≡ site_of rows.old }
+    requires fresh { AreFresh rows.old }
+    requires books { AreBooks S.rows.units books.items }
+    requires tasks { S.rows.tasks ≡ 1 }
+    requires units { S.rows.units ≡ 2 }
+    ensures { IfOk result (λ report. IsFor 2 1 report) }
+{
+    let (system, tasks) = begun::<S, _>(rt, alloc, rows, books, run)?;
+    let mut left = match finish(rt, alloc, system, tasks) {
+        Ok(report) => return Ok(report),
+        Err(left) => left,
+    };
+    for _ in 0..1000 {
+        assert_eq!(rt; left.cause(), Cause::NoMemory);
+        left = match left.resume(rt) {
+            Ok(report) => return Ok(report),
+            Err(left) => left,
+        };
+    }
+    Err(AllocError)
+}
+
+/// Asserts that a report lists these values for the task at unit 0 and none at unit 1, that the disks are those that were
+/// mounted, and that nobody purged, closed or reset a unit.
+fn expect_report<R: Abort>(
+    rt: &R,
+    alloc: Global,
+    report: &Report<Disk>,
+    wanted: Listed,
+) -> Result<(), AllocError>
+    requires { IsFor 2 1 report.now }
+{
+    let (first, second) = (listed(alloc, report, 0)?, listed(alloc, report, 1)?);
+    assert_eq!(rt; (first.as_slice(), second.as_slice()), (wanted, NONE));
+    let media = media(alloc, report)?;
+    assert_eq!(rt; media.as_slice(), [(0xC1, true), (0xD1, true)].as_slice());
+    Ok(())
+}
+
+#[test]
+fn finish_after_excp(rt: HostRuntime) -> Result<(), Fail> {
+    for (run, wanted) in RUNS {
+        let mut rows = Rows::new(rt.alloc(), 1, 2, 4, 4)?;
+        let books = disks(rt.alloc(), 4)?;
+        let report = ended::<Brand, _>(&rt, rt.alloc(), &mut rows, books, run)?;
+        expect_report(&rt, rt.alloc(), &report, wanted)?;
+    }
+    Ok(())
+}
+
+/// Where there is no memory for the end of a run, it goes on from where it stands, and nothing is lost: run it with each
+/// allocation refused in turn.
+#[test]
+fn finish_without_memory(rt: HostRuntime) -> Result<(), Fail> {
+    let (run, wanted) = RUNS[2];
+    let mut rows = Rows::new(rt.alloc(), 1, 2, 4, 4)?;
+    let books = disks(rt.alloc(), 4)?;
+    let report = resumed::<Brand, _>(&rt, rt.alloc(), &mut rows, books, run)?;
+    expect_report(&rt, rt.alloc(), &report, wanted)?;
+    Ok(())
+}

@@ -1,0 +1,160 @@
+//! The books of two units, requests to them, and what a trace tells of.
+
+ghost use Rattle.std.specs.Prelude.{◌≡◌, ◌<◌, ◌≤◌, true, IfOk};
+ghost use Rattle.std.specs.List.{list_all};
+ghost use Rattle.unit_book.specs.Trace.{is_opening};
+ghost use Rattle.excp_system.specs.Opening.{AreBooks};
+
+use ckd_disk::{Disk, Geometry, InitialRecord};
+use device_port::toy::ToyBlock;
+use device_port::{Device, Kind};
+use excp_system::{Site, Task};
+use fifo_row::Full;
+use io_area::Area;
+use io_images::Extent;
+use request_piece::{Name, Request};
+use std::alloc::{AllocError, Global};
+use std::sync::Wait;
+use unit_book::{Entry, UnitBook};
+
+/// An unrelated IOB at X'1000' for DCB 1, its ECB at X'1028', and at X'1030' a read of a block to X'1060'.
+const READ_BLOCK: [u8; 104] = [
+    0x42, 0, 0, 0, 0, 0, 0x10, 0x28, 0, 0, 0, 0, 0, 0, 0, 0, 0, 0, 0x10, 0x30, 0, 0, 0, 1, 0, 0, 0,
+    0, 0, 0, 0, 0, 0, 0, 0, 0, 0, 0, 0, 1, 0, 0, 0, 0, 0, 0, 0, 0, 0x02, 0, 0x10, 0x60, 0, 0, 0, 4,
+    0, 0, 0, 0, 0, 0, 0, 0, 0, 0, 0, 0, 0, 0, 0, 0, 0, 0, 0, 0, 0, 0, 0, 0, 0, 0, 0, 0, 0, 0, 0, 0,
+    0, 0, 0, 0, 0, 0, 0, 0, 0, 0, 0, 0, 0, 0, 0, 0,
+];
+
+/// The same IOB and ECB, and from X'1030' on search, transfer back and read of the record whose ID stands at X'1050', to
+/// X'1060'.
+const READ_RECORD: [u8; 104] = [
+    0x42, 0, 0, 0, 0, 0, 0x10, 0x28, 0, 0, 0, 0, 0, 0, 0, 0, 0, 0, 0x10, 0x30, 0, 0, 0, 1, 0, 0, 0,
+    0, 0, 0, 0, 0, 0, 0, 0, 0, 0, 0, 0, 1, 0, 0, 0, 0, 0, 0, 0, 0, 0x31, 0, 0x10, 0x50, 0x40, 0, 0,
+    5, 0x08, 0, 0x10, 0x30, 0, 0, 0, 0, 0x06, 0, 0x10, 0x60, 0, 0, 0, 4, 0, 0, 0, 0, 0, 0, 0, 0, 0,
+    0, 0, 0, 1, 0, 0, 0, 0, 0, 0, 0, 0, 0, 0, 0, 0, 0, 0, 0, 0, 0, 0, 0,
+];
+
+/// What is read of a tape, and of the disk of unit 0.
+pub const BLOCK: [u8; 4] = [0xC1, 0xC2, 0xC3, 0xC4];
+
+/// What is read of the disk of unit 1.
+const OTHER_BLOCK: [u8; 4] = [0xD1, 0xD2, 0xD3, 0xD4];
+
+/// The one track of a disk, for input and output.
+pub const TRACK: [u8; 16] = [0x18, 0, 0, 0, 0, 0, 0, 0, 0, 0, 0, 0, 0, 0, 0, 1];
+
+/// A disk of one track with one record, of these data.
+fn disk(alloc: Global, data: [u8; 4]) -> Result<Disk, AllocError> {
+    let geometry = Geometry {
+        cylinders: 1,
+        heads: 1,
+        track_bytes: 40,
+    };
+    let records = [InitialRecord {
+        cylinder: 0,
+        head: 0,
+        number: 1,
+        key: Vec::new(alloc),
+        content: data.to_vec(alloc)?,
+    }];
+    Disk::mount(alloc, geometry, &records, &[]).map_err(|_| AllocError)
+}
+
+/// The book of a device on subclass 5, for so many requests, whose DCB 1 is open on these extents.
+fn book<D: Device>(
+    alloc: Global,
+    device: D,
+    extents: &[Extent],
+    capacity: usize,
+) -> Result<UnitBook<D>, AllocError>
+    requires some { 1 ≤ capacity }
+    requires few { capacity ≤ 65536 }
+    ensures { IfOk result (λ book. list_all is_opening book.trace ≡ true) }
+{
+    let mut book = UnitBook::new(alloc, device, 5, capacity)?;
+    match book.open(false, extents) {
+        Ok(_) => Ok(book),
+        Err(_) => Err(AllocError),
+    }
+}
+
+/// The book of a tape of one block.
+fn tape_book(alloc: Global, capacity: usize) -> Result<UnitBook<ToyBlock>, AllocError>
+    requires some { 1 ≤ capacity }
+    requires few { capacity ≤ 65536 }
+    ensures { IfOk result (λ book. list_all is_opening book.trace ≡ true) }
+{
+    let tape = ToyBlock::mount(alloc, Kind::Tape, BLOCK, &[])?;
+    book(alloc, tape, &[], capacity)
+}
+
+/// The book of a disk of one record, of these data.
+fn disk_book(alloc: Global, data: [u8; 4], capacity: usize) -> Result<UnitBook<Disk>, AllocError>
+    requires some { 1 ≤ capacity }
+    requires few { capacity ≤ 65536 }
+    ensures { IfOk result (λ book. list_all is_opening book.trace ≡ true) }
+{
+    let disk = disk(alloc, data)?;
+    book(alloc, disk, &[Extent::read(&TRACK)], capacity)
+}
+
+/// The books of two tapes of one block.
+pub fn tapes(alloc: Global, capacity: usize) -> Result<Vec<UnitBook<ToyBlock>>, AllocError>
+    requires some { 1 ≤ capacity }
+    requires few { capacity ≤ 65536 }
+    ensures { IfOk result (λ books. AreBooks 2 books.items) }
+{
+    let mut books = Vec::with_capacity(alloc, 2)?;
+    books.push_reserved(tape_book(alloc, capacity)?);
+    books.push_reserved(tape_book(alloc, capacity)?);
+    Ok(books)
+}
+
+/// The books of two disks of one record.
+pub fn disks(alloc: Global, capacity: usize) -> Result<Vec<UnitBook<Disk>>, AllocError>
+    requires some { 1 ≤ capacity }
+    requires few { capacity ≤ 65536 }
+    ensures { IfOk result (λ books. AreBooks 2 books.items) }
+{
+    let mut books = Vec::with_capacity(alloc, 2)?;
+    books.push_reserved(disk_book(alloc, BLOCK, capacity)?);
+    books.push_reserved(disk_book(alloc, OTHER_BLOCK, capacity)?);
+    Ok(books)
+}
+
+/// The task issues its next request to a unit of this kind: its name, in an error where the row is full.
+pub fn issue<S: Site, R: Wait>(
+    rt: &R,
+    alloc: Global,
+    task: &mut Task<'_, S>,
+    unit: u16,
+    kind: Kind,
+) -> Result<Result<Name, Name>, AllocError>
+    requires { unit < S.rows.units }
+    ensures { task.new.number ≡ task.old.number }
+{
+    let image = match kind {
+        Kind::Disk => &READ_RECORD,
+        Kind::Tape | Kind::Printer => &READ_BLOCK,
+    };
+    let name = task.name(unit).ok_or(AllocError)?;
+    let area = Area::new(alloc, 0x1000, image).map_err(|_| AllocError)?;
+    let request = Request::new(alloc, name, unit, 1, 0x1000, area).map_err(|_| AllocError)?;
+    match task.excp(rt, request) {
+        Ok(()) => Ok(Ok(name)),
+        Err(Full(request)) => Ok(Err(request.name())),
+    }
+}
+
+/// Whether a trace tells of one opening, and of no purge, close or reset.
+pub fn is_undisturbed(trace: &[Entry]) -> bool {
+    let mut opened: usize = 0;
+    for entry in trace {
+        match entry {
+            Entry::Purge(_, _) | Entry::Close(_) | Entry::Reset(_) => return false,
+            Entry::Opened(_, _, _) => opened = opened.saturating_add(1),
+            _ => {}
+        }
+    }
+    opened == 1
+}

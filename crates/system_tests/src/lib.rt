@@ -1,0 +1,12 @@
+//! Tests of tasks, units and the rows between them, by hand and by workers, and of the end of a run.
+//!
+//! They say what no contract does: the values of the profile's tables, that a call succeeds where there is memory, and
+//! that nothing is lost where there is none.
+#![tactic(auto)]
+
+#[cfg(test)]
+mod endings;
+#[cfg(test)]
+mod fixtures;
+#[cfg(test)]
+mod units;

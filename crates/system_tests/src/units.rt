@@ -1,0 +1,37 @@
+//! Tasks and units over small rows, by hand and by workers.
+
+use crate::fixtures::{BLOCK, disks, issue, tapes};
+use ckd_disk::Disk;
+use device_port::Device;
+use device_port::toy::ToyBlock;
+use excp_system::{Rows, Site, System, Task};
+use io_images::Code;
+use request_piece::{Name, Posted};
+use std::alloc::AllocError;
+use std::marker::Brand;
+use std::process::Abort;
+use std::sync::Wait;
+use std::test::Fail;
+use std::thread;
+use unit_book::UnitBook;
+
+pub mod calls;
+mod interleavings;
+mod new_system;
+mod notices;
+mod openings;
+mod side_by_side;
+
+/// How often a thread looks before it gives up.
+const LOOKS: u32 = 1_000_000;
+
+/// The next posted value of the task, if it comes within so many looks.
+fn awaited<S: Site, R: Wait>(rt: &R, task: &mut Task<'_, S>) -> Option<Posted> {
+    for _ in 0..LOOKS {
+        if let Some(value) = task.take_post(rt) {
+            return Some(value);
+        }
+        thread::yield_now();
+    }
+    None
+}

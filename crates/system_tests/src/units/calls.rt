@@ -1,0 +1,316 @@
+//! Calls of two tasks, and holds of two units, one after another: what each answers.
+
+ghost use Rattle.std.specs.Prelude.{◌≡◌};
+ghost use Rattle.excp_system.specs.Opening.{AreBooks, AreFresh, site_of};
+
+use super::*;
+use excp_system::{Delivery, Intake, UnitPurging, UnitState};
+use unit_book::{Closing, DcbError, Interruption, Mode, Purging, Running, Starting};
+
+/// A call of a task, a hold of a unit, or a purge of a task. Tasks and units are 0 and 1.
+#[derive(Clone, Copy)]
+pub enum Call {
+    Issue(usize, u16),
+    Collect(usize),
+    Hold(u16, Hold),
+    PurgeTask(u16, Mode),
+}
+
+/// A call of a locked unit.
+#[derive(Clone, Copy)]
+pub enum Hold {
+    Take,
+    Start,
+    Run,
+    /// A run of one command.
+    Step,
+    Interrupt,
+    Deliver,
+    /// Purges of DCB 1, and its close.
+    Quiesce,
+    Halt,
+    Close,
+    Settle,
+}
+
+/// What is answered, in words, and the request that it names.
+pub type Answer = (&'static str, Option<Name>);
+
+/// The first two requests of task 0, and the first of task 1.
+pub const R1: Option<Name> = Some(Name { task: 0, seq: 1 });
+
+const R2: Option<Name> = Some(Name { task: 0, seq: 2 });
+
+const OTHER: Option<Name> = Some(Name { task: 1, seq: 1 });
+
+/// Rows and books of one place each.
+const ONE_PLACE: [(Call, Answer); 24] = [
+    (Call::Issue(0, 0), ("accepted", R1)),
+    (Call::Issue(0, 0), ("full", R2)),
+    (Call::Hold(0, Hold::Take), ("took", R1)),
+    (Call::Issue(0, 0), ("accepted", R2)),
+    (Call::Hold(0, Hold::Take), ("held", None)),
+    (Call::Hold(0, Hold::Start), ("started", R1)),
+    (Call::Hold(0, Hold::Run), ("pending", None)),
+    (Call::Hold(0, Hold::Interrupt), ("ended", R1)),
+    (Call::Hold(0, Hold::Take), ("held", None)),
+    (Call::Hold(0, Hold::Deliver), ("delivered", R1)),
+    (Call::Hold(0, Hold::Take), ("took", R2)),
+    (Call::Hold(0, Hold::Take), ("held", None)),
+    (Call::Hold(0, Hold::Start), ("started", R2)),
+    (Call::Hold(0, Hold::Run), ("pending", None)),
+    (Call::Hold(0, Hold::Interrupt), ("ended", R2)),
+    (Call::Hold(0, Hold::Deliver), ("full", R2)),
+    (Call::Collect(0), ("read the block", R1)),
+    (Call::Hold(0, Hold::Deliver), ("delivered", R2)),
+    (Call::Hold(0, Hold::Deliver), ("quiet", None)),
+    (Call::Hold(0, Hold::Take), ("quiet", None)),
+    (Call::Hold(1, Hold::Take), ("quiet", None)),
+    (Call::Collect(0), ("read the block", R2)),
+    (Call::Collect(0), ("none", None)),
+    (Call::Collect(1), ("none", None)),
+];
+
+/// On unit 0 request 1 of task 0 is active, and its request 2 and one of task 1 wait; on unit 1 one of task 0 waits.
+const TWO_UNITS: [(Call, Answer); 9] = [
+    (Call::Issue(0, 0), ("accepted", R1)),
+    (Call::Issue(0, 0), ("accepted", R2)),
+    (Call::Issue(1, 0), ("accepted", OTHER)),
+    (Call::Issue(0, 1), ("accepted", R1)),
+    (Call::Hold(0, Hold::Take), ("took", R1)),
+    (Call::Hold(0, Hold::Take), ("took", R2)),
+    (Call::Hold(0, Hold::Take), ("took", OTHER)),
+    (Call::Hold(1, Hold::Take), ("took", R1)),
+    (Call::Hold(0, Hold::Start), ("started", R1)),
+];
+
+/// Behind a purge of task 0 its waiting requests come back without a start, and task 1's is served.
+const PURGED: [(Call, Answer); 6] = [
+    (Call::Hold(0, Hold::Deliver), ("delivered", R2)),
+    (Call::Collect(0), ("purged before its start", R2)),
+    (Call::Hold(1, Hold::Deliver), ("delivered", R1)),
+    (Call::Collect(0), ("purged before its start", R1)),
+    (Call::Hold(0, Hold::Deliver), ("quiet", None)),
+    (Call::Hold(1, Hold::Deliver), ("quiet", None)),
+];
+
+const HALTED: [(Call, Answer); 5] = [
+    (Call::Hold(0, Hold::Run), ("quiet", None)),
+    (Call::Hold(0, Hold::Interrupt), ("purged", R1)),
+    (Call::Hold(0, Hold::Start), ("started", OTHER)),
+    (Call::Hold(0, Hold::Run), ("pending", None)),
+    (Call::Hold(0, Hold::Interrupt), ("ended", OTHER)),
+];
+
+const LET_END: [(Call, Answer); 5] = [
+    (Call::Hold(0, Hold::Run), ("pending", None)),
+    (Call::Hold(0, Hold::Interrupt), ("ended", R1)),
+    (Call::Hold(0, Hold::Start), ("started", OTHER)),
+    (Call::Hold(0, Hold::Run), ("pending", None)),
+    (Call::Hold(0, Hold::Interrupt), ("ended", OTHER)),
+];
+
+/// What is left active of a task on the first of two units alone.
+fn left_active(answers: &[UnitPurging]) -> Answer {
+    match answers {
+        [UnitPurging::Active(name), UnitPurging::Quiet] => ("active on unit 0", Some(*name)),
+        _ => ("something else", None),
+    }
+}
+
+fn taken(answer: Intake) -> Answer {
+    match answer {
+        Intake::Held => ("held", None),
+        Intake::Quiet => ("quiet", None),
+        Intake::Took(name) => ("took", Some(name)),
+    }
+}
+
+fn started(answer: Starting) -> Answer {
+    match answer {
+        Starting::Busy => ("busy", None),
+        Starting::Idle => ("idle", None),
+        Starting::Started(name) => ("started", Some(name)),
+        Starting::Violated(name) => ("violated", Some(name)),
+    }
+}
+
+fn ran(answer: Running) -> Answer {
+    match answer {
+        Running::Quiet => ("quiet", None),
+        Running::Ran { pending: true, .. } => ("pending", None),
+        Running::Ran { pending: false, .. } => ("running", None),
+    }
+}
+
+fn interrupted(answer: Interruption) -> Answer {
+    match answer {
+        Interruption::Quiet => ("quiet", None),
+        Interruption::Again(name) => ("again", Some(name)),
+        Interruption::Ended(name, Code::Ended) => ("ended", Some(name)),
+        Interruption::Ended(name, Code::Purged) => ("purged", Some(name)),
+        Interruption::Ended(name, _) => ("failed", Some(name)),
+    }
+}
+
+fn purged(answer: Result<Purging, DcbError>) -> Answer {
+    match answer {
+        Ok(Purging::Active(name)) => ("active", Some(name)),
+        Ok(Purging::Quiet) => ("quiet", None),
+        Err(error) => refused(error),
+    }
+}
+
+fn closed(answer: Result<Closing, DcbError>) -> Answer {
+    match answer {
+        Ok(Closing::Closing(name)) => ("closing", Some(name)),
+        Ok(Closing::Closed) => ("closed", None),
+        Err(error) => refused(error),
+    }
+}
+
+fn refused(error: DcbError) -> Answer {
+    match error {
+        DcbError::NoSuchDcb => ("no such DCB", None),
+        DcbError::NoMemory => ("no memory", None),
+    }
+}
+
+fn delivered(answer: Delivery) -> Answer {
+    match answer {
+        Delivery::Quiet => ("quiet", None),
+        Delivery::Delivered(name) => ("delivered", Some(name)),
+        Delivery::Full(name) => ("full", Some(name)),
+    }
+}
+
+/// The next posted value of a task: whether it read the block, or was purged without a start.
+fn collected<S: Site, R: Wait>(rt: &R, task: &mut Task<'_, S>) -> Answer {
+    let Some(value) = task.take_post(rt) else {
+        return ("none", None);
+    };
+    let name = Some(value.name());
+    let read = value.area().get(0x1060, 4) == Some(BLOCK.as_slice());
+    match value.code() {
+        Code::Ended if read => ("read the block", name),
+        Code::Purged if value.csw().address.get() == 0 => ("purged before its start", name),
+        Code::Purged => ("purged", name),
+        _ => ("something else", name),
+    }
+}
+
+/// Does a call of a locked unit, and tells what it answers.
+pub fn held<S: Site, D: Device, R: Wait>(
+    rt: &R,
+    unit: &mut UnitState<'_, S, D>,
+    hold: Hold,
+) -> Result<Answer, AllocError> {
+    Ok(match hold {
+        Hold::Take => taken(unit.take(rt)?),
+        Hold::Start => started(unit.start()?),
+        Hold::Run => ran(unit.run(rt, 16)?),
+        Hold::Step => ran(unit.run(rt, 1)?),
+        Hold::Interrupt => interrupted(unit.interrupt()?),
+        Hold::Deliver => delivered(unit.deliver(rt)),
+        Hold::Quiesce => purged(unit.purge(rt, 1, Mode::Quiesce)),
+        Hold::Halt => purged(unit.purge(rt, 1, Mode::Halt)),
+        Hold::Close => closed(unit.close(1)),
+        Hold::Settle => {
+            unit.settle()?;
+            ("settled", None)
+        }
+    })
+}
+
+/// Does a call, and tells what it answers.
+pub fn answer<'r, S: Site, D: Device, R: Wait + AllocGlobal>(
+    rt: &R,
+    system: &System<'r, S, D>,
+    tasks: &mut [Task<'r, S>],
+    call: Call,
+) -> Result<Answer, Fail>
+    requires { S.rows.units ≡ 2 }
+{
+    match call {
+        Call::Issue(task, unit) => {
+            let task = tasks.get_mut(task).ok_or("no such task")?;
+            let unit = unit.min(1);
+            let kind = system.lock_of(unit).lock(rt).book().mounted().kind();
+            Ok(match issue(rt, rt.alloc(), task, unit, kind)? {
+                Ok(name) => ("accepted", Some(name)),
+                Err(name) => ("full", Some(name)),
+            })
+        }
+        Call::Collect(task) => {
+            let task = tasks.get_mut(task).ok_or("no such task")?;
+            Ok(collected(rt, task))
+        }
+        Call::Hold(unit, hold) => {
+            let mut state = system.lock_of(unit.min(1)).lock(rt);
+            Ok(held(rt, &mut state, hold)?)
+        }
+        Call::PurgeTask(task, mode) => {
+            let answers = system.purge_task(rt, task, mode)?;
+            Ok(left_active(answers.as_slice()))
+        }
+    }
+}
+
+/// Asserts that each call of a table answers what stands beside it.
+pub fn expect_answers<'r, S: Site, D: Device, R: Wait + Abort + AllocGlobal>(
+    rt: &R,
+    system: &System<'r, S, D>,
+    tasks: &mut [Task<'r, S>],
+    table: &[(Call, Answer)],
+) -> Result<(), Fail>
+    requires { S.rows.units ≡ 2 }
+{
+    for (at, (call, wanted)) in table.iter().enumerate() {
+        assert_eq!(rt; answer(rt, system, tasks, *call)?, *wanted, "{at}");
+    }
+    Ok(())
+}
+
+/// Does the calls of tables, one after another, on a system of two tasks and two units.
+fn run<S: Site, R: Wait + Abort + AllocGlobal>(
+    rt: &R,
+    rows: &mut Rows,
+    books: Vec<UnitBook<ToyBlock>>,
+    tables: &[&[(Call, Answer)]],
+) -> Result<(), Fail>
+    requires site { S.rows ≡ site_of rows.old }
+    requires fresh { AreFresh rows.old }
+    requires books { AreBooks S.rows.units books.items }
+    requires two { S.rows.units ≡ 2 }
+{
+    let (system, mut tasks, _) = System::<S, ToyBlock>::new(rt.alloc(), rows, books)?;
+    for table in tables {
+        expect_answers(rt, &system, tasks.as_mut_slice(), table)?;
+    }
+    Ok(())
+}
+
+#[test]
+fn rows_accept_and_give(rt: HostRuntime) -> Result<(), Fail> {
+    let mut rows = Rows::new(rt.alloc(), 2, 2, 1, 1)?;
+    let books = tapes(rt.alloc(), 1)?;
+    run::<Brand, _>(&rt, &mut rows, books, &[&ONE_PLACE])
+}
+
+#[test]
+fn purge_of_a_task_halts(rt: HostRuntime) -> Result<(), Fail> {
+    let mut rows = Rows::new(rt.alloc(), 2, 2, 4, 4)?;
+    let books = tapes(rt.alloc(), 4)?;
+    let purge = [(Call::PurgeTask(0, Mode::Halt), ("active on unit 0", R1))];
+    let tables = [&TWO_UNITS, purge.as_slice(), &PURGED, &HALTED];
+    run::<Brand, _>(&rt, &mut rows, books, &tables)
+}
+
+#[test]
+fn purge_of_a_task_lets_active_end(rt: HostRuntime) -> Result<(), Fail> {
+    let mut rows = Rows::new(rt.alloc(), 2, 2, 4, 4)?;
+    let books = tapes(rt.alloc(), 4)?;
+    let purge = [(Call::PurgeTask(0, Mode::Quiesce), ("active on unit 0", R1))];
+    let tables = [&TWO_UNITS, purge.as_slice(), &PURGED, &LET_END];
+    run::<Brand, _>(&rt, &mut rows, books, &tables)
+}

@@ -1,0 +1,65 @@
+//! A program that a purge halts, and the handler that is told of it.
+
+ghost use Rattle.std.specs.Prelude.{◌≡◌};
+ghost use Rattle.excp_system.specs.Opening.{AreBooks, AreFresh, site_of};
+
+use super::calls::{Answer, Call, Hold, R1, expect_answers};
+use super::*;
+use excp_system::{IscTaker, OpenGate, Stop, serve_isc};
+use std::thread::{Threads, join};
+
+/// A request is started, and halted before its first command.
+const HALTED: [(Call, Answer); 4] = [
+    (Call::Issue(0, 0), ("accepted", R1)),
+    (Call::Hold(0, Hold::Take), ("took", R1)),
+    (Call::Hold(0, Hold::Start), ("started", R1)),
+    (Call::Hold(0, Hold::Halt), ("active", R1)),
+];
+
+/// The halted request comes back when the handlers alone are served.
+fn steps<S: Site + Send + Sync, R: Threads + Wait + Sync + Abort + AllocGlobal>(
+    rt: &R,
+    rows: &mut Rows,
+    books: Vec<UnitBook<ToyBlock>>,
+) -> Result<(), Fail>
+    requires site { S.rows ≡ site_of rows.old }
+    requires fresh { AreFresh rows.old }
+    requires books { AreBooks S.rows.units books.items }
+    requires two { S.rows.units ≡ 2 }
+{
+    let (system, mut tasks, mut handlers) = System::<S, ToyBlock>::new(rt.alloc(), rows, books)?;
+    expect_answers(rt, &system, tasks.as_mut_slice(), &HALTED)?;
+    let task = tasks.first_mut().ok_or("no task")?;
+    let posted = halted(rt, &system, handlers.as_mut_slice(), task).ok_or("no posted value")?;
+    assert_eq!(rt; posted.code(), Code::Purged);
+    assert_eq!(rt; posted.csw().address.get(), 0x1030);
+    assert_eq!(rt; posted.csw().unit.bits(), 0x0C);
+    Ok(())
+}
+
+/// Serves the handlers in a thread of their own until the task has collected.
+fn halted<'r, S: Site + Send + Sync, R: Threads + Wait + Sync>(
+    rt: &R,
+    system: &System<'r, S, ToyBlock>,
+    handlers: &mut [IscTaker<'r, S>],
+    task: &mut Task<'r, S>,
+) -> Option<Posted> {
+    let stop = Stop::new();
+    let ((), posted) = join(
+        rt,
+        || serve_isc(rt, system, handlers, &OpenGate, &stop),
+        || {
+            let posted = awaited(rt, task);
+            stop.raise();
+            posted
+        },
+    );
+    posted
+}
+
+#[test]
+fn halt_sends_notice(rt: HostRuntime) -> Result<(), Fail> {
+    let mut rows = Rows::new(rt.alloc(), 1, 2, 1, 1)?;
+    let books = tapes(rt.alloc(), 1)?;
+    steps::<Brand, _>(&rt, &mut rows, books)
+}
