@@ -9,6 +9,7 @@ use std::test::Fail;
 
 mod broken;
 mod reading;
+mod texts;
 
 /// One task, and a disk of one track with R1, whose data are C1C2C3C4; DCB 1 for output.
 const DISK: &str =

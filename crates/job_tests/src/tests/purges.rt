@@ -69,7 +69,8 @@ fn are_allowed(ends: &[&str], both: bool, halts: bool) -> bool {
     })
 }
 
-/// Runs until a purge has met a request that waits, and an active one where it halts.
+/// Runs until a purge has met a request that waits, and an active one where it halts. This needs two processors: on one
+/// the unit's lock comes free to a purge between programs alone.
 fn expect_purge<R: Threads + Wait + Sync + Abort + AllocGlobal>(
     rt: &R,
     purge: &str,
