@@ -29,14 +29,14 @@ const HALTED: &str = "48 001038 0C00 0001 0000 -";
 
 const HALTED_AT_ITS_START: &str = "48 001030 0C00 0000 0000 -";
 
-/// Task 1 issues requests to unit 0, for DCBs 2 and 1 in turn. Task 0 issues one to unit 1, waits for it, and purges: by
-/// then the second request of task 1 may be under way.
+/// Task 1 issues requests to unit 0, for DCBs 2 and 1 in turn, and waits for them. Task 0, on a thread of its own, issues
+/// one to unit 1, waits for it, and purges: by then the second request of task 1 may be under way.
 fn script(alloc: Global, purge: &str) -> Result<String, AllocError> {
     let mut text = String::from_str(alloc, LOOPS)?;
     for _ in 0..PAIRS {
         text.push_str("excp 1 0 2 001000 1 001000 0\nexcp 1 0 1 001000 0 001000 0\n")?;
     }
-    text.push_str("excp 0 1 1 001000 2 001000 0\nwait 0\n")?;
+    text.push_str("wait 1\nexcp 0 1 1 001000 2 001000 0\nwait 0\n")?;
     text.push_str(purge)?;
     Ok(text)
 }
