@@ -7,7 +7,7 @@ use controls::CONTROLS;
 use disks::DISKS;
 use further::FURTHER;
 use job_run::run_script;
-use job_script::Fault;
+use job_script::{Fault, Script};
 use programs::WORKED;
 use std::alloc::{AllocError, Global};
 use std::io;
@@ -92,6 +92,19 @@ fn worked_programs(rt: HostRuntime) -> Result<(), Fail> {
 fn disks_tapes_and_printers(rt: HostRuntime) -> Result<(), Fail> {
     expect_runs(&rt, DISKS, 12)?;
     expect_runs(&rt, TAPES_AND_PRINTERS, 10)
+}
+
+/// The book of each unit is of the subclass that its line says.
+#[test]
+fn books_have_their_subclasses(rt: HostRuntime) -> Result<(), Fail> {
+    let text = joined(rt.alloc(), &[DISK, "tape 1 7 40\nprinter 2 3 10 2\n"])?;
+    let script = Script::parse(rt.alloc(), &text)?;
+    let books = script.books(rt.alloc(), 1)?;
+    assert_eq!(rt; books.len(), 3);
+    for (book, isc) in books.iter().zip([0, 7, 3]) {
+        assert_eq!(rt; book.isc(), isc);
+    }
+    Ok(())
 }
 
 #[test]
