@@ -3,16 +3,8 @@
 ghost use Rattle.std.specs.Prelude.{◌≤◌};
 
 use clap::{Arg, ArgMatches, Command, Error, value_parser};
+use job_run::Workers;
 use std::alloc::{AllocError, Global};
-
-/// How many channel workers (1 to 16) and interruption handlers (1 to 8) serve the units.
-#[derive(Clone, Copy, PartialEq, Eq, Debug)]
-pub struct Workers {
-    pub channels: u8,
-    pub handlers: u8,
-    ghost channels_fit: { (1 ≤ channels) × (channels ≤ 16) },
-    ghost handlers_fit: { (1 ≤ handlers) × (handlers ≤ 8) },
-}
 
 fn command<'a>(alloc: Global) -> Result<Command<'a>, AllocError> {
     let channels = Arg::new(alloc, "channels")

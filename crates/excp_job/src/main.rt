@@ -4,9 +4,8 @@
 
 mod arguments;
 
-use arguments::Workers;
 use clap::error::ErrorKind;
-use job_run::run_script;
+use job_run::{Workers, run_script};
 use job_script::Fault;
 use std::alloc::AllocError;
 use std::env;

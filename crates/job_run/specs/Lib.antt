@@ -1,3 +1,4 @@
--- Who serves what, and when all that a task prints is known.
+-- Who serves what, how large rows and books are, and when all that a task prints is known.
 pub mod Complete
+pub mod Rooms
 pub mod Shares

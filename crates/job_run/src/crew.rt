@@ -17,7 +17,7 @@ use unit_device::UnitDevice;
 
 /// How many channel workers (1 to 16) and interruption handlers (1 to 8) serve the units.
 #[derive(Clone, Copy)]
-pub(crate) struct Workers {
+pub struct Workers {
     pub channels: u8,
     pub handlers: u8,
     ghost channels_fit: { (1 ≤ channels) × (channels ≤ 16) },

@@ -9,10 +9,13 @@ mod alarm;
 mod crew;
 mod lines;
 mod output;
+mod rooms;
 mod run;
 mod runner;
 mod tasks;
+mod unit_calls;
 
+pub use crew::Workers;
 pub use run::run_script;
 
 #[cfg(test)]

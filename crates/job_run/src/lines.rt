@@ -1,9 +1,11 @@
 //! What is printed of the requests of a task.
 
 ghost use Rattle.std.specs.Prelude.{◌≡◌, ◌<◌, IfOk, IsTrue, vec_len};
+ghost use Rattle.job_script.specs.Commands.{NamesUnits};
 ghost use Rattle.job_run.specs.Complete.{IsComplete};
 
 use io_images::{Code, Csw};
+use job_script::{Action, Command, Script};
 use request_piece::{Name, Posted};
 use std::alloc::{AllocError, Global};
 
@@ -64,8 +66,19 @@ pub(crate) struct Lines {
 }
 
 impl Lines {
+    /// A line for each request that the script issues by a task.
+    pub fn of_task(alloc: Global, script: &Script, task: u16) -> Result<Lines, AllocError> {
+        let mut lines = Lines::new(alloc, script.set_up.units.len())?;
+        for command in &script.commands {
+            if command.task == task {
+                lines.add(alloc, command)?;
+            }
+        }
+        Ok(lines)
+    }
+
     /// No request to so many units.
-    pub fn new(alloc: Global, units: usize) -> Result<Lines, AllocError>
+    fn new(alloc: Global, units: usize) -> Result<Lines, AllocError>
         ensures { IfOk result (λ lines. vec_len lines.units ≡ units) }
     {
         let mut lines = Vec::with_capacity(alloc, units)?;
@@ -78,14 +91,19 @@ impl Lines {
         })
     }
 
+    /// Adds the line of the request that a command issues, if it issues one.
+    fn add(&mut self, alloc: Global, command: &Command) -> Result<(), AllocError>
+        requires { NamesUnits (vec_len self.old.units) command.now }
+        ensures { vec_len self.new.units ≡ vec_len self.old.units }
+    {
+        if let Action::Excp(excp) = &command.action {
+            self.expect(alloc, excp.dcb.unit, excp.show, excp.len as usize)?;
+        }
+        Ok(())
+    }
+
     /// The next request of the task to a unit is to show `len` bytes at the address `show`.
-    pub fn expect(
-        &mut self,
-        alloc: Global,
-        unit: u16,
-        show: u32,
-        len: usize,
-    ) -> Result<(), AllocError>
+    fn expect(&mut self, alloc: Global, unit: u16, show: u32, len: usize) -> Result<(), AllocError>
         requires { unit < vec_len self.old.units }
         ensures { vec_len self.new.units ≡ vec_len self.old.units }
     {

@@ -1,10 +1,10 @@
 //! The lines that a run prints: one for each post, and their number.
 
-ghost use Rattle.std.specs.Prelude.{◌<◌, All};
+ghost use Rattle.std.specs.Prelude.{◌+◌, ◌*◌, ◌≤◌, ◌<◌, All, length};
 ghost use Rattle.job_run.specs.Complete.{HasEnd, IsComplete};
 
 use crate::lines::{End, Line, Lines};
-use io_images::Address;
+use itoa::write_digits;
 use job_script::Fault;
 use std::alloc::Global;
 use std::io;
@@ -12,24 +12,24 @@ use std::io::{BufWriter, Write};
 
 /// Writes what the requests of each task were posted with, in order of tasks, units and numbers, each with its shown
 /// bytes, and then how many there are.
-pub(crate) fn write<W: Write + Drop>(alloc: Global, tasks: &[Lines], writer: W) -> Result<(), Fault>
-    requires { All IsComplete tasks.now }
+pub(crate) fn write<W: Write + Drop>(alloc: Global, lines: &[Lines], writer: W) -> Result<(), Fault>
+    requires { All IsComplete lines.now }
 {
     let Ok(mut out) = BufWriter::new(alloc, writer) else {
         return Err(Fault::NoMemory);
     };
-    match write_tasks(&mut out, tasks) {
+    match write_all_lines(&mut out, lines) {
         Ok(()) => Ok(()),
         Err(_) => Err(Fault::NotWritten),
     }
 }
 
-fn write_tasks<W: Write>(out: &mut W, tasks: &[Lines]) -> io::Result<()>
-    requires { All IsComplete tasks.now }
+fn write_all_lines<W: Write>(out: &mut W, lines: &[Lines]) -> io::Result<()>
+    requires { All IsComplete lines.now }
 {
     let mut written: u64 = 0;
-    for task in 0..tasks.len() {
-        let units = &tasks[task].units;
+    for task in 0..lines.len() {
+        let units = &lines[task].units;
         for unit in 0..units.len() {
             write_lines(out, task, unit, &units[unit])?;
             written = written.saturating_add(units[unit].len() as u64);
@@ -57,49 +57,47 @@ fn write_lines<W: Write>(out: &mut W, task: usize, unit: usize, lines: &[Line]) 
     Ok(())
 }
 
-/// The completion code, the CSW and the sense bytes, each with a blank behind it.
-fn write_end<W: Write>(out: &mut W, end: &End) -> io::Result<()> {
-    let [a, b] = digits(end.code.byte());
-    let [c, d, e, f, g, h] = digits_of_address(end.csw.address);
-    let [i, j] = digits(end.csw.unit.bits());
-    let [k, l] = digits(end.csw.sub.bits());
-    let [m, n, o, p] = digits_of_halfword(end.csw.residual);
-    let [q, r, s, t] = digits_of_halfword(end.sense);
-    out.write_all(&[
-        a, b, b' ', c, d, e, f, g, h, b' ', i, j, k, l, b' ', m, n, o, p, b' ', q, r, s, t, b' ',
-    ])
-}
-
-/// The four hexadecimal digits of a halfword.
-fn digits_of_halfword(number: u16) -> [u8; 4] {
-    let [high, low] = number.to_be_bytes();
-    let [a, b] = digits(high);
-    let [c, d] = digits(low);
-    [a, b, c, d]
-}
-
-/// The six hexadecimal digits of an address.
-fn digits_of_address(address: Address) -> [u8; 6] {
-    let mut image = [0; 3];
-    address.write(&mut image);
-    let [a, b] = digits(image[0]);
-    let [c, d] = digits(image[1]);
-    let [e, f] = digits(image[2]);
-    [a, b, c, d, e, f]
-}
-
 /// A number in decimal, and a blank.
 fn write_decimal<W: Write>(out: &mut W, number: usize) -> io::Result<()> {
-    let mut image = [b' '; 21];
-    let mut rest = number;
-    for at in (0..20).rev() {
-        image[at] = b'0' + (rest % 10) as u8;
-        rest /= 10;
-        if rest == 0 {
-            return out.write_all(&image[at..]);
-        }
+    let mut text = [b' '; 21];
+    let start = write_digits(number as u64, &mut text, 20);
+    out.write_all(&text[start..])
+}
+
+/// The completion code, the CSW (the address, both status bytes, the residual count) and the sense bytes, each with a
+/// blank behind it.
+fn write_end<W: Write>(out: &mut W, end: &End) -> io::Result<()> {
+    let mut csw = [0; 8];
+    end.csw.write(&mut csw);
+    let mut text = [b' '; 25];
+    put_digits(&mut text, 0, &[end.code.byte()]);
+    put_digits(&mut text, 3, &csw[1..4]);
+    put_digits(&mut text, 10, &csw[4..6]);
+    put_digits(&mut text, 15, &csw[6..]);
+    put_digits(&mut text, 20, &end.sense.to_be_bytes());
+    out.write_all(&text)
+}
+
+/// Puts bytes in hexadecimal into a text, from this place on.
+fn put_digits(text: &mut [u8], place: usize, bytes: &[u8])
+    requires { place + 2 * length bytes.now ≤ length text.old }
+{
+    for number in 0..bytes.len() {
+        let [high, low] = digits(bytes[number]);
+        text[place + 2 * number] = high;
+        text[place + 2 * number + 1] = low;
     }
-    out.write_all(&image)
+}
+
+/// Bytes in hexadecimal, or `-` for none.
+fn write_bytes<W: Write>(out: &mut W, bytes: &[u8]) -> io::Result<()> {
+    if bytes.is_empty() {
+        return out.write_all(b"-");
+    }
+    for byte in bytes {
+        out.write_all(&digits(*byte))?;
+    }
+    Ok(())
 }
 
 /// The two hexadecimal digits of a byte.
@@ -115,15 +113,4 @@ fn digit(number: u8) -> u8
     } else {
         b'A' + (number - 10)
     }
-}
-
-/// Bytes in hexadecimal, or `-` for none.
-fn write_bytes<W: Write>(out: &mut W, bytes: &[u8]) -> io::Result<()> {
-    if bytes.is_empty() {
-        return out.write_all(b"-");
-    }
-    for byte in bytes {
-        out.write_all(&digits(*byte))?;
-    }
-    Ok(())
 }

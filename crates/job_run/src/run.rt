@@ -13,6 +13,7 @@ use crate::alarm::Alarm;
 use crate::crew::{Crew, Workers, run_tasks};
 use crate::lines::Lines;
 use crate::output::write;
+use crate::rooms::rows_and_books;
 use crate::runner::Job;
 use crate::tasks::{parted, runners};
 use excp_system::{Rows, Site, System, Task};
@@ -25,9 +26,6 @@ use std::sync::Wait;
 use std::thread::Threads;
 use unit_book::UnitBook;
 use unit_device::UnitDevice;
-
-/// The most requests that a row or a book holds (profile).
-const MOST_HELD: usize = 65_536;
 
 /// Reads a script, at most 1,048,576 bytes and one more, runs its tasks beside so many channel workers and interruption
 /// handlers, and writes what its requests were posted with, or tells why not.
@@ -61,11 +59,7 @@ fn lines<R: Threads + Wait + Sync>(
     requires units { (1 ≤ vec_len script.now.set_up.units) × (vec_len script.now.set_up.units ≤ 64) }
     ensures { IfOk result (λ lines. All IsComplete lines.items) }
 {
-    let intake = script.most_to_a_unit().clamp(1, MOST_HELD);
-    let post = script.most_of_a_task().clamp(1, MOST_HELD);
-    let books = script.books(alloc, intake)?;
-    let units = script.set_up.units.len() as u16;
-    let mut rows = Rows::new(alloc, script.set_up.tasks, units, intake, post)?;
+    let (mut rows, books) = rows_and_books(alloc, script)?;
     run_on::<Brand, R>(rt, alloc, &mut rows, books, script, workers)
 }
 
@@ -122,17 +116,17 @@ pub(crate) fn run_commands<'r, S: Site + Send + Sync, R: Threads + Wait + Sync>(
     parted(alloc, runners)
 }
 
-/// Adds what the report of a run lists for each task.
-fn add_rest(tasks: &mut [Lines], report: &Report<UnitDevice>, units: u16)
-    requires lists { IsFor units (length tasks.old) report.now }
-    requires few { length tasks.old ≤ 64 }
+/// Adds what the report of a run lists to the lines of each task.
+fn add_rest(lines: &mut [Lines], report: &Report<UnitDevice>, units: u16)
+    requires lists { IsFor units (length lines.old) report.now }
+    requires few { length lines.old ≤ 64 }
 {
-    for task in 0..tasks.len() {
-        add_listed(&mut tasks[task], report, task as u16, units);
+    for task in 0..lines.len() {
+        add_listed(&mut lines[task], report, task as u16, units);
     }
 }
 
-/// Adds what the report of a run lists for a task.
+/// Adds what the report of a run lists for a task to its lines.
 fn add_listed(lines: &mut Lines, report: &Report<UnitDevice>, task: u16, units: u16)
     requires task { task < length report.now.lists }
     requires units { length (lists_of report.now.lists task) ≡ units }

@@ -6,13 +6,13 @@ ghost use Rattle.job_script.specs.Commands.{CanBeDone, CanIssue, NamesUnits};
 
 use crate::alarm::Alarm;
 use crate::lines::Lines;
+use crate::unit_calls::{close, purge, purge_task, reset};
 use crossbeam_utils::Backoff;
-use excp_system::{Site, System, Task, UnitPurging};
+use excp_system::{Site, System, Task};
 use fifo_row::Full;
-use job_script::{Action, Command, DcbName, Excp, Fault, FaultName, LineFault, Script};
+use job_script::{Action, Command, Excp, Fault, FaultName, LineFault, Script};
 use std::alloc::{AllocError, Global};
 use std::sync::Wait;
-use unit_book::{DcbError, Mode};
 use unit_device::UnitDevice;
 
 /// The most requests that a task has under way, so that the storage of a run does not grow with all its requests
@@ -66,7 +66,7 @@ impl<'r, S: Site> Runner<'r, S> {
     ) -> Result<Runner<'r, S>, AllocError>
         ensures { IfOk result (λ runner. runner.task ≡ task.entry) }
     {
-        let lines = lines_of(alloc, script, task.number())?;
+        let lines = Lines::of_task(alloc, script, task.number())?;
         Ok(Runner {
             task,
             lines,
@@ -208,84 +208,5 @@ impl<'r, S: Site> Runner<'r, S> {
             None => idle.snooze(),
         }
         Ok(())
-    }
-}
-
-/// What is printed of the requests that the script issues by a task.
-fn lines_of(alloc: Global, script: &Script, task: u16) -> Result<Lines, AllocError> {
-    let mut lines = Lines::new(alloc, script.set_up.units.len())?;
-    for command in &script.commands {
-        if command.task == task {
-            expect(alloc, &mut lines, command)?;
-        }
-    }
-    Ok(lines)
-}
-
-/// Adds the line of the request that a command issues, if it issues one.
-fn expect(alloc: Global, lines: &mut Lines, command: &Command) -> Result<(), AllocError>
-    requires { NamesUnits (vec_len lines.old.units) command.now }
-    ensures { vec_len lines.new.units ≡ vec_len lines.old.units }
-{
-    if let Action::Excp(excp) = &command.action {
-        lines.expect(alloc, excp.dcb.unit, excp.show, excp.len as usize)?;
-    }
-    Ok(())
-}
-
-/// Purges the requests of a DCB.
-fn purge<S: Site, R: Wait>(
-    rt: &R,
-    system: &System<'_, S, UnitDevice>,
-    dcb: DcbName,
-    mode: Mode,
-) -> Result<(), DcbError>
-    requires { dcb.unit < S.rows.units }
-{
-    system
-        .lock_of(dcb.unit)
-        .lock(rt)
-        .purge(rt, dcb.number, mode)?;
-    Ok(())
-}
-
-/// Purges the requests of a task on all units.
-fn purge_task<S: Site, R: Wait>(
-    rt: &R,
-    system: &System<'_, S, UnitDevice>,
-    task: u16,
-    mode: Mode,
-) -> Result<(), AllocError> {
-    for answer in system.purge_task(rt, task, mode)? {
-        if answer == UnitPurging::Refused {
-            return Err(AllocError);
-        }
-    }
-    Ok(())
-}
-
-/// Closes a DCB.
-fn close<S: Site, R: Wait>(
-    rt: &R,
-    system: &System<'_, S, UnitDevice>,
-    dcb: DcbName,
-) -> Result<(), DcbError>
-    requires { dcb.unit < S.rows.units }
-{
-    system.lock_of(dcb.unit).lock(rt).close(dcb.number)?;
-    Ok(())
-}
-
-/// Clears the error flag of a DCB; one that is not open is passed over.
-fn reset<S: Site, R: Wait>(
-    rt: &R,
-    system: &System<'_, S, UnitDevice>,
-    dcb: DcbName,
-) -> Result<(), AllocError>
-    requires { dcb.unit < S.rows.units }
-{
-    match system.lock_of(dcb.unit).lock(rt).reset(dcb.number) {
-        Ok(()) | Err(DcbError::NoSuchDcb) => Ok(()),
-        Err(DcbError::NoMemory) => Err(AllocError),
     }
 }

@@ -1,5 +1,5 @@
 -- BOOKS before the first request.
-use Rattle.std.specs.Prelude.{◌≡◌, ◌≤◌, true}
+use Rattle.std.specs.Prelude.{◌≡◌, ◌≤◌, ℕ, true}
 use Rattle.std.specs.List.{list_all}
 use Rattle.unit_book.specs.Book.{Book}
 use Rattle.unit_book.specs.Trace.{is_opening}
@@ -8,3 +8,7 @@ use Rattle.unit_book.specs.Trace.{is_opening}
 pub record IsFresh {D : Type 0} (b : Book D) : Type 0 where
   pub opened : list_all is_opening b.trace ≡ true
   pub some : 1 ≤ b.capacity
+
+-- it has room for so many requests
+abbrev pub HasRoom : {D : Type 0} → ℕ → Book D → Type 0
+HasRoom capacity b = b.capacity ≡ capacity

@@ -1,7 +1,7 @@
 //! The books of the units that a script declares: the units are mounted, their DCBs opened, and the requests tried.
 
 ghost use Rattle.std.specs.Prelude.{◌≡◌, ◌≤◌, All, IfOk, OnOk, vec_len};
-ghost use Rattle.job_script.specs.Books.{IsFresh};
+ghost use Rattle.job_script.specs.Books.{HasRoom, IsFresh};
 ghost use Rattle.job_script.specs.Commands.{CanBeDone, CanIssue};
 
 use crate::command::{Action, Command, Excp};
@@ -26,6 +26,7 @@ impl Script {
         requires few { capacity ≤ 65536 }
         ensures count { IfOk result (λ books. vec_len books ≡ vec_len self.now.set_up.units) }
         ensures fresh { IfOk result (λ books. All IsFresh books.items) }
+        ensures room { IfOk result (λ books. All (HasRoom capacity) books.items) }
         ensures requests { OnOk result (All CanBeDone self.now.commands.items) }
     {
         let mut books = Vec::new(alloc);
@@ -62,7 +63,8 @@ impl UnitSetup {
     fn book(&self, alloc: Global, capacity: usize) -> Result<UnitBook<UnitDevice>, Fault>
         requires some { 1 ≤ capacity }
         requires few { capacity ≤ 65536 }
-        ensures { IfOk result IsFresh }
+        ensures fresh { IfOk result IsFresh }
+        ensures room { IfOk result (HasRoom capacity) }
     {
         match self.mounted(alloc) {
             Ok(device) => Ok(UnitBook::new(alloc, device, self.isc, capacity)?),
@@ -89,7 +91,8 @@ impl UnitSetup {
     /// Opens its DCBs, up to the first fault, which is told with its line.
     fn open_dcbs(&self, book: &mut UnitBook<UnitDevice>) -> Result<(), (usize, LineFault)>
         requires { IsFresh book.old }
-        ensures { IsFresh book.new }
+        ensures fresh { IsFresh book.new }
+        ensures room { book.new.capacity ≡ book.old.capacity }
     {
         for opening in &self.openings {
             match book.open(opening.input, &opening.extents) {

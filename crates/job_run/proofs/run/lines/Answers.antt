@@ -1,7 +1,7 @@
-use Rattle.std.proofs.Common.{rules, arith}
-use Rattle.job_run.proofs.Books.{fresh_books}
+use Rattle.std.proofs.Common.{sym, subst}
+use Rattle.excp_system.specs.Opening.{AreBooks}
 use Rattle.job_run.proofs.run.lines.Goals as goal
 
 pub run_on-requires-clause-books : goal.run_on-requires-clause-books
 run_on-requires-clause-books g c κs within =
-    fresh_books _ _ (first_of (search rules, omega (arith, c.in_ok-books.ensures.count, c.in_ok-rows.ensures.units))) c.in_ok-books.ensures.fresh
+    subst (λ n. AreBooks n c.in_ok-rows.books.items) (sym c.in_ok-rows.ensures.rows.units) c.in_ok-rows.ensures.books.opened

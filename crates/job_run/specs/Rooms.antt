@@ -1,0 +1,32 @@
+-- HOW LARGE ROWS AND BOOKS ARE: there is a place for each request of a script (profile).
+use Rattle.std.specs.Prelude.{◌≡◌, ℕ, List, max, min, vec_len}
+use Rattle.std.specs.List.{All}
+use Rattle.unit_book.specs.Book.{Book}
+use Rattle.excp_system.specs.Opening.{AreBooks, AreFresh, RowsState}
+use Rattle.job_script.specs.Commands.{most, requests_of, requests_to}
+use Rattle.job_script.specs.declared.script.Script.{Script}
+
+-- the room for so many requests: 1 at least, and 65,536 at most
+abbrev pub room_for : ℕ → ℕ
+room_for requests = min (max requests 1) 65536
+
+-- the room for the requests that the script issues to one unit, and for those of one task, where these are the most
+abbrev pub room_of_a_unit : Script → ℕ
+room_of_a_unit script = room_for (most (requests_to script.commands.items) (vec_len script.set_up.units))
+
+abbrev pub room_of_a_task : Script → ℕ
+room_of_a_task script = room_for (most (requests_of script.commands.items) script.set_up.tasks)
+
+-- the unused rows of the tasks and units of a script: an intake row has room for the requests to a unit, a post row for
+-- those of a task
+pub record AreRowsOf (script : Script) (rows : RowsState) : Type 0 where
+  pub tasks : rows.tasks ≡ script.set_up.tasks
+  pub units : rows.units ≡ vec_len script.set_up.units
+  pub intake : rows.intake_capacity ≡ room_of_a_unit script
+  pub post : rows.post_capacity ≡ room_of_a_task script
+  pub fresh : AreFresh rows
+
+-- a book for each unit of a script, with room for the requests to a unit, in which nothing happened but openings of DCBs
+pub record AreBooksOf {D : Type 0} (script : Script) (books : List (Book D)) : Type 0 where
+  pub opened : AreBooks (vec_len script.set_up.units) books
+  pub room : All (λ book. book.capacity ≡ room_of_a_unit script) books

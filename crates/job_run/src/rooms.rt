@@ -1,0 +1,40 @@
+//! The rows and the books that a script is run on.
+
+ghost use Rattle.std.specs.Prelude.{◌≡◌, ◌≤◌, All, IfOk, OnOk, vec_len};
+ghost use Rattle.job_script.specs.Commands.{CanBeDone};
+ghost use Rattle.job_run.specs.Rooms.{AreBooksOf, AreRowsOf, room_for};
+
+use excp_system::Rows;
+use job_script::{Fault, Script};
+use std::alloc::Global;
+use unit_book::UnitBook;
+use unit_device::UnitDevice;
+
+/// The most requests that a row or a book holds (profile).
+const MOST_HELD: usize = 65_536;
+
+/// The room of a row or a book that is to hold so many requests.
+fn room_for(requests: usize) -> usize
+    ensures { result ≡ room_for requests }
+{
+    requests.max(1).min(MOST_HELD)
+}
+
+/// The rows and the books that a script is run on, each with a place for all its requests.
+pub(crate) fn rows_and_books(
+    alloc: Global,
+    script: &Script,
+) -> Result<(Rows, Vec<UnitBook<UnitDevice>>), Fault>
+    requires tasks { (1 ≤ script.now.set_up.tasks) × (script.now.set_up.tasks ≤ 64) }
+    requires units { (1 ≤ vec_len script.now.set_up.units) × (vec_len script.now.set_up.units ≤ 64) }
+    ensures rows { IfOk result (λ made. AreRowsOf script.now made.0) }
+    ensures books { IfOk result (λ made. AreBooksOf script.now made.1.items) }
+    ensures requests { OnOk result (All CanBeDone script.now.commands.items) }
+{
+    let to_a_unit = room_for(script.most_to_a_unit());
+    let of_a_task = room_for(script.most_of_a_task());
+    let books = script.books(alloc, to_a_unit)?;
+    let units = script.set_up.units.len() as u16;
+    let rows = Rows::new(alloc, script.set_up.tasks, units, to_a_unit, of_a_task)?;
+    Ok((rows, books))
+}

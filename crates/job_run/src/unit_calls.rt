@@ -1,0 +1,67 @@
+//! What a task does to units under their locks: purges, closes and resets.
+
+ghost use Rattle.std.specs.Prelude.{◌<◌};
+
+use excp_system::{Site, System, UnitPurging};
+use job_script::DcbName;
+use std::alloc::AllocError;
+use std::sync::Wait;
+use unit_book::{DcbError, Mode};
+use unit_device::UnitDevice;
+
+/// Purges the requests of a DCB.
+pub(crate) fn purge<S: Site, R: Wait>(
+    rt: &R,
+    system: &System<'_, S, UnitDevice>,
+    dcb: DcbName,
+    mode: Mode,
+) -> Result<(), DcbError>
+    requires { dcb.unit < S.rows.units }
+{
+    system
+        .lock_of(dcb.unit)
+        .lock(rt)
+        .purge(rt, dcb.number, mode)?;
+    Ok(())
+}
+
+/// Purges the requests of a task on all units.
+pub(crate) fn purge_task<S: Site, R: Wait>(
+    rt: &R,
+    system: &System<'_, S, UnitDevice>,
+    task: u16,
+    mode: Mode,
+) -> Result<(), AllocError> {
+    for answer in system.purge_task(rt, task, mode)? {
+        if answer == UnitPurging::Refused {
+            return Err(AllocError);
+        }
+    }
+    Ok(())
+}
+
+/// Closes a DCB.
+pub(crate) fn close<S: Site, R: Wait>(
+    rt: &R,
+    system: &System<'_, S, UnitDevice>,
+    dcb: DcbName,
+) -> Result<(), DcbError>
+    requires { dcb.unit < S.rows.units }
+{
+    system.lock_of(dcb.unit).lock(rt).close(dcb.number)?;
+    Ok(())
+}
+
+/// Clears the error flag of a DCB; one that is not open is passed over.
+pub(crate) fn reset<S: Site, R: Wait>(
+    rt: &R,
+    system: &System<'_, S, UnitDevice>,
+    dcb: DcbName,
+) -> Result<(), AllocError>
+    requires { dcb.unit < S.rows.units }
+{
+    match system.lock_of(dcb.unit).lock(rt).reset(dcb.number) {
+        Ok(()) | Err(DcbError::NoSuchDcb) => Ok(()),
+        Err(DcbError::NoMemory) => Err(AllocError),
+    }
+}
