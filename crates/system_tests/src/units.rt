@@ -1,5 +1,7 @@
 //! Tasks and units over small rows, by hand and by workers.
 
+ghost use Rattle.std.specs.Prelude.{◌≡◌};
+
 use crate::fixtures::{BLOCK, disks, issue, tapes};
 use ckd_disk::Disk;
 use device_port::Device;
@@ -28,7 +30,9 @@ mod without_memory;
 const LOOKS: u32 = 1_000_000;
 
 /// The next posted value of the task, if it comes within so many looks.
-fn awaited<S: Site, R: Wait>(rt: &R, task: &mut Task<'_, S>) -> Option<Posted> {
+fn awaited<S: Site, R: Wait>(rt: &R, task: &mut Task<'_, S>) -> Option<Posted>
+    ensures { task.new.number ≡ task.old.number }
+{
     for _ in 0..LOOKS {
         if let Some(value) = task.take_post(rt) {
             return Some(value);

@@ -16,12 +16,13 @@ use std::alloc::Global;
 use std::sync::atomic::{AtomicBool, Ordering};
 use std::thread::{Scope, Threads};
 
-/// Holds up the runs of unit 0 until it is told to let them go.
+/// Holds up the runs of unit 0 until it is told to let them go, and stops the workers.
 #[derive(Drop)]
 struct Barrier {
     reached: AtomicBool,
     let_go: AtomicBool,
     gave_up: AtomicBool,
+    stop: Stop,
 }
 
 impl Barrier {
@@ -30,7 +31,14 @@ impl Barrier {
             reached: AtomicBool::new(false),
             let_go: AtomicBool::new(false),
             gave_up: AtomicBool::new(false),
+            stop: Stop::new(),
         }
+    }
+
+    /// Lets a run go, and ends the workers.
+    fn lift(&self) {
+        self.let_go.store(true, Ordering::SeqCst);
+        self.stop.raise();
     }
 }
 
@@ -59,8 +67,16 @@ fn is_set(flag: &AtomicBool) -> bool {
     false
 }
 
-/// The unit of the next posted value of the task, and how it ended.
-fn collected<S: Site, R: Wait>(rt: &R, task: &mut Task<'_, S>) -> Option<(u16, Code)> {
+/// The unit of a posted value that the task collected, and how it ended.
+type Collected = Option<(u16, Code)>;
+
+/// What a run comes to before its end: its tasks, and what the first of them collected.
+type Served<'r, S> = (Vec<Task<'r, S>>, [Collected; 2]);
+
+/// The next posted value of the task.
+fn collected<S: Site, R: Wait>(rt: &R, task: &mut Task<'_, S>) -> Collected
+    ensures { task.new.number ≡ task.old.number }
+{
     let value = awaited(rt, task)?;
     Some((value.unit(), value.code()))
 }
@@ -72,20 +88,20 @@ fn exchange<S: Site, R: Wait>(
     alloc: Global,
     task: &mut Task<'_, S>,
     barrier: &Barrier,
-) -> Option<[(u16, Code); 2]>
+) -> Result<[Collected; 2], AllocError>
     requires { S.rows.units ≡ 2 }
     ensures { task.new.number ≡ task.old.number }
 {
     if !is_set(&barrier.reached) {
-        return None;
+        return Ok([None, None]);
     }
-    for unit in [0, 0, 1] {
-        issue(rt, alloc, task, unit.min(1), Kind::Tape).ok()?.ok()?;
-    }
-    let first = collected(rt, task)?;
+    let _ = issue(rt, alloc, task, 0, Kind::Tape)?;
+    let _ = issue(rt, alloc, task, 0, Kind::Tape)?;
+    let _ = issue(rt, alloc, task, 1, Kind::Tape)?;
+    let first = collected(rt, task);
     barrier.let_go.store(true, Ordering::SeqCst);
-    let second = collected(rt, task)?;
-    Some([first, second])
+    let second = collected(rt, task);
+    Ok([first, second])
 }
 
 /// Starts a channel worker for each unit, and a handler, each on a thread of its own.
@@ -95,28 +111,45 @@ fn start<'s, 'r, S: Site + Send + Sync, R: Threads + Wait + Sync, E>(
     system: &'s System<'r, S, ToyBlock>,
     handlers: Vec<IscTaker<'r, S>>,
     barrier: &'s Barrier,
-    stop: &'s Stop,
 ) -> Result<(), AllocError>
     requires { S.rows.units ≡ 2 }
 {
     scope.spawn(
         move || -> ()
             requires { S.rows.units ≡ 2 }
-        { serve_channel(rt, system, &[0], barrier, stop) },
+        { serve_channel(rt, system, &[0], barrier, &barrier.stop) },
     )?;
     scope.spawn(
         move || -> ()
             requires { S.rows.units ≡ 2 }
-        { serve_channel(rt, system, &[1], barrier, stop) },
+        { serve_channel(rt, system, &[1], barrier, &barrier.stop) },
     )?;
-    scope.spawn(move || serve_handlers(rt, system, handlers, stop))?;
+    scope.spawn(move || serve_handlers(rt, system, handlers, &barrier.stop))?;
     Ok(())
 }
 
-/// What a run comes to before its end: its tasks, and what the first of them collected.
-type Served<'r, S> = (Vec<Task<'r, S>>, Option<[(u16, Code); 2]>);
+/// Starts the workers and runs the task beside them. Where a worker cannot be started the task does not run.
+fn serve<'s, 'r, S: Site + Send + Sync, R: Threads + Wait + Sync, E>(
+    rt: &'s R,
+    alloc: Global,
+    scope: &Scope<'s, E>,
+    system: &'s System<'r, S, ToyBlock>,
+    handlers: Vec<IscTaker<'r, S>>,
+    mut tasks: Vec<Task<'r, S>>,
+    barrier: &'s Barrier,
+) -> Result<Served<'r, S>, AllocError>
+    requires tasks { ArePlaced (λ task. task.number) S.rows.tasks tasks.items }
+    requires one { S.rows.tasks ≡ 1 }
+    requires two { S.rows.units ≡ 2 }
+    ensures { IfOk result (λ served. ArePlaced (λ task. task.number) S.rows.tasks served.0.items) }
+{
+    start(rt, scope, system, handlers, barrier)?;
+    let task = &mut tasks[0];
+    let got = exchange(rt, alloc, task, barrier)?;
+    Ok((tasks, got))
+}
 
-/// Runs the task beside the workers, and stops and joins these. Where one cannot be started the task does not run.
+/// Runs the task beside the workers, and stops and joins these.
 fn served<'r, S: Site + Send + Sync, R: Threads + Wait + Sync>(
     rt: &R,
     alloc: Global,
@@ -130,8 +163,6 @@ fn served<'r, S: Site + Send + Sync, R: Threads + Wait + Sync>(
     requires two { S.rows.units ≡ 2 }
     ensures { IfOk result (λ served. ArePlaced (λ task. task.number) S.rows.tasks served.0.items) }
 {
-    let stop = Stop::new();
-    let stop = &stop;
     thread::scope(
         thread::scope_env(),
         rt,
@@ -141,17 +172,9 @@ fn served<'r, S: Site + Send + Sync, R: Threads + Wait + Sync>(
             requires two { S.rows.units ≡ 2 }
             ensures { IfOk result (λ served. ArePlaced (λ task. task.number) S.rows.tasks served.0.items) }
         {
-            let mut tasks = tasks;
-            let mut got = None;
-            let started = start(rt, scope, system, handlers, barrier, stop);
-            if started.is_ok() {
-                let task = &mut tasks[0];
-                got = exchange(rt, alloc, task, barrier);
-            }
-            barrier.let_go.store(true, Ordering::SeqCst);
-            stop.raise();
-            started?;
-            Ok((tasks, got))
+            let result = serve(rt, alloc, scope, system, handlers, tasks, barrier);
+            barrier.lift();
+            result
         },
     )
 }
@@ -172,7 +195,7 @@ fn ended<S: Site + Send + Sync, R: Threads + Wait + Sync + Abort + AllocGlobal>(
     let (system, tasks, handlers) = System::<S, ToyBlock>::new(rt.alloc(), rows, books)?;
     let barrier = Barrier::new();
     let (tasks, got) = served(rt, rt.alloc(), &system, handlers, tasks, &barrier)?;
-    assert_eq!(rt; got, Some([(1, Code::Ended), (0, Code::Ended)]));
+    assert_eq!(rt; got, [Some((1, Code::Ended)), Some((0, Code::Ended))]);
     assert!(rt;
         !barrier.gave_up.load(Ordering::SeqCst),
         "it was held up to the end"
