@@ -64,6 +64,25 @@ fn serve_once<'r, S: Site, R: Wait>(
     lacks.saturating_add(gate.lacks.get())
 }
 
+/// Serves unit 0 until the task collects: how that request ended, the turn, and how many calls were told of by then.
+fn served<'r, S: Site, R: Wait>(
+    rt: &R,
+    system: &System<'r, S, ToyBlock>,
+    handlers: &mut [IscTaker<'r, S>],
+    task: &mut Task<'r, S>,
+) -> Option<(Code, u32, u32)>
+    requires { 0 < S.rows.units }
+{
+    let mut lacks: u32 = 0;
+    for turn in 0..3 {
+        lacks = lacks.saturating_add(serve_once(rt, system, handlers));
+        if let Some(value) = task.take_post(rt) {
+            return Some((value.code(), turn, lacks));
+        }
+    }
+    None
+}
+
 /// Issues a request to unit 0, on which so many DCBs more are opened, and serves it. It is posted in the first turn, and
 /// a turn later for each call without memory, of which the gate was told.
 fn steps<S: Site, R: Wait + Abort + AllocGlobal>(
@@ -83,16 +102,11 @@ fn steps<S: Site, R: Wait + Abort + AllocGlobal>(
         system.lock_of(0).lock(rt).open(false, &[])?;
     }
     issue(rt, rt.alloc(), task, 0, Kind::Tape)?.map_err(|_| AllocError)?;
-    let mut lacks: u32 = 0;
-    for turn in 0..3 {
-        lacks = lacks.saturating_add(serve_once(rt, &system, handlers.as_mut_slice()));
-        if let Some(value) = task.take_post(rt) {
-            assert_eq!(rt; value.code(), Code::Ended);
-            assert_eq!(rt; lacks, turn, "{more}");
-            return Ok(());
-        }
-    }
-    Err(Fail::from("no posted value"))
+    let posted = served(rt, &system, handlers.as_mut_slice(), task);
+    let (code, turn, lacks) = posted.ok_or("no posted value")?;
+    assert_eq!(rt; code, Code::Ended);
+    assert_eq!(rt; lacks, turn, "{more}");
+    Ok(())
 }
 
 /// A worker's gate is told of each call without memory, and with memory again everything is posted: run it with each
