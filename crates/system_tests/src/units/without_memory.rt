@@ -7,6 +7,7 @@ use super::*;
 use device_port::Kind;
 use excp_system::{Gate, IscTaker, Point, Stop, serve_channel, serve_isc};
 use std::cell::Cell;
+use unit_book::OpenError;
 
 /// Stops a worker after one turn on a unit, and counts the calls of which it is told that there was no memory.
 #[derive(Drop)]
@@ -83,6 +84,20 @@ fn served<'r, S: Site, R: Wait>(
     None
 }
 
+/// Opens so many DCBs more on unit 0.
+fn open_more<S: Site, R: Wait>(
+    rt: &R,
+    system: &System<'_, S, ToyBlock>,
+    more: u16,
+) -> Result<(), OpenError>
+    requires { 0 < S.rows.units }
+{
+    for _ in 0..more {
+        system.lock_of(0).lock(rt).open(false, &[])?;
+    }
+    Ok(())
+}
+
 /// Issues a request to unit 0, on which so many DCBs more are opened, and serves it. It is posted in the first turn, and
 /// a turn later for each call without memory, of which the gate was told.
 fn steps<S: Site, R: Wait + Abort + AllocGlobal>(
@@ -98,9 +113,7 @@ fn steps<S: Site, R: Wait + Abort + AllocGlobal>(
 {
     let (system, mut tasks, mut handlers) = System::<S, ToyBlock>::new(rt.alloc(), rows, books)?;
     let task = tasks.first_mut().ok_or("no task")?;
-    for _ in 0..more {
-        system.lock_of(0).lock(rt).open(false, &[])?;
-    }
+    open_more(rt, &system, more)?;
     issue(rt, rt.alloc(), task, 0, Kind::Tape)?.map_err(|_| AllocError)?;
     let posted = served(rt, &system, handlers.as_mut_slice(), task);
     let (code, turn, lacks) = posted.ok_or("no posted value")?;
