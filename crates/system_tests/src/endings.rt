@@ -5,7 +5,7 @@ ghost use Rattle.post_ledger.specs.Report.{IsFor};
 
 use crate::fixtures::{disks, issue};
 use ckd_disk::Disk;
-use device_port::Kind;
+use device_port::{Device, Kind};
 use excp_system::{Rows, Site, System, Task};
 use io_images::Code;
 use post_ledger::{Cause, Report, finish};
@@ -22,9 +22,9 @@ mod under_way;
 
 /// What a report lists for task 0 of a unit: each request's number, how it ended, and the first of the data that it
 /// read.
-fn listed(
+pub fn listed<D: Device>(
     alloc: Global,
-    report: &Report<Disk>,
+    report: &Report<D>,
     unit: u16,
 ) -> Result<Vec<(u32, Code, u8)>, AllocError>
     requires report { IsFor 2 1 report.now }

@@ -1,10 +1,12 @@
 //! Tasks and units over small rows, by hand and by workers.
 
+ghost use Rattle.std.specs.Prelude.{◌≡◌};
+
 use crate::fixtures::{BLOCK, disks, issue, tapes};
 use ckd_disk::Disk;
 use device_port::Device;
 use device_port::toy::ToyBlock;
-use excp_system::{Rows, Site, System, Task};
+use excp_system::{IscTaker, OpenGate, Rows, Site, Stop, System, Task, serve_isc};
 use io_images::Code;
 use request_piece::{Name, Posted};
 use std::alloc::AllocError;
@@ -21,12 +23,16 @@ mod new_system;
 mod notices;
 mod openings;
 mod side_by_side;
+mod task_purges;
+mod without_memory;
 
 /// How often a thread looks before it gives up.
 const LOOKS: u32 = 1_000_000;
 
 /// The next posted value of the task, if it comes within so many looks.
-fn awaited<S: Site, R: Wait>(rt: &R, task: &mut Task<'_, S>) -> Option<Posted> {
+fn awaited<S: Site, R: Wait>(rt: &R, task: &mut Task<'_, S>) -> Option<Posted>
+    ensures { task.new.number ≡ task.old.number }
+{
     for _ in 0..LOOKS {
         if let Some(value) = task.take_post(rt) {
             return Some(value);
@@ -34,4 +40,14 @@ fn awaited<S: Site, R: Wait>(rt: &R, task: &mut Task<'_, S>) -> Option<Posted> {
         thread::yield_now();
     }
     None
+}
+
+/// Serves all notices.
+fn serve_handlers<'r, S: Site, R: Wait>(
+    rt: &R,
+    system: &System<'r, S, ToyBlock>,
+    mut handlers: Vec<IscTaker<'r, S>>,
+    stop: &Stop,
+) {
+    serve_isc(rt, system, handlers.as_mut_slice(), &OpenGate, stop);
 }

@@ -36,12 +36,10 @@ pub enum Hold {
 /// What is answered, in words, and the request that it names.
 pub type Answer = (&'static str, Option<Name>);
 
-/// The first two requests of task 0, and the first of task 1.
+/// The first two requests of task 0.
 pub const R1: Option<Name> = Some(Name { task: 0, seq: 1 });
 
-const R2: Option<Name> = Some(Name { task: 0, seq: 2 });
-
-const OTHER: Option<Name> = Some(Name { task: 1, seq: 1 });
+pub const R2: Option<Name> = Some(Name { task: 0, seq: 2 });
 
 /// Rows and books of one place each.
 const ONE_PLACE: [(Call, Answer); 24] = [
@@ -71,49 +69,14 @@ const ONE_PLACE: [(Call, Answer); 24] = [
     (Call::Collect(1), ("none", None)),
 ];
 
-/// On unit 0 request 1 of task 0 is active, and its request 2 and one of task 1 wait; on unit 1 one of task 0 waits.
-const TWO_UNITS: [(Call, Answer); 9] = [
-    (Call::Issue(0, 0), ("accepted", R1)),
-    (Call::Issue(0, 0), ("accepted", R2)),
-    (Call::Issue(1, 0), ("accepted", OTHER)),
-    (Call::Issue(0, 1), ("accepted", R1)),
-    (Call::Hold(0, Hold::Take), ("took", R1)),
-    (Call::Hold(0, Hold::Take), ("took", R2)),
-    (Call::Hold(0, Hold::Take), ("took", OTHER)),
-    (Call::Hold(1, Hold::Take), ("took", R1)),
-    (Call::Hold(0, Hold::Start), ("started", R1)),
-];
-
-/// Behind a purge of task 0 its waiting requests come back without a start, and task 1's is served.
-const PURGED: [(Call, Answer); 6] = [
-    (Call::Hold(0, Hold::Deliver), ("delivered", R2)),
-    (Call::Collect(0), ("purged before its start", R2)),
-    (Call::Hold(1, Hold::Deliver), ("delivered", R1)),
-    (Call::Collect(0), ("purged before its start", R1)),
-    (Call::Hold(0, Hold::Deliver), ("quiet", None)),
-    (Call::Hold(1, Hold::Deliver), ("quiet", None)),
-];
-
-const HALTED: [(Call, Answer); 5] = [
-    (Call::Hold(0, Hold::Run), ("quiet", None)),
-    (Call::Hold(0, Hold::Interrupt), ("purged", R1)),
-    (Call::Hold(0, Hold::Start), ("started", OTHER)),
-    (Call::Hold(0, Hold::Run), ("pending", None)),
-    (Call::Hold(0, Hold::Interrupt), ("ended", OTHER)),
-];
-
-const LET_END: [(Call, Answer); 5] = [
-    (Call::Hold(0, Hold::Run), ("pending", None)),
-    (Call::Hold(0, Hold::Interrupt), ("ended", R1)),
-    (Call::Hold(0, Hold::Start), ("started", OTHER)),
-    (Call::Hold(0, Hold::Run), ("pending", None)),
-    (Call::Hold(0, Hold::Interrupt), ("ended", OTHER)),
-];
-
-/// What is left active of a task on the first of two units alone.
+/// What is left active of a task on the first of two units alone, and which unit had no memory for the purge.
 fn left_active(answers: &[UnitPurging]) -> Answer {
     match answers {
         [UnitPurging::Active(name), UnitPurging::Quiet] => ("active on unit 0", Some(*name)),
+        [UnitPurging::Active(name), UnitPurging::Refused] => {
+            ("active on unit 0, refused on unit 1", Some(*name))
+        }
+        [UnitPurging::Refused, UnitPurging::Quiet] => ("refused on unit 0", None),
         _ => ("something else", None),
     }
 }
@@ -249,10 +212,10 @@ pub fn answer<'r, S: Site, D: Device, R: Wait + AllocGlobal>(
             let mut state = system.lock_of(unit.min(1)).lock(rt);
             Ok(held(rt, &mut state, hold)?)
         }
-        Call::PurgeTask(task, mode) => {
-            let answers = system.purge_task(rt, task, mode)?;
-            Ok(left_active(answers.as_slice()))
-        }
+        Call::PurgeTask(task, mode) => Ok(match system.purge_task(rt, task, mode) {
+            Ok(answers) => left_active(answers.as_slice()),
+            Err(AllocError) => ("no memory", None),
+        }),
     }
 }
 
@@ -272,7 +235,7 @@ pub fn expect_answers<'r, S: Site, D: Device, R: Wait + Abort + AllocGlobal>(
 }
 
 /// Does the calls of tables, one after another, on a system of two tasks and two units.
-fn run<S: Site, R: Wait + Abort + AllocGlobal>(
+pub fn run<S: Site, R: Wait + Abort + AllocGlobal>(
     rt: &R,
     rows: &mut Rows,
     books: Vec<UnitBook<ToyBlock>>,
@@ -295,22 +258,4 @@ fn rows_accept_and_give(rt: HostRuntime) -> Result<(), Fail> {
     let mut rows = Rows::new(rt.alloc(), 2, 2, 1, 1)?;
     let books = tapes(rt.alloc(), 1)?;
     run::<Brand, _>(&rt, &mut rows, books, &[&ONE_PLACE])
-}
-
-#[test]
-fn purge_of_a_task_halts(rt: HostRuntime) -> Result<(), Fail> {
-    let mut rows = Rows::new(rt.alloc(), 2, 2, 4, 4)?;
-    let books = tapes(rt.alloc(), 4)?;
-    let purge = [(Call::PurgeTask(0, Mode::Halt), ("active on unit 0", R1))];
-    let tables = [&TWO_UNITS, purge.as_slice(), &PURGED, &HALTED];
-    run::<Brand, _>(&rt, &mut rows, books, &tables)
-}
-
-#[test]
-fn purge_of_a_task_lets_active_end(rt: HostRuntime) -> Result<(), Fail> {
-    let mut rows = Rows::new(rt.alloc(), 2, 2, 4, 4)?;
-    let books = tapes(rt.alloc(), 4)?;
-    let purge = [(Call::PurgeTask(0, Mode::Quiesce), ("active on unit 0", R1))];
-    let tables = [&TWO_UNITS, purge.as_slice(), &PURGED, &LET_END];
-    run::<Brand, _>(&rt, &mut rows, books, &tables)
 }

@@ -5,8 +5,8 @@ ghost use Rattle.excp_system.specs.Opening.{AreBooks, AreFresh, site_of};
 
 use super::calls::{Answer, Call, Hold, R1, expect_answers};
 use super::*;
-use excp_system::{IscTaker, OpenGate, Stop, serve_isc};
-use std::thread::{Threads, join};
+use excp_system::{IscTaker, Stop};
+use std::thread::Threads;
 
 /// A request is started, and halted before its first command.
 const HALTED: [(Call, Answer); 4] = [
@@ -27,10 +27,10 @@ fn steps<S: Site + Send + Sync, R: Threads + Wait + Sync + Abort + AllocGlobal>(
     requires books { AreBooks S.rows.units books.items }
     requires two { S.rows.units ≡ 2 }
 {
-    let (system, mut tasks, mut handlers) = System::<S, ToyBlock>::new(rt.alloc(), rows, books)?;
+    let (system, mut tasks, handlers) = System::<S, ToyBlock>::new(rt.alloc(), rows, books)?;
     expect_answers(rt, &system, tasks.as_mut_slice(), &HALTED)?;
     let task = tasks.first_mut().ok_or("no task")?;
-    let posted = halted(rt, &system, handlers.as_mut_slice(), task).ok_or("no posted value")?;
+    let posted = halted(rt, &system, handlers, task)?.ok_or("no posted value")?;
     assert_eq!(rt; posted.code(), Code::Purged);
     assert_eq!(rt; posted.csw().address.get(), 0x1030);
     assert_eq!(rt; posted.csw().unit.bits(), 0x0C);
@@ -41,20 +41,21 @@ fn steps<S: Site + Send + Sync, R: Threads + Wait + Sync + Abort + AllocGlobal>(
 fn halted<'r, S: Site + Send + Sync, R: Threads + Wait + Sync>(
     rt: &R,
     system: &System<'r, S, ToyBlock>,
-    handlers: &mut [IscTaker<'r, S>],
+    handlers: Vec<IscTaker<'r, S>>,
     task: &mut Task<'r, S>,
-) -> Option<Posted> {
+) -> Result<Option<Posted>, AllocError> {
     let stop = Stop::new();
-    let ((), posted) = join(
+    let stop = &stop;
+    thread::scope(
+        thread::scope_env(),
         rt,
-        || serve_isc(rt, system, handlers, &OpenGate, &stop),
-        || {
+        move |scope| -> Result<Option<Posted>, AllocError> {
+            scope.spawn(move || serve_handlers(rt, system, handlers, stop))?;
             let posted = awaited(rt, task);
             stop.raise();
-            posted
+            Ok(posted)
         },
-    );
-    posted
+    )
 }
 
 #[test]

@@ -1,22 +1,28 @@
 //! Two units that are served at the same time: one's run is held up inside its lock until a request for it was
-//! accepted and one of the other was collected.
+//! accepted and one of the other was collected, and the end of the run gives the rest.
 
-ghost use Rattle.std.specs.Prelude.{◌≡◌, ◌<◌};
+ghost use Rattle.std.specs.Prelude.{◌≡◌, IfOk};
+ghost use Rattle.excp_system.specs.Drained.{ArePlaced};
 ghost use Rattle.excp_system.specs.Opening.{AreBooks, AreFresh, site_of};
+ghost use Rattle.post_ledger.specs.Report.{IsFor};
 
 use super::*;
+use crate::endings::listed;
 use crate::fixtures::is_undisturbed;
 use device_port::Kind;
-use excp_system::{Gate, IscTaker, OpenGate, Point, Stop, serve_channel, serve_isc};
+use excp_system::{Gate, IscTaker, Point, Stop, serve_channel};
+use post_ledger::{Report, finish};
+use std::alloc::Global;
 use std::sync::atomic::{AtomicBool, Ordering};
-use std::thread::{Threads, join};
+use std::thread::{Scope, Threads};
 
-/// Holds up the runs of unit 0 until it is told to let them go.
+/// Holds up the runs of unit 0 until it is told to let them go, and stops the workers.
 #[derive(Drop)]
 struct Barrier {
     reached: AtomicBool,
     let_go: AtomicBool,
     gave_up: AtomicBool,
+    stop: Stop,
 }
 
 impl Barrier {
@@ -25,7 +31,14 @@ impl Barrier {
             reached: AtomicBool::new(false),
             let_go: AtomicBool::new(false),
             gave_up: AtomicBool::new(false),
+            stop: Stop::new(),
         }
+    }
+
+    /// Lets a run go, and ends the workers.
+    fn lift(&self) {
+        self.let_go.store(true, Ordering::SeqCst);
+        self.stop.raise();
     }
 }
 
@@ -54,111 +67,157 @@ fn is_set(flag: &AtomicBool) -> bool {
     false
 }
 
-/// The unit of the next posted value of the task, and how it ended.
-fn collected<S: Site, R: Wait>(rt: &R, task: &mut Task<'_, S>) -> Option<(u16, Code)> {
+/// The unit of a posted value that the task collected, and how it ended.
+type Collected = Option<(u16, Code)>;
+
+/// What a run comes to before its end: its tasks, and what the first of them collected.
+type Served<'r, S> = (Vec<Task<'r, S>>, [Collected; 2]);
+
+/// The next posted value of the task.
+fn collected<S: Site, R: Wait>(rt: &R, task: &mut Task<'_, S>) -> Collected
+    ensures { task.new.number ≡ task.old.number }
+{
     let value = awaited(rt, task)?;
     Some((value.unit(), value.code()))
 }
 
-/// What the task does: with unit 0 held up it issues to both, and collects of unit 1; then it lets unit 0 go, and
-/// collects of it.
-fn exchange<S: Site, R: Wait + AllocGlobal>(
+/// What the task does: with unit 0 held up it issues two requests to it and one to unit 1, and collects of unit 1; then
+/// it lets unit 0 go, and collects the first post of it.
+fn exchange<S: Site, R: Wait>(
     rt: &R,
+    alloc: Global,
     task: &mut Task<'_, S>,
     barrier: &Barrier,
-) -> Option<[(u16, Code); 2]>
+) -> Result<[Collected; 2], AllocError>
     requires { S.rows.units ≡ 2 }
+    ensures { task.new.number ≡ task.old.number }
 {
     if !is_set(&barrier.reached) {
-        return None;
+        return Ok([None, None]);
     }
-    issue(rt, rt.alloc(), task, 0, Kind::Tape).ok()?.ok()?;
-    issue(rt, rt.alloc(), task, 1, Kind::Tape).ok()?.ok()?;
-    let first = collected(rt, task)?;
+    let _ = issue(rt, alloc, task, 0, Kind::Tape)?;
+    let _ = issue(rt, alloc, task, 0, Kind::Tape)?;
+    let _ = issue(rt, alloc, task, 1, Kind::Tape)?;
+    let first = collected(rt, task);
     barrier.let_go.store(true, Ordering::SeqCst);
-    let second = collected(rt, task)?;
-    Some([first, second])
+    let second = collected(rt, task);
+    Ok([first, second])
 }
 
-/// Serves each unit by a channel worker of its own and all notices by a handler, until the task has ended.
-fn served<'r, S: Site + Send + Sync, R: Threads + Wait + Sync + AllocGlobal>(
-    rt: &R,
-    system: &System<'r, S, ToyBlock>,
-    handlers: &mut [IscTaker<'r, S>],
-    task: &mut Task<'r, S>,
-    barrier: &Barrier,
-) -> Option<[(u16, Code); 2]>
+/// Starts a channel worker for each unit, and a handler, each on a thread of its own.
+fn start<'s, 'r, S: Site + Send + Sync, R: Threads + Wait + Sync, E>(
+    rt: &'s R,
+    scope: &Scope<'s, E>,
+    system: &'s System<'r, S, ToyBlock>,
+    handlers: Vec<IscTaker<'r, S>>,
+    barrier: &'s Barrier,
+) -> Result<(), AllocError>
     requires { S.rows.units ≡ 2 }
 {
-    let stop = Stop::new();
-    let ((), ((), ((), got))) = join(
-        rt,
-        || -> ()
+    scope.spawn(
+        move || -> ()
             requires { S.rows.units ≡ 2 }
-        { serve_channel(rt, system, &[0], barrier, &stop) },
-        || -> ((), ((), Option<[(u16, Code); 2]>))
+        { serve_channel(rt, system, &[0], barrier, &barrier.stop) },
+    )?;
+    scope.spawn(
+        move || -> ()
             requires { S.rows.units ≡ 2 }
-        {
-            join(
-                rt,
-                || -> ()
-                    requires { S.rows.units ≡ 2 }
-                { serve_channel(rt, system, &[1], barrier, &stop) },
-                || -> ((), Option<[(u16, Code); 2]>)
-                    requires { S.rows.units ≡ 2 }
-                {
-                    join(
-                        rt,
-                        || serve_isc(rt, system, handlers, &OpenGate, &stop),
-                        || -> Option<[(u16, Code); 2]>
-                            requires { S.rows.units ≡ 2 }
-                        {
-                            let got = exchange(rt, task, barrier);
-                            stop.raise();
-                            got
-                        },
-                    )
-                },
-            )
-        },
-    );
-    got
+        { serve_channel(rt, system, &[1], barrier, &barrier.stop) },
+    )?;
+    scope.spawn(move || serve_handlers(rt, system, handlers, &barrier.stop))?;
+    Ok(())
 }
 
-/// Whether nobody purged, closed or reset a unit.
-fn is_left_alone<S: Site, R: Wait>(rt: &R, system: &System<'_, S, ToyBlock>, unit: u16) -> bool
-    requires { unit < S.rows.units }
+/// Starts the workers and runs the task beside them. Where a worker cannot be started the task does not run.
+fn serve<'s, 'r, S: Site + Send + Sync, R: Threads + Wait + Sync, E>(
+    rt: &'s R,
+    alloc: Global,
+    scope: &Scope<'s, E>,
+    system: &'s System<'r, S, ToyBlock>,
+    handlers: Vec<IscTaker<'r, S>>,
+    mut tasks: Vec<Task<'r, S>>,
+    barrier: &'s Barrier,
+) -> Result<Served<'r, S>, AllocError>
+    requires tasks { ArePlaced (λ task. task.number) S.rows.tasks tasks.items }
+    requires one { S.rows.tasks ≡ 1 }
+    requires two { S.rows.units ≡ 2 }
+    ensures { IfOk result (λ served. ArePlaced (λ task. task.number) S.rows.tasks served.0.items) }
 {
-    is_undisturbed(system.lock_of(unit).lock(rt).book().trace())
+    start(rt, scope, system, handlers, barrier)?;
+    let task = &mut tasks[0];
+    let got = exchange(rt, alloc, task, barrier)?;
+    Ok((tasks, got))
 }
 
-fn steps<S: Site + Send + Sync, R: Threads + Wait + Sync + Abort + AllocGlobal>(
+/// Runs the task beside the workers, and stops and joins these.
+fn served<'r, S: Site + Send + Sync, R: Threads + Wait + Sync>(
+    rt: &R,
+    alloc: Global,
+    system: &System<'r, S, ToyBlock>,
+    handlers: Vec<IscTaker<'r, S>>,
+    tasks: Vec<Task<'r, S>>,
+    barrier: &Barrier,
+) -> Result<Served<'r, S>, AllocError>
+    requires tasks { ArePlaced (λ task. task.number) S.rows.tasks tasks.items }
+    requires one { S.rows.tasks ≡ 1 }
+    requires two { S.rows.units ≡ 2 }
+    ensures { IfOk result (λ served. ArePlaced (λ task. task.number) S.rows.tasks served.0.items) }
+{
+    thread::scope(
+        thread::scope_env(),
+        rt,
+        move |scope| -> Result<Served<'_, S>, AllocError>
+            requires tasks { ArePlaced (λ task. task.number) S.rows.tasks tasks.items }
+            requires one { S.rows.tasks ≡ 1 }
+            requires two { S.rows.units ≡ 2 }
+            ensures { IfOk result (λ served. ArePlaced (λ task. task.number) S.rows.tasks served.0.items) }
+        {
+            let result = serve(rt, alloc, scope, system, handlers, tasks, barrier);
+            barrier.lift();
+            result
+        },
+    )
+}
+
+/// The report of the run.
+fn ended<S: Site + Send + Sync, R: Threads + Wait + Sync + Abort + AllocGlobal>(
     rt: &R,
     rows: &mut Rows,
     books: Vec<UnitBook<ToyBlock>>,
-) -> Result<(), Fail>
+) -> Result<Report<ToyBlock>, AllocError>
     requires site { S.rows ≡ site_of rows.old }
     requires fresh { AreFresh rows.old }
     requires books { AreBooks S.rows.units books.items }
+    requires one { S.rows.tasks ≡ 1 }
     requires two { S.rows.units ≡ 2 }
+    ensures { IfOk result (λ report. IsFor 2 1 report) }
 {
-    let (system, mut tasks, mut handlers) = System::<S, ToyBlock>::new(rt.alloc(), rows, books)?;
-    let task = tasks.first_mut().ok_or(AllocError)?;
+    let (system, tasks, handlers) = System::<S, ToyBlock>::new(rt.alloc(), rows, books)?;
     let barrier = Barrier::new();
-    let got = served(rt, &system, handlers.as_mut_slice(), task, &barrier);
-    assert_eq!(rt; got, Some([(1, Code::Ended), (0, Code::Ended)]));
+    let (tasks, got) = served(rt, rt.alloc(), &system, handlers, tasks, &barrier)?;
+    assert_eq!(rt; got, [Some((1, Code::Ended)), Some((0, Code::Ended))]);
     assert!(rt;
         !barrier.gave_up.load(Ordering::SeqCst),
         "it was held up to the end"
     );
-    assert!(rt; is_left_alone(rt, &system, 0));
-    assert!(rt; is_left_alone(rt, &system, 1));
-    Ok(())
+    match finish(rt, rt.alloc(), system, tasks) {
+        Ok(report) => Ok(report),
+        Err(_) => Err(AllocError),
+    }
 }
 
+/// The end of the run gives the post that the task has not collected.
 #[test]
 fn units_run_side_by_side(rt: HostRuntime) -> Result<(), Fail> {
-    let mut rows = Rows::new(rt.alloc(), 1, 2, 1, 2)?;
-    let books = tapes(rt.alloc(), 1)?;
-    steps::<Brand, _>(&rt, &mut rows, books)
+    let mut rows = Rows::new(rt.alloc(), 1, 2, 2, 2)?;
+    let books = tapes(rt.alloc(), 2)?;
+    let report = ended::<Brand, _>(&rt, &mut rows, books)?;
+    let first = listed(rt.alloc(), &report, 0)?;
+    assert_eq!(rt; first.as_slice(), [(2, Code::Ended, 0xC1)].as_slice());
+    let second = listed(rt.alloc(), &report, 1)?;
+    assert_eq!(rt; second.len(), 0);
+    for book in report.units() {
+        assert!(rt; is_undisturbed(book.trace()));
+    }
+    Ok(())
 }

@@ -1,5 +1,5 @@
 use Rattle.excp_system.specs.Opening.{site_of}
-use Rattle.system_tests.proofs.units.calls.purge_of_a_task_lets_active_end.Given as goal
+use Rattle.system_tests.proofs.units.task_purges.purge_of_a_task_halts.Given as goal
 
 -- the site of these rows
 abbrev pub ghosts-run : goal.ghosts-run
