@@ -353,10 +353,21 @@ fn purges_and_closes_through_a_lock(rt: HostRuntime) -> Result<(), Fail> {
 #[test]
 fn related_requests_through_a_lock(rt: HostRuntime) -> Result<(), Fail> {
     let again = tables::TRIED_AGAIN;
-    let mut all = vec![in rt.alloc(); again; 11]?;
-    all[0] = tables::RELATED;
-    all.push(tables::FLAGGED)?;
-    all.push(tables::RESET)?;
+    let all = [
+        tables::RELATED,
+        again,
+        again,
+        again,
+        again,
+        again,
+        again,
+        again,
+        again,
+        again,
+        again,
+        tables::FLAGGED,
+        tables::RESET,
+    ];
     expect_steps(&rt, FAILS, 3, 5, &all)?;
     expect_steps(&rt, DISK, 3, 3, &[tables::VIOLATION])
 }

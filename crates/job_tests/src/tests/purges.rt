@@ -1,6 +1,8 @@
 //! Purges of programs that go on and of requests that wait: what is printed is one of a few things, and a run is
 //! repeated until a purge has met both.
 
+ghost use Rattle.std.specs.Prelude.{◌≤◌};
+
 use super::*;
 use std::alloc::AllocError;
 
@@ -141,13 +143,26 @@ fn are_two_reads(output: &str) -> bool {
     is_read(first.strip_prefix("post 1 0 1 ")) && is_read(second.strip_prefix("post 1 0 2 "))
 }
 
+/// Runs the script 25 times by so many workers.
+fn expect_two_reads<R: Threads + Wait + Sync + Abort + AllocGlobal>(
+    rt: &R,
+    channels: u8,
+    handlers: u8,
+) -> Result<(), Fail>
+    requires channels { (1 ≤ channels) × (channels ≤ 16) }
+    requires handlers { (1 ≤ handlers) × (handlers ≤ 8) }
+{
+    for _ in 0..25 {
+        let output = String::from_utf8(printed(rt, TWO_TASKS.as_bytes(), channels, handlers)?)?;
+        assert!(rt; are_two_reads(&output), "{output}");
+    }
+    Ok(())
+}
+
 #[test]
 fn a_task_purges_another(rt: HostRuntime) -> Result<(), Fail> {
-    for run in 0..100 {
-        let workers = [(1, 1), (2, 3), (4, 2), (16, 8)];
-        let (channels, handlers) = workers[run % 4];
-        let output = String::from_utf8(printed(&rt, TWO_TASKS.as_bytes(), channels, handlers)?)?;
-        assert!(rt; are_two_reads(&output), "{output}");
+    for (channels, handlers) in [(1, 1), (2, 3), (4, 2), (16, 8)] {
+        expect_two_reads(&rt, channels, handlers)?;
     }
     Ok(())
 }
