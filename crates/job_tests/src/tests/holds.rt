@@ -282,12 +282,12 @@ fn done<'r, S: Site, R: Wait + Abort + AllocGlobal>(
     Ok((String::from_str(rt.alloc(), word)?, number))
 }
 
-/// Does the steps of tables, one after another, on a system of one task and one unit.
+/// Does the steps of a table on a system of one task and one unit.
 fn steps<S: Site, R: Wait + Abort + AllocGlobal>(
     rt: &R,
     rows: &mut Rows,
     books: Vec<UnitBook<UnitDevice>>,
-    tables: &[&[(Step, Told)]],
+    table: &[(Step, Told)],
 ) -> Result<(), Fail>
     requires site { S.rows ≡ site_of rows.old }
     requires fresh { AreFresh rows.old }
@@ -296,20 +296,22 @@ fn steps<S: Site, R: Wait + Abort + AllocGlobal>(
 {
     let (system, mut tasks, _) = System::<S, UnitDevice>::new(rt.alloc(), rows, books)?;
     let task = tasks.first_mut().ok_or(AllocError)?;
-    for (place, (step, wanted)) in tables.iter().flat_map(|table| table.iter()).enumerate() {
+    let mut place: usize = 0;
+    for (step, wanted) in table {
         let (told, number) = done(rt, &system, task, *step)?;
         assert_eq!(rt; (told.as_str(), number), *wanted, "step {place}");
+        place = place.saturating_add(1);
     }
     Ok(())
 }
 
-/// Does the steps of tables on the unit of a script, each of its rows with room for so many, and its book for so many.
+/// Does the steps of a table on the unit of a script, each of its rows with room for so many, and its book for so many.
 fn expect_steps<R: Wait + Abort + AllocGlobal>(
     rt: &R,
     script: &str,
     row: usize,
     book: usize,
-    tables: &[&[(Step, Told)]],
+    table: &[(Step, Told)],
 ) -> Result<(), Fail>
     requires row_some { 1 ≤ row }
     requires row_few { row ≤ 65536 }
@@ -322,54 +324,40 @@ fn expect_steps<R: Wait + Abort + AllocGlobal>(
     if books.len() != 1 {
         return Err(Fail::from("no unit"));
     }
-    steps::<Brand, R>(rt, &mut rows, books, tables)
+    steps::<Brand, R>(rt, &mut rows, books, table)
 }
 
 /// Each of the purges or closes of a case.
 fn expect_case<R: Wait + Abort + AllocGlobal>(rt: &R, case: &Case) -> Result<(), Fail> {
     let script = if case.fails_once { FAILS_ONCE } else { DISK };
     for step in case.steps {
-        let purge = [(*step, case.answer)];
-        expect_steps(
-            rt,
-            script,
-            3,
-            3,
-            &[case.before, purge.as_slice(), case.behind],
-        )?;
+        let mut table = case.before.to_vec(rt.alloc())?;
+        table.push((*step, case.answer))?;
+        table.extend_from_slice(case.behind)?;
+        expect_steps(rt, script, 3, 3, &table)?;
     }
     Ok(())
 }
 
 #[test]
 fn purges_and_closes_through_a_lock(rt: HostRuntime) -> Result<(), Fail> {
-    expect_steps(&rt, DISK, 3, 3, &[tables::HALT_AT_EACH_PLACE])?;
-    expect_steps(&rt, DISK, 3, 3, &[tables::BY_COMMANDS])?;
-    expect_steps(&rt, DISK, 3, 3, &[tables::QUIESCE])?;
-    expect_steps(&rt, DISK, 1, 1, &[tables::UNKNOWN])?;
-    expect_steps(&rt, FAILS_ONCE, 3, 3, &[tables::CLOSE])
+    expect_steps(&rt, DISK, 3, 3, tables::HALT_AT_EACH_PLACE)?;
+    expect_steps(&rt, DISK, 3, 3, tables::BY_COMMANDS)?;
+    expect_steps(&rt, DISK, 3, 3, tables::QUIESCE)?;
+    expect_steps(&rt, DISK, 1, 1, tables::UNKNOWN)?;
+    expect_steps(&rt, FAILS_ONCE, 3, 3, tables::CLOSE)
 }
 
 #[test]
 fn related_requests_through_a_lock(rt: HostRuntime) -> Result<(), Fail> {
-    let again = tables::TRIED_AGAIN;
-    let all = [
-        tables::RELATED,
-        again,
-        again,
-        again,
-        again,
-        again,
-        again,
-        again,
-        again,
-        again,
-        again,
-        tables::FLAGGED,
-        tables::RESET,
-    ];
-    expect_steps(&rt, FAILS, 3, 5, &all)?;
-    expect_steps(&rt, DISK, 3, 3, &[tables::VIOLATION])
+    let mut table = tables::RELATED.to_vec(rt.alloc())?;
+    for _ in 0..10 {
+        table.extend_from_slice(tables::TRIED_AGAIN)?;
+    }
+    table.extend_from_slice(tables::FLAGGED)?;
+    table.extend_from_slice(tables::RESET)?;
+    expect_steps(&rt, FAILS, 3, 5, &table)?;
+    expect_steps(&rt, DISK, 3, 3, tables::VIOLATION)
 }
 
 #[test]
@@ -382,6 +370,6 @@ fn purges_at_each_phase(rt: HostRuntime) -> Result<(), Fail> {
 
 #[test]
 fn rows_and_books_with_room_for_one(rt: HostRuntime) -> Result<(), Fail> {
-    expect_steps(&rt, DISK, 1, 1, &[tables::ROOM_FOR_ONE])?;
-    expect_steps(&rt, DISK, 1, 2, &[tables::FULL_POST_ROW])
+    expect_steps(&rt, DISK, 1, 1, tables::ROOM_FOR_ONE)?;
+    expect_steps(&rt, DISK, 1, 2, tables::FULL_POST_ROW)
 }
