@@ -18,6 +18,7 @@ use std::test::Fail;
 use std::thread::Threads;
 use tapes_and_printers::TAPES_AND_PRINTERS;
 
+mod at_random;
 mod controls;
 mod disks;
 mod further;

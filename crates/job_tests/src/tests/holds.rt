@@ -4,36 +4,51 @@ ghost use Rattle.std.specs.Prelude.{◌≡◌, ◌<◌, ◌≤◌};
 ghost use Rattle.excp_system.specs.Opening.{AreBooks, AreFresh, site_of};
 ghost use Rattle.job_script.specs.Books.{IsFresh};
 
+use cases::{CASES, Case};
 use excp_system::{Delivery, Intake, Rows, Site, System, Task, UnitState};
 use fifo_row::Full;
 use io_area::Area;
-use io_images::Code;
+use io_images::{Code, Ecb, Extent, Iob};
 use job_script::Script;
-use request_piece::{Name, Request};
+use request_piece::{Posted, Request};
 use std::alloc::{AllocError, Global};
 use std::marker::Brand;
 use std::process::Abort;
 use std::sync::Wait;
 use std::test::Fail;
-use unit_book::{Closing, DcbError, Interruption, Mode, Purging, Running, Starting, UnitBook};
+use unit_book::{
+    Closing, DcbError, Interruption, Mode, OpenError, Purging, Running, Starting, UnitBook,
+};
 use unit_device::UnitDevice;
 
-/// One task, and a disk of one track with R1, whose data are C1C2C3C4; DCBs 1 and 2 for output.
-const DISK: &str = "tasks 1
-disk 0 0 1 1 40
-rec 0 0 0 1 - C1C2C3C4
-open 0 out 18000000000000000000000000000001
-open 0 out 18000000000000000000000000000001
-";
+mod cases;
+mod tables;
+
+/// One task, and a disk of one track with R1, whose data are C1C2C3C4.
+const DISK: &str = "tasks 1\ndisk 0 0 1 1 40\nrec 0 0 0 1 - C1C2C3C4\n";
 
 /// The same disk, whose first command fails once.
-const FAILS_ONCE: &str = "tasks 1
+const FAILS_ONCE: &str = "tasks 1\ndisk 0 0 1 1 40\nrec 0 0 0 1 - C1C2C3C4\nfault 0 1 0E 00 1000\n";
+
+/// The same disk, whose first eleven commands fail.
+const FAILS: &str = "tasks 1
 disk 0 0 1 1 40
 rec 0 0 0 1 - C1C2C3C4
-fault 0 1 0E 00 1000
-open 0 out 18000000000000000000000000000001
-open 0 out 18000000000000000000000000000001
+fault 0 1 0E 00 0800
+fault 0 2 0E 00 0800
+fault 0 3 0E 00 0800
+fault 0 4 0E 00 0800
+fault 0 5 0E 00 0800
+fault 0 6 0E 00 0800
+fault 0 7 0E 00 0800
+fault 0 8 0E 00 0800
+fault 0 9 0E 00 0800
+fault 0 10 0E 00 0800
+fault 0 11 0E 00 0800
 ";
+
+/// The one track.
+const EXTENT: [u8; 16] = [0x18, 0, 0, 0, 0, 0, 0, 0, 0, 0, 0, 0, 0, 0, 0, 1];
 
 /// An unrelated IOB, its ECB, and search, transfer back and read data, from X'1000' on.
 const IMAGE: [u8; 104] = [
@@ -43,161 +58,105 @@ const IMAGE: [u8; 104] = [
     0, 0, 0, 1, 0, 0, 0, 0, 0, 0, 0, 0, 0, 0, 0, 0, 0, 0, 0, 0, 0, 0, 0,
 ];
 
-/// A step of the task or of the unit. An EXCP is of the next request, for this DCB.
+/// A step of the task or of the unit.
 #[derive(Clone, Copy)]
 enum Step {
+    /// The next request, for this DCB: unrelated, related, or related and outside its extents.
     Excp(u8),
+    Related(u8),
+    Outside(u8),
+    Collect,
     Take,
     Start,
     Run(u16),
     Interrupt,
     Deliver,
-    Collect,
-    Quiesce(u16),
-    Halt(u16),
-    HaltTask,
+    /// Opens the next DCB for output.
+    Open,
+    Flag(u16),
+    Purge(u16, Mode),
+    PurgeTask(u16, Mode),
     Close(u16),
     Reset(u16),
 }
 
-/// What a step answers: a word, and the number of a request, of commands, or the address that was posted.
+/// What a step answers: a word or a post, and the number of a request, of a DCB or of commands.
 type Told = (&'static str, u32);
 
-use Step::{
-    Close, Collect, Deliver, Excp, Halt, HaltTask, Interrupt, Quiesce, Reset, Run, Start, Take,
-};
+/// The IOB, ECB and program of a request, with its data.
+fn image(step: Step) -> [u8; 104] {
+    let mut image = IMAGE;
+    match step {
+        Step::Excp(dcb) => image[23] = dcb,
+        Step::Related(dcb) => {
+            image[0] = 0x40;
+            image[23] = dcb;
+        }
+        Step::Outside(dcb) => {
+            image[0] = 0x40;
+            image[23] = dcb;
+            image[32] = 1;
+        }
+        _ => {}
+    }
+    image
+}
 
-/// `halt_before_during_and_after`
-const HALTS: &[(Step, Told)] = &[
-    (Excp(1), ("sent", 1)),
-    (Take, ("took", 1)),
-    (Start, ("started", 1)),
-    (Halt(1), ("active", 1)),
-    (Interrupt, ("purged", 1)),
-    (Deliver, ("delivered", 1)),
-    (Collect, ("purged", 0x1030)),
-    (Excp(1), ("sent", 2)),
-    (Take, ("took", 2)),
-    (Start, ("started", 2)),
-    (Run(1), ("runs", 1)),
-    (Halt(1), ("active", 2)),
-    (Run(1), ("quiet", 0)),
-    (Interrupt, ("purged", 2)),
-    (Deliver, ("delivered", 2)),
-    (Collect, ("purged", 0x1038)),
-    (Excp(1), ("sent", 3)),
-    (Take, ("took", 3)),
-    (Start, ("started", 3)),
-    (Run(16), ("pending", 3)),
-    (Halt(1), ("active", 3)),
-    (Interrupt, ("ended", 3)),
-    (Deliver, ("delivered", 3)),
-    (Collect, ("ended", 0x1048)),
-];
+/// Issues a request to the unit. One that is handed back is as it was made.
+fn issued<S: Site, R: Wait>(
+    rt: &R,
+    alloc: Global,
+    task: &mut Task<'_, S>,
+    image: &[u8; 104],
+) -> Option<Told>
+    requires { 0 < S.rows.units }
+{
+    let name = task.name(0)?;
+    let area = Area::new(alloc, 0x1000, image).ok()?;
+    let dcb = u16::from(image[23]);
+    let request = Request::new(alloc, name, 0, dcb, 0x1000, area).ok()?;
+    match task.excp(rt, request) {
+        Ok(()) => Some(("sent", name.seq)),
+        Err(Full(request)) if request.area().get(0x1000, 104) == Some(image.as_slice()) => {
+            Some(("full", request.name().seq))
+        }
+        Err(_) => Some(("changed", 0)),
+    }
+}
 
-/// `quiesce_lets_active_end`
-const QUIESCE: &[(Step, Told)] = &[
-    (Excp(1), ("sent", 1)),
-    (Excp(1), ("sent", 2)),
-    (Excp(2), ("sent", 3)),
-    (Take, ("took", 1)),
-    (Start, ("started", 1)),
-    (Take, ("took", 2)),
-    (Take, ("took", 3)),
-    (Quiesce(1), ("active", 1)),
-    (Deliver, ("delivered", 2)),
-    (Collect, ("purged", 0)),
-    (Run(16), ("pending", 3)),
-    (Interrupt, ("ended", 1)),
-    (Deliver, ("delivered", 1)),
-    (Collect, ("ended", 0x1048)),
-    (Start, ("started", 3)),
-    (Run(16), ("pending", 3)),
-    (Interrupt, ("ended", 3)),
-    (Deliver, ("delivered", 3)),
-    (Collect, ("ended", 0x1048)),
-    (Start, ("idle", 0)),
-];
+/// The word at an address.
+fn word_at(area: &Area, at: u32) -> Option<u32> {
+    let mut image = [0; 4];
+    image.copy_from_slice(area.get(at, 4)?);
+    Some(Ecb::read(&image).word)
+}
 
-/// `unknown_dcb`
-const UNKNOWN: &[(Step, Told)] = &[
-    (Excp(9), ("sent", 1)),
-    (Take, ("took", 1)),
-    (Start, ("idle", 0)),
-    (Deliver, ("delivered", 1)),
-    (Collect, ("purged", 0)),
-    (Reset(9), ("unknown", 9)),
-    (Quiesce(9), ("unknown", 9)),
-    (Halt(9), ("unknown", 9)),
-    (Close(9), ("unknown", 9)),
-];
-
-/// `close_lets_active_retry`
-const CLOSE: &[(Step, Told)] = &[
-    (Excp(1), ("sent", 1)),
-    (Excp(1), ("sent", 2)),
-    (Take, ("took", 1)),
-    (Take, ("took", 2)),
-    (Start, ("started", 1)),
-    (Run(16), ("pending", 1)),
-    (Interrupt, ("again", 1)),
-    (Run(16), ("quiet", 0)),
-    (Close(1), ("closing", 1)),
-    (Deliver, ("delivered", 2)),
-    (Collect, ("purged", 0)),
-    (Reset(1), ("unknown", 1)),
-    (Start, ("started", 1)),
-    (Run(16), ("pending", 3)),
-    (Interrupt, ("ended", 1)),
-    (Deliver, ("delivered", 1)),
-    (Collect, ("ended", 0x1048)),
-    (Close(1), ("closed", 0)),
-    (Excp(1), ("sent", 3)),
-    (Take, ("took", 3)),
-    (Start, ("idle", 0)),
-    (Deliver, ("delivered", 3)),
-    (Collect, ("purged", 0)),
-];
-
-/// A request that would be tried again is posted as purged, at once where it awaits its restart.
-const HALT_OF_A_RETRY: &[(Step, Told)] = &[
-    (Excp(1), ("sent", 1)),
-    (Take, ("took", 1)),
-    (Start, ("started", 1)),
-    (Start, ("busy", 0)),
-    (Run(16), ("pending", 1)),
-    (Interrupt, ("again", 1)),
-    (Interrupt, ("quiet", 0)),
-    (HaltTask, ("quiet", 0)),
-    (Deliver, ("delivered", 1)),
-    (Collect, ("purged", 0x1038)),
-    (Start, ("idle", 0)),
-];
-
-/// `full_intake_row`, `full_book`, `full_post_row`: each with room for one.
-const FULL: &[(Step, Told)] = &[
-    (Excp(1), ("sent", 1)),
-    (Excp(1), ("full", 2)),
-    (Take, ("took", 1)),
-    (Excp(1), ("sent", 2)),
-    (Take, ("held", 0)),
-    (Start, ("started", 1)),
-    (Run(16), ("pending", 3)),
-    (Interrupt, ("ended", 1)),
-    (Take, ("held", 0)),
-    (Deliver, ("delivered", 1)),
-    (Deliver, ("quiet", 0)),
-    (Take, ("took", 2)),
-    (Excp(1), ("sent", 3)),
-    (HaltTask, ("quiet", 0)),
-    (Deliver, ("full", 2)),
-    (Collect, ("ended", 0x1048)),
-    (Deliver, ("delivered", 2)),
-    (Collect, ("purged", 0)),
-    (Collect, ("none", 0)),
-    (Take, ("took", 3)),
-    (Take, ("held", 0)),
-];
+/// How a request ended: completion code, CCW address, both status bytes, residual count and sense, which stand in the
+/// IOB too; then the ECB, and what was read.
+fn end_of<R: Abort + AllocGlobal>(rt: &R, value: &Posted) -> Result<String, Fail> {
+    let area = value.area();
+    let mut image = [0; 40];
+    image.copy_from_slice(area.get(0x1000, 40).ok_or("no IOB")?);
+    let iob = Iob::read(&image);
+    let code = value.code();
+    let csw = value.csw();
+    let sense = value.sense();
+    assert_eq!(rt;
+        (iob.completion, iob.csw, iob.sense),
+        (code.byte(), csw, sense)
+    );
+    assert_eq!(rt; iob.io_error, code != Code::Ended);
+    let ecb = word_at(area, 0x1028).ok_or("no ECB")?;
+    let read = word_at(area, 0x1060).ok_or("no data")?;
+    Ok(format!(in rt.alloc();
+        "{:02X} {:06X} {:02X}{:02X} {:04X} {sense:04X} {ecb:08X} {read:08X}",
+        code.byte(),
+        csw.address.get(),
+        csw.unit.bits(),
+        csw.sub.bits(),
+        csw.residual
+    )?)
+}
 
 /// The word for a completion code.
 fn word(code: Code) -> &'static str {
@@ -208,32 +167,6 @@ fn word(code: Code) -> &'static str {
     }
 }
 
-/// A step of the task.
-fn by_task<S: Site, R: Wait>(
-    rt: &R,
-    alloc: Global,
-    task: &mut Task<'_, S>,
-    step: Step,
-) -> Option<Told>
-    requires { 0 < S.rows.units }
-{
-    if let Excp(dcb) = step {
-        let name = task.name(0)?;
-        let mut image = IMAGE;
-        image[23] = dcb;
-        let area = Area::new(alloc, 0x1000, &image).ok()?;
-        let request = Request::new(alloc, name, 0, u16::from(dcb), 0x1000, area).ok()?;
-        return match task.excp(rt, request) {
-            Ok(()) => Some(("sent", name.seq)),
-            Err(Full(request)) => Some(("full", request.name().seq)),
-        };
-    }
-    match task.take_post(rt) {
-        Some(value) => Some((word(value.code()), value.csw().address.get())),
-        None => Some(("none", 0)),
-    }
-}
-
 /// A step of the unit that its workers do.
 fn by_worker<S: Site, R: Wait>(
     rt: &R,
@@ -241,24 +174,24 @@ fn by_worker<S: Site, R: Wait>(
     step: Step,
 ) -> Option<Told> {
     match step {
-        Take => match unit.take(rt).ok()? {
+        Step::Take => match unit.take(rt).ok()? {
             Intake::Held => Some(("held", 0)),
             Intake::Quiet => Some(("quiet", 0)),
             Intake::Took(name) => Some(("took", name.seq)),
         },
-        Start => match unit.start().ok()? {
+        Step::Start => match unit.start().ok()? {
             Starting::Busy => Some(("busy", 0)),
             Starting::Idle => Some(("idle", 0)),
             Starting::Started(name) => Some(("started", name.seq)),
             Starting::Violated(name) => Some(("violated", name.seq)),
         },
-        Run(max) => match unit.run(rt, u32::from(max).max(1)).ok()? {
+        Step::Run(max) => match unit.run(rt, u32::from(max).max(1)).ok()? {
             Running::Quiet => Some(("quiet", 0)),
             Running::Ran { commands, pending } => {
                 Some((if pending { "pending" } else { "runs" }, commands))
             }
         },
-        Interrupt => match unit.interrupt().ok()? {
+        Step::Interrupt => match unit.interrupt().ok()? {
             Interruption::Quiet => Some(("quiet", 0)),
             Interruption::Again(name) => Some(("again", name.seq)),
             Interruption::Ended(name, code) => Some((word(code), name.seq)),
@@ -287,35 +220,69 @@ fn refused(error: DcbError, dcb: u16) -> Option<Told> {
     }
 }
 
-/// A purge, a close or a reset.
+/// An opening, a purge, a close or a reset, or a look at a flag.
 fn by_control<S: Site, R: Wait>(
     rt: &R,
     unit: &mut UnitState<'_, S, UnitDevice>,
     step: Step,
 ) -> Option<Told> {
     match step {
-        Quiesce(dcb) => match unit.purge(rt, dcb, Mode::Quiesce) {
+        Step::Open => match unit.open(false, &[Extent::read(&EXTENT)]) {
+            Ok(dcb) => Some(("opened", u32::from(dcb))),
+            Err(OpenError::NoMemory) => None,
+            Err(_) => Some(("not opened", 0)),
+        },
+        Step::Flag(dcb) => {
+            let flag = unit.book().dcb_flag(dcb);
+            Some((if flag { "11" } else { "00" }, u32::from(dcb)))
+        }
+        Step::Purge(dcb, mode) => match unit.purge(rt, dcb, mode) {
             Ok(answer) => Some(purged(answer)),
             Err(error) => refused(error, dcb),
         },
-        Halt(dcb) => match unit.purge(rt, dcb, Mode::Halt) {
-            Ok(answer) => Some(purged(answer)),
-            Err(error) => refused(error, dcb),
-        },
-        Close(dcb) => match unit.close(dcb) {
+        Step::PurgeTask(task, mode) => Some(purged(unit.purge_task(rt, task, mode).ok()?)),
+        Step::Close(dcb) => match unit.close(dcb) {
             Ok(Closing::Closing(name)) => Some(("closing", name.seq)),
             Ok(Closing::Closed) => Some(("closed", 0)),
             Err(error) => refused(error, dcb),
         },
-        Reset(dcb) => match unit.reset(dcb) {
+        Step::Reset(dcb) => match unit.reset(dcb) {
             Ok(()) => Some(("reset", 0)),
             Err(error) => refused(error, dcb),
         },
-        _ => Some(purged(unit.purge_task(rt, 0, Mode::Halt).ok()?)),
+        _ => None,
     }
 }
 
-/// Does the steps of a table on a system of one task and one unit. Want of memory fails.
+/// Does a step, and tells what it answers. Want of memory fails.
+fn done<'r, S: Site, R: Wait + Abort + AllocGlobal>(
+    rt: &R,
+    system: &System<'r, S, UnitDevice>,
+    task: &mut Task<'r, S>,
+    step: Step,
+) -> Result<(String, u32), Fail>
+    requires { 0 < S.rows.units }
+{
+    let told = match step {
+        Step::Collect => {
+            if let Some(value) = task.take_post(rt) {
+                return Ok((end_of(rt, &value)?, value.name().seq));
+            }
+            Some(("none", 0))
+        }
+        Step::Excp(_) | Step::Related(_) | Step::Outside(_) => {
+            issued(rt, rt.alloc(), task, &image(step))
+        }
+        Step::Take | Step::Start | Step::Run(_) | Step::Interrupt | Step::Deliver => {
+            by_worker(rt, &mut system.lock_of(0).lock(rt), step)
+        }
+        _ => by_control(rt, &mut system.lock_of(0).lock(rt), step),
+    };
+    let (word, number) = told.ok_or("no memory")?;
+    Ok((String::from_str(rt.alloc(), word)?, number))
+}
+
+/// Does the steps of a table on a system of one task and one unit.
 fn steps<S: Site, R: Wait + Abort + AllocGlobal>(
     rt: &R,
     rows: &mut Rows,
@@ -331,48 +298,78 @@ fn steps<S: Site, R: Wait + Abort + AllocGlobal>(
     let task = tasks.first_mut().ok_or(AllocError)?;
     let mut place: usize = 0;
     for (step, wanted) in table {
-        let told = match *step {
-            Excp(_) | Collect => by_task(rt, rt.alloc(), task, *step),
-            Take | Start | Run(_) | Interrupt | Deliver => {
-                by_worker(rt, &mut system.lock_of(0).lock(rt), *step)
-            }
-            _ => by_control(rt, &mut system.lock_of(0).lock(rt), *step),
-        };
-        assert_eq!(rt; told, Some(*wanted), "step {place}");
+        let (told, number) = done(rt, &system, task, *step)?;
+        assert_eq!(rt; (told.as_str(), number), *wanted, "step {place}");
         place = place.saturating_add(1);
     }
     Ok(())
 }
 
-/// Does the steps of a table on the unit of a script, its rows and its book with room for so many.
+/// Does the steps of a table on the unit of a script, each of its rows with room for so many, and its book for so many.
 fn expect_steps<R: Wait + Abort + AllocGlobal>(
     rt: &R,
     script: &str,
-    room: usize,
+    row: usize,
+    book: usize,
     table: &[(Step, Told)],
 ) -> Result<(), Fail>
-    requires some { 1 ≤ room }
-    requires few { room ≤ 65536 }
+    requires row_some { 1 ≤ row }
+    requires row_few { row ≤ 65536 }
+    requires book_some { 1 ≤ book }
+    requires book_few { book ≤ 65536 }
 {
     let script = Script::parse(rt.alloc(), script.as_bytes())?;
-    let books = script.books(rt.alloc(), room)?;
-    let mut rows = Rows::new(rt.alloc(), 1, 1, room, room)?;
+    let books = script.books(rt.alloc(), book)?;
+    let mut rows = Rows::new(rt.alloc(), 1, 1, row, row)?;
     if books.len() != 1 {
         return Err(Fail::from("no unit"));
     }
     steps::<Brand, R>(rt, &mut rows, books, table)
 }
 
+/// Each of the purges or closes of a case.
+fn expect_case<R: Wait + Abort + AllocGlobal>(rt: &R, case: &Case) -> Result<(), Fail> {
+    let script = if case.fails_once { FAILS_ONCE } else { DISK };
+    for step in case.steps {
+        let mut table = case.before.to_vec(rt.alloc())?;
+        table.push((*step, case.answer))?;
+        table.extend_from_slice(case.behind)?;
+        expect_steps(rt, script, 3, 3, &table)?;
+    }
+    Ok(())
+}
+
 #[test]
 fn purges_and_closes_through_a_lock(rt: HostRuntime) -> Result<(), Fail> {
-    expect_steps(&rt, DISK, 3, HALTS)?;
-    expect_steps(&rt, DISK, 3, QUIESCE)?;
-    expect_steps(&rt, DISK, 1, UNKNOWN)?;
-    expect_steps(&rt, FAILS_ONCE, 3, CLOSE)?;
-    expect_steps(&rt, FAILS_ONCE, 1, HALT_OF_A_RETRY)
+    expect_steps(&rt, DISK, 3, 3, tables::HALT_AT_EACH_PLACE)?;
+    expect_steps(&rt, DISK, 3, 3, tables::BY_COMMANDS)?;
+    expect_steps(&rt, DISK, 3, 3, tables::QUIESCE)?;
+    expect_steps(&rt, DISK, 1, 1, tables::UNKNOWN)?;
+    expect_steps(&rt, FAILS_ONCE, 3, 3, tables::CLOSE)
+}
+
+#[test]
+fn related_requests_through_a_lock(rt: HostRuntime) -> Result<(), Fail> {
+    let mut table = tables::RELATED.to_vec(rt.alloc())?;
+    for _ in 0..10 {
+        table.extend_from_slice(tables::TRIED_AGAIN)?;
+    }
+    table.extend_from_slice(tables::FLAGGED)?;
+    table.extend_from_slice(tables::RESET)?;
+    expect_steps(&rt, FAILS, 3, 5, &table)?;
+    expect_steps(&rt, DISK, 3, 3, tables::VIOLATION)
+}
+
+#[test]
+fn purges_at_each_phase(rt: HostRuntime) -> Result<(), Fail> {
+    for case in CASES {
+        expect_case(&rt, case)?;
+    }
+    Ok(())
 }
 
 #[test]
 fn rows_and_books_with_room_for_one(rt: HostRuntime) -> Result<(), Fail> {
-    expect_steps(&rt, DISK, 1, FULL)
+    expect_steps(&rt, DISK, 1, 1, tables::ROOM_FOR_ONE)?;
+    expect_steps(&rt, DISK, 1, 2, tables::FULL_POST_ROW)
 }

@@ -1,6 +1,8 @@
 //! Purges of programs that go on and of requests that wait: what is printed is one of a few things, and a run is
 //! repeated until a purge has met both.
 
+ghost use Rattle.std.specs.Prelude.{◌≤◌};
+
 use super::*;
 use std::alloc::AllocError;
 
@@ -91,9 +93,76 @@ fn expect_purge<R: Threads + Wait + Sync + Abort + AllocGlobal>(
 }
 
 #[test]
-fn purges_meet_waiting_and_active(rt: HostRuntime) -> Result<(), Fail> {
-    expect_purge(&rt, "purge 0 0 1 halt\n", false, true)?;
-    expect_purge(&rt, "purge 0 0 1 quiesce\n", false, false)?;
-    expect_purge(&rt, "purgetask 0 1 halt\n", true, true)?;
+fn halt_of_a_dcb_meets_waiting_and_active(rt: HostRuntime) -> Result<(), Fail> {
+    expect_purge(&rt, "purge 0 0 1 halt\n", false, true)
+}
+
+#[test]
+fn quiesce_of_a_dcb_meets_waiting(rt: HostRuntime) -> Result<(), Fail> {
+    expect_purge(&rt, "purge 0 0 1 quiesce\n", false, false)
+}
+
+#[test]
+fn halt_of_a_task_meets_waiting_and_active(rt: HostRuntime) -> Result<(), Fail> {
+    expect_purge(&rt, "purgetask 0 1 halt\n", true, true)
+}
+
+#[test]
+fn quiesce_of_a_task_meets_waiting(rt: HostRuntime) -> Result<(), Fail> {
     expect_purge(&rt, "purgetask 0 1 quiesce\n", true, false)
+}
+
+/// A disk with R1, of which task 1 reads twice, while task 0 purges its requests.
+const TWO_TASKS: &str = "tasks 2
+disk 0 0 1 1 40
+rec 0 0 0 1 - C1C2C3C4
+open 0 out 18000000000000000000000000000001
+area 0 001000 4200000000001028 0000000000000000 0000103000000001 0000000000000000 0000000000000001 0000000000000000 3100105040000005 0800103000000000 0600106000000004 0000000000000000 0000000001000000 0000000000000000 0000000000000000
+excp 1 0 1 001000 0 001060 4
+excp 1 0 1 001000 0 001060 4
+purgetask 0 1 halt
+";
+
+/// How each read may be printed: it was not purged; it waited; it was halted before its first command, or behind another.
+const READS: [&str; 4] = [
+    "7F 001048 0C00 0000 0000 C1C2C3C4",
+    "48 000000 0000 0000 0000 00000000",
+    "48 001030 0C00 0000 0000 00000000",
+    "48 001038 0C00 0000 0000 00000000",
+];
+
+/// Whether this is printed of two reads of task 1, and nothing else.
+fn are_two_reads(output: &str) -> bool {
+    let Some(output) = output.strip_suffix("\nend 2\n") else {
+        return false;
+    };
+    let Some((first, second)) = output.split_once('\n') else {
+        return false;
+    };
+    let is_read = |end: Option<&str>| end.is_some_and(|end| READS.contains(&end));
+    is_read(first.strip_prefix("post 1 0 1 ")) && is_read(second.strip_prefix("post 1 0 2 "))
+}
+
+/// Runs the script 25 times by so many workers.
+fn expect_two_reads<R: Threads + Wait + Sync + Abort + AllocGlobal>(
+    rt: &R,
+    channels: u8,
+    handlers: u8,
+) -> Result<(), Fail>
+    requires channels { (1 ≤ channels) × (channels ≤ 16) }
+    requires handlers { (1 ≤ handlers) × (handlers ≤ 8) }
+{
+    for _ in 0..25 {
+        let output = String::from_utf8(printed(rt, TWO_TASKS.as_bytes(), channels, handlers)?)?;
+        assert!(rt; are_two_reads(&output), "{output}");
+    }
+    Ok(())
+}
+
+#[test]
+fn a_task_purges_another(rt: HostRuntime) -> Result<(), Fail> {
+    for (channels, handlers) in [(1, 1), (2, 3), (4, 2), (16, 8)] {
+        expect_two_reads(&rt, channels, handlers)?;
+    }
+    Ok(())
 }
