@@ -16,7 +16,6 @@ launch-requires g c =
     let settled = rw (← c.self.view_is) at c.requires.settled in
     let s = rw (← c.self.view_is) at c.requires.fits in
     let t = c.self.invariant.0 in
-    let b = c.in-Some.piece in
     let e = first-found c.in-Some.is c.pop.ensures.first t s.first in
     let f = first-fits m i.mounted s.request (reverse i.trace.items) t.legal settled s.first s.passes in
     let k = fits-device m i.mounted g.met.D.Device.lawful (reverse i.trace.items) s.request.seek f in
