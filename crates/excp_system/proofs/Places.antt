@@ -20,6 +20,9 @@ module _ {A : Type 0} where
   get_seam [] ys x = refl
   get_seam (y ∷ xs) ys x = get_seam xs ys x
 
+  pub get_at_seam : (xs ys : List A) {l : List A} {x : A} → l ≡ xs ++ x ∷ ys → slice_get l (length xs) ≡ Some x
+  get_at_seam xs ys {x = x} e = ap (λ l. slice_get l (length xs)) e ∙ get_seam xs ys x
+
   -- what stands in a list with one more at the end
   pub get_snoc : (xs : List A) (a b : A) (k : ℕ) → slice_get (xs ++ a ∷ []) k ≡ Some b → (slice_get xs k ≡ Some b) ⊎ ((k ≡ length xs) × (a ≡ b))
   get_snoc [] a b zero e = inr (refl, cc e)

@@ -64,8 +64,8 @@ all_map f P xs all = all_at_places P (map f xs) (λ k b e. let m = get_map f xs 
 pub paired_same : {A : Type 0} (P : A → A → Type 0) (xs : List A) → ((x : A) → P x x) → Paired P xs xs
 paired_same P xs same = record { count = refl; each = λ k x y e e'. subst (P x) (some_is x y (sym e ∙ e')) (same x) }
 
-pub paired_more : {A : Type 0} (P : A → A → Type 0) → ((a b c : A) → P a b → P b c → P a c) → (xs ys zs : List A) → Paired P xs ys → Paired P ys zs → Paired P xs zs
-paired_more P trans xs ys zs p q = record {
+pub paired_more : {A : Type 0} (P : A → A → Type 0) → ((a b c : A) → P a b → P b c → P a c) → {xs ys zs : List A} → Paired P xs ys → Paired P ys zs → Paired P xs zs
+paired_more P trans {xs = xs} {ys = ys} {zs = zs} p q = record {
   count = q.count ∙ p.count;
   each = λ k x z e e'. let y = get_there ys zs k z q.count e' in trans x y.0 z (p.each k x y.0 e y.1) (q.each k y.0 z y.1 e');
 }

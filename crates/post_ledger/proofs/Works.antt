@@ -104,8 +104,8 @@ module _ {D : Type 0} where
       (subst (Adds old.book.trace) (sym (ap (λ (b : Book D). b.trace) t.arrives))
       (adds_more old.book.trace H (after_dooms H) (adds_one (Arrive t.request) old.book.trace refl) (adds_posts (doomed H) H)))
 
-  pub placed_units : (count : ℕ) (first units : List (Locked D)) → ArePlaced (λ (v : Locked D). v.unit) count first → Paired Works first units → ArePlaced (λ (v : Locked D). v.unit) count units
-  placed_units count first units placed works = record {
+  pub placed_units : (count : ℕ) {first units : List (Locked D)} → ArePlaced (λ (v : Locked D). v.unit) count first → Paired Works first units → ArePlaced (λ (v : Locked D). v.unit) count units
+  placed_units count {first = first} {units = units} placed works = record {
     count_is = works.count ∙ placed.count_is;
     each = λ k v e. let f = get_there first units k v works.count e in (works.each k f.0 v f.1 e).unit ∙ placed.each k f.0 f.1;
   }
@@ -161,8 +161,8 @@ module _ (units : ℕ) where
     each = λ t w v e e'. subst (λ (q : TaskState). Gathers units w q (lists_of lists t) (lists_of lists t)) (some_is w v (sym e ∙ e')) (gathers_none w (lists_of lists t));
   }
 
-  pub collects_more : (a b c : List TaskState) (k l m : List (List (List PostedState))) → Collects units a b k l → Collects units b c l m → Collects units a c k m
-  collects_more a b c k l m x y = record {
+  pub collects_more : {a b c : List TaskState} {k l m : List (List (List PostedState))} → Collects units a b k l → Collects units b c l m → Collects units a c k m
+  collects_more {a = a} {b = b} {c = c} {k = k} {l = l} {m = m} x y = record {
     count = y.count ∙ x.count;
     each = λ t w v e e'.
         let w' = get_there b c t v y.count e' in
@@ -172,7 +172,7 @@ module _ (units : ℕ) where
   -- one task and its lists go on
   module _ (tasks : List TaskState) (lists : List (List (List PostedState))) (i : ℕ) (old new : TaskState) (from to : List (List PostedState))
       (lt : i < length tasks) (lt' : i < length lists) (at : old ≡ get_or tasks i old) (at' : from ≡ get_or lists i from) where
-    pub collects_set : Gathers units old new from to → Collects units tasks (set tasks i new) lists (set lists i to)
+    collects_set : Gathers units old new from to → Collects units tasks (set tasks i new) lists (set lists i to)
     collects_set step = record {
       count = length-set tasks i new;
       each = λ t w v e e'. dite (ℕ_discrete t i)
@@ -188,9 +188,12 @@ module _ (units : ℕ) where
           subst (λ (q : TaskState × List (List PostedState)). Gathers units w q.0 (lists_of lists t) q.1) (λ j. (w_is j, same j)) (gathers_none w (lists_of lists t)));
     }
 
-  pub placed_tasks : (count : ℕ) (first tasks : List TaskState) (before after : List (List (List PostedState))) → ArePlaced (λ (w : TaskState). w.number) count first → Collects units first tasks before after →
+    pub collects_next : {first : List TaskState} {kept : List (List (List PostedState))} → Collects units first tasks kept lists → Gathers units old new from to → Collects units first (set tasks i new) kept (set lists i to)
+    collects_next so_far step = collects_more so_far (collects_set step)
+
+  pub placed_tasks : (count : ℕ) {first tasks : List TaskState} {before after : List (List (List PostedState))} → ArePlaced (λ (w : TaskState). w.number) count first → Collects units first tasks before after →
       ArePlaced (λ (w : TaskState). w.number) count tasks
-  placed_tasks count first tasks before after placed c = record {
+  placed_tasks count {first = first} {tasks = tasks} placed c = record {
     count_is = c.count ∙ placed.count_is;
     each = λ k v e.
         let w = get_there first tasks k v c.count e in

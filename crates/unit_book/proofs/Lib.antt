@@ -5,6 +5,7 @@ pub mod TraceLaws
 pub mod Same
 pub mod Arrivals
 pub mod Places
+pub mod Found
 pub mod Runs
 pub mod ActivePosts
 pub mod Decisions

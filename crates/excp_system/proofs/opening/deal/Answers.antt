@@ -3,7 +3,7 @@ use Rattle.std.specs.Prelude.{slice_get}
 use Rattle.std.specs.Vec.Iter.{into_iter_items}
 use Rattle.std.proofs.lemmas.Grind.{common_steps}
 use Rattle.fifo_row.specs.Ends.{Sending}
-use Rattle.excp_system.proofs.Places.{get_seam}
+use Rattle.excp_system.proofs.Places.{get_at_seam}
 use Rattle.excp_system.proofs.Deals.{dealt_end, dealt_next, end_is}
 use Rattle.excp_system.proofs.opening.deal.Goals as goal
 
@@ -13,7 +13,7 @@ push-requires g c =
     let i = l.invariant in
     let s = c.in-Some.end in
     let all : c.args.ends.items ≡ l.yielded ++ s ∷ into_iter_items c.next.new.self = first_of (search rules, grind (arith, common_steps)) in
-    let there : slice_get c.args.ends.items l.number ≡ Some s = ap (slice_get c.args.ends.items) i.turn ∙ (ap (λ x. slice_get x (length l.yielded)) all ∙ get_seam l.yielded (into_iter_items c.next.new.self) s) in
+    let there : slice_get c.args.ends.items l.number ≡ Some s = ap (slice_get c.args.ends.items) i.turn ∙ get_at_seam l.yielded (into_iter_items c.next.new.self) all in
     let lt : l.number < length l.fans.items = omega (arith, i.turn, i.dealt.count_is, ap length all, length-append l.yielded (s ∷ into_iter_items c.next.new.self)) in
     end_is (length c.args.ends.items) c.args.place l.number l.fans.items i.dealt c.index_mut.result.now lt c.index_mut.ensures.value g.F.Reach.reached s (c.requires.ends l.number s there)
 
@@ -23,7 +23,7 @@ loop-end-preserved g c =
     let i = l.invariant in
     let s = c.in-Some.end in
     let all : c.args.ends.items ≡ l.yielded ++ s ∷ into_iter_items c.next.new.self = first_of (search rules, grind (arith, common_steps)) in
-    let there : slice_get c.args.ends.items l.number ≡ Some s = ap (slice_get c.args.ends.items) i.turn ∙ (ap (λ x. slice_get x (length l.yielded)) all ∙ get_seam l.yielded (into_iter_items c.next.new.self) s) in
+    let there : slice_get c.args.ends.items l.number ≡ Some s = ap (slice_get c.args.ends.items) i.turn ∙ get_at_seam l.yielded (into_iter_items c.next.new.self) all in
     let lt : l.number < length l.fans.items = omega (arith, i.turn, i.dealt.count_is, ap length all, length-append l.yielded (s ∷ into_iter_items c.next.new.self)) in
     let none : s.sent ≡ [] = ap (λ (x : Sending _). x.sent) (c.requires.ends l.number s there) in
     record {

@@ -5,7 +5,7 @@ use Rattle.std.proofs.lemmas.Grind.{common_steps}
 use Rattle.std.proofs.lemmas.List.{length-drop}
 use Rattle.excp_system.specs.Sites.{notice_rows, end_of}
 use Rattle.excp_system.specs.Fans.{FanState, sent_to}
-use Rattle.excp_system.proofs.Places.{drop_get, drop_next, get_seam}
+use Rattle.excp_system.proofs.Places.{drop_get, drop_next, get_at_seam}
 use Rattle.excp_system.proofs.Makes.{is_unit}
 use Rattle.excp_system.proofs.system.lock_units.Goals as goal
 
@@ -39,7 +39,7 @@ into_end-notice-requires g c =
     let u = length c.loop-book.yielded in
     let fan = c.in-Some-next-3.notice in
     let all : c.args.books.items ≡ c.loop-book.yielded ++ b ∷ into_iter_items c.next.new.self = first_of (search rules, grind (arith, common_steps)) in
-    let there : slice_get c.args.books.items u ≡ Some b = ap (λ l. slice_get l u) all ∙ get_seam c.loop-book.yielded (into_iter_items c.next.new.self) b in
+    let there : slice_get c.args.books.items u ≡ Some b = get_at_seam c.loop-book.yielded (into_iter_items c.next.new.self) all in
     let at = drop_get u c.args.ends.notice.items (into_iter_items c.next-in-loop-book-3.new.self) fan (sym i.notices ∙ c.in-Some-next-3.ensures.items) in
     let eight : length fan.sent ≡ 8 = ap (λ (f : FanState _). length f.sent) (c.args.ends.notice_are.each u fan at) in
     omega (arith, c.from.ensures, c.isc.ensures.is, c.isc.ensures.few, eight)
@@ -52,7 +52,7 @@ new-unit-requires g c =
     let u = length c.loop-book.yielded in
     let fan = c.in-Some-next-3.notice in
     let all : c.args.books.items ≡ c.loop-book.yielded ++ b ∷ into_iter_items c.next.new.self = first_of (search rules, grind (arith, common_steps)) in
-    let there : slice_get c.args.books.items u ≡ Some b = ap (λ l. slice_get l u) all ∙ get_seam c.loop-book.yielded (into_iter_items c.next.new.self) b in
+    let there : slice_get c.args.books.items u ≡ Some b = get_at_seam c.loop-book.yielded (into_iter_items c.next.new.self) all in
     let intake = drop_get u c.args.ends.intake.items (into_iter_items c.next-in-loop-book.new.self) c.in-Some-next.intake (sym i.intakes ∙ c.in-Some-next.ensures.items) in
     let back = drop_get u c.args.ends.back.items (into_iter_items c.next-in-loop-book-2.new.self) c.in-Some-next-2.back (sym i.backs ∙ c.in-Some-next-2.ensures.items) in
     let notice = drop_get u c.args.ends.notice.items (into_iter_items c.next-in-loop-book-3.new.self) fan (sym i.notices ∙ c.in-Some-next-3.ensures.items) in

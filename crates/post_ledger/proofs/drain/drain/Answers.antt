@@ -15,35 +15,35 @@ loop-init g c = record {
 }
 
 pub returns-in_err-work_all-clause-works : goal.returns-in_err-work_all-clause-works
-returns-in_err-work_all-clause-works g c = paired_more Works works_more c.args.units.now.items c.loop.units.items c.work_all.new.units.items c.loop.invariant.works c.work_all.ensures.works
+returns-in_err-work_all-clause-works g c = paired_more Works works_more c.loop.invariant.works c.work_all.ensures.works
 
 pub returns-in_err-gather_all-clause-works : goal.returns-in_err-gather_all-clause-works
-returns-in_err-gather_all-clause-works g c = paired_more Works works_more c.args.units.now.items c.loop.units.items c.work_all.new.units.items c.loop.invariant.works c.work_all.ensures.works
+returns-in_err-gather_all-clause-works g c = paired_more Works works_more c.loop.invariant.works c.work_all.ensures.works
 
 pub returns-in_err-gather_all-clause-collects : goal.returns-in_err-gather_all-clause-collects
-returns-in_err-gather_all-clause-collects g c = collects_more g.S.Site.rows.units c.args.tasks.now.items c.loop.tasks.items c.gather_all.new.tasks.items c.args.posts.now.items c.loop.posts.items c.gather_all.new.posts.items c.loop.invariant.collects c.gather_all.ensures.collects
+returns-in_err-gather_all-clause-collects g c = collects_more g.S.Site.rows.units c.loop.invariant.collects c.gather_all.ensures.collects
 
 pub drained-requires-clause-units : goal.drained-requires-clause-units
 drained-requires-clause-units g c =
     subst (ArePlaced (λ (v : Locked _). v.unit) g.S.Site.rows.units) (sym c.as_slice.ensures.value)
-    (placed_units g.S.Site.rows.units c.args.units.now.items c.work_all.new.units.items c.requires.units (paired_more Works works_more c.args.units.now.items c.loop.units.items c.work_all.new.units.items c.loop.invariant.works c.work_all.ensures.works))
+    (placed_units g.S.Site.rows.units c.requires.units (paired_more Works works_more c.loop.invariant.works c.work_all.ensures.works))
 
 pub drained-requires-clause-tasks : goal.drained-requires-clause-tasks
 drained-requires-clause-tasks g c =
     subst (ArePlaced (λ (w : TaskState). w.number) g.S.Site.rows.tasks) (sym c.as_slice-in-loop.ensures.value)
-    (placed_tasks g.S.Site.rows.units g.S.Site.rows.tasks c.args.tasks.now.items c.gather_all.new.tasks.items c.args.posts.now.items c.gather_all.new.posts.items c.requires.tasks
-    (collects_more g.S.Site.rows.units c.args.tasks.now.items c.loop.tasks.items c.gather_all.new.tasks.items c.args.posts.now.items c.loop.posts.items c.gather_all.new.posts.items c.loop.invariant.collects c.gather_all.ensures.collects))
+    (placed_tasks g.S.Site.rows.units g.S.Site.rows.tasks c.requires.tasks
+    (collects_more g.S.Site.rows.units c.loop.invariant.collects c.gather_all.ensures.collects))
 
 pub returns-then-drained-clause-works : goal.returns-then-drained-clause-works
-returns-then-drained-clause-works g c = paired_more Works works_more c.args.units.now.items c.loop.units.items c.work_all.new.units.items c.loop.invariant.works c.work_all.ensures.works
+returns-then-drained-clause-works g c = paired_more Works works_more c.loop.invariant.works c.work_all.ensures.works
 
 pub returns-then-drained-clause-collects : goal.returns-then-drained-clause-collects
-returns-then-drained-clause-collects g c = collects_more g.S.Site.rows.units c.args.tasks.now.items c.loop.tasks.items c.gather_all.new.tasks.items c.args.posts.now.items c.loop.posts.items c.gather_all.new.posts.items c.loop.invariant.collects c.gather_all.ensures.collects
+returns-then-drained-clause-collects g c = collects_more g.S.Site.rows.units c.loop.invariant.collects c.gather_all.ensures.collects
 
 pub loop-preserved : goal.loop-preserved
 loop-preserved g c = record {
-  works = paired_more Works works_more c.args.units.now.items c.loop.units.items c.work_all.new.units.items c.loop.invariant.works c.work_all.ensures.works;
-  collects = collects_more g.S.Site.rows.units c.args.tasks.now.items c.loop.tasks.items c.gather_all.new.tasks.items c.args.posts.now.items c.loop.posts.items c.gather_all.new.posts.items c.loop.invariant.collects c.gather_all.ensures.collects;
+  works = paired_more Works works_more c.loop.invariant.works c.work_all.ensures.works;
+  collects = collects_more g.S.Site.rows.units c.loop.invariant.collects c.gather_all.ensures.collects;
   count = c.gather_all.ensures.count ∙ c.loop.invariant.count;
   lists = c.gather_all.ensures.lists;
 }

@@ -1,7 +1,7 @@
-use Rattle.std.proofs.Common.{◌≡◌, ◌<◌, ◌∙◌, length, refl, arith, set}
+use Rattle.std.proofs.Common.{◌≡◌, ◌<◌, ◌∙◌, length, refl, arith}
 use Rattle.std.proofs.Math.ListN.{length-set}
 use Rattle.std.proofs.lemmas.List.Elements.{All-set}
-use Rattle.post_ledger.proofs.Works.{collects_more, collects_none, collects_set}
+use Rattle.post_ledger.proofs.Works.{collects_next, collects_none}
 use Rattle.post_ledger.proofs.drain.gather_all.Goals as goal
 
 pub loop-place-init : goal.loop-place-init
@@ -15,10 +15,7 @@ returns-in_err-gather-clause-collects g c =
     let inv = c.loop-place.invariant in
     let lt : i < length tasks = omega (arith, c.loop-place-test.true, c.len-place-end.ensures, c.args.tasks.now.ok.0, inv.collects.count) in
     let lt' : i < length lists = omega (arith, lt, inv.collects.count, inv.count, c.requires.count) in
-    let old = c.index_mut-task.result.now in
-    let from = c.index_mut-lists.result.now in
-    collects_more g.S.Site.rows.units c.args.tasks.now.items tasks (set tasks i c.gather.new.task) c.args.posts.now.items lists (set lists i c.gather.new.self) inv.collects
-    (collects_set g.S.Site.rows.units tasks lists i old c.gather.new.task from c.gather.new.self lt lt' c.index_mut-task.ensures.value c.index_mut-lists.ensures.value c.gather.ensures.gathers)
+    collects_next g.S.Site.rows.units tasks lists i c.index_mut-task.result.now c.gather.new.task c.index_mut-lists.result.now c.gather.new.self lt lt' c.index_mut-task.ensures.value c.index_mut-lists.ensures.value inv.collects c.gather.ensures.gathers
 
 pub loop-place-preserved : goal.loop-place-preserved
 loop-place-preserved g c =
@@ -28,11 +25,8 @@ loop-place-preserved g c =
     let inv = c.loop-place.invariant in
     let lt : i < length tasks = omega (arith, c.loop-place-test.true, c.len-place-end.ensures, c.args.tasks.now.ok.0, inv.collects.count) in
     let lt' : i < length lists = omega (arith, lt, inv.collects.count, inv.count, c.requires.count) in
-    let old = c.index_mut-task.result.now in
-    let from = c.index_mut-lists.result.now in
     record {
-      collects = collects_more g.S.Site.rows.units c.args.tasks.now.items tasks (set tasks i c.gather.new.task) c.args.posts.now.items lists (set lists i c.gather.new.self) inv.collects
-          (collects_set g.S.Site.rows.units tasks lists i old c.gather.new.task from c.gather.new.self lt lt' c.index_mut-task.ensures.value c.index_mut-lists.ensures.value c.gather.ensures.gathers);
+      collects = collects_next g.S.Site.rows.units tasks lists i c.index_mut-task.result.now c.gather.new.task c.index_mut-lists.result.now c.gather.new.self lt lt' c.index_mut-task.ensures.value c.index_mut-lists.ensures.value inv.collects c.gather.ensures.gathers;
       count = length-set lists i c.gather.new.self ∙ inv.count;
       lists = All-set (λ lists. length lists ≡ g.S.Site.rows.units) lists i c.gather.new.self c.gather.ensures.count inv.lists;
     }

@@ -16,15 +16,15 @@ pub make_ready-requires-clause-units : goal.make_ready-requires-clause-units
 make_ready-requires-clause-units g c = subst (λ (xs : List (Locked _)). ArePlaced (λ (v : Locked _). v.unit) g.S.Site.rows.units xs) c.as_slice.ensures.value (c.are_placed.ensures.placed c.if-not-are_placed.false)
 
 pub close-requires-clause-units : goal.close-requires-clause-units
-close-requires-clause-units g c = placed_units g.S.Site.rows.units c.args.units.items c.make_ready.new.units.items (subst (λ (xs : List (Locked _)). ArePlaced (λ (v : Locked _). v.unit) g.S.Site.rows.units xs) c.as_slice.ensures.value (c.are_placed.ensures.placed c.if-not-are_placed.false)) c.make_ready.ensures.works
+close-requires-clause-units g c = placed_units g.S.Site.rows.units (subst (λ (xs : List (Locked _)). ArePlaced (λ (v : Locked _). v.unit) g.S.Site.rows.units xs) c.as_slice.ensures.value (c.are_placed.ensures.placed c.if-not-are_placed.false)) c.make_ready.ensures.works
 
 pub close-requires-clause-tasks : goal.close-requires-clause-tasks
 close-requires-clause-tasks g c =
-    placed_tasks g.S.Site.rows.units g.S.Site.rows.tasks c.args.tasks.items c.make_ready.new.tasks.items c.args.posts.items c.make_ready.new.posts.items c.requires.tasks c.make_ready.ensures.collects
+    placed_tasks g.S.Site.rows.units g.S.Site.rows.tasks c.requires.tasks c.make_ready.ensures.collects
 
 pub invariant_of-result-in-Err : goal.invariant_of-result-in-Err
 invariant_of-result-in-Err g c = (
-  placed_tasks g.S.Site.rows.units g.S.Site.rows.tasks c.args.tasks.items c.make_ready.new.tasks.items c.args.posts.items c.make_ready.new.posts.items c.requires.tasks c.make_ready.ensures.collects,
+  placed_tasks g.S.Site.rows.units g.S.Site.rows.tasks c.requires.tasks c.make_ready.ensures.collects,
   c.make_ready.ensures.lists,
   c.make_ready.ensures.works.count ∙ c.requires.units,
 )
@@ -55,4 +55,4 @@ pub returns-in-Ok-clause-grew : goal.returns-in-Ok-clause-grew
 returns-in-Ok-clause-grew g c = grew_into c.args.units.items c.make_ready.new.units.items c.close.result.books c.close.ensures.books c.make_ready.ensures.works
 
 pub returns-in-Err-clause-cause : goal.returns-in-Err-clause-cause
-returns-in-Err-clause-cause g c = placed_units g.S.Site.rows.units c.args.units.items c.make_ready.new.units.items (subst (λ (xs : List (Locked _)). ArePlaced (λ (v : Locked _). v.unit) g.S.Site.rows.units xs) c.as_slice.ensures.value (c.are_placed.ensures.placed c.if-not-are_placed.false)) c.make_ready.ensures.works
+returns-in-Err-clause-cause g c = placed_units g.S.Site.rows.units (subst (λ (xs : List (Locked _)). ArePlaced (λ (v : Locked _). v.unit) g.S.Site.rows.units xs) c.as_slice.ensures.value (c.are_placed.ensures.placed c.if-not-are_placed.false)) c.make_ready.ensures.works

@@ -1,8 +1,7 @@
-use Rattle.std.proofs.Common.{◌≡◌, Some, Option, reverse, sym, subst, ◌∙◌}
+use Rattle.std.proofs.Common.{◌≡◌, Some, reverse, sym, ◌∙◌}
 use Rattle.subchannel.specs.Subchannel.{status_of}
-use Rattle.unit_book.specs.declared.active.Active.{Active}
-use Rattle.unit_book.specs.Fields.{Ties}
 use Rattle.unit_book.proofs.Decisions.{decided, decided_pending}
+use Rattle.unit_book.proofs.Found.{ties-found}
 use Rattle.unit_book.proofs.ledger.Ledger.decide.Goals as goal
 
 pub returns : goal.returns
@@ -13,7 +12,7 @@ returns g c =
     let csw = c.in_ok-csw.csw in
     let sense = c.in_ok-csw.sense in
     let o : i.active ≡ Some a = sym c.in_ok-active.ensures.value in
-    let t = subst (λ (x : Option Active). Ties m i.mounted (reverse i.trace.items) i.channel x i.waiting.pieces i.dcbs i.out.items) o c.self.invariant.0 in
+    let t = ties-found o c.self.invariant.0 in
     let p : status_of i.channel.phase ≡ Some (csw, sense) = sym c.status.ensures ∙ c.in_ok-csw.was in
     let kind_is = c.kind.ensures in
     let name_is = c.name.ensures in

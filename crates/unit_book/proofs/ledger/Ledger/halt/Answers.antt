@@ -1,10 +1,9 @@
-use Rattle.std.proofs.Common.{◌≡◌, Some, None, Option, reverse, sym, subst, ◌∙◌}
+use Rattle.std.proofs.Common.{◌≡◌, Some, None, reverse, sym, subst, ◌∙◌}
 use Rattle.request_piece.specs.declared.piece.Name.{Name}
-use Rattle.unit_book.specs.declared.active.Active.{Active}
-use Rattle.unit_book.specs.Fields.{ActivityTies, Ties, Rooms}
 use Rattle.unit_book.specs.Legal.{ToHalt, due}
 use Rattle.unit_book.proofs.Halts.{ties-halt}
 use Rattle.unit_book.proofs.TraceLaws.{halt-active}
+use Rattle.unit_book.proofs.Found.{ties-found, name-found, rooms-found}
 use Rattle.unit_book.proofs.ledger.Ledger.halt.Goals as goal
 
 pub invariant_of-self : goal.invariant_of-self
@@ -14,15 +13,14 @@ invariant_of-self g c =
     let a = c.in-Some.active in
     let d = rw (← c.self.view_is) at c.requires.due in
     let o : i.active ≡ Some a = sym c.take.ensures.value ∙ c.in-Some.is in
-    let t = subst (λ (x : Option Active). Ties m i.mounted (reverse i.trace.items) i.channel x i.waiting.pieces i.dcbs i.out.items) o c.self.invariant.0 in
-    let s : Some a.piece.value.name ≡ Some c.args.name = sym t.activity.is ∙ halt-active m i.mounted c.args.name (reverse i.trace.items) d in
-    let n : c.args.name ≡ a.piece.value.name = cc in
+    let t = ties-found o c.self.invariant.0 in
+    let n = name-found (halt-active m i.mounted c.args.name (reverse i.trace.items) d) t in
     let d' = subst (λ (x : Name). due m i.mounted (reverse i.trace.items) ≡ ToHalt x) n d in
     let k = ties-halt m i.mounted (reverse i.trace.items) i.channel a i.waiting.pieces i.dcbs i.out.items d' t in
     let w = c.write.ensures.items in
     let h = c.hsch.ensures.state in
     let v = c.once_halted.ensures in
-    let room = subst (λ (x : Option Active). Rooms x i.waiting i.swept i.out) o c.self.invariant.1 in
+    let room = rooms-found o c.self.invariant.1 in
     (rw (w, h, v, n) k, record { occupancy = room.occupancy; waiting_room = room.waiting_room; swept_is = room.swept_is })
 
 pub unreachable-requires : goal.unreachable-requires
@@ -31,6 +29,6 @@ unreachable-requires g c =
     let i = c.self.inside in
     let d = rw (← c.self.view_is) at c.requires.due in
     let o : i.active ≡ None = sym c.take.ensures.value ∙ c.in_default.is in
-    let t = subst (λ (x : Option Active). ActivityTies m i.mounted (reverse i.trace.items) i.channel.phase x) o c.self.invariant.0.activity in
+    let t = (ties-found o c.self.invariant.0).activity in
     let clash : None ≡ Some c.args.name = sym t.0 ∙ halt-active m i.mounted c.args.name (reverse i.trace.items) d in
     absurd cc

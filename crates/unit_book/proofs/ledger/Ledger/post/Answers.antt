@@ -1,7 +1,5 @@
-use Rattle.std.proofs.Common.{◌≡◌, ◌∷◌, [], Some, Option, reverse, arith, refl, sym, ap, subst, ◌∙◌, length-append}
+use Rattle.std.proofs.Common.{◌≡◌, ◌∷◌, [], Some, reverse, arith, refl, sym, ap, subst, ◌∙◌, length-append}
 use Rattle.request_piece.specs.declared.piece.Name.{Name}
-use Rattle.unit_book.specs.declared.active.Active.{Active}
-use Rattle.unit_book.specs.Fields.{Ties, Rooms}
 use Rattle.unit_book.specs.Legal.{PostsActive}
 use Rattle.unit_book.proofs.ActivePosts.{ties-post, value-is, doom-is}
 use Rattle.unit_book.proofs.Dooms.{doomed-post, due-doomed}
@@ -9,6 +7,7 @@ use Rattle.unit_book.specs.Trace.{request_of}
 use Rattle.request_piece.specs.declared.piece.Piece.{Piece}
 use Rattle.unit_book.proofs.Facts.{active-is}
 use Rattle.unit_book.proofs.Opens.{opened-row, started-opened}
+use Rattle.unit_book.proofs.Found.{ties-found, name-found, rooms-found}
 use Rattle.unit_book.proofs.ledger.Ledger.post.Goals as goal
 
 pub invariant_of-self : goal.invariant_of-self
@@ -19,9 +18,8 @@ invariant_of-self g c =
     let settled = rw (← c.self.view_is) at c.requires.settled in
     let fits = rw (← c.self.view_is) at c.requires.fits in
     let o : i.active ≡ Some a = sym c.take.ensures.value ∙ c.in-Some.is in
-    let t = subst (λ (x : Option Active). Ties m i.mounted (reverse i.trace.items) i.channel x i.waiting.pieces i.dcbs i.out.items) o c.self.invariant.0 in
-    let s : Some a.piece.value.name ≡ Some c.args.name = sym t.activity.is ∙ fits.active in
-    let n : c.args.name ≡ a.piece.value.name = cc in
+    let t = ties-found o c.self.invariant.0 in
+    let n = name-found fits.active t in
     let p = subst (λ (x : Name). PostsActive m i.mounted x c.args.csw c.args.sense c.args.code (reverse i.trace.items)) n fits in
     let piece_is = c.deref-2.ensures in
     let noted = rw piece_is at c.note_post.ensures.dcbs in
@@ -31,7 +29,7 @@ invariant_of-self g c =
     let v = c.posted_from.ensures in
     let h = c.tsch.ensures.state in
     let z = c.take.ensures.after in
-    let room = subst (λ (x : Option Active). Rooms x i.waiting i.swept i.out) o c.self.invariant.1 in (
+    let room = rooms-found o c.self.invariant.1 in (
       rw (w, q, v, h, z, n) k,
       record {
         occupancy = rw (z, q) (omega (arith, length-append i.out.items (c.posted_from.result ∷ []), room.occupancy));
@@ -48,9 +46,8 @@ returns g c =
     let settled = rw (← c.self.view_is) at c.requires.settled in
     let fits = rw (← c.self.view_is) at c.requires.fits in
     let o : i.active ≡ Some a = sym c.take.ensures.value ∙ c.in-Some.is in
-    let t = subst (λ (x : Option Active). Ties m i.mounted (reverse i.trace.items) i.channel x i.waiting.pieces i.dcbs i.out.items) o c.self.invariant.0 in
-    let s : Some a.piece.value.name ≡ Some c.args.name = sym t.activity.is ∙ fits.active in
-    let n : c.args.name ≡ a.piece.value.name = cc in
+    let t = ties-found o c.self.invariant.0 in
+    let n = name-found fits.active t in
     let p = subst (λ (x : Name). PostsActive m i.mounted x c.args.csw c.args.sense c.args.code (reverse i.trace.items)) n fits in
     let value = value-is m i.mounted (reverse i.trace.items) i.channel a i.waiting.pieces i.dcbs i.dcbs i.out.items c.args.csw c.args.sense c.args.code settled t p in
     let dooms = doomed-post m i.mounted c.args.name c.args.csw c.args.sense c.args.code (reverse i.trace.items) (due-doomed m i.mounted (reverse i.trace.items) settled) in
@@ -74,7 +71,7 @@ note_post-requires g c =
     let i = c.self.inside in
     let a = c.in-Some.active in
     let o : i.active ≡ Some a = sym c.take.ensures.value ∙ c.in-Some.is in
-    let t = subst (λ (x : Option Active). Ties m i.mounted (reverse i.trace.items) i.channel x i.waiting.pieces i.dcbs i.out.items) o c.self.invariant.0 in
+    let t = ties-found o c.self.invariant.0 in
     let opened = started-opened m i.mounted a.piece.value.name (reverse i.trace.items) t.legal (active-is a.piece.value.name (reverse i.trace.items) t.activity.is).0 in
     let same = ap (λ (r : Piece). r.dcb) t.activity.request in
     let piece_is = c.deref-2.ensures in

@@ -4,7 +4,6 @@ use Rattle.io_images.specs.declared.code.Code.TheVariants.{ExtentViolated}
 use Rattle.io_images.specs.Images.{no_status}
 use Rattle.request_piece.specs.declared.piece.Name.{Name}
 use Rattle.request_piece.specs.declared.piece.Piece.{Piece}
-use Rattle.std.specs.Prelude.{option_map, box_value}
 use Rattle.unit_book.specs.declared.entry.Entry.TheVariants.{Post}
 use Rattle.unit_book.specs.Legal.{FailsCheck, OfFirst}
 use Rattle.unit_book.specs.Selected.{doomed_by_post}
@@ -14,6 +13,7 @@ use Rattle.unit_book.proofs.Same.{fits-free}
 use Rattle.unit_book.proofs.Starts.{first-rest, none-in_field}
 use Rattle.unit_book.proofs.WaitingPosts.{ties-first_post, waiting-value}
 use Rattle.unit_book.proofs.Opens.{first-opened, opened-row}
+use Rattle.unit_book.proofs.Found.{first-found}
 use Rattle.unit_book.proofs.ledger.Ledger.post_violated.Goals as goal
 
 pub invariant_of-self : goal.invariant_of-self
@@ -24,8 +24,7 @@ invariant_of-self g c =
     let settled = rw (← c.self.view_is) at c.requires.settled in
     let s = rw (← c.self.view_is) at c.requires.fits in
     let t = c.self.invariant.0 in
-    let z : Some b ≡ Some s.request = sym (ap (option_map box_value) c.in-Some.is) ∙ c.pop.ensures.first ∙ ap (λ (x : List Piece). slice_get x 0) t.queue ∙ s.first in
-    let e : b ≡ s.request = cc in
+    let e = first-found c.in-Some.is c.pop.ensures.first t s.first in
     let n : b.name ≡ c.args.name = ap (λ (x : Piece). x.name) e ∙ s.name in
     let p = subst (λ (x : Name). FailsCheck m i.mounted x (reverse i.trace.items)) (sym n) s in
     let fits = fits-free m i.mounted (Post b.name no_status 0 ExtentViolated) (reverse i.trace.items) settled (OfFirst (record { fails = p; code_is = refl; csw_is = refl; sense_is = refl })) in
@@ -55,8 +54,7 @@ returns g c =
     let settled = rw (← c.self.view_is) at c.requires.settled in
     let s = rw (← c.self.view_is) at c.requires.fits in
     let t = c.self.invariant.0 in
-    let z : Some b ≡ Some s.request = sym (ap (option_map box_value) c.in-Some.is) ∙ c.pop.ensures.first ∙ ap (λ (x : List Piece). slice_get x 0) t.queue ∙ s.first in
-    let e : b ≡ s.request = cc in
+    let e = first-found c.in-Some.is c.pop.ensures.first t s.first in
     let n : b.name ≡ c.args.name = ap (λ (x : Piece). x.name) e ∙ s.name in
     let there = s.first ∙ ap Some (sym e) in
     let value = waiting-value m i.mounted b no_status 0 ExtentViolated (reverse i.trace.items) i.channel i.active i.waiting.pieces i.dcbs i.dcbs i.out.items t 0 there in
@@ -83,8 +81,7 @@ note_post-requires g c =
     let settled = rw (← c.self.view_is) at c.requires.settled in
     let s = rw (← c.self.view_is) at c.requires.fits in
     let t = c.self.invariant.0 in
-    let z : Some b ≡ Some s.request = sym (ap (option_map box_value) c.in-Some.is) ∙ c.pop.ensures.first ∙ ap (λ (x : List Piece). slice_get x 0) t.queue ∙ s.first in
-    let e : b ≡ s.request = cc in
+    let e = first-found c.in-Some.is c.pop.ensures.first t s.first in
     let opened = first-opened m i.mounted b (reverse i.trace.items) settled (s.first ∙ ap Some (sym e)) in
     let piece_is = c.deref-2.ensures in
     rw piece_is (opened-row m i.mounted b.dcb (reverse i.trace.items) i.dcbs t.legal t.count opened)

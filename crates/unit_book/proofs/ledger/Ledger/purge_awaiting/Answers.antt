@@ -1,13 +1,12 @@
-use Rattle.std.proofs.Common.{◌≡◌, ◌++◌, [], ◌∷◌, Some, Option, length, length-append, append_assoc, map, reverse, arith, refl, sym, ap, ◌∙◌, subst}
+use Rattle.std.proofs.Common.{◌≡◌, ◌++◌, [], ◌∷◌, Some, length, length-append, append_assoc, map, reverse, arith, refl, sym, ap, ◌∙◌, subst}
 use Rattle.io_images.specs.declared.code.Code.TheVariants.{Purged}
 use Rattle.std.specs.List.{filter}
 use Rattle.std.specs.Prelude.{is_some}
 use Rattle.unit_queue.specs.Queue.{Queue, queue}
 use Rattle.request_piece.specs.Places.{Placed}
 use Rattle.request_piece.specs.Scope.{covers}
-use Rattle.unit_book.specs.declared.active.Active.{Active}
 use Rattle.unit_book.specs.Controls.{active_of}
-use Rattle.unit_book.specs.Fields.{Ties, Rooms, kept_by}
+use Rattle.unit_book.specs.Fields.{kept_by}
 use Rattle.unit_book.specs.Dooms.{purged}
 use Rattle.unit_book.specs.Legal.{PostsActive}
 use Rattle.unit_book.specs.Posts.{posted_value}
@@ -16,6 +15,7 @@ use Rattle.unit_book.proofs.Facts.{Each-filter}
 use Rattle.unit_book.proofs.Posting.{length-map}
 use Rattle.unit_book.proofs.Purges.{length-filters}
 use Rattle.unit_book.proofs.Awaiting.{kept-is, ties-awaiting, settled-awaiting, since-awaiting, after-is, fits-purged}
+use Rattle.unit_book.proofs.Found.{ties-found, rooms-found, swept-found}
 use Rattle.unit_book.proofs.ledger.Ledger.purge_awaiting.Goals as goal
 
 pub post_all-requires : goal.post_all-requires
@@ -24,7 +24,7 @@ post_all-requires g c =
     let p = covers c.args.scope in
     let spare = rw (← c.self.view_is) at c.requires.spare in
     let room = c.self.invariant.1 in
-    let sw = c.sweep.ensures.swept ∙ ap (λ (x : Queue). queue (x.pieces ++ filter p i.waiting.pieces) x.capacity) room.swept_is in
+    let sw = swept-found c.sweep.ensures.swept room.swept_is in
     let few = length-filters p i.waiting.pieces in
     record {
       spare = rw sw (omega (arith, spare, c.write.ensures.spare, few, ap length c.self.invariant.0.queue));
@@ -38,7 +38,7 @@ write-requires-2 g c =
     let p = covers c.args.scope in
     let spare = rw (← c.self.view_is) at c.requires.spare in
     let room = c.self.invariant.1 in
-    let sw = c.sweep.ensures.swept ∙ ap (λ (x : Queue). queue (x.pieces ++ filter p i.waiting.pieces) x.capacity) room.swept_is in
+    let sw = swept-found c.sweep.ensures.swept room.swept_is in
     let items_is = ap (λ (x : Queue). length x.pieces) sw in
     omega (arith, spare, c.write.ensures.spare, c.post_all.ensures.spare, items_is, length-filters p i.waiting.pieces, ap length c.self.invariant.0.queue)
 
@@ -48,8 +48,8 @@ hand_out-requires g c =
     let a = c.in-Some.active in
     let p = covers c.args.scope in
     let o : i.active ≡ Some a = sym c.take.ensures.value ∙ c.in-Some.is in
-    let room = subst (λ (x : Option Active). Rooms x i.waiting i.swept i.out) o c.self.invariant.1 in
-    let sw = c.sweep.ensures.swept ∙ ap (λ (x : Queue). queue (x.pieces ++ filter p i.waiting.pieces) x.capacity) room.swept_is in
+    let room = rooms-found o c.self.invariant.1 in
+    let sw = swept-found c.sweep.ensures.swept room.swept_is in
     let items_is = ap (λ (x : Queue). x.pieces) sw in
     let out_is = rw items_is at c.post_all.ensures.out in
     rw out_is (omega (arith, room.occupancy, length-filters p i.waiting.pieces, length-append i.out.items (map purged (filter p i.waiting.pieces)), length-map (filter p i.waiting.pieces)))
@@ -65,12 +65,12 @@ invariant_of-self g c =
     let can = rw (← c.self.view_is) at c.requires.can in
     let covered = rw (← c.self.view_is) at c.requires.covered in
     let o : i.active ≡ Some a = sym c.take.ensures.value ∙ c.in-Some.is in
-    let t = subst (λ (x : Option Active). Ties m i.mounted H i.channel x i.waiting.pieces i.dcbs i.out.items) o c.self.invariant.0 in
+    let t = ties-found o c.self.invariant.0 in
     let covered' = rw o at covered in
     let standing = kept-is a.standing (is_halt c.args.mode) (is_some (active_of c.args.scope H)) covered' in
     let k = ties-awaiting m i.mounted H i.channel a i.waiting.pieces i.dcbs i.out.items c.args.scope c.args.mode (kept_by a.standing).0 (kept_by a.standing).1 t standing settled can covered' in
-    let room = subst (λ (x : Option Active). Rooms x i.waiting i.swept i.out) o c.self.invariant.1 in
-    let sw = c.sweep.ensures.swept ∙ ap (λ (x : Queue). queue (x.pieces ++ filter p i.waiting.pieces) x.capacity) room.swept_is in
+    let room = rooms-found o c.self.invariant.1 in
+    let sw = swept-found c.sweep.ensures.swept room.swept_is in
     let items_is = ap (λ (x : Queue). x.pieces) sw in
     let trace_is = rw items_is at c.post_all.ensures.trace in
     let out_is = rw items_is at c.post_all.ensures.out in
@@ -101,7 +101,7 @@ returns g c =
     let can = rw (← c.self.view_is) at c.requires.can in
     let covered = rw (← c.self.view_is) at c.requires.covered in
     let o : i.active ≡ Some a = sym c.take.ensures.value ∙ c.in-Some.is in
-    let t = subst (λ (x : Option Active). Ties m i.mounted H i.channel x i.waiting.pieces i.dcbs i.out.items) o c.self.invariant.0 in
+    let t = ties-found o c.self.invariant.0 in
     let covered' = rw o at covered in
     let standing = kept-is a.standing (is_halt c.args.mode) (is_some (active_of c.args.scope H)) covered' in
     let csw = (kept_by a.standing).0 in
@@ -111,7 +111,7 @@ returns g c =
     let after = after-is m i.mounted H i.channel a i.waiting.pieces i.dcbs i.out.items c.args.scope c.args.mode csw sense t standing settled can covered' in
     let k = settled-awaiting m i.mounted H i.channel a i.waiting.pieces i.dcbs i.out.items c.args.scope c.args.mode csw sense t standing settled can covered' in
     let room = c.self.invariant.1 in
-    let sw = c.sweep.ensures.swept ∙ ap (λ (x : Queue). queue (x.pieces ++ filter p i.waiting.pieces) x.capacity) room.swept_is in
+    let sw = swept-found c.sweep.ensures.swept room.swept_is in
     let items_is = ap (λ (x : Queue). x.pieces) sw in
     let trace_is = rw items_is at c.post_all.ensures.trace in
     let out_is = rw items_is at c.post_all.ensures.out in

@@ -6,6 +6,7 @@ use Rattle.unit_book.specs.declared.active.Active.{Active}
 use Rattle.unit_book.specs.Fields.{Ties, Rooms, awaits_by, awaits_of}
 use Rattle.unit_book.specs.Legal.{StartsAgain}
 use Rattle.unit_book.proofs.Restarts.{ties-restart, restart-fits, few-starts}
+use Rattle.unit_book.proofs.Found.{ties-found, name-found, rooms-found}
 use Rattle.unit_book.proofs.ledger.Ledger.start_again.Goals as goal
 
 pub launch-requires : goal.launch-requires
@@ -17,9 +18,8 @@ launch-requires g c =
     let fits = rw (← c.self.view_is) at c.requires.fits in
     let o : i.active ≡ Some a = sym c.take.ensures.value ∙ c.in-Some.is in
     let again : awaits_by a.standing ≡ true = ap awaits_of (sym o) ∙ (rw (← c.self.view_is) at c.requires.awaits) in
-    let t = subst (λ (x : Option Active). Ties m i.mounted (reverse i.trace.items) i.channel x i.waiting.pieces i.dcbs i.out.items) o c.self.invariant.0 in
-    let s : Some a.piece.value.name ≡ Some c.args.name = sym t.activity.is ∙ fits.active in
-    let n : c.args.name ≡ a.piece.value.name = cc in
+    let t = ties-found o c.self.invariant.0 in
+    let n = name-found fits.active t in
     let p = subst (λ (x : Name). StartsAgain m i.mounted x (reverse i.trace.items)) n fits in
     let piece_is = c.deref-2.ensures in
     rw piece_is (restart-fits m i.mounted (reverse i.trace.items) i.channel a i.waiting.pieces i.dcbs i.out.items c.mask-mask.result settled p t again g.met.D.Device.lawful)
@@ -33,9 +33,8 @@ restarted-requires g c =
     let fits = rw (← c.self.view_is) at c.requires.fits in
     let o : i.active ≡ Some a = sym c.take.ensures.value ∙ c.in-Some.is in
     let again : awaits_by a.standing ≡ true = ap awaits_of (sym o) ∙ (rw (← c.self.view_is) at c.requires.awaits) in
-    let t = subst (λ (x : Option Active). Ties m i.mounted (reverse i.trace.items) i.channel x i.waiting.pieces i.dcbs i.out.items) o c.self.invariant.0 in
-    let s : Some a.piece.value.name ≡ Some c.args.name = sym t.activity.is ∙ fits.active in
-    let n : c.args.name ≡ a.piece.value.name = cc in
+    let t = ties-found o c.self.invariant.0 in
+    let n = name-found fits.active t in
     let p = subst (λ (x : Name). StartsAgain m i.mounted x (reverse i.trace.items)) n fits in
     omega (arith, few-starts m i.mounted (reverse i.trace.items) i.channel a i.waiting.pieces i.dcbs i.out.items c.mask-mask.result settled p t again)
 
@@ -48,9 +47,8 @@ invariant_of-self g c =
     let fits = rw (← c.self.view_is) at c.requires.fits in
     let o : i.active ≡ Some a = sym c.take.ensures.value ∙ c.in-Some.is in
     let again : awaits_by a.standing ≡ true = ap awaits_of (sym o) ∙ (rw (← c.self.view_is) at c.requires.awaits) in
-    let t = subst (λ (x : Option Active). Ties m i.mounted (reverse i.trace.items) i.channel x i.waiting.pieces i.dcbs i.out.items) o c.self.invariant.0 in
-    let s : Some a.piece.value.name ≡ Some c.args.name = sym t.activity.is ∙ fits.active in
-    let n : c.args.name ≡ a.piece.value.name = cc in
+    let t = ties-found o c.self.invariant.0 in
+    let n = name-found fits.active t in
     let p = subst (λ (x : Name). StartsAgain m i.mounted x (reverse i.trace.items)) n fits in
     let dcb_is = ap (λ (x : Piece). x.dcb) c.deref.ensures in
     let mask_is = rw dcb_is at c.mask-mask.ensures in
@@ -58,5 +56,5 @@ invariant_of-self g c =
     let w = c.write.ensures.items in
     let l = c.launch.ensures ∙ ap (λ (x : Piece). ssch_started m i.channel x.start x.seek c.mask-mask.result i.channel.phase) c.deref-2.ensures in
     let v = c.restarted.ensures in
-    let room = subst (λ (x : Option Active). Rooms x i.waiting i.swept i.out) o c.self.invariant.1 in
+    let room = rooms-found o c.self.invariant.1 in
     (rw (w, l, v, n) k, record { occupancy = room.occupancy; waiting_room = room.waiting_room; swept_is = room.swept_is })

@@ -20,6 +20,7 @@ use Rattle.unit_book.proofs.Facts.{Each-filter}
 use Rattle.unit_book.proofs.Dooms.{filter-never}
 use Rattle.unit_book.proofs.Posting.{length-map}
 use Rattle.unit_book.proofs.Purges.{length-filters, ties-dooms, since-is, since-same, dooms-none}
+use Rattle.unit_book.proofs.Found.{swept-found}
 use Rattle.unit_book.proofs.ledger.Ledger.sweep.Goals as goal
 
 pub returns-in_default-clause-book : goal.returns-in_default-clause-book
@@ -47,7 +48,7 @@ post_all-requires g c =
     let room = c.self.invariant.1 in
     let t = c.self.invariant.0 in
     let e : doomed (reverse i.trace.items) ≡ filter p i.waiting.pieces = d ∙ ap (filter p) (sym t.queue) in
-    let sw = c.sweep.ensures.swept ∙ ap (λ (x : Queue). queue (x.pieces ++ filter p i.waiting.pieces) x.capacity) room.swept_is in
+    let sw = swept-found c.sweep.ensures.swept room.swept_is in
     let few = length-filters p i.waiting.pieces in
     let count = ap length e in
     record {
@@ -64,7 +65,7 @@ invariant_of-self g c =
     let d = subst (λ (x : Option Selection). DoomedBy x (reverse i.trace.items)) c.in-Some.is (rw (← c.self.view_is) at c.requires.doomed) in
     let u = rw (← c.self.view_is) at c.requires.due in
     let room = c.self.invariant.1 in
-    let sw = c.sweep.ensures.swept ∙ ap (λ (x : Queue). queue (x.pieces ++ filter p i.waiting.pieces) x.capacity) room.swept_is in
+    let sw = swept-found c.sweep.ensures.swept room.swept_is in
     let k = ties-dooms m i.mounted p (reverse i.trace.items) i.channel i.active i.waiting.pieces i.dcbs i.out.items d u c.self.invariant.0 in
     let items_is = ap (λ (x : Queue). x.pieces) sw in
     let trace_is = rw items_is at c.post_all.ensures.trace in
@@ -88,7 +89,7 @@ returns g c =
     let d = subst (λ (x : Option Selection). DoomedBy x (reverse i.trace.items)) c.in-Some.is (rw (← c.self.view_is) at c.requires.doomed) in
     let u = rw (← c.self.view_is) at c.requires.due in
     let room = c.self.invariant.1 in
-    let sw = c.sweep.ensures.swept ∙ ap (λ (x : Queue). queue (x.pieces ++ filter p i.waiting.pieces) x.capacity) room.swept_is in
+    let sw = swept-found c.sweep.ensures.swept room.swept_is in
     let k = ties-dooms m i.mounted p (reverse i.trace.items) i.channel i.active i.waiting.pieces i.dcbs i.out.items d u c.self.invariant.0 in
     let items_is = ap (λ (x : Queue). x.pieces) sw in
     let trace_is = rw items_is at c.post_all.ensures.trace ∙ k.2 in
