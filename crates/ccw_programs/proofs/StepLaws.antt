@@ -228,8 +228,8 @@ module _ {D : Type 0} (meaning : Meaning D) where
       let f : after meaning (a + c) start ≡ q = after-add a c start ∙ rw (← hp, ← hq) refl in
       sym (rw (← e, after-add (a + c) (n - (a + c)) start, f) (after-ended (n - (a + c)) q h))
 
-  pub after-more : (start p q : Program D) (a c n : ℕ) → p ≡ after meaning a start → q ≡ after meaning c p → n ≡ a + c → q ≡ after meaning n start
-  after-more start p q a c n hp hq e = rw (e, after-add a c start, ← hp) hq
+  pub after-more : (start : Program D) {p q : Program D} (a c n : ℕ) → p ≡ after meaning a start → q ≡ after meaning c p → n ≡ a + c → q ≡ after meaning n start
+  after-more start {p} {q} a c n hp hq e = rw (e, after-add a c start, ← hp) hq
 
   -- it runs only before its length
   pub running-before : (j : ℕ) (p : Program D) → p.place.fetched ≤ 4096 → is_running (after meaning j p).place.state ≡ true → j < length_of meaning p
@@ -247,13 +247,16 @@ module _ {D : Type 0} (meaning : Meaning D) where
       ]
 
   -- A BURST of a program that runs after some steps: the steps of both, up to the length
-  module _ (start p q : Program D) (a size c : ℕ) (bound : start.place.fetched ≤ 4096) (stands : p ≡ after meaning a start) (runs : is_running p.place.state ≡ true)
+  module _ (start : Program D) {p q : Program D} (a size c : ℕ) (bound : start.place.fetched ≤ 4096) (stands : p ≡ after meaning a start) (runs : is_running p.place.state ≡ true)
       (burst : q ≡ after meaning c p) (most : c ≡ min size (length_of meaning p)) where
     pub bursts-count : a + c ≡ min (a + size) (length_of meaning start)
     bursts-count =
         let before : a < length_of meaning start = running-before a start bound (rw (← stands) runs) in
         let left : length_of meaning p ≡ length_of meaning start - a = rw stands (length-after a start bound (omega arith)) in
         omega (arith, before, left, most)
+
+    pub bursts-few : a + c ≤ 4097
+    bursts-few = omega (arith, bursts-count, length-few 4097 start)
 
     -- it has ended at the length
     pub bursts-ended : is_running q.place.state ≡ false → a + c ≡ length_of meaning start

@@ -162,10 +162,10 @@ module _ {D : Type 0} (meaning : Meaning D) (mounted : D) where
   no-first (x ∷ xs) h = absurd cc
 
   -- the request that waits first, and whether it passes the check
-  pub first-told : (H : List Entry) (channel : Channel D) (o : Option Active) (waiters : List Piece) (table : List Dcb) (left : List PostedState) (r : Piece) →
+  pub first-told : {H : List Entry} {channel : Channel D} {o : Option Active} {waiters : List Piece} {table : List Dcb} {left : List PostedState} {r : Piece} →
       Ties meaning mounted H channel o waiters table left → slice_get waiters 0 ≡ Some r →
       (slice_get (waiting H) 0 ≡ Some r) × (passes meaning mounted r H ≡ passes_check (meaning.kind mounted) (meaning.heads mounted) (extents_at (dcb_at table r.dcb)) r.seek)
-  first-told H channel o waiters table left r t h = (
+  first-told {H} {channel} {o} {waiters} {table} {left} {r} t h = (
     ap (λ x. slice_get x 0) (sym t.queue) ∙ h,
     ap (λ x. passes_check (meaning.kind mounted) (meaning.heads mounted) x r.seek) (sym (ap extents_at (t.dcbs r.dcb) ∙ extents-is r.dcb H)),
   )

@@ -1,5 +1,4 @@
-use Rattle.std.proofs.Common.{◌≡◌, Some, reverse, sym, ap, ◌∙◌}
-use Rattle.std.specs.Prelude.{slice_get}
+use Rattle.std.proofs.Common.{sym, ap, ◌∙◌}
 use Rattle.std.specs.Option.{option_copied}
 use Rattle.unit_book.proofs.Starts.{no-first, first-told}
 use Rattle.unit_book.proofs.ledger.Ledger.first_of_queue.Goals as goal
@@ -13,28 +12,16 @@ returns-in_default g c =
 
 pub returns-then-passes_check : goal.returns-then-passes_check
 returns-then-passes_check g c =
-    let m = g.D.Device.meaning in
     let i = c.self.inside in
-    let r = c.in-Some.piece.now in
     let none = rw (← c.self.view_is) at c.requires in
-    let z : slice_get i.waiting.pieces 0 ≡ Some r = sym c.front.ensures ∙ ap option_copied c.in-Some.is in
-    let k = first-told m i.mounted (reverse i.trace.items) i.channel i.active i.waiting.pieces i.dcbs i.out.items r c.self.invariant.0 z in
-    let kind_is = c.kind-kind.ensures in
-    let heads_is = c.heads.ensures in
-    let extents_is = c.extents-extents.ensures in
-    let p = rw (kind_is, heads_is, extents_is) at c.passes_check.ensures in
-    rw (← c.self.view_is) (record { none = none; request = r; first = k.0; name = λ i. r.name; passes = k.1 ∙ sym p ∙ c.if-passes_check.true })
+    let k = first-told g.D.Device.meaning i.mounted c.self.invariant.0 (sym c.front.ensures ∙ ap option_copied c.in-Some.is) in
+    let p = rw (c.kind-kind.ensures, c.heads.ensures, c.extents-extents.ensures) at c.passes_check.ensures in
+    rw (← c.self.view_is) (record { none = none; request = c.in-Some.piece.now; first = k.0; name = λ i. c.in-Some.piece.now.name; passes = k.1 ∙ sym p ∙ c.if-passes_check.true })
 
 pub returns-else-passes_check : goal.returns-else-passes_check
 returns-else-passes_check g c =
-    let m = g.D.Device.meaning in
     let i = c.self.inside in
-    let r = c.in-Some.piece.now in
     let none = rw (← c.self.view_is) at c.requires in
-    let z : slice_get i.waiting.pieces 0 ≡ Some r = sym c.front.ensures ∙ ap option_copied c.in-Some.is in
-    let k = first-told m i.mounted (reverse i.trace.items) i.channel i.active i.waiting.pieces i.dcbs i.out.items r c.self.invariant.0 z in
-    let kind_is = c.kind-kind.ensures in
-    let heads_is = c.heads.ensures in
-    let extents_is = c.extents-extents.ensures in
-    let p = rw (kind_is, heads_is, extents_is) at c.passes_check.ensures in
-    rw (← c.self.view_is) (record { none = none; request = r; first = k.0; name = λ i. r.name; fails = k.1 ∙ sym p ∙ c.if-passes_check.false })
+    let k = first-told g.D.Device.meaning i.mounted c.self.invariant.0 (sym c.front.ensures ∙ ap option_copied c.in-Some.is) in
+    let p = rw (c.kind-kind.ensures, c.heads.ensures, c.extents-extents.ensures) at c.passes_check.ensures in
+    rw (← c.self.view_is) (record { none = none; request = c.in-Some.piece.now; first = k.0; name = λ i. c.in-Some.piece.now.name; fails = k.1 ∙ sym p ∙ c.if-passes_check.false })
