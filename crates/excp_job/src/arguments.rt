@@ -1,7 +1,8 @@
 //! The command line: `excp_job run [--channels N] [--handlers N]`.
 
-ghost use Rattle.std.specs.Prelude.{◌≤◌};
+ghost use Rattle.std.specs.Prelude.{◌≤◌, IfSome};
 
+use clap::error::ErrorKind;
 use clap::{Arg, ArgMatches, Command, Error, value_parser};
 use job_run::Workers;
 use std::alloc::{AllocError, Global};
@@ -31,21 +32,21 @@ fn command<'a>(alloc: Global) -> Result<Command<'a>, AllocError> {
 
 /// What the words of the command line say, or what `clap` says of them.
 pub fn parse(alloc: Global, words: &[String]) -> Result<Workers, Error> {
-    let command = command(alloc)?;
-    let matches = command.try_get_matches_from(words)?;
-    Ok(Workers {
-        channels: number(&matches, "channels", 16),
-        handlers: number(&matches, "handlers", 8),
-    })
+    let mut command = command(alloc)?;
+    let matches = command.try_get_matches_from_mut(words)?;
+    let channels = number(&matches, "channels", 16);
+    let handlers = number(&matches, "handlers", 8);
+    match (channels, handlers) {
+        (Some(channels), Some(handlers)) => Ok(Workers { channels, handlers }),
+        // no words come to this: `run` is required, and its options have defaults and ranges
+        _ => Err(command.error(ErrorKind::ValueValidation, "no number of workers")?),
+    }
 }
 
-/// The value of an option of `run`, which has the default 1 and is refused by the parser outside 1 to `most`.
-fn number(matches: &ArgMatches<'_>, option: &str, most: u8) -> u8
-    requires { 1 ≤ most }
-    ensures { (1 ≤ result) × (result ≤ most) }
+/// The value of an option of `run`, where it is one from 1 to `most`.
+fn number(matches: &ArgMatches<'_>, option: &str, most: u8) -> Option<u8>
+    ensures { IfSome result (λ value. (1 ≤ value) × (value ≤ most)) }
 {
-    match matches.subcommand_matches("run") {
-        Some(run) => run.get_one::<u8>(option).unwrap_or(1).clamp(1, most),
-        None => 1,
-    }
+    let value = matches.subcommand_matches("run")?.get_one::<u8>(option)?;
+    (1 <= value && value <= most).then_some(value)
 }

@@ -8,6 +8,7 @@ ghost use Rattle.job_run.specs.Shares.{AreShared, below, share_of};
 use crate::alarm::Alarm;
 use crate::runner::{Job, Runner};
 use excp_system::{IscTaker, Site, Stop, System, serve_channel, serve_isc};
+use job_script::Script;
 use std::alloc::{AllocError, Global};
 use std::marker::PhantomData;
 use std::sync::Wait;
@@ -50,6 +51,14 @@ impl<S: Site> Channel<S> {
             of: PhantomData,
         })
     }
+}
+
+/// Leaves the ends of the notice rows to which a unit of the script sends: to the others no notice comes.
+pub(crate) fn leave_used<S: Site>(takers: &mut Vec<IscTaker<'_, S>>, script: &Script) {
+    takers.retain(|taker| {
+        let isc = taker.isc();
+        script.set_up.units.iter().any(|unit| unit.isc == isc)
+    });
 }
 
 /// The workers of a system: each channel worker with its units, and each handler with the ends of the notice rows of
@@ -127,21 +136,26 @@ fn serve_handler<'r, S: Site, R: Wait>(
     serve_isc(rt, system, takers.as_mut_slice(), alarm, stop);
 }
 
-/// Starts the workers, each on a thread of its own.
+/// Starts the workers that have something to serve, each on a thread of its own.
 fn start<'s, 'r, S: Site + Send + Sync, R: Threads + Wait + Sync, E>(
     rt: &'s R,
     scope: &Scope<'s, E>,
-    system: &'s System<'r, S, UnitDevice>,
+    job: &Job<'s, 'r, S>,
     channels: &'s [Channel<S>],
     handlers: Vec<Vec<IscTaker<'r, S>>>,
-    alarm: &'s Alarm,
     stop: &'s Stop,
 ) -> Result<(), AllocError> {
+    let system = job.system;
+    let alarm = job.alarm;
     for channel in channels {
-        scope.spawn(move || serve_channel(rt, system, channel.units.as_slice(), alarm, stop))?;
+        if !channel.units.is_empty() {
+            scope.spawn(move || serve_channel(rt, system, channel.units.as_slice(), alarm, stop))?;
+        }
     }
     for takers in handlers {
-        scope.spawn(move || serve_handler(rt, system, takers, alarm, stop))?;
+        if !takers.is_empty() {
+            scope.spawn(move || serve_handler(rt, system, takers, alarm, stop))?;
+        }
     }
     Ok(())
 }
@@ -185,7 +199,7 @@ pub(crate) fn run_tasks<'r, S: Site + Send + Sync, R: Threads + Wait + Sync>(
             ensures { IfOk result (λ after. ArePlaced (λ runner. runner.task.number) S.rows.tasks after.items) }
         {
             let mut runners = runners;
-            let started = start(rt, scope, job.system, channels, handlers, job.alarm, stop);
+            let started = start(rt, scope, job, channels, handlers, stop);
             if started.is_ok() {
                 run_each(rt, alloc, job, runners.as_mut_slice());
             }

@@ -10,7 +10,7 @@ ghost use Rattle.post_ledger.specs.Report.{IsFor};
 ghost use Rattle.post_ledger.specs.Work.{lists_of};
 
 use crate::alarm::Alarm;
-use crate::crew::{Crew, Workers, run_tasks};
+use crate::crew::{Crew, Workers, leave_used, run_tasks};
 use crate::lines::Lines;
 use crate::output::write;
 use crate::rooms::rows_and_books;
@@ -80,7 +80,8 @@ pub(crate) fn run_on<S: Site + Send + Sync, R: Threads + Wait + Sync>(
     requires requests { All CanBeDone script.now.commands.items }
     ensures { IfOk result (λ lines. All IsComplete lines.items) }
 {
-    let (system, tasks, takers) = System::<S, UnitDevice>::new(alloc, rows, books)?;
+    let (system, tasks, mut takers) = System::<S, UnitDevice>::new(alloc, rows, books)?;
+    leave_used(&mut takers, script);
     let units = script.set_up.units.len() as u16;
     let crew = Crew::new(alloc, units, takers, workers)?;
     let alarm = Alarm::new();
@@ -96,7 +97,8 @@ pub(crate) fn run_on<S: Site + Send + Sync, R: Threads + Wait + Sync>(
     Ok(lines)
 }
 
-/// Lets the tasks do their commands beside the workers, and gives them with what is printed of their requests.
+/// Lets the tasks do their commands beside the workers, and gives them with what is printed of their requests. Want of
+/// memory that a worker met outranks the fault of a line at which a task ended, as it ended the others.
 pub(crate) fn run_commands<'r, S: Site + Send + Sync, R: Threads + Wait + Sync>(
     rt: &R,
     alloc: Global,

@@ -95,9 +95,9 @@ fn exchange<S: Site, R: Wait>(
     if !is_set(&barrier.reached) {
         return Ok([None, None]);
     }
-    let _ = issue(rt, alloc, task, 0, Kind::Tape)?;
-    let _ = issue(rt, alloc, task, 0, Kind::Tape)?;
-    let _ = issue(rt, alloc, task, 1, Kind::Tape)?;
+    issue(rt, alloc, task, 0, Kind::Tape)?.map_err(|_| AllocError)?;
+    issue(rt, alloc, task, 0, Kind::Tape)?.map_err(|_| AllocError)?;
+    issue(rt, alloc, task, 1, Kind::Tape)?.map_err(|_| AllocError)?;
     let first = collected(rt, task);
     barrier.let_go.store(true, Ordering::SeqCst);
     let second = collected(rt, task);
