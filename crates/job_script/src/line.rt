@@ -71,7 +71,7 @@ pub struct ExcpLine {
 
 impl ExcpLine {
     /// The EXCP that a line in its form says. Its words are then as many as they should be, and printable.
-    fn read(number: usize, bytes: &[u8]) -> Option<ExcpLine> {
+    pub fn of(number: usize, bytes: &[u8]) -> Option<ExcpLine> {
         let mut words = Words::of(bytes);
         let b"excp" = words.next_word()? else {
             return None;
@@ -106,15 +106,6 @@ pub enum Line {
 impl Line {
     /// Reads the line with this number.
     pub fn read(alloc: Global, number: usize, bytes: &[u8]) -> Result<Line, LineFault> {
-        match ExcpLine::read(number, bytes) {
-            Some(excp) => Ok(Line::Excp(excp)),
-            None => Line::read_any(alloc, number, bytes),
-        }
-    }
-
-    /// Reads a line of any kind, with the first of its faults.
-    #[inline(never)]
-    fn read_any(alloc: Global, number: usize, bytes: &[u8]) -> Result<Line, LineFault> {
         let mut words = Words::of(bytes);
         let count = words.count();
         let Some(kind) = words.next_word() else {
