@@ -1,12 +1,12 @@
 //! What is printed of the requests of a task.
 
-ghost use Rattle.std.specs.Prelude.{◌≡◌, ◌<◌, IfOk, IsTrue, vec_len};
+ghost use Rattle.std.specs.Prelude.{◌≡◌, ◌<◌, All, IfOk, IsTrue, vec_len};
 ghost use Rattle.job_script.specs.Commands.{NamesUnits};
-ghost use Rattle.job_run.specs.Complete.{IsComplete};
+ghost use Rattle.job_run.specs.Complete.{IsComplete, IsWhole};
 
 use io_images::{Code, Csw};
 use job_script::{Action, Command, Script};
-use request_piece::{Name, Posted};
+use request_piece::Posted;
 use std::alloc::{AllocError, Global};
 
 /// How a request ended.
@@ -17,50 +17,39 @@ pub(crate) struct End {
     pub sense: u16,
 }
 
-/// What is printed of a request: the bytes of its area that are shown, whose room is made before it is issued, and how
-/// it ended, once its post was collected.
+/// What is printed of a request: the bytes of its area that are shown, and how it ended, once its post was collected.
 #[derive(Drop)]
 pub(crate) struct Line {
     /// The address of the bytes that are shown.
     show: u32,
-    pub shown: Vec<u8>,
+    /// Where they stand among the shown bytes of the task, from their first place to the one behind them.
+    pub from: usize,
+    pub to: usize,
     pub end: Option<End>,
 }
 
 impl Line {
-    /// A request that was not posted, of which `len` bytes at the address `show` are shown.
-    fn new(alloc: Global, show: u32, len: usize) -> Result<Line, AllocError> {
-        Ok(Line {
-            show,
-            shown: vec![in alloc; 0; len]?,
-            end: None,
-        })
-    }
-
-    /// Notes what the request was posted with. Nothing is noted, and the answer is no, where it was posted before, or
-    /// where the bytes that are shown do not lie in its area.
-    fn fill(&mut self, posted: &Posted) -> bool {
-        if self.end.is_some() {
-            return false;
-        }
-        let Some(bytes) = posted.area().get(self.show, self.shown.len()) else {
-            return false;
-        };
-        self.shown.as_mut_slice().copy_from_slice(bytes);
-        self.end = Some(End {
-            code: posted.code(),
-            csw: posted.csw(),
-            sense: posted.sense(),
-        });
-        true
+    /// Whether the request has its post, and its bytes stand among so many.
+    fn is_whole(&self, shown: usize) -> bool
+        ensures { IsTrue result → IsWhole shown self.now }
+    {
+        self.end.is_some() && self.from <= self.to && self.to <= shown
     }
 }
 
+/// Whether each of these requests has its post, and its bytes stand among so many.
+fn are_whole(lines: &[Line], shown: usize) -> bool
+    ensures { IsTrue result → All (IsWhole shown) lines.now }
+{
+    lines.iter().all(|line| line.is_whole(shown))
+}
+
 /// What is printed of the requests of a task: for each unit a line for each of the requests to it, in order of their
-/// numbers.
+/// numbers, and the bytes that are shown of all of them, whose room is made before they are issued.
 #[derive(Drop)]
 pub(crate) struct Lines {
     pub units: Vec<Vec<Line>>,
+    pub shown: Vec<u8>,
     /// Whether a post came that no request waits for.
     stray: bool,
 }
@@ -71,7 +60,7 @@ impl Lines {
         let mut lines = Lines::new(alloc, script.set_up.units.len())?;
         for command in &script.commands {
             if command.task == task {
-                lines.add(alloc, command)?;
+                lines.add(command)?;
             }
         }
         Ok(lines)
@@ -87,54 +76,69 @@ impl Lines {
         }
         Ok(Lines {
             units: lines,
+            shown: Vec::new(alloc),
             stray: false,
         })
     }
 
     /// Adds the line of the request that a command issues, if it issues one.
-    fn add(&mut self, alloc: Global, command: &Command) -> Result<(), AllocError>
+    fn add(&mut self, command: &Command) -> Result<(), AllocError>
         requires { NamesUnits (vec_len self.old.units) command.now }
         ensures { vec_len self.new.units ≡ vec_len self.old.units }
     {
         if let Action::Excp(excp) = &command.action {
-            self.expect(alloc, excp.dcb.unit, excp.show, excp.len as usize)?;
+            self.expect(excp.dcb.unit, excp.show, excp.len as usize)?;
         }
         Ok(())
     }
 
     /// The next request of the task to a unit is to show `len` bytes at the address `show`.
-    fn expect(&mut self, alloc: Global, unit: u16, show: u32, len: usize) -> Result<(), AllocError>
+    fn expect(&mut self, unit: u16, show: u32, len: usize) -> Result<(), AllocError>
         requires { unit < vec_len self.old.units }
         ensures { vec_len self.new.units ≡ vec_len self.old.units }
     {
-        self.units[usize::from(unit)].push(Line::new(alloc, show, len)?)?;
+        let from = self.shown.len();
+        let to = from.checked_add(len).ok_or(AllocError)?;
+        self.shown.resize(to, 0)?;
+        self.units[usize::from(unit)].push(Line {
+            show,
+            from,
+            to,
+            end: None,
+        })?;
         Ok(())
     }
 
     /// Notes what a request of the task was posted with. It takes no memory.
     pub fn fill(&mut self, posted: &Posted) {
-        let filled = match self.line_of(posted.unit(), posted.name()) {
-            Some(line) => line.fill(posted),
-            None => false,
-        };
+        let filled = self.fill_line(posted).is_some();
         self.stray |= !filled;
     }
 
-    /// The line of the request with this name to this unit.
-    fn line_of(&mut self, unit: u16, name: Name) -> Option<&mut Line> {
-        let place = (name.seq as usize).checked_sub(1)?;
-        let lines = self.units.get_mut(usize::from(unit))?;
-        lines.get_mut(place)
+    /// Notes it in the line of the request. Nothing is noted where no line waits for it, or where the bytes that are
+    /// shown do not lie in its area.
+    fn fill_line(&mut self, posted: &Posted) -> Option<()> {
+        let place = (posted.name().seq as usize).checked_sub(1)?;
+        let lines = self.units.get_mut(usize::from(posted.unit()))?;
+        let line = lines.get_mut(place)?;
+        if line.end.is_some() {
+            return None;
+        }
+        let shown = self.shown.as_mut_slice().get_mut(line.from..line.to)?;
+        shown.copy_from_slice(posted.area().get(line.show, shown.len())?);
+        line.end = Some(End {
+            code: posted.code(),
+            csw: posted.csw(),
+            sense: posted.sense(),
+        });
+        Some(())
     }
 
     /// Whether each request has its post, and no other post came.
     pub fn is_complete(&self) -> bool
         ensures { IsTrue result → IsComplete self.now }
     {
-        !self.stray
-            && self
-                .units
-                .iter()
-                .all(|lines| lines.iter().all(|line| line.end.is_some()))
+        let shown = self.shown.len();
+        !self.stray && self.units.iter().all(|lines| are_whole(lines, shown))
     }
 }

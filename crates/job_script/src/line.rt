@@ -70,6 +70,16 @@ pub struct ExcpLine {
 }
 
 impl ExcpLine {
+    /// The EXCP that a line in its form says. Its words are then as many as they should be, and printable.
+    pub fn of(number: usize, bytes: &[u8]) -> Option<ExcpLine> {
+        let mut words = Words::of(bytes);
+        let b"excp" = words.next_word()? else {
+            return None;
+        };
+        let excp = excp(number, &mut words).ok()?;
+        words.is_empty().then_some(excp)
+    }
+
     /// The EXCP on a copy of this area.
     pub fn over(self, area: Arc<Area, Global>) -> Excp {
         Excp {

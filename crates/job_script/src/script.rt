@@ -40,8 +40,22 @@ impl Script {
         Ok(script)
     }
 
-    /// Adds what the line with this number says.
+    /// Adds what the line with this number says. An EXCP in its form takes a short way.
     fn read_line(&mut self, alloc: Global, number: usize, bytes: &[u8]) -> Result<(), LineFault> {
+        match ExcpLine::of(number, bytes) {
+            Some(excp) => self.add_excp(excp),
+            None => self.read_any_line(alloc, number, bytes),
+        }
+    }
+
+    /// Adds what a line of any kind says.
+    #[inline(never)]
+    fn read_any_line(
+        &mut self,
+        alloc: Global,
+        number: usize,
+        bytes: &[u8],
+    ) -> Result<(), LineFault> {
         match Line::read(alloc, number, bytes)? {
             Line::Nothing => Ok(()),
             Line::SetUp(line) => {
@@ -50,20 +64,18 @@ impl Script {
                 }
                 self.set_up.add(alloc, line)
             }
-            Line::Excp(excp) => {
-                let command = self.excp(excp)?;
-                self.add_command(command)
-            }
+            Line::Excp(excp) => self.add_excp(excp),
             Line::Command(command) => self.add_command(command),
         }
     }
 
-    /// The command of an EXCP, with its area.
-    fn excp(&self, line: ExcpLine) -> Result<Command, LineFault> {
-        Ok(Command {
+    /// Adds the command of an EXCP, with its area.
+    fn add_excp(&mut self, line: ExcpLine) -> Result<(), LineFault> {
+        let area = self.set_up.area(line.area)?;
+        self.add_command(Command {
             line: line.line,
             task: line.task,
-            action: Action::Excp(line.over(self.set_up.area(line.area)?)),
+            action: Action::Excp(line.over(area)),
         })
     }
 

@@ -23,6 +23,11 @@ impl<'a> Words<'a> {
             .count()
     }
 
+    /// Whether no word is left.
+    pub fn is_empty(&self) -> bool {
+        self.rest.iter().all(|byte| *byte == b' ')
+    }
+
     /// The next word.
     pub fn next_word(&mut self) -> Option<&'a [u8]> {
         let start = self.rest.iter().position(|byte| *byte != b' ')?;
@@ -131,11 +136,9 @@ fn decimal(word: &[u8]) -> Option<u64> {
     }
     let mut value: u64 = 0;
     for byte in word {
-        let digit = digit(*byte)?;
-        if digit > 9 {
-            return None;
-        }
-        value = value.checked_mul(10)?.checked_add(u64::from(digit))?;
+        value = value
+            .checked_mul(10)?
+            .checked_add(u64::from(decimal_digit(*byte)?))?;
     }
     Some(value)
 }
@@ -148,24 +151,33 @@ fn hexadecimal(word: &[u8], digits: usize) -> Option<u32> {
     for byte in word {
         value = value
             .checked_mul(16)?
-            .checked_add(u32::from(digit(*byte)?))?;
+            .checked_add(u32::from(hexadecimal_digit(*byte)?))?;
     }
     Some(value)
 }
 
-/// The value of a hexadecimal digit of either case.
-fn digit(byte: u8) -> Option<u8>
-    ensures { IfSome result (λ value. value < 16) }
+/// The value of a decimal digit.
+fn decimal_digit(byte: u8) -> Option<u8>
+    ensures { IfSome result (λ value. value < 10) }
 {
     match byte {
         b'0'..=b'9' => Some(byte - b'0'),
+        _ => None,
+    }
+}
+
+/// The value of a hexadecimal digit of either case.
+fn hexadecimal_digit(byte: u8) -> Option<u8>
+    ensures { IfSome result (λ value. value < 16) }
+{
+    match byte {
         b'A'..=b'F' => Some(byte - b'A' + 10),
         b'a'..=b'f' => Some(byte - b'a' + 10),
-        _ => None,
+        _ => decimal_digit(byte),
     }
 }
 
 /// The byte of two hexadecimal digits.
 fn pair_value(high: u8, low: u8) -> Option<u8> {
-    Some(digit(high)? * 16 + digit(low)?)
+    Some(hexadecimal_digit(high)? * 16 + hexadecimal_digit(low)?)
 }

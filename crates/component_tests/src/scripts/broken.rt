@@ -74,7 +74,7 @@ const EXTENTS: [&str; 4] = [
 ];
 
 /// Broken commands on the sixth line, behind the set-up of one task and one DCB.
-const COMMANDS: [(&str, FaultName); 22] = [
+const COMMANDS: [(&str, FaultName); 24] = [
     ("purge 0 0 1", FaultName::Words),
     ("purge 0 0 1 halt 0", FaultName::Words),
     ("purge 0 0 1 stop", FaultName::Number),
@@ -97,6 +97,8 @@ const COMMANDS: [(&str, FaultName); 22] = [
     ("excp 1 0 1 001000 0 001060 4", FaultName::Name),
     ("excp 0 0 0 001000 0 001060 4", FaultName::Number),
     ("excp 0 0 1 001000 0 001060", FaultName::Words),
+    ("excp 0 0 1 001000 0 001060 4 4", FaultName::Words),
+    ("excp 0 0 0 001000 0 001060", FaultName::Words),
 ];
 
 #[test]
