@@ -1,6 +1,7 @@
 //! The limits of an area, and bytes read and written at its ends.
 
 use io_area::{Area, AreaError};
+use std::alloc::AllocError;
 use std::test::Fail;
 
 #[test]
@@ -40,5 +41,22 @@ fn put_and_copy(rt: HostRuntime) -> Result<(), Fail> {
         before.get(before.base(), before.len()),
         Some([1, 2, 3, 4].as_slice())
     );
+    Ok(())
+}
+
+/// Where there is no memory for an area or a copy, no other reason is told, and the next one is had: run it with each
+/// growth refused in turn.
+#[test]
+fn areas_without_memory(rt: HostRuntime) -> Result<(), Fail> {
+    let bytes = [1, 2, 3, 4];
+    let area = match Area::new(rt.alloc(), 0x1000, &bytes) {
+        Err(AreaError::NoMemory) => Area::new(rt.alloc(), 0x1000, &bytes)?,
+        made => made?,
+    };
+    let copy = match area.copy() {
+        Ok(copy) => copy,
+        Err(AllocError) => area.copy()?,
+    };
+    assert_eq!(rt; copy.get(0x1000, 4), Some(bytes.as_slice()));
     Ok(())
 }

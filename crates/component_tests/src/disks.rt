@@ -323,10 +323,18 @@ fn every_command(rt: HostRuntime) -> Result<(), Fail> {
     Ok(())
 }
 
-/// Where there is no memory for a mounting, no other reason is told: run it with each allocation refused in turn.
+/// Where there is no memory for a mounting or a copy, no other reason is told, and the next one is had: run it with each
+/// growth refused in turn.
 #[test]
-fn mount_without_memory(rt: HostRuntime) {
-    if let Err(error) = two_tracks(rt.alloc()) {
-        assert_eq!(rt; error, MountError::NoMemory);
-    }
+fn mount_without_memory(rt: HostRuntime) -> Result<(), Fail> {
+    let disk = match two_tracks(rt.alloc()) {
+        Err(MountError::NoMemory) => two_tracks(rt.alloc())?,
+        mounted => mounted?,
+    };
+    let copy = match disk.copy() {
+        Ok(copy) => copy,
+        Err(AllocError) => disk.copy()?,
+    };
+    assert_eq!(rt; copy.kind(), disk.kind());
+    Ok(())
 }

@@ -5,7 +5,7 @@ use device_port::{Acted, Device, Flow, INTERVENTION_REQUIRED, Kind, MountError};
 use io_area::Area;
 use io_images::Seek;
 use line_printer::{Position, Printer};
-use std::alloc::Global;
+use std::alloc::{AllocError, Global};
 use std::test::Fail;
 
 /// A sense that only a fault gives.
@@ -213,10 +213,18 @@ fn every_command(rt: HostRuntime) -> Result<(), Fail> {
     Ok(())
 }
 
-/// Where there is no memory for a mounting, no other reason is told: run it with each allocation refused in turn.
+/// Where there is no memory for a mounting or a copy, no other reason is told, and the next one is had: run it with each
+/// growth refused in turn.
 #[test]
-fn mount_without_memory(rt: HostRuntime) {
-    if let Err(error) = largest(rt.alloc()) {
-        assert_eq!(rt; error, MountError::NoMemory);
-    }
+fn mount_without_memory(rt: HostRuntime) -> Result<(), Fail> {
+    let printer = match largest(rt.alloc()) {
+        Err(MountError::NoMemory) => largest(rt.alloc())?,
+        mounted => mounted?,
+    };
+    let copy = match printer.copy() {
+        Ok(copy) => copy,
+        Err(AllocError) => printer.copy()?,
+    };
+    assert_eq!(rt; copy.kind(), printer.kind());
+    Ok(())
 }

@@ -3,7 +3,7 @@
 use io_area::Area;
 use io_images::{Address, Seek};
 use request_piece::{Name, Piece, Scope};
-use std::alloc::Global;
+use std::alloc::{AllocError, Global};
 use std::process::Abort;
 use std::test::Fail;
 use unit_queue::{Selection, WaitQueue};
@@ -82,5 +82,16 @@ fn sweeps_keep_both_orders(rt: HostRuntime) -> Result<(), Fail> {
         expect_numbers(&rt, &mut swept, moved);
         expect_numbers(&rt, &mut queue, kept);
     }
+    Ok(())
+}
+
+/// Where there is no memory for a queue the next one is had: run it with each growth refused in turn.
+#[test]
+fn queues_without_memory(rt: HostRuntime) -> Result<(), Fail> {
+    let queue = match WaitQueue::new(rt.alloc(), 65_536) {
+        Ok(queue) => queue,
+        Err(AllocError) => WaitQueue::new(rt.alloc(), 65_536)?,
+    };
+    assert!(rt; queue.is_empty() && queue.capacity() == 65_536);
     Ok(())
 }

@@ -54,6 +54,18 @@ fn request_places(rt: HostRuntime) {
     }
 }
 
+/// Where there is no memory for a request, no other reason is told, the area comes back, and the next one is had: run it
+/// with each growth refused in turn.
+#[test]
+fn requests_without_memory(rt: HostRuntime) -> Result<(), Fail> {
+    let request = match issued(&rt, rt.alloc(), &fixture(), 0x1000) {
+        Err(RequestError::NoMemory) => issued(&rt, rt.alloc(), &fixture(), 0x1000)?,
+        made => made?,
+    };
+    assert_eq!(rt; request.area().get(0x1000, 104), Some(fixture().as_slice()));
+    Ok(())
+}
+
 #[test]
 fn request_says_what_its_iob_says(rt: HostRuntime) -> Result<(), Fail> {
     let request = issued(&rt, rt.alloc(), &fixture(), 0x1000)?;

@@ -3,6 +3,7 @@
 ghost use Rattle.std.specs.Prelude.{◌≡◌, ◌+◌, length};
 
 use fifo_row::{Full, Item, Row, Sender, Taker};
+use std::alloc::AllocError;
 use std::marker::Brand;
 use std::sync::Wait;
 use std::test::Fail;
@@ -209,5 +210,19 @@ fn row_of_one(rt: HostRuntime) -> Result<(), Fail> {
     assert!(rt; taker.take(&rt).is_none());
     assert_eq!(rt; offer(&rt, &mut sender, 0), None);
     assert_eq!(rt; (sender.sent_len(), taker.taken_len(0)), (2, 1));
+    Ok(())
+}
+
+/// Where there is no memory for a row the next one is had: run it with each growth refused in turn. Where it is the ends
+/// that are refused, the row is only dropped.
+#[test]
+fn rows_without_memory(rt: HostRuntime) -> Result<(), Fail> {
+    let mut row = match Row::<Parcel>::new(rt.alloc(), 2, 4, TAG) {
+        Ok(row) => row,
+        Err(AllocError) => Row::<Parcel>::new(rt.alloc(), 2, 4, TAG)?,
+    };
+    let (senders, mut taker) = row.seats()?;
+    assert_eq!(rt; senders.len(), 2);
+    assert!(rt; taker.take(&rt).is_none());
     Ok(())
 }

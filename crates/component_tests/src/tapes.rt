@@ -275,10 +275,18 @@ fn every_command(rt: HostRuntime) -> Result<(), Fail> {
     Ok(())
 }
 
-/// Where there is no memory for a mounting, no other reason is told: run it with each allocation refused in turn.
+/// Where there is no memory for a mounting or a copy, no other reason is told, and the next one is had: run it with each
+/// growth refused in turn.
 #[test]
-fn mount_without_memory(rt: HostRuntime) {
-    if let Err(error) = longest(rt.alloc()) {
-        assert_eq!(rt; error, MountError::NoMemory);
-    }
+fn mount_without_memory(rt: HostRuntime) -> Result<(), Fail> {
+    let tape = match longest(rt.alloc()) {
+        Err(MountError::NoMemory) => longest(rt.alloc())?,
+        mounted => mounted?,
+    };
+    let copy = match tape.copy() {
+        Ok(copy) => copy,
+        Err(AllocError) => tape.copy()?,
+    };
+    assert_eq!(rt; copy.kind(), tape.kind());
+    Ok(())
 }

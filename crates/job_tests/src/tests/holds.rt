@@ -254,19 +254,19 @@ fn by_control<S: Site, R: Wait>(
     }
 }
 
-/// Does a step, and tells what it answers. Want of memory fails.
-fn done<'r, S: Site, R: Wait + Abort + AllocGlobal>(
+/// Does a step once, and tells what it answers: nothing where there is no memory for it.
+fn done_once<'r, S: Site, R: Wait + Abort + AllocGlobal>(
     rt: &R,
     system: &System<'r, S, UnitDevice>,
     task: &mut Task<'r, S>,
     step: Step,
-) -> Result<(String, u32), Fail>
+) -> Result<Option<(String, u32)>, Fail>
     requires { 0 < S.rows.units }
 {
     let told = match step {
         Step::Collect => {
             if let Some(value) = task.take_post(rt) {
-                return Ok((end_of(rt, &value)?, value.name().seq));
+                return Ok(Some((end_of(rt, &value)?, value.name().seq)));
             }
             Some(("none", 0))
         }
@@ -278,16 +278,38 @@ fn done<'r, S: Site, R: Wait + Abort + AllocGlobal>(
         }
         _ => by_control(rt, &mut system.lock_of(0).lock(rt), step),
     };
-    let (word, number) = told.ok_or("no memory")?;
-    Ok((String::from_str(rt.alloc(), word)?, number))
+    let Some((word, number)) = told else {
+        return Ok(None);
+    };
+    Ok(Some((String::from_str(rt.alloc(), word)?, number)))
 }
 
-/// Does the steps of a table on a system of one task and one unit.
+/// Does a step, so many times at most while there is no memory for it, and tells what it answers. Want of memory at the
+/// last of them fails.
+fn done<'r, S: Site, R: Wait + Abort + AllocGlobal>(
+    rt: &R,
+    system: &System<'r, S, UnitDevice>,
+    task: &mut Task<'r, S>,
+    step: Step,
+    tries: u32,
+) -> Result<(String, u32), Fail>
+    requires { 0 < S.rows.units }
+{
+    for _ in 0..tries {
+        if let Some(told) = done_once(rt, system, task, step)? {
+            return Ok(told);
+        }
+    }
+    Err(Fail::from("no memory"))
+}
+
+/// Does the steps of a table on a system of one task and one unit, each so many times at most.
 fn steps<S: Site, R: Wait + Abort + AllocGlobal>(
     rt: &R,
     rows: &mut Rows,
     books: Vec<UnitBook<UnitDevice>>,
     table: &[(Step, Told)],
+    tries: u32,
 ) -> Result<(), Fail>
     requires site { S.rows ≡ site_of rows.old }
     requires fresh { AreFresh rows.old }
@@ -298,7 +320,7 @@ fn steps<S: Site, R: Wait + Abort + AllocGlobal>(
     let task = tasks.first_mut().ok_or(AllocError)?;
     let mut place: usize = 0;
     for (step, wanted) in table {
-        let (told, number) = done(rt, &system, task, *step)?;
+        let (told, number) = done(rt, &system, task, *step, tries)?;
         assert_eq!(rt; (told.as_str(), number), *wanted, "step {place}");
         place = place.saturating_add(1);
     }
@@ -306,12 +328,14 @@ fn steps<S: Site, R: Wait + Abort + AllocGlobal>(
 }
 
 /// Does the steps of a table on the unit of a script, each of its rows with room for so many, and its book for so many.
+/// Each step is done so many times at most while there is no memory for it.
 fn expect_steps<R: Wait + Abort + AllocGlobal>(
     rt: &R,
     script: &str,
     row: usize,
     book: usize,
     table: &[(Step, Told)],
+    tries: u32,
 ) -> Result<(), Fail>
     requires row_some { 1 ≤ row }
     requires row_few { row ≤ 65536 }
@@ -324,7 +348,7 @@ fn expect_steps<R: Wait + Abort + AllocGlobal>(
     if books.len() != 1 {
         return Err(Fail::from("no unit"));
     }
-    steps::<Brand, R>(rt, &mut rows, books, table)
+    steps::<Brand, R>(rt, &mut rows, books, table, tries)
 }
 
 /// Each of the purges or closes of a case.
@@ -334,30 +358,46 @@ fn expect_case<R: Wait + Abort + AllocGlobal>(rt: &R, case: &Case) -> Result<(),
         let mut table = case.before.to_vec(rt.alloc())?;
         table.push((*step, case.answer))?;
         table.extend_from_slice(case.behind)?;
-        expect_steps(rt, script, 3, 3, &table)?;
+        expect_steps(rt, script, 3, 3, &table, 1)?;
     }
     Ok(())
 }
 
-#[test]
-fn purges_and_closes_through_a_lock(rt: HostRuntime) -> Result<(), Fail> {
-    expect_steps(&rt, DISK, 3, 3, tables::HALT_AT_EACH_PLACE)?;
-    expect_steps(&rt, DISK, 3, 3, tables::BY_COMMANDS)?;
-    expect_steps(&rt, DISK, 3, 3, tables::QUIESCE)?;
-    expect_steps(&rt, DISK, 1, 1, tables::UNKNOWN)?;
-    expect_steps(&rt, FAILS_ONCE, 3, 3, tables::CLOSE)
+fn purges_and_closes<R: Wait + Abort + AllocGlobal>(rt: &R, tries: u32) -> Result<(), Fail> {
+    expect_steps(rt, DISK, 3, 3, tables::HALT_AT_EACH_PLACE, tries)?;
+    expect_steps(rt, DISK, 3, 3, tables::BY_COMMANDS, tries)?;
+    expect_steps(rt, DISK, 3, 3, tables::QUIESCE, tries)?;
+    expect_steps(rt, DISK, 1, 1, tables::UNKNOWN, tries)?;
+    expect_steps(rt, FAILS_ONCE, 3, 3, tables::CLOSE, tries)
 }
 
-#[test]
-fn related_requests_through_a_lock(rt: HostRuntime) -> Result<(), Fail> {
+fn related_requests<R: Wait + Abort + AllocGlobal>(rt: &R, tries: u32) -> Result<(), Fail> {
     let mut table = tables::RELATED.to_vec(rt.alloc())?;
     for _ in 0..10 {
         table.extend_from_slice(tables::TRIED_AGAIN)?;
     }
     table.extend_from_slice(tables::FLAGGED)?;
     table.extend_from_slice(tables::RESET)?;
-    expect_steps(&rt, FAILS, 3, 5, &table)?;
-    expect_steps(&rt, DISK, 3, 3, tables::VIOLATION)
+    expect_steps(rt, FAILS, 3, 5, &table, tries)?;
+    expect_steps(rt, DISK, 3, 3, tables::VIOLATION, tries)
+}
+
+#[test]
+fn purges_and_closes_through_a_lock(rt: HostRuntime) -> Result<(), Fail> {
+    purges_and_closes(&rt, 1)
+}
+
+#[test]
+fn related_requests_through_a_lock(rt: HostRuntime) -> Result<(), Fail> {
+    related_requests(&rt, 1)
+}
+
+/// A step that finds no memory changes nothing: done once more, it answers as it would have. Run it with each growth
+/// refused in turn. Where one that is not a step's is refused it ends with that error.
+#[test]
+fn steps_without_memory(rt: HostRuntime) -> Result<(), Fail> {
+    purges_and_closes(&rt, 2)?;
+    related_requests(&rt, 2)
 }
 
 #[test]
@@ -370,6 +410,6 @@ fn purges_at_each_phase(rt: HostRuntime) -> Result<(), Fail> {
 
 #[test]
 fn rows_and_books_with_room_for_one(rt: HostRuntime) -> Result<(), Fail> {
-    expect_steps(&rt, DISK, 1, 1, tables::ROOM_FOR_ONE)?;
-    expect_steps(&rt, DISK, 1, 2, tables::FULL_POST_ROW)
+    expect_steps(&rt, DISK, 1, 1, tables::ROOM_FOR_ONE, 1)?;
+    expect_steps(&rt, DISK, 1, 2, tables::FULL_POST_ROW, 1)
 }
