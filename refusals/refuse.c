@@ -1,0 +1,77 @@
+/* Refuses calls of a program: preloaded into it, those calls of one kind fail whose numbers REFUSE has (one or two, from
+ * 1; 0 for none). REFUSE_KIND is `growth` for malloc and realloc, which then answer that there is no memory, and `write`
+ * for what is written to standard output. How many such calls there were stands, as eight bytes, in the file that
+ * CALLS names. */
+#include <errno.h>
+#include <fcntl.h>
+#include <stdatomic.h>
+#include <stdlib.h>
+#include <string.h>
+#include <sys/mman.h>
+#include <sys/syscall.h>
+#include <unistd.h>
+
+extern void *__libc_malloc(size_t);
+extern void *__libc_realloc(void *, size_t);
+
+enum kind { GROWTH, WRITE };
+
+static atomic_long none;
+static atomic_long *calls = &none;
+static enum kind kind;
+static long refused[2];
+
+__attribute__((constructor)) static void begin(void)
+{
+    const char *numbers = getenv("REFUSE");
+    const char *name = getenv("REFUSE_KIND");
+    const char *file = getenv("CALLS");
+    int shared = file ? open(file, O_RDWR | O_CREAT | O_TRUNC, 0644) : -1;
+    if (shared >= 0 && ftruncate(shared, sizeof *calls) == 0) {
+        void *page = mmap(NULL, sizeof *calls, PROT_READ | PROT_WRITE, MAP_SHARED, shared, 0);
+        if (page != MAP_FAILED)
+            calls = page;
+    }
+    atomic_store(calls, 0);
+    kind = name && strcmp(name, "write") == 0 ? WRITE : GROWTH;
+    if (numbers) {
+        char *behind;
+        refused[0] = strtol(numbers, &behind, 10);
+        refused[1] = strtol(behind, NULL, 10);
+    }
+}
+
+static int is_refused(enum kind of)
+{
+    if (of != kind)
+        return 0;
+    long number = atomic_fetch_add(calls, 1) + 1;
+    return number == refused[0] || number == refused[1];
+}
+
+void *malloc(size_t size)
+{
+    if (is_refused(GROWTH)) {
+        errno = ENOMEM;
+        return NULL;
+    }
+    return __libc_malloc(size);
+}
+
+void *realloc(void *block, size_t size)
+{
+    if (is_refused(GROWTH)) {
+        errno = ENOMEM;
+        return NULL;
+    }
+    return __libc_realloc(block, size);
+}
+
+ssize_t write(int to, const void *bytes, size_t count)
+{
+    if (to == STDOUT_FILENO && is_refused(WRITE)) {
+        errno = EIO;
+        return -1;
+    }
+    return syscall(SYS_write, to, bytes, count);
+}
