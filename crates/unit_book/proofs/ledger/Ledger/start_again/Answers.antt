@@ -1,9 +1,8 @@
-use Rattle.std.proofs.Common.{◌≡◌, Some, Option, true, reverse, arith, sym, ap, subst, ◌∙◌}
+use Rattle.std.proofs.Common.{◌≡◌, Some, true, reverse, arith, sym, ap, subst, ◌∙◌}
 use Rattle.request_piece.specs.declared.piece.Name.{Name}
 use Rattle.request_piece.specs.declared.piece.Piece.{Piece}
 use Rattle.subchannel.specs.Subchannel.{started as ssch_started}
-use Rattle.unit_book.specs.declared.active.Active.{Active}
-use Rattle.unit_book.specs.Fields.{Ties, Rooms, awaits_by, awaits_of}
+use Rattle.unit_book.specs.Fields.{awaits_by, awaits_of}
 use Rattle.unit_book.specs.Legal.{StartsAgain}
 use Rattle.unit_book.proofs.Restarts.{ties-restart, restart-fits, few-starts}
 use Rattle.unit_book.proofs.Found.{ties-found, name-found, rooms-found}
