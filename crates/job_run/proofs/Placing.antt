@@ -1,6 +1,5 @@
 -- Elements that stand at the places of their numbers.
-use Rattle.std.proofs.Common.{◌≡◌, ℕ, ◌+◌, List, [], ◌∷◌, ◌++◌, length, Some, sym, ap, ◌∙◌, ⊎_elim, arith, length-append}
-use Rattle.std.specs.Prelude.{slice_get}
+use Rattle.std.proofs.Common.{◌≡◌, ℕ, ◌+◌, List, [], ◌∷◌, ◌++◌, length, sym, ap, ◌∙◌, ⊎_elim, length-append}
 use Rattle.excp_system.specs.Drained.{ArePlaced}
 use Rattle.excp_system.proofs.Places.{get_snoc}
 
