@@ -8,6 +8,7 @@ use crate::command::{Action, Command};
 use crate::fault::{Fault, FaultName, LineFault};
 use crate::line::{ExcpLine, Line};
 use crate::set_up::SetUp;
+use memchr::memchr;
 use std::alloc::Global;
 
 /// What a script says. The units that its commands name are declared.
@@ -29,11 +30,15 @@ impl Script {
             set_up: SetUp::new(alloc),
             commands: Vec::new(alloc),
         };
-        for (bytes, number) in text.split(|byte| *byte == b'\n').zip(1..) {
-            if let Err(fault) = script.read_line(alloc, number, bytes) {
-                return Err(fault.at(number));
-            }
+        let mut rest = text;
+        let mut number: usize = 1;
+        while let Some(end) = memchr(b'\n', rest) {
+            let (bytes, others) = rest.split_at(end);
+            script.read_line(alloc, number, bytes)?;
+            number = number.saturating_add(1);
+            rest = &others[1..];
         }
+        script.read_line(alloc, number, rest)?;
         if script.set_up.tasks == 0 || script.set_up.units.is_empty() {
             return Err(LineFault::Named(FaultName::Order).at(0));
         }
@@ -41,11 +46,12 @@ impl Script {
     }
 
     /// Adds what the line with this number says. An EXCP in its form takes a short way.
-    fn read_line(&mut self, alloc: Global, number: usize, bytes: &[u8]) -> Result<(), LineFault> {
-        match ExcpLine::of(number, bytes) {
+    fn read_line(&mut self, alloc: Global, number: usize, bytes: &[u8]) -> Result<(), Fault> {
+        let read = match ExcpLine::of(number, bytes) {
             Some(excp) => self.add_excp(excp),
             None => self.read_any_line(alloc, number, bytes),
-        }
+        };
+        read.map_err(|fault| fault.at(number))
     }
 
     /// Adds what a line of any kind says.
