@@ -335,20 +335,26 @@ fn run<R: Threads + Wait + Sync + AllocGlobal>(
     on_rows::<Brand, R>(rt, &mut rows, books, &script, way)
 }
 
-/// Each task has collected its posts when it ends; and where none was collected, the end of the run gives them.
 #[test]
 fn rows_and_books_of_one(rt: HostRuntime) -> Result<(), Fail> {
-    let parts = [AREAS, EXCPS];
-    for (room, way) in [(1, Way::Whole), (8, Way::Left)] {
-        let posts = Vec::from_slice(rt.alloc(), POSTS.as_bytes())?;
-        let outcome = run(&rt, UNITS, &parts, room, way)?;
-        assert_eq!(rt; outcome, Outcome::Printed(posts));
-    }
-    let outcome = run(&rt, UNITS, &parts, 1, Way::Tasks)?;
-    assert_eq!(rt; outcome, Outcome::Ended(None, 12));
+    let posts = Vec::from_slice(rt.alloc(), POSTS.as_bytes())?;
+    let outcome = run(&rt, UNITS, &[AREAS, EXCPS], 1, Way::Whole)?;
+    assert_eq!(rt; outcome, Outcome::Printed(posts));
     Ok(())
 }
 
+/// A task has collected all its posts when it ends; where tasks do not, the end of the run gives them.
+#[test]
+fn tasks_wait_for_their_posts(rt: HostRuntime) -> Result<(), Fail> {
+    let outcome = run(&rt, UNITS, &[AREAS, EXCPS], 8, Way::Tasks)?;
+    assert_eq!(rt; outcome, Outcome::Ended(None, 12));
+    let posts = Vec::from_slice(rt.alloc(), POSTS.as_bytes())?;
+    let outcome = run(&rt, UNITS, &[AREAS, EXCPS], 8, Way::Left)?;
+    assert_eq!(rt; outcome, Outcome::Printed(posts));
+    Ok(())
+}
+
+/// Also where a worker alone was told of it: it is given the alarm of the run.
 #[test]
 fn want_of_memory_ends_the_tasks(rt: HostRuntime) -> Result<(), Fail> {
     let parts = [AREAS, EXCPS];
