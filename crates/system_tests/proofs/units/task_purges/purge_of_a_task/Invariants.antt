@@ -1,6 +1,6 @@
 use Rattle.excp_system.specs.Opening.{site_of}
-use Rattle.system_tests.proofs.units.task_purges.purge_of_a_task_halts.Given as goal
+use Rattle.system_tests.proofs.units.task_purges.purge_of_a_task.Given as goal
 
 -- the site of these rows
-abbrev pub ghosts-run : goal.ghosts-run
-ghosts-run g a = record { rows = site_of a.rows.now }
+abbrev pub ghosts-expect_outcome : goal.ghosts-expect_outcome
+ghosts-expect_outcome g a = record { rows = site_of a.rows.now }
