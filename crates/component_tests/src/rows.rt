@@ -6,6 +6,7 @@ use fifo_row::{Full, Item, Row, Sender, Taker};
 use std::alloc::AllocError;
 use std::marker::Brand;
 use std::sync::Wait;
+use std::sync::atomic::{AtomicBool, Ordering};
 use std::test::Fail;
 use std::thread;
 use std::thread::{Threads, join};
@@ -15,6 +16,9 @@ const TAG: u16 = 7;
 
 /// How many items each sender sends.
 const EACH: usize = 1000;
+
+/// How often a thread looks before all give up, as they must where one of them could not be started.
+const LOOKS: u32 = 5_000_000;
 
 /// An item that names its sender, its place among that sender's items, and its row.
 #[derive(Drop)]
@@ -74,17 +78,17 @@ fn offer<R: Wait>(rt: &R, sender: &mut Sender<'_, Parcel>, number: u16) -> Optio
 }
 
 /// Sends the next parcel as soon as there is room.
-fn send_next<R: Wait>(rt: &R, sender: &mut Sender<'_, Parcel>, number: u16)
+fn send_next<R: Wait>(rt: &R, sender: &mut Sender<'_, Parcel>, number: u16, given_up: &AtomicBool)
     requires { (sender.old.number ≡ number) × (sender.old.tag ≡ TAG) }
     ensures { (sender.new.row ≡ sender.old.row) × (sender.new.number ≡ number) × (sender.new.tag ≡ TAG) }
 {
-    for _ in rt.forever() {
-        if offer(rt, sender, number).is_none() {
+    for _ in 0..LOOKS {
+        if given_up.load(Ordering::SeqCst) || offer(rt, sender, number).is_none() {
             return;
         }
         thread::yield_now();
     }
-    unreachable!()
+    given_up.store(true, Ordering::SeqCst);
 }
 
 /// Sends the parcels of one sender.
@@ -92,27 +96,36 @@ fn send_all<'r, S: Shared, R: Wait>(
     rt: &R,
     mut sender: Sender<'r, Parcel>,
     number: u16,
+    given_up: &AtomicBool,
 ) -> Sender<'r, Parcel>
     requires { (sender.row ≡ S.home) × (sender.number ≡ number) × (sender.tag ≡ TAG) }
     ensures { result.row ≡ S.home }
 {
     for _ in 0..EACH {
-        send_next(rt, &mut sender, number);
+        send_next(rt, &mut sender, number, given_up);
     }
     sender
 }
 
 /// Takes the next parcel as soon as there is one.
-fn take_next<R: Wait>(rt: &R, taker: &mut Taker<'_, Parcel>) -> Parcel
+fn take_next<R: Wait>(
+    rt: &R,
+    taker: &mut Taker<'_, Parcel>,
+    given_up: &AtomicBool,
+) -> Option<Parcel>
     ensures { (taker.new.row ≡ taker.old.row) × (taker.new.senders ≡ taker.old.senders) }
 {
-    for _ in rt.forever() {
+    for _ in 0..LOOKS {
+        if given_up.load(Ordering::SeqCst) {
+            return None;
+        }
         if let Some(parcel) = taker.take(rt) {
-            return parcel;
+            return Some(parcel);
         }
         thread::yield_now();
     }
-    unreachable!()
+    given_up.store(true, Ordering::SeqCst);
+    None
 }
 
 /// Takes the parcels of both senders.
@@ -120,12 +133,15 @@ fn take_all<'r, S: Shared, R: Wait>(
     rt: &R,
     mut taker: Taker<'r, Parcel>,
     mut parcels: Vec<Parcel>,
+    given_up: &AtomicBool,
 ) -> (Taker<'r, Parcel>, Vec<Parcel>)
     requires { (taker.row ≡ S.home) × (taker.senders ≡ 2) }
     ensures { (result.0.row ≡ S.home) × (result.0.senders ≡ 2) }
 {
     for _ in 0..2 * EACH {
-        let _ = parcels.push(take_next(rt, &mut taker));
+        if let Some(parcel) = take_next(rt, &mut taker, given_up) {
+            let _ = parcels.push(parcel);
+        }
     }
     (taker, parcels)
 }
@@ -137,6 +153,7 @@ fn exchange<'r, S: Shared + Send + Sync, R: Threads + Wait + Sync>(
     second: Sender<'r, Parcel>,
     taker: Taker<'r, Parcel>,
     parcels: Vec<Parcel>,
+    given_up: &AtomicBool,
 ) -> (
     Sender<'r, Parcel>,
     (Sender<'r, Parcel>, (Taker<'r, Parcel>, Vec<Parcel>)),
@@ -153,7 +170,7 @@ fn exchange<'r, S: Shared + Send + Sync, R: Threads + Wait + Sync>(
         move || -> Sender<'_, Parcel>
             requires { (first.row ≡ S.home) × (first.number ≡ 0) × (first.tag ≡ TAG) }
             ensures { result.row ≡ S.home }
-        { send_all::<S, R>(rt, first, 0) },
+        { send_all::<S, R>(rt, first, 0, given_up) },
         move || -> (Sender<'_, Parcel>, (Taker<'_, Parcel>, Vec<Parcel>))
             requires { (second.row ≡ S.home) × (second.number ≡ 1) × (second.tag ≡ TAG) × (taker.row ≡ S.home) × (taker.senders ≡ 2) }
             ensures { (result.0.row ≡ S.home) × (result.1.0.row ≡ S.home) × (result.1.0.senders ≡ 2) }
@@ -163,26 +180,31 @@ fn exchange<'r, S: Shared + Send + Sync, R: Threads + Wait + Sync>(
                 move || -> Sender<'_, Parcel>
                     requires { (second.row ≡ S.home) × (second.number ≡ 1) × (second.tag ≡ TAG) }
                     ensures { result.row ≡ S.home }
-                { send_all::<S, R>(rt, second, 1) },
+                { send_all::<S, R>(rt, second, 1, given_up) },
                 move || -> (Taker<'_, Parcel>, Vec<Parcel>)
                     requires { (taker.row ≡ S.home) × (taker.senders ≡ 2) }
                     ensures { (result.0.row ≡ S.home) × (result.0.senders ≡ 2) }
-                { take_all::<S, R>(rt, taker, parcels) },
+                { take_all::<S, R>(rt, taker, parcels, given_up) },
             )
         },
     )
 }
 
+/// Where a sender or the taker can get no thread it ends in want of memory.
 #[test]
 fn two_senders_and_a_taker(rt: HostRuntime) -> Result<(), Fail> {
+    let given_up = AtomicBool::new(false);
     let parcels = Vec::with_capacity(rt.alloc(), 2 * EACH)?;
     let mut row = Row::<Parcel>::new(rt.alloc(), 2, 4, TAG)?;
     let (mut senders, taker) = row.seats()?;
     let second = senders.pop().ok_or("a second sender")?;
     let first = senders.pop().ok_or("a first sender")?;
     let (first, (second, (mut taker, parcels))) = exchange::<Brand, _>(
-        &rt, first, second, taker, parcels,
+        &rt, first, second, taker, parcels, &given_up,
     );
+    if given_up.load(Ordering::SeqCst) {
+        return Err(Fail::from(AllocError));
+    }
     assert_eq!(rt; (first.sent_len(), second.sent_len()), (1000, 1000));
     taker.meet(first);
     taker.meet(second);
@@ -198,6 +220,7 @@ fn two_senders_and_a_taker(rt: HostRuntime) -> Result<(), Fail> {
     Ok(())
 }
 
+/// It refuses a row that is always full, or always empty: the wrong bodies of rows_accept_and_give.
 #[test]
 fn row_of_one(rt: HostRuntime) -> Result<(), Fail> {
     let mut row = Row::<Parcel>::new(rt.alloc(), 1, 1, TAG)?;

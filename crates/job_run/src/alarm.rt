@@ -7,6 +7,8 @@ use std::sync::atomic::{AtomicBool, Ordering};
 #[derive(Drop)]
 pub(crate) struct Alarm {
     raised: AtomicBool,
+    /// In tests, the call of workers before which it is raised.
+    drill: Option<Point>,
 }
 
 impl Alarm {
@@ -14,6 +16,16 @@ impl Alarm {
     pub fn new() -> Alarm {
         Alarm {
             raised: AtomicBool::new(false),
+            drill: None,
+        }
+    }
+
+    /// The same, and a worker that is about to make such a call raises it as if there were no memory for that.
+    #[cfg(test)]
+    pub fn with_drill(point: Point) -> Alarm {
+        Alarm {
+            raised: AtomicBool::new(false),
+            drill: Some(point),
         }
     }
 
@@ -24,7 +36,11 @@ impl Alarm {
 }
 
 impl Gate for Alarm {
-    fn pass(&self, _unit: u16, _point: Point) {}
+    fn pass(&self, unit: u16, point: Point) {
+        if self.drill == Some(point) {
+            self.lack_memory(unit, point);
+        }
+    }
 
     fn lack_memory(&self, _unit: u16, _point: Point) {
         self.raised.store(true, Ordering::SeqCst);

@@ -86,15 +86,8 @@ pub(crate) fn run_on<S: Site + Send + Sync, R: Threads + Wait + Sync>(
     let crew = Crew::new(alloc, units, takers, workers)?;
     let alarm = Alarm::new();
     let job = Job::new(script, &system, &alarm);
-    let (tasks, mut lines) = run_commands(rt, alloc, &job, tasks, crew)?;
-    match finish(rt, alloc, system, tasks) {
-        Ok(report) => add_rest(&mut lines, &report, units),
-        Err(_) => return Err(Fault::NoMemory),
-    }
-    if !lines.iter().all(|of_task| of_task.is_complete()) {
-        return Err(Fault::Unmatched);
-    }
-    Ok(lines)
+    let (tasks, lines) = run_commands(rt, alloc, &job, tasks, crew)?;
+    ended(rt, alloc, system, tasks, lines, units)
 }
 
 /// Lets the tasks do their commands beside the workers, and gives them with what is printed of their requests. Want of
@@ -116,6 +109,32 @@ pub(crate) fn run_commands<'r, S: Site + Send + Sync, R: Threads + Wait + Sync>(
         return Err(Fault::NoMemory);
     }
     parted(alloc, runners)
+}
+
+/// Brings a run to its end whose tasks have done their commands: what is printed of their requests, with what they had
+/// not collected.
+pub(crate) fn ended<'r, S: Site, R: Wait>(
+    rt: &R,
+    alloc: Global,
+    system: System<'r, S, UnitDevice>,
+    tasks: Vec<Task<'r, S>>,
+    mut lines: Vec<Lines>,
+    units: u16,
+) -> Result<Vec<Lines>, Fault>
+    requires tasks { ArePlaced (λ task. task.number) S.rows.tasks tasks.items }
+    requires lines { length lines.items ≡ S.rows.tasks }
+    requires units { units ≡ S.rows.units }
+    requires few { S.rows.tasks ≤ 64 }
+    ensures { IfOk result (λ lines. All IsComplete lines.items) }
+{
+    match finish(rt, alloc, system, tasks) {
+        Ok(report) => add_rest(&mut lines, &report, units),
+        Err(_) => return Err(Fault::NoMemory),
+    }
+    if !lines.iter().all(|of_task| of_task.is_complete()) {
+        return Err(Fault::Unmatched);
+    }
+    Ok(lines)
 }
 
 /// Adds what the report of a run lists to the lines of each task.

@@ -99,7 +99,7 @@ impl<'r, S: Site> Runner<'r, S> {
     }
 
     /// Does the commands of the task, in order, up to the first fault.
-    fn commands<R: Wait>(
+    pub fn commands<R: Wait>(
         &mut self,
         rt: &R,
         alloc: Global,

@@ -1,22 +1,26 @@
-//! Runs on rows and books of one, runs in which a worker met want of memory or nobody takes a status, and one in which a
-//! task ends early.
+//! Runs on rows and books of one, runs whose tasks wait for their posts or do not, runs in which a worker or a task met
+//! want of memory or nobody takes a status, and one in which a task ends early.
 
-ghost use Rattle.std.specs.Prelude.{◌≡◌, ◌<◌, ◌≤◌, All, vec_len};
+ghost use Rattle.std.specs.Prelude.{◌≡◌, ◌<◌, ◌≤◌, All, IfOk, length, vec_len};
+ghost use Rattle.excp_system.specs.Drained.{ArePlaced};
 ghost use Rattle.excp_system.specs.Opening.{AreBooks, AreFresh, AreTasks, site_of};
 ghost use Rattle.job_script.specs.Commands.{CanBeDone};
+ghost use Rattle.job_run.specs.Complete.{IsComplete};
 
 use crate::alarm::Alarm;
 use crate::crew::{Crew, Workers};
+use crate::lines::Lines;
 use crate::output::write;
-use crate::run::{run_commands, run_on};
+use crate::run::{ended, run_commands, run_on};
 use crate::runner::Job;
-use crate::tasks::runners;
+use crate::tasks::{parted, runners};
 use excp_system::{Gate, Point, Rows, Site, System, Task};
 use job_script::{Fault, FaultName, Script};
 use std::alloc::{AllocError, Global};
 use std::marker::Brand;
 use std::sync::Wait;
 use std::test::Fail;
+use std::thread;
 use std::thread::Threads;
 use unit_book::{Entry, UnitBook};
 use unit_device::UnitDevice;
@@ -26,6 +30,20 @@ const UNITS: &str = "tasks 2
 disk 0 3 1 1 40
 disk 1 6 1 1 40
 open 0 out 18000000000000000000000000000001
+open 1 out 18000000000000000000000000000001
+";
+
+/// The same with four DCBs each.
+const FOUR_DCBS: &str = "tasks 2
+disk 0 3 1 1 40
+disk 1 6 1 1 40
+open 0 out 18000000000000000000000000000001
+open 0 out 18000000000000000000000000000001
+open 0 out 18000000000000000000000000000001
+open 0 out 18000000000000000000000000000001
+open 1 out 18000000000000000000000000000001
+open 1 out 18000000000000000000000000000001
+open 1 out 18000000000000000000000000000001
 open 1 out 18000000000000000000000000000001
 ";
 
@@ -71,12 +89,26 @@ const SECOND: &str = "open 0 out 18000000000000000000000000000001\n";
 /// Task 0 purges it.
 const PURGE: &str = "purge 0 0 2 halt\n";
 
+/// A purge of a DCB, a purge of a task, a close and a reset, and how many units' traces are to tell of it.
+const CONTROLS: [(&str, usize); 4] = [
+    ("purge 0 0 1 halt\n", 1),
+    ("purgetask 0 0 halt\n", 2),
+    ("close 0 0 1\n", 1),
+    ("reset 0 0 1\n", 1),
+];
+
 /// How a run goes.
 #[derive(Clone, Copy)]
 enum Way {
     /// To its end.
     Whole,
-    /// A worker met want of memory before the tasks began.
+    /// Its tasks do not wait for their posts, and there is no worker: all is left to its end.
+    Left,
+    /// Until its tasks have ended.
+    Tasks,
+    /// And a worker meets want of memory before such a call.
+    Drill(Point),
+    /// And a worker met want of memory before the tasks began.
     Alarmed,
     /// And no handler takes a status, so that nothing is posted.
     NoHandler,
@@ -84,12 +116,28 @@ enum Way {
     Alone,
 }
 
+impl Way {
+    /// What tells the tasks of such a run that a worker met want of memory.
+    fn alarm(self) -> Alarm {
+        if let Way::Drill(point) = self {
+            return Alarm::with_drill(point);
+        }
+        let alarm = Alarm::new();
+        if let Way::Alarmed | Way::NoHandler | Way::Alone = self {
+            alarm.lack_memory(0, Point::Take);
+        }
+        alarm
+    }
+}
+
 /// What came of a run that could be set up.
 #[derive(PartialEq, Eq, Debug, Drop)]
 enum Outcome {
     Printed(Vec<u8>),
-    /// The fault of its tasks, and how many requests they had issued.
+    /// The fault of its tasks, and how many of their requests and controls the traces tell of.
     Ended(Option<Fault>, usize),
+    /// How many of its tasks, one after another, ended for want of memory, and the same.
+    Short(usize, usize),
 }
 
 /// What comes of the script on these rows and books, or why it could not be set up or run to its end.
@@ -112,54 +160,131 @@ fn on_rows<S: Site + Send + Sync, R: Threads + Wait + Sync + AllocGlobal>(
         channels: 2,
         handlers: 2,
     };
-    if let Way::Whole = way {
-        let lines = run_on::<S, R>(rt, alloc, rows, books, script, workers)?;
-        let mut text = Vec::new(alloc);
-        write(alloc, &lines, &mut text)?;
-        return Ok(Outcome::Printed(text));
+    match way {
+        Way::Whole => {
+            let lines = run_on::<S, R>(rt, alloc, rows, books, script, workers)?;
+            return printed(alloc, &lines);
+        }
+        Way::Left => {
+            let lines = left::<S, R>(rt, alloc, rows, books, script)?;
+            return printed(alloc, &lines);
+        }
+        _ => {}
     }
     let units = script.set_up.units.len() as u16;
     let (system, tasks, takers) = System::<S, UnitDevice>::new(alloc, rows, books)?;
-    let alarm = Alarm::new();
-    alarm.lack_memory(0, Point::Take);
+    let alarm = way.alarm();
     let job = Job::new(script, &system, &alarm);
-    let fault = if let Way::Alone = way {
-        fault_alone(rt, alloc, &job, tasks)?
+    if let Way::Alone = way {
+        let short = short_alone(rt, alloc, &job, tasks)?;
+        return Ok(Outcome::Short(short, told(rt, &system, units)?));
+    }
+    let takers = if let Way::NoHandler = way {
+        Vec::new(alloc)
     } else {
-        let takers = if let Way::NoHandler = way {
-            Vec::new(alloc)
-        } else {
-            takers
-        };
-        let crew = Crew::new(alloc, units, takers, workers)?;
-        run_commands(rt, alloc, &job, tasks, crew).err()
+        takers
     };
-    Ok(Outcome::Ended(fault, issued(rt, &system, units)?))
+    let crew = Crew::new(alloc, units, takers, workers)?;
+    let fault = fault_of(run_commands(rt, alloc, &job, tasks, crew));
+    Ok(Outcome::Ended(fault, told(rt, &system, units)?))
 }
 
-/// Runs the tasks one after another, and gives the first fault other than want of memory, or want of memory where each
-/// task had that fault.
-fn fault_alone<'r, S: Site, R: Wait>(
+/// The fault of tasks that have ended, one that has not collected all its posts included.
+fn fault_of<'r, S: Site>(ended: Result<(Vec<Task<'r, S>>, Vec<Lines>), Fault>) -> Option<Fault> {
+    match ended {
+        Ok((_, lines)) => {
+            let complete = lines.iter().all(|of_task| of_task.is_complete());
+            if complete {
+                None
+            } else {
+                Some(Fault::Unmatched)
+            }
+        }
+        Err(fault) => Some(fault),
+    }
+}
+
+/// What is printed of the requests of each task.
+fn printed(alloc: Global, lines: &[Lines]) -> Result<Outcome, Fault>
+    requires { All IsComplete lines.now }
+{
+    let mut text = Vec::new(alloc);
+    write(alloc, lines, &mut text)?;
+    Ok(Outcome::Printed(text))
+}
+
+/// Runs a script as `run_on` does, without workers, and its tasks do not wait for their posts.
+fn left<S: Site + Send + Sync, R: Threads + Wait + Sync>(
+    rt: &R,
+    alloc: Global,
+    rows: &mut Rows,
+    books: Vec<UnitBook<UnitDevice>>,
+    script: &Script,
+) -> Result<Vec<Lines>, Fault>
+    requires site { S.rows ≡ site_of rows.old }
+    requires fresh { AreFresh rows.old }
+    requires books { AreBooks S.rows.units books.items }
+    requires units { vec_len script.now.set_up.units ≡ S.rows.units }
+    requires few { (S.rows.units ≤ 64) × (S.rows.tasks ≤ 64) }
+    requires requests { All CanBeDone script.now.commands.items }
+    ensures { IfOk result (λ lines. All IsComplete lines.items) }
+{
+    let (system, tasks, _) = System::<S, UnitDevice>::new(alloc, rows, books)?;
+    let units = script.set_up.units.len() as u16;
+    let alarm = Alarm::new();
+    let job = Job::new(script, &system, &alarm);
+    let (tasks, lines) = not_awaited(rt, alloc, &job, tasks)?;
+    ended(rt, alloc, system, tasks, lines, units)
+}
+
+/// Lets the tasks do their commands one after another, and not wait for their posts.
+fn not_awaited<'r, S: Site + Send + Sync, R: Threads + Wait + Sync>(
     rt: &R,
     alloc: Global,
     job: &Job<'_, 'r, S>,
     tasks: Vec<Task<'r, S>>,
-) -> Result<Option<Fault>, AllocError>
+) -> Result<(Vec<Task<'r, S>>, Vec<Lines>), Fault>
+    requires { AreTasks S.rows.tasks S.rows.units tasks.items }
+    ensures tasks { IfOk result (λ parts. ArePlaced (λ task. task.number) S.rows.tasks parts.0.items) }
+    ensures lines { IfOk result (λ parts. length parts.1.items ≡ S.rows.tasks) }
+{
+    let mut runners = runners(alloc, tasks, job.script)?;
+    thread::for_each_mut(
+        rt,
+        runners.as_mut_slice(),
+        1,
+        &|_, runner| {
+            let _ = runner.commands(rt, alloc, job);
+        },
+    );
+    parted(alloc, runners)
+}
+
+/// Runs the tasks one after another, and answers how many ended for want of memory.
+fn short_alone<'r, S: Site, R: Wait>(
+    rt: &R,
+    alloc: Global,
+    job: &Job<'_, 'r, S>,
+    tasks: Vec<Task<'r, S>>,
+) -> Result<usize, Fault>
     requires { AreTasks S.rows.tasks S.rows.units tasks.items }
 {
+    let mut short: usize = 0;
     for runner in runners(alloc, tasks, job.script)? {
         let mut runner = runner;
         runner.run(rt, alloc, job);
-        let fault = runner.into_parts().err();
-        if fault != Some(Fault::NoMemory) {
-            return Ok(fault);
+        match runner.into_parts() {
+            Ok(_) => {}
+            Err(Fault::NoMemory) => short = short.saturating_add(1),
+            Err(fault) => return Err(fault),
         }
     }
-    Ok(Some(Fault::NoMemory))
+    Ok(short)
 }
 
-/// How many requests were issued to the units, whose books have room for them: those in the intake rows arrive first.
-fn issued<S: Site, R: Wait>(
+/// How many requests and controls of tasks the traces of the units tell of. Their books have room for the requests in
+/// the intake rows, which arrive first.
+fn told<S: Site, R: Wait>(
     rt: &R,
     system: &System<'_, S, UnitDevice>,
     units: u16,
@@ -173,7 +298,7 @@ fn issued<S: Site, R: Wait>(
             state.take(rt)?;
         }
         for entry in state.book().trace() {
-            if let Entry::Arrive(_) = entry {
+            if let Entry::Arrive(_) | Entry::Purge(..) | Entry::Close(_) | Entry::Reset(_) = entry {
                 count = count.saturating_add(1);
             }
         }
@@ -181,9 +306,11 @@ fn issued<S: Site, R: Wait>(
     Ok(count)
 }
 
-/// What comes of a script of these parts, on the units that have DCB 1 alone, with rows and books of this room.
+/// What comes of a script of these parts, on the units that have the DCBs of its first part alone, with rows and books of
+/// this room.
 fn run<R: Threads + Wait + Sync + AllocGlobal>(
     rt: &R,
+    units: &str,
     parts: &[&str],
     room: usize,
     way: Way,
@@ -192,13 +319,13 @@ fn run<R: Threads + Wait + Sync + AllocGlobal>(
     requires few { room ≤ 65536 }
 {
     let alloc = rt.alloc();
-    let mut text = Vec::from_slice(alloc, UNITS.as_bytes())?;
+    let mut text = Vec::from_slice(alloc, units.as_bytes())?;
     for part in parts {
         text.extend_from_slice(part.as_bytes())?;
     }
     let script = Script::parse(alloc, &text)?;
     script.books(alloc, room)?;
-    let mounted = Script::parse(alloc, UNITS.as_bytes())?;
+    let mounted = Script::parse(alloc, units.as_bytes())?;
     let units = mounted.set_up.units.len();
     if script.set_up.units.len() != units {
         return Err(Fault::Unmatched);
@@ -211,26 +338,53 @@ fn run<R: Threads + Wait + Sync + AllocGlobal>(
 #[test]
 fn rows_and_books_of_one(rt: HostRuntime) -> Result<(), Fail> {
     let posts = Vec::from_slice(rt.alloc(), POSTS.as_bytes())?;
-    assert_eq!(rt;
-        run(&rt, &[AREAS, EXCPS], 1, Way::Whole)?,
-        Outcome::Printed(posts)
-    );
+    let outcome = run(&rt, UNITS, &[AREAS, EXCPS], 1, Way::Whole)?;
+    assert_eq!(rt; outcome, Outcome::Printed(posts));
     Ok(())
 }
 
+/// A task has collected all its posts when it ends; where tasks do not, the end of the run gives them.
+#[test]
+fn tasks_wait_for_their_posts(rt: HostRuntime) -> Result<(), Fail> {
+    let outcome = run(&rt, UNITS, &[AREAS, EXCPS], 8, Way::Tasks)?;
+    assert_eq!(rt; outcome, Outcome::Ended(None, 12));
+    let posts = Vec::from_slice(rt.alloc(), POSTS.as_bytes())?;
+    let outcome = run(&rt, UNITS, &[AREAS, EXCPS], 8, Way::Left)?;
+    assert_eq!(rt; outcome, Outcome::Printed(posts));
+    Ok(())
+}
+
+/// Also where a worker alone was told of it: it is given the alarm of the run.
 #[test]
 fn want_of_memory_ends_the_tasks(rt: HostRuntime) -> Result<(), Fail> {
-    let no_memory = Some(Fault::NoMemory);
-    for way in [Way::Alarmed, Way::NoHandler, Way::Alone] {
-        assert_eq!(rt;
-            run(&rt, &[AREAS, EXCPS], 8, way)?,
-            Outcome::Ended(no_memory, 12)
-        );
+    let parts = [AREAS, EXCPS];
+    for way in [
+        Way::Drill(Point::Run),
+        Way::Drill(Point::Interrupt),
+        Way::Alarmed,
+        Way::NoHandler,
+    ] {
+        let outcome = run(&rt, UNITS, &parts, 8, way)?;
+        assert_eq!(rt; outcome, Outcome::Ended(Some(Fault::NoMemory), 12));
     }
-    assert_eq!(rt;
-        run(&rt, &[AREAS, EXCPS], 1, Way::Alone)?,
-        Outcome::Ended(no_memory, 2)
-    );
+    for (room, told) in [(8, 12), (1, 2)] {
+        let outcome = run(&rt, UNITS, &parts, room, Way::Alone)?;
+        assert_eq!(rt; outcome, Outcome::Short(2, told));
+    }
+    Ok(())
+}
+
+/// A purge, a close or a reset that a unit refuses for want of memory ends its task: run it with each allocation refused
+/// in turn. A unit's trace is full with four DCBs.
+#[test]
+fn controls_without_memory(rt: HostRuntime) -> Result<(), Fail> {
+    for (control, units) in CONTROLS {
+        match run(&rt, FOUR_DCBS, &[control], 1, Way::Alone)? {
+            Outcome::Short(0, told) => assert_eq!(rt; told, units, "{control}"),
+            Outcome::Short(1, told) => assert!(rt; told < units, "{control}"),
+            _ => return Err(Fail::from("another outcome")),
+        }
+    }
     Ok(())
 }
 
@@ -238,7 +392,8 @@ fn want_of_memory_ends_the_tasks(rt: HostRuntime) -> Result<(), Fail> {
 fn task_that_ends_early_is_told(rt: HostRuntime) -> Result<(), Fail> {
     for (commands, line) in [([PURGE, EXCPS], 9), ([EXCPS, PURGE], 21)] {
         let [first, last] = commands;
-        let ended = run(&rt, &[SECOND, AREAS, first, last], 1, Way::Whole);
+        let parts = [SECOND, AREAS, first, last];
+        let ended = run(&rt, UNITS, &parts, 1, Way::Whole);
         let name = FaultName::Name;
         assert_eq!(rt; ended, Err(Fault::Line { line, name }));
     }

@@ -38,7 +38,7 @@ const READ_RECORD: [u8; 104] = [
 pub const BLOCK: [u8; 4] = [0xC1, 0xC2, 0xC3, 0xC4];
 
 /// What is read of the disk of unit 1.
-const OTHER_BLOCK: [u8; 4] = [0xD1, 0xD2, 0xD3, 0xD4];
+pub const OTHER_BLOCK: [u8; 4] = [0xD1, 0xD2, 0xD3, 0xD4];
 
 /// The one track of a disk, for input and output.
 pub const TRACK: [u8; 16] = [0x18, 0, 0, 0, 0, 0, 0, 0, 0, 0, 0, 0, 0, 0, 0, 1];

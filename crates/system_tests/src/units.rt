@@ -2,7 +2,7 @@
 
 ghost use Rattle.std.specs.Prelude.{◌≡◌};
 
-use crate::fixtures::{BLOCK, disks, issue, tapes};
+use crate::fixtures::{BLOCK, OTHER_BLOCK, disks, issue, tapes};
 use ckd_disk::Disk;
 use device_port::Device;
 use device_port::toy::ToyBlock;
@@ -43,9 +43,9 @@ fn awaited<S: Site, R: Wait>(rt: &R, task: &mut Task<'_, S>) -> Option<Posted>
 }
 
 /// Serves all notices.
-fn serve_handlers<'r, S: Site, R: Wait>(
+fn serve_handlers<'r, S: Site, D: Device, R: Wait>(
     rt: &R,
-    system: &System<'r, S, ToyBlock>,
+    system: &System<'r, S, D>,
     mut handlers: Vec<IscTaker<'r, S>>,
     stop: &Stop,
 ) {

@@ -1,4 +1,5 @@
-//! Scripts with purges and closes at random places: each post is judged by the commands of its script.
+//! Scripts with purges, closes and permanent errors at random places: each request has one post, in order of number, which
+//! is judged by the commands of its script.
 
 ghost use Rattle.std.specs.Prelude.{◌<◌, ◌≤◌};
 
@@ -7,7 +8,8 @@ use std::alloc::AllocError;
 use std::str::Lines;
 
 /// Two tasks and three disks on subclasses 0, 3 and 6, the last of which fails now and then, each time to be tried
-/// again; area 0 reads R1 unrelated, area 1 related.
+/// again. Areas 0 and 1 read R1, unrelated and related; areas 2 and 3 do so with a count that is too large, which is a
+/// permanent error.
 const THREE_DISKS: &str = "tasks 2
 disk 0 0 1 1 40
 rec 0 0 0 1 - C1C2C3C4
@@ -22,7 +24,12 @@ open 1 out 18000000000000000000000000000001
 open 2 out 18000000000000000000000000000001
 area 0 001000 4200000000001028 0000000000000000 0000103000000001 0000000000000000 0000000000000001 0000000000000000 3100105040000005 0800103000000000 0600106000000004 0000000000000000 0000000001000000 0000000000000000 0000000000000000
 area 1 001000 4000000000001028 0000000000000000 0000103000000001 0000000000000000 0000000000000001 0000000000000000 3100105040000005 0800103000000000 0600106000000004 0000000000000000 0000000001000000 0000000000000000 0000000000000000
+area 2 001000 4200000000001028 0000000000000000 0000103000000001 0000000000000000 0000000000000001 0000000000000000 3100105040000005 0800103000000000 0600106000000008 0000000000000000 0000000001000000 0000000000000000 0000000000000000
+area 3 001000 4000000000001028 0000000000000000 0000103000000001 0000000000000000 0000000000000001 0000000000000000 3100105040000005 0800103000000000 0600106000000008 0000000000000000 0000000001000000 0000000000000000 0000000000000000
 ";
+
+/// The area of related requests that end in an error.
+const RELATED_ERROR: u32 = 3;
 
 /// Numbers that look random (a linear congruential generator).
 #[derive(Drop)]
@@ -56,7 +63,7 @@ enum Command {
 use Command::{Close, Excp, Purge, PurgeTask, Reset};
 
 impl Command {
-    /// A command at random: mostly an EXCP, now and then a wait, a purge, a reset or a close.
+    /// A command at random: mostly an EXCP of a read, now and then one of an error, a wait, a purge, a reset or a close.
     fn at_random(random: &mut Random) -> Command {
         let task = random.next() % 2;
         let unit = random.next() % 3;
@@ -68,6 +75,7 @@ impl Command {
             7 => PurgeTask(task, other, false),
             8..=9 => Reset(task, unit),
             10..=11 => Close(task, unit),
+            12..=19 => Excp(task, unit, other + 2),
             _ => Excp(task, unit, other),
         }
     }
@@ -91,9 +99,17 @@ impl Command {
         }
     }
 
-    /// Whether it is a request of a task to a unit.
-    fn is_request(self, task: u32, unit: u32) -> bool {
-        matches!(self, Excp(t, u, _) if t == task && u == unit)
+    /// The area of a request of a task to a unit, if it is one.
+    fn area(self, task: u32, unit: u32) -> Option<u32> {
+        match self {
+            Excp(t, u, area) if t == task && u == unit => Some(area),
+            _ => None,
+        }
+    }
+
+    /// Whether it clears the flag of a unit's DCB.
+    fn resets(self, unit: u32) -> bool {
+        matches!(self, Reset(_, u) if u == unit)
     }
 
     /// Whether it may post a request of a task to a unit as purged.
@@ -111,10 +127,13 @@ impl Command {
     }
 }
 
-/// How a request is printed that read the record, one that was purged without a start, one that was halted before its
-/// first command or behind another, and, on the disk that fails, one that was to be tried again.
+/// How a request is printed that read the record, and one that did so with too large a count.
 const READ: &str = "7F 001048 0C00 0000 0000 C1C2C3C4";
 
+const FAILED: &str = "41 001048 0C40 0004 0000 C1C2C3C4";
+
+/// One that was posted without a start, one that was halted before its first command or behind another, and, on the disk
+/// that fails, one that was to be tried again.
 const NEVER_STARTED: &str = "48 000000 0000 0000 0000 00000000";
 
 const HALTED: [&str; 2] = [
@@ -127,77 +146,114 @@ const HALTED_RETRY: &str = "48 001038 0E00 0005 1000 00000000";
 /// What the commands say of a request's end.
 #[derive(Clone, Copy, PartialEq, Eq)]
 enum Fate {
-    /// Nothing purges it.
-    Reads,
-    /// Its task has closed its DCB before.
+    /// Its program comes to its end.
+    Ends,
+    /// Its task has closed its DCB before, or left it in error.
     NeverStarts,
-    /// It may be purged while it waits.
-    Quiesced,
-    /// It may be purged while it waits or is active.
+    /// It may be posted before its start.
+    Waits,
+    /// It may be purged before its start or while it is active.
     Halted,
 }
 
 impl Fate {
-    /// The fate of the request at this place, of this task to this unit.
-    fn of(commands: &[Command], place: usize, task: u32, unit: u32) -> Fate {
-        if commands.iter().take(place).any(|c| *c == Close(task, unit)) {
+    /// The fate of the request at this place, from this area, of this task to this unit.
+    fn of(commands: &[Command], place: usize, area: u32, task: u32, unit: u32) -> Fate {
+        let before = commands.get(..place).unwrap_or(&[]);
+        if before.contains(&Close(task, unit)) {
+            return Fate::NeverStarts;
+        }
+        let related = area % 2 == 1;
+        let behind_error = related && before.contains(&Excp(task, unit, RELATED_ERROR));
+        let other = u32::from(task == 0);
+        let beside_error = related && commands.contains(&Excp(other, unit, RELATED_ERROR));
+        let purged = commands.iter().any(|c| c.covers(task, unit));
+        if behind_error && !purged && !commands.iter().any(|c| c.resets(unit)) {
             return Fate::NeverStarts;
         }
         if commands.iter().any(|c| c.covers(task, unit) && c.halts()) {
             return Fate::Halted;
         }
-        if commands.iter().any(|c| c.covers(task, unit)) {
-            return Fate::Quiesced;
+        if purged || behind_error || beside_error {
+            return Fate::Waits;
         }
-        Fate::Reads
+        Fate::Ends
     }
 
-    /// Whether a request of this fate to a unit may be printed so.
-    fn allows(self, unit: u32, end: &str) -> bool {
+    /// Whether a request of this fate, from this area to a unit, may be printed so.
+    fn allows(self, area: u32, unit: u32, end: &str) -> bool {
+        let ended = end == if area < 2 { READ } else { FAILED };
         match self {
-            Fate::Reads => end == READ,
+            Fate::Ends => ended,
             Fate::NeverStarts => end == NEVER_STARTED,
-            Fate::Quiesced => end == READ || end == NEVER_STARTED,
+            Fate::Waits => ended || end == NEVER_STARTED,
             Fate::Halted if unit == 2 && end == HALTED_RETRY => true,
-            Fate::Halted => end == READ || end == NEVER_STARTED || HALTED.contains(&end),
+            Fate::Halted => ended || end == NEVER_STARTED || HALTED.contains(&end),
+        }
+    }
+}
+
+/// How many requests read, end in an error, and never start, for sure.
+#[derive(Drop)]
+struct Sure {
+    reads: u32,
+    errors: u32,
+    never_started: u32,
+}
+
+impl Sure {
+    fn new() -> Sure {
+        Sure {
+            reads: 0,
+            errors: 0,
+            never_started: 0,
+        }
+    }
+
+    /// One request more, of this fate and from this area.
+    fn count(&mut self, fate: Fate, area: u32) {
+        match fate {
+            Fate::Ends if area < 2 => self.reads = self.reads.saturating_add(1),
+            Fate::Ends => self.errors = self.errors.saturating_add(1),
+            Fate::NeverStarts => self.never_started = self.never_started.saturating_add(1),
+            Fate::Waits | Fate::Halted => {}
         }
     }
 }
 
 /// Asserts that the next lines are the posts of a task's requests to a unit, in order of number, each as its fate has
-/// it. Answers how many read for sure, and how many never start.
+/// it, and counts what is sure.
 fn judge<R: Abort + AllocGlobal>(
     rt: &R,
     commands: &[Command],
     task: u32,
     unit: u32,
     lines: &mut Lines<'_>,
-) -> Result<(u32, u32), Fail> {
+    sure: &mut Sure,
+) -> Result<(), Fail> {
     let mut number: u32 = 0;
-    let mut sure: (u32, u32) = (0, 0);
     for (place, command) in commands.iter().enumerate() {
-        if command.is_request(task, unit) {
+        if let Some(area) = command.area(task, unit) {
             number = number.saturating_add(1);
             let start = format!(in rt.alloc(); "post {task} {unit} {number} ")?;
             let line = lines.next().ok_or("no post")?;
             let end = line.strip_prefix(&start).ok_or("another post")?;
-            let fate = Fate::of(commands, place, task, unit);
-            assert!(rt; fate.allows(unit, end), "{line}");
-            sure.0 = sure.0.saturating_add(u32::from(fate == Fate::Reads));
-            sure.1 = sure.1.saturating_add(u32::from(fate == Fate::NeverStarts));
+            let fate = Fate::of(commands, place, area, task, unit);
+            assert!(rt; fate.allows(area, unit, end), "{line}");
+            sure.count(fate, area);
         }
     }
-    Ok(sure)
+    Ok(())
 }
 
-/// Runs a script of 24 commands by so many workers, and judges its posts. Answers how many read for sure, and how many
-/// never start.
+/// Runs a script of 24 commands by so many workers, judges its posts, and counts what is sure.
 fn run<R: Threads + Wait + Sync + Abort + AllocGlobal>(
     rt: &R,
     random: &mut Random,
     channels: u8,
     handlers: u8,
-) -> Result<(u32, u32), Fail>
+    sure: &mut Sure,
+) -> Result<(), Fail>
     requires channels { (1 ≤ channels) × (channels ≤ 16) }
     requires handlers { (1 ≤ handlers) × (handlers ≤ 8) }
 {
@@ -210,42 +266,43 @@ fn run<R: Threads + Wait + Sync + Abort + AllocGlobal>(
     }
     let output = String::from_utf8(printed(rt, script.as_bytes(), channels, handlers)?)?;
     let mut lines = output.lines();
-    let mut all: (u32, u32) = (0, 0);
-    for pair in 0..6 {
-        let sure = judge(rt, &commands, pair / 3, pair % 3, &mut lines)?;
-        all = (all.0.saturating_add(sure.0), all.1.saturating_add(sure.1));
+    for (task, unit) in [(0, 0), (0, 1), (0, 2), (1, 0), (1, 1), (1, 2)] {
+        judge(rt, &commands, task, unit, &mut lines, sure)?;
     }
     let requests = commands.iter().filter(|c| matches!(c, Excp(..))).count();
     let last = format!(in rt.alloc(); "end {requests}")?;
     assert_eq!(rt; lines.next(), Some(last.as_str()));
     assert_eq!(rt; lines.next(), None);
-    Ok(all)
+    Ok(())
 }
 
-/// Runs 25 scripts by so many workers. Answers how many requests read for sure, and how many never start.
+/// Runs 25 scripts by so many workers, in which the ends of many requests are sure.
 fn runs<R: Threads + Wait + Sync + Abort + AllocGlobal>(
     rt: &R,
     random: &mut Random,
     channels: u8,
     handlers: u8,
-) -> Result<(u32, u32), Fail>
+) -> Result<(), Fail>
     requires channels { (1 ≤ channels) × (channels ≤ 16) }
     requires handlers { (1 ≤ handlers) × (handlers ≤ 8) }
 {
-    let mut all: (u32, u32) = (0, 0);
+    let mut sure = Sure::new();
     for _ in 0..25 {
-        let sure = run(rt, random, channels, handlers)?;
-        all = (all.0.saturating_add(sure.0), all.1.saturating_add(sure.1));
+        run(rt, random, channels, handlers, &mut sure)?;
     }
-    Ok(all)
+    let (reads, errors, never) = (sure.reads, sure.errors, sure.never_started);
+    assert!(rt;
+        reads > 50 && errors > 10 && never > 20,
+        "{reads} {errors} {never}"
+    );
+    Ok(())
 }
 
 #[test]
 fn purges_and_closes_at_random(rt: HostRuntime) -> Result<(), Fail> {
     let mut random = Random { state: 1 };
     for (channels, handlers) in [(1, 1), (1, 3), (2, 1), (2, 2)] {
-        let (read, never_started) = runs(&rt, &mut random, channels, handlers)?;
-        assert!(rt; read > 100 && never_started > 20, "{read} {never_started}");
+        runs(&rt, &mut random, channels, handlers)?;
     }
     Ok(())
 }
@@ -254,8 +311,7 @@ fn purges_and_closes_at_random(rt: HostRuntime) -> Result<(), Fail> {
 fn purges_and_closes_at_random_by_many(rt: HostRuntime) -> Result<(), Fail> {
     let mut random = Random { state: 2 };
     for (channels, handlers) in [(3, 1), (3, 3), (4, 2), (4, 4)] {
-        let (read, never_started) = runs(&rt, &mut random, channels, handlers)?;
-        assert!(rt; read > 100 && never_started > 20, "{read} {never_started}");
+        runs(&rt, &mut random, channels, handlers)?;
     }
     Ok(())
 }

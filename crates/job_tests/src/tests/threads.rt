@@ -49,6 +49,7 @@ fn four_hundred_posts(alloc: Global) -> Result<String, AllocError> {
     Ok(text)
 }
 
+/// It refuses workers that do nothing in their turns: the wrong bodies of workers_act_and_add_nothing.
 #[test]
 fn two_disks_four_hundred_posts(rt: HostRuntime) -> Result<(), Fail> {
     let script = four_hundred_excps(rt.alloc())?;

@@ -127,6 +127,7 @@ fn ended<S: Site, R: Wait + Abort + AllocGlobal>(
     }
 }
 
+/// The report lists what is still in the post row: it refuses the wrong body of finish_skips_post_rows.
 #[test]
 fn rows_of_one_place(rt: HostRuntime) -> Result<(), Fail> {
     let mut rows = Rows::new(rt.alloc(), 1, 2, 1, 1)?;

@@ -194,6 +194,8 @@ fn expect_report<R: Abort>(
     Ok(())
 }
 
+/// What is left at the end of a run is served and not purged, and each unit has the disk that was mounted on it: it
+/// refuses the wrong bodies of finish_does_not_purge and of books_keep_their_units.
 #[test]
 fn finish_after_excp(rt: HostRuntime) -> Result<(), Fail> {
     for (run, wanted) in RUNS {

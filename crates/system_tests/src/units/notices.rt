@@ -3,7 +3,7 @@
 ghost use Rattle.std.specs.Prelude.{◌≡◌};
 ghost use Rattle.excp_system.specs.Opening.{AreBooks, AreFresh, site_of};
 
-use super::calls::{Answer, Call, Hold, R1, expect_answers};
+use super::calls::{Answer, Call, Hold, R1, ended, expect_answers};
 use super::*;
 use excp_system::{IscTaker, Stop};
 use std::thread::Threads;
@@ -20,27 +20,25 @@ const HALTED: [(Call, Answer); 4] = [
 fn steps<S: Site + Send + Sync, R: Threads + Wait + Sync + Abort + AllocGlobal>(
     rt: &R,
     rows: &mut Rows,
-    books: Vec<UnitBook<ToyBlock>>,
+    books: Vec<UnitBook<Disk>>,
 ) -> Result<(), Fail>
     requires site { S.rows ≡ site_of rows.old }
     requires fresh { AreFresh rows.old }
     requires books { AreBooks S.rows.units books.items }
     requires two { S.rows.units ≡ 2 }
 {
-    let (system, mut tasks, handlers) = System::<S, ToyBlock>::new(rt.alloc(), rows, books)?;
+    let (system, mut tasks, handlers) = System::<S, Disk>::new(rt.alloc(), rows, books)?;
     expect_answers(rt, &system, tasks.as_mut_slice(), &HALTED)?;
     let task = tasks.first_mut().ok_or("no task")?;
     let posted = halted(rt, &system, handlers, task)?.ok_or("no posted value")?;
-    assert_eq!(rt; posted.code(), Code::Purged);
-    assert_eq!(rt; posted.csw().address.get(), 0x1030);
-    assert_eq!(rt; posted.csw().unit.bits(), 0x0C);
+    assert_eq!(rt; ended(&posted), ("halted before its first command", R1));
     Ok(())
 }
 
 /// Serves the handlers in a thread of their own until the task has collected.
 fn halted<'r, S: Site + Send + Sync, R: Threads + Wait + Sync>(
     rt: &R,
-    system: &System<'r, S, ToyBlock>,
+    system: &System<'r, S, Disk>,
     handlers: Vec<IscTaker<'r, S>>,
     task: &mut Task<'r, S>,
 ) -> Result<Option<Posted>, AllocError> {
@@ -58,9 +56,10 @@ fn halted<'r, S: Site + Send + Sync, R: Threads + Wait + Sync>(
     )
 }
 
+/// It refuses a halt that sends no notice.
 #[test]
 fn halt_sends_notice(rt: HostRuntime) -> Result<(), Fail> {
     let mut rows = Rows::new(rt.alloc(), 1, 2, 1, 1)?;
-    let books = tapes(rt.alloc(), 1)?;
+    let books = disks(rt.alloc(), 1)?;
     steps::<Brand, _>(&rt, &mut rows, books)
 }

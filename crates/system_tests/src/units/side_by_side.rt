@@ -206,7 +206,8 @@ fn ended<S: Site + Send + Sync, R: Threads + Wait + Sync + Abort + AllocGlobal>(
     }
 }
 
-/// The end of the run gives the post that the task has not collected.
+/// The end of the run gives the post that the task has not collected. It refuses the wrong bodies of workers_serve and of
+/// workers_act_and_add_nothing, and one lock round all units.
 #[test]
 fn units_run_side_by_side(rt: HostRuntime) -> Result<(), Fail> {
     let mut rows = Rows::new(rt.alloc(), 1, 2, 2, 2)?;
