@@ -31,4 +31,4 @@ pub use site::{IntakeRows, PostRows, Reach, Site};
 pub use system::System;
 pub use task::Task;
 pub use unit::UnitState;
-pub use workers::{serve_channel, serve_isc};
+pub use workers::{serve, serve_channel, serve_isc};

@@ -18,13 +18,15 @@ use unit_book::{Interruption, Running, Starting};
 /// How many commands a channel worker runs in one turn.
 const TURN: u32 = 16;
 
-/// Serves units in turn until it is stopped: lets a request arrive, starts what comes next, runs it for some commands,
-/// and sends a posted value back. Before each call it passes the gate, under the unit's lock. Want of memory is an
-/// idle turn, of which the gate is told.
-pub fn serve_channel<S: Site, D: Device, G: Gate, R: Wait>(
+/// Serves units and interruption subclasses in turn until it is stopped. For each unit it lets a request arrive, starts
+/// what comes next, runs it for some commands, and sends a posted value back; for each notice of a pending status it
+/// takes the status and sends a posted value back. Before each call it passes the gate, under the unit's lock. Want of
+/// memory is an idle turn, of which the gate is told. Both lists may be empty.
+pub fn serve<'r, S: Site, D: Device, G: Gate, R: Wait>(
     rt: &R,
-    system: &System<'_, S, D>,
+    system: &System<'r, S, D>,
     units: &[u16],
+    takers: &mut [IscTaker<'r, S>],
     gate: &G,
     stop: &Stop,
 )
@@ -35,20 +37,56 @@ pub fn serve_channel<S: Site, D: Device, G: Gate, R: Wait>(
         if stop.raised() {
             return;
         }
-        let mut served = false;
-        for unit in units {
-            let mut state = system.lock_of(*unit).lock(rt);
-            if serve_unit(rt, &mut state, *unit, gate) {
-                served = true;
-            }
-        }
-        if served {
+        let served = serve_units(rt, system, units, gate);
+        let handled = serve_notices(rt, system, takers, gate);
+        if served || handled {
             idle.reset();
         } else {
             idle.snooze();
         }
     }
     unreachable!()
+}
+
+/// Serves units alone, as a channel does.
+pub fn serve_channel<S: Site, D: Device, G: Gate, R: Wait>(
+    rt: &R,
+    system: &System<'_, S, D>,
+    units: &[u16],
+    gate: &G,
+    stop: &Stop,
+)
+    requires { All (λ unit. unit < S.rows.units) units.now }
+{
+    serve(rt, system, units, &mut [], gate, stop);
+}
+
+/// Serves interruption subclasses alone.
+pub fn serve_isc<'r, S: Site, D: Device, G: Gate, R: Wait>(
+    rt: &R,
+    system: &System<'r, S, D>,
+    takers: &mut [IscTaker<'r, S>],
+    gate: &G,
+    stop: &Stop,
+) {
+    serve(rt, system, &[], takers, gate, stop);
+}
+
+/// One turn on each unit. Answers whether anything was done.
+fn serve_units<S: Site, D: Device, G: Gate, R: Wait>(
+    rt: &R,
+    system: &System<'_, S, D>,
+    units: &[u16],
+    gate: &G,
+) -> bool
+    requires { All (λ unit. unit < S.rows.units) units.now }
+{
+    let mut served = false;
+    for unit in units {
+        let mut state = system.lock_of(*unit).lock(rt);
+        served |= serve_unit(rt, &mut state, *unit, gate);
+    }
+    served
 }
 
 /// One turn on a unit. Answers whether anything was done.
@@ -72,37 +110,21 @@ fn serve_unit<S: Site, D: Device, G: Gate, R: Wait>(
     took || started || ran || delivered
 }
 
-/// Serves interruption subclasses until it is stopped: for each notice of a pending status takes the status and sends a
-/// posted value back. Before each call it passes the gate, under the unit's lock. Want of memory is an idle turn, of
-/// which the gate is told.
-pub fn serve_isc<'r, S: Site, D: Device, G: Gate, R: Wait>(
+/// One turn on each interruption subclass: what its next notice tells of. Answers whether anything was done.
+fn serve_notices<'r, S: Site, D: Device, G: Gate, R: Wait>(
     rt: &R,
     system: &System<'r, S, D>,
     takers: &mut [IscTaker<'r, S>],
     gate: &G,
-    stop: &Stop,
-) {
-    let idle = Backoff::new();
-    for _ in rt.forever() {
-        if stop.raised() {
-            return;
-        }
-        let mut served = false;
-        for taker in takers.iter_mut() {
-            if let Some(unit) = taker.next(rt) {
-                let mut state = system.lock_of(unit).lock(rt);
-                if handle(rt, &mut state, unit, gate) {
-                    served = true;
-                }
-            }
-        }
-        if served {
-            idle.reset();
-        } else {
-            idle.snooze();
+) -> bool {
+    let mut served = false;
+    for taker in takers.iter_mut() {
+        if let Some(unit) = taker.next(rt) {
+            let mut state = system.lock_of(unit).lock(rt);
+            served |= handle(rt, &mut state, unit, gate);
         }
     }
-    unreachable!()
+    served
 }
 
 /// Takes the pending status of a unit. Answers whether anything was done.

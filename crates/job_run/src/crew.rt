@@ -7,7 +7,7 @@ ghost use Rattle.job_run.specs.Shares.{AreShared, below, share_of};
 
 use crate::alarm::Alarm;
 use crate::runner::{Job, Runner};
-use excp_system::{IscTaker, Site, Stop, System, serve_channel, serve_isc};
+use excp_system::{IscTaker, Site, Stop, serve, serve_channel, serve_isc};
 use job_script::Script;
 use std::alloc::{AllocError, Global};
 use std::marker::PhantomData;
@@ -125,36 +125,59 @@ fn handlers_of<'r, S: Site>(
     Ok(handlers)
 }
 
+/// Serves the units of a channel worker, and the subclasses of the handler with its number, if there is one.
+fn serve_both<'r, S: Site, R: Wait>(
+    rt: &R,
+    job: &Job<'_, 'r, S>,
+    channel: &Channel<S>,
+    takers: Option<Vec<IscTaker<'r, S>>>,
+    stop: &Stop,
+) {
+    let units = channel.units.as_slice();
+    match takers {
+        Some(mut takers) => serve(
+            rt,
+            job.system,
+            units,
+            takers.as_mut_slice(),
+            job.alarm,
+            stop,
+        ),
+        None => serve_channel(rt, job.system, units, job.alarm, stop),
+    }
+}
+
 /// Serves the subclasses of one handler.
 fn serve_handler<'r, S: Site, R: Wait>(
     rt: &R,
-    system: &System<'r, S, UnitDevice>,
+    job: &Job<'_, 'r, S>,
     mut takers: Vec<IscTaker<'r, S>>,
-    alarm: &Alarm,
     stop: &Stop,
 ) {
-    serve_isc(rt, system, takers.as_mut_slice(), alarm, stop);
+    serve_isc(rt, job.system, takers.as_mut_slice(), job.alarm, stop);
 }
 
-/// Starts the workers that have something to serve, each on a thread of its own.
+/// Starts the workers that have something to serve: a channel worker and the handler with its number share a thread, so
+/// that the state of a unit that both serve stays with one processor.
 fn start<'s, 'r, S: Site + Send + Sync, R: Threads + Wait + Sync, E>(
     rt: &'s R,
     scope: &Scope<'s, E>,
-    job: &Job<'s, 'r, S>,
+    job: &'s Job<'s, 'r, S>,
     channels: &'s [Channel<S>],
     handlers: Vec<Vec<IscTaker<'r, S>>>,
     stop: &'s Stop,
 ) -> Result<(), AllocError> {
-    let system = job.system;
-    let alarm = job.alarm;
+    let mut handlers = handlers.into_iter();
     for channel in channels {
-        if !channel.units.is_empty() {
-            scope.spawn(move || serve_channel(rt, system, channel.units.as_slice(), alarm, stop))?;
+        let takers = handlers.next();
+        let handles = takers.as_ref().is_some_and(|takers| !takers.is_empty());
+        if handles || !channel.units.is_empty() {
+            scope.spawn(move || serve_both(rt, job, channel, takers, stop))?;
         }
     }
     for takers in handlers {
         if !takers.is_empty() {
-            scope.spawn(move || serve_handler(rt, system, takers, alarm, stop))?;
+            scope.spawn(move || serve_handler(rt, job, takers, stop))?;
         }
     }
     Ok(())
