@@ -7,15 +7,15 @@ use super::*;
 use std::alloc::AllocError;
 use std::str::Lines;
 
-/// Two tasks and three disks on subclasses 0, 3 and 6, the last of which fails now and then, each time to be tried
+/// Two tasks and three disks on subclasses 0, 1 and 2, the last of which fails now and then, each time to be tried
 /// again. Areas 0 and 1 read R1, unrelated and related; areas 2 and 3 do so with a count that is too large, which is a
 /// permanent error.
 const THREE_DISKS: &str = "tasks 2
 disk 0 0 1 1 40
 rec 0 0 0 1 - C1C2C3C4
-disk 1 3 1 1 40
+disk 1 1 1 1 40
 rec 1 0 0 1 - C1C2C3C4
-disk 2 6 1 1 40
+disk 2 2 1 1 40
 rec 2 0 0 1 - C1C2C3C4
 fault 2 1 0E 00 1000
 fault 2 5 0E 00 1000
