@@ -7,7 +7,7 @@ ghost use Rattle.job_run.specs.Shares.{AreShared, below, share_of};
 
 use crate::alarm::Alarm;
 use crate::runner::{Job, Runner};
-use excp_system::{IscTaker, Site, Stop, serve, serve_channel, serve_isc};
+use excp_system::{IscTaker, Site, Stop, serve};
 use job_script::Script;
 use std::alloc::{AllocError, Global};
 use std::marker::PhantomData;
@@ -125,42 +125,31 @@ fn handlers_of<'r, S: Site>(
     Ok(handlers)
 }
 
-/// Serves the units of a channel worker, and the subclasses of the handler with its number, if there is one.
-fn serve_both<'r, S: Site, R: Wait>(
+/// Serves these units and subclasses until it is stopped.
+fn work<'r, S: Site, R: Wait>(
     rt: &R,
     job: &Job<'_, 'r, S>,
-    channel: &Channel<S>,
-    takers: Option<Vec<IscTaker<'r, S>>>,
-    stop: &Stop,
-) {
-    let units = channel.units.as_slice();
-    match takers {
-        Some(mut takers) => serve(
-            rt,
-            job.system,
-            units,
-            takers.as_mut_slice(),
-            job.alarm,
-            stop,
-        ),
-        None => serve_channel(rt, job.system, units, job.alarm, stop),
-    }
-}
-
-/// Serves the subclasses of one handler.
-fn serve_handler<'r, S: Site, R: Wait>(
-    rt: &R,
-    job: &Job<'_, 'r, S>,
+    units: &[u16],
     mut takers: Vec<IscTaker<'r, S>>,
     stop: &Stop,
-) {
-    serve_isc(rt, job.system, takers.as_mut_slice(), job.alarm, stop);
+)
+    requires { All (λ unit. unit < S.rows.units) units.now }
+{
+    serve(
+        rt,
+        job.system,
+        units,
+        takers.as_mut_slice(),
+        job.alarm,
+        stop,
+    );
 }
 
 /// Starts the workers that have something to serve: a channel worker and the handler with its number share a thread, so
 /// that the state of a unit that both serve stays with one processor.
 fn start<'s, 'r, S: Site + Send + Sync, R: Threads + Wait + Sync, E>(
     rt: &'s R,
+    alloc: Global,
     scope: &Scope<'s, E>,
     job: &'s Job<'s, 'r, S>,
     channels: &'s [Channel<S>],
@@ -169,15 +158,14 @@ fn start<'s, 'r, S: Site + Send + Sync, R: Threads + Wait + Sync, E>(
 ) -> Result<(), AllocError> {
     let mut handlers = handlers.into_iter();
     for channel in channels {
-        let takers = handlers.next();
-        let handles = takers.as_ref().is_some_and(|takers| !takers.is_empty());
-        if handles || !channel.units.is_empty() {
-            scope.spawn(move || serve_both(rt, job, channel, takers, stop))?;
+        let takers = handlers.next().unwrap_or(Vec::new(alloc));
+        if !channel.units.is_empty() || !takers.is_empty() {
+            scope.spawn(move || work(rt, job, channel.units.as_slice(), takers, stop))?;
         }
     }
     for takers in handlers {
         if !takers.is_empty() {
-            scope.spawn(move || serve_handler(rt, job, takers, stop))?;
+            scope.spawn(move || work(rt, job, &[], takers, stop))?;
         }
     }
     Ok(())
@@ -222,7 +210,7 @@ pub(crate) fn run_tasks<'r, S: Site + Send + Sync, R: Threads + Wait + Sync>(
             ensures { IfOk result (λ after. ArePlaced (λ runner. runner.task.number) S.rows.tasks after.items) }
         {
             let mut runners = runners;
-            let started = start(rt, scope, job, channels, handlers, stop);
+            let started = start(rt, alloc, scope, job, channels, handlers, stop);
             if started.is_ok() {
                 run_each(rt, alloc, job, runners.as_mut_slice());
             }
