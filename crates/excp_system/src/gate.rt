@@ -1,5 +1,6 @@
-//! What workers pass before each call, and how they are stopped.
+//! What workers pass before each call, what they tell of, and how they are stopped.
 
+use request_piece::Name;
 use std::sync::atomic::{AtomicBool, Ordering};
 
 /// The call that a worker is about to make.
@@ -13,14 +14,17 @@ pub enum Point {
 }
 
 /// What a worker passes, under the unit's lock, before each call: a gate may watch it, or hold it up. It is told where
-/// there was no memory for a call.
+/// there was no memory for a call, and which posted values were sent back. Where a gate does not say otherwise, it does
+/// nothing when it is told.
 pub trait Gate {
     /// The worker is about to make this call.
     fn pass(&self, unit: u16, point: Point);
 
-    /// There was no memory for this call, which changed nothing but that a notice may be owed. Where a gate does not say
-    /// otherwise, nothing is done.
+    /// There was no memory for this call, which changed nothing but that a notice may be owed.
     fn lack_memory(&self, _unit: u16, _point: Point) {}
+
+    /// What a request was posted with is in the post row of its task.
+    fn delivered(&self, _request: Name) {}
 }
 
 /// A gate that holds nobody up.

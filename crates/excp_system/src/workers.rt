@@ -20,8 +20,8 @@ const TURN: u32 = 16;
 
 /// Serves units and interruption subclasses in turn until it is stopped. For each unit it lets a request arrive, starts
 /// what comes next, runs it for some commands, and sends a posted value back; for each notice of a pending status it
-/// takes the status and sends a posted value back. Before each call it passes the gate, under the unit's lock. Want of
-/// memory is an idle turn, of which the gate is told. Both lists may be empty.
+/// takes the status and sends a posted value back. Before each call it passes the gate, under the unit's lock. The gate
+/// is told of what was sent back, and of want of memory, which is an idle turn. Both lists may be empty.
 pub fn serve<'r, S: Site, D: Device, G: Gate, R: Wait>(
     rt: &R,
     system: &System<'r, S, D>,
@@ -105,9 +105,25 @@ fn serve_unit<S: Site, D: Device, G: Gate, R: Wait>(
     gate.pass(unit, Point::Run);
     let run = told(gate, unit, Point::Run, state.run(rt, TURN));
     let ran = matches!(run, Some(Running::Ran { .. }));
-    gate.pass(unit, Point::Deliver);
-    let delivered = matches!(state.deliver(rt), Delivery::Delivered(_));
+    let delivered = send_back(rt, state, unit, gate);
     took || started || ran || delivered
+}
+
+/// Sends the first posted value that is out back to its task. Answers whether one was sent.
+fn send_back<S: Site, D: Device, G: Gate, R: Wait>(
+    rt: &R,
+    state: &mut UnitState<'_, S, D>,
+    unit: u16,
+    gate: &G,
+) -> bool {
+    gate.pass(unit, Point::Deliver);
+    match state.deliver(rt) {
+        Delivery::Delivered(name) => {
+            gate.delivered(name);
+            true
+        }
+        Delivery::Quiet | Delivery::Full(_) => false,
+    }
 }
 
 /// One turn on each interruption subclass: what its next notice tells of. Answers whether anything was done.
@@ -140,8 +156,7 @@ fn handle<S: Site, D: Device, G: Gate, R: Wait>(
         interruption,
         Some(Interruption::Again(_) | Interruption::Ended(_, _))
     );
-    gate.pass(unit, Point::Deliver);
-    let delivered = matches!(state.deliver(rt), Delivery::Delivered(_));
+    let delivered = send_back(rt, state, unit, gate);
     answered || delivered
 }
 

@@ -1,31 +1,24 @@
-//! Want of memory that a worker met.
+//! What wakes the tasks of a run.
 
+use crossbeam_utils::sync::Unparker;
 use excp_system::{Gate, Point};
+use request_piece::Name;
 use std::sync::atomic::{AtomicBool, Ordering};
 
-/// Tells tasks that a worker met want of memory. It is a gate that holds nobody up.
+/// Wakes a task that sleeps when a post is there for it, and all tasks when a worker met want of memory. It is a gate
+/// that holds nobody up.
 #[derive(Drop)]
 pub(crate) struct Alarm {
+    tasks: Vec<Unparker>,
     raised: AtomicBool,
-    /// In tests, the call of workers before which it is raised.
-    drill: Option<Point>,
 }
 
 impl Alarm {
-    /// No worker met want of memory.
-    pub fn new() -> Alarm {
+    /// Wakes these tasks, in order of number. No worker met want of memory.
+    pub fn new(tasks: Vec<Unparker>) -> Alarm {
         Alarm {
+            tasks,
             raised: AtomicBool::new(false),
-            drill: None,
-        }
-    }
-
-    /// The same, and a worker that is about to make such a call raises it as if there were no memory for that.
-    #[cfg(test)]
-    pub fn with_drill(point: Point) -> Alarm {
-        Alarm {
-            raised: AtomicBool::new(false),
-            drill: Some(point),
         }
     }
 
@@ -36,13 +29,18 @@ impl Alarm {
 }
 
 impl Gate for Alarm {
-    fn pass(&self, unit: u16, point: Point) {
-        if self.drill == Some(point) {
-            self.lack_memory(unit, point);
-        }
-    }
+    fn pass(&self, _unit: u16, _point: Point) {}
 
     fn lack_memory(&self, _unit: u16, _point: Point) {
         self.raised.store(true, Ordering::SeqCst);
+        for task in &self.tasks {
+            task.unpark();
+        }
+    }
+
+    fn delivered(&self, request: Name) {
+        if let Some(task) = self.tasks.get(usize::from(request.task)) {
+            task.unpark();
+        }
     }
 }

@@ -5,9 +5,8 @@ ghost use Rattle.std.specs.List.{All};
 ghost use Rattle.excp_system.specs.Drained.{ArePlaced};
 ghost use Rattle.job_run.specs.Shares.{AreShared, below, share_of};
 
-use crate::alarm::Alarm;
 use crate::runner::{Job, Runner};
-use excp_system::{IscTaker, Site, Stop, serve};
+use excp_system::{Gate, IscTaker, Site, Stop, System, serve};
 use job_script::Script;
 use std::alloc::{AllocError, Global};
 use std::marker::PhantomData;
@@ -125,33 +124,28 @@ fn handlers_of<'r, S: Site>(
     Ok(handlers)
 }
 
-/// Serves these units and subclasses until it is stopped.
-fn work<'r, S: Site, R: Wait>(
+/// Serves these units and subclasses until it is stopped, and passes this gate.
+fn work<'r, S: Site, G: Gate, R: Wait>(
     rt: &R,
-    job: &Job<'_, 'r, S>,
+    system: &System<'r, S, UnitDevice>,
+    gate: &G,
     units: &[u16],
     mut takers: Vec<IscTaker<'r, S>>,
     stop: &Stop,
 )
     requires { All (λ unit. unit < S.rows.units) units.now }
 {
-    serve(
-        rt,
-        job.system,
-        units,
-        takers.as_mut_slice(),
-        job.alarm,
-        stop,
-    );
+    serve(rt, system, units, takers.as_mut_slice(), gate, stop);
 }
 
 /// Starts the workers that have something to serve: a channel worker and the handler with its number share a thread, so
 /// that the state of a unit that both serve stays with one processor.
-fn start<'s, 'r, S: Site + Send + Sync, R: Threads + Wait + Sync, E>(
+fn start<'s, 'r, S: Site + Send + Sync, G: Gate + Sync, R: Threads + Wait + Sync, E>(
     rt: &'s R,
     alloc: Global,
     scope: &Scope<'s, E>,
-    job: &'s Job<'s, 'r, S>,
+    system: &'s System<'r, S, UnitDevice>,
+    gate: &'s G,
     channels: &'s [Channel<S>],
     handlers: Vec<Vec<IscTaker<'r, S>>>,
     stop: &'s Stop,
@@ -160,12 +154,12 @@ fn start<'s, 'r, S: Site + Send + Sync, R: Threads + Wait + Sync, E>(
     for channel in channels {
         let takers = handlers.next().unwrap_or(Vec::new(alloc));
         if !channel.units.is_empty() || !takers.is_empty() {
-            scope.spawn(move || work(rt, job, channel.units.as_slice(), takers, stop))?;
+            scope.spawn(move || work(rt, system, gate, channel.units.as_slice(), takers, stop))?;
         }
     }
     for takers in handlers {
         if !takers.is_empty() {
-            scope.spawn(move || work(rt, job, &[], takers, stop))?;
+            scope.spawn(move || work(rt, system, gate, &[], takers, stop))?;
         }
     }
     Ok(())
@@ -187,11 +181,12 @@ fn run_each<'r, S: Site + Send + Sync, R: Threads + Wait + Sync>(
     }
 }
 
-/// Runs all tasks beside the workers, and stops and joins these. Where a worker cannot be started no task runs.
-pub(crate) fn run_tasks<'r, S: Site + Send + Sync, R: Threads + Wait + Sync>(
+/// Runs all tasks beside the workers, which pass this gate, and stops and joins these. Where a worker cannot be started no task runs.
+pub(crate) fn run_tasks<'r, S: Site + Send + Sync, G: Gate + Sync, R: Threads + Wait + Sync>(
     rt: &R,
     alloc: Global,
     job: &Job<'_, 'r, S>,
+    gate: &G,
     crew: Crew<'r, S>,
     runners: Vec<Runner<'r, S>>,
 ) -> Result<Vec<Runner<'r, S>>, AllocError>
@@ -210,7 +205,7 @@ pub(crate) fn run_tasks<'r, S: Site + Send + Sync, R: Threads + Wait + Sync>(
             ensures { IfOk result (λ after. ArePlaced (λ runner. runner.task.number) S.rows.tasks after.items) }
         {
             let mut runners = runners;
-            let started = start(rt, alloc, scope, job, channels, handlers, stop);
+            let started = start(rt, alloc, scope, job.system, gate, channels, handlers, stop);
             if started.is_ok() {
                 run_each(rt, alloc, job, runners.as_mut_slice());
             }

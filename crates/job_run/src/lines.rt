@@ -98,7 +98,8 @@ impl Lines {
         ensures { vec_len self.new.units ≡ vec_len self.old.units }
     {
         let from = self.shown.len();
-        let to = from.checked_add(len).ok_or(AllocError)?;
+        // where the sum is too large for a number, there is no room for so many bytes
+        let to = from.saturating_add(len);
         self.shown.resize(to, 0)?;
         self.units[usize::from(unit)].push(Line {
             show,

@@ -5,18 +5,17 @@ ghost use Rattle.job_script.specs.Commands.{CanBeDone};
 ghost use Rattle.job_script.specs.Reading.{ReadsAtMost};
 ghost use Rattle.job_run.specs.Complete.{IsComplete};
 ghost use Rattle.excp_system.specs.Drained.{ArePlaced};
-ghost use Rattle.excp_system.specs.Opening.{AreBooks, AreFresh, AreTasks, site_of};
+ghost use Rattle.excp_system.specs.Opening.{AreBooks, AreFresh, site_of};
 ghost use Rattle.post_ledger.specs.Report.{IsFor};
 ghost use Rattle.post_ledger.specs.Work.{lists_of};
 
-use crate::alarm::Alarm;
 use crate::crew::{Crew, Workers, leave_used, run_tasks};
 use crate::lines::Lines;
 use crate::output::write;
 use crate::rooms::rows_and_books;
-use crate::runner::Job;
-use crate::tasks::{parted, runners};
-use excp_system::{Rows, Site, System, Task};
+use crate::runner::{Job, Runner};
+use crate::tasks::{alarm_of, parted, runners};
+use excp_system::{Gate, Rows, Site, System, Task};
 use job_script::{Fault, LIMIT, Script, read_script};
 use post_ledger::{Report, finish};
 use std::alloc::Global;
@@ -84,27 +83,28 @@ pub(crate) fn run_on<S: Site + Send + Sync, R: Threads + Wait + Sync>(
     leave_used(&mut takers, script);
     let units = script.set_up.units.len() as u16;
     let crew = Crew::new(alloc, units, takers, workers)?;
-    let alarm = Alarm::new();
+    let runners = runners(alloc, tasks, script)?;
+    let alarm = alarm_of(alloc, runners.as_slice())?;
     let job = Job::new(script, &system, &alarm);
-    let (tasks, lines) = run_commands(rt, alloc, &job, tasks, crew)?;
+    let (tasks, lines) = run_commands(rt, alloc, &job, &alarm, runners, crew)?;
     ended(rt, alloc, system, tasks, lines, units)
 }
 
-/// Lets the tasks do their commands beside the workers, and gives them with what is printed of their requests. Want of
-/// memory that a worker met outranks the fault of a line at which a task ended, as it ended the others.
-pub(crate) fn run_commands<'r, S: Site + Send + Sync, R: Threads + Wait + Sync>(
+/// Lets the tasks do their commands beside the workers, which pass this gate, and gives them with what is printed of
+/// their requests. Want of memory that a worker met outranks the fault of a line at which a task ended, as it ended the others.
+pub(crate) fn run_commands<'r, S: Site + Send + Sync, G: Gate + Sync, R: Threads + Wait + Sync>(
     rt: &R,
     alloc: Global,
     job: &Job<'_, 'r, S>,
-    tasks: Vec<Task<'r, S>>,
+    gate: &G,
+    runners: Vec<Runner<'r, S>>,
     crew: Crew<'r, S>,
 ) -> Result<(Vec<Task<'r, S>>, Vec<Lines>), Fault>
-    requires { AreTasks S.rows.tasks S.rows.units tasks.items }
+    requires { ArePlaced (λ runner. runner.task.number) S.rows.tasks runners.items }
     ensures tasks { IfOk result (λ parts. ArePlaced (λ task. task.number) S.rows.tasks parts.0.items) }
     ensures lines { IfOk result (λ parts. length parts.1.items ≡ S.rows.tasks) }
 {
-    let runners = runners(alloc, tasks, job.script)?;
-    let runners = run_tasks(rt, alloc, job, crew, runners)?;
+    let runners = run_tasks(rt, alloc, job, gate, crew, runners)?;
     if job.alarm.raised() {
         return Err(Fault::NoMemory);
     }

@@ -8,6 +8,7 @@ use crate::alarm::Alarm;
 use crate::lines::Lines;
 use crate::unit_calls::{close, purge, purge_task, reset};
 use crossbeam_utils::Backoff;
+use crossbeam_utils::sync::{Parker, Unparker};
 use excp_system::{Site, System, Task};
 use fifo_row::Full;
 use job_script::{Action, Command, Excp, Fault, FaultName, LineFault, Script};
@@ -47,13 +48,14 @@ impl<'a, 'r, S: Site> Job<'a, 'r, S> {
     }
 }
 
-/// A task, what is printed of its requests, how many of them it has not collected yet, and why it ended before its
-/// last command.
+/// A task, what is printed of its requests, how many of them it has not collected yet, where it sleeps until they are
+/// posted, and why it ended before its last command.
 #[derive(Drop)]
 pub(crate) struct Runner<'r, S: Site> {
     pub task: Task<'r, S>,
     lines: Lines,
     awaited: usize,
+    parker: Parker,
     fault: Option<Fault>,
 }
 
@@ -71,8 +73,14 @@ impl<'r, S: Site> Runner<'r, S> {
             task,
             lines,
             awaited: 0,
+            parker: Parker::new(alloc)?,
             fault: None,
         })
+    }
+
+    /// What wakes the task.
+    pub fn unparker(&self) -> Result<Unparker, AllocError> {
+        self.parker.unparker().clone()
     }
 
     /// The task, and what is printed of its requests; or why it ended before its last command.
@@ -188,7 +196,8 @@ impl<'r, S: Site> Runner<'r, S> {
         unreachable!()
     }
 
-    /// Collects the next post. Where there is none it gives way to others, or ends where a worker met want of memory.
+    /// Collects the next post. Where there is none it gives way to others, and sleeps where one is to come that wakes it;
+    /// or it ends, where a worker met want of memory.
     fn collect_next<R: Wait>(
         &mut self,
         rt: &R,
@@ -205,6 +214,7 @@ impl<'r, S: Site> Runner<'r, S> {
                 idle.reset();
             }
             None if alarm.raised() => return Err(AllocError),
+            None if idle.is_completed() && self.awaited > 0 => self.parker.park(rt),
             None => idle.snooze(),
         }
         Ok(())

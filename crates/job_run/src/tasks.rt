@@ -4,6 +4,7 @@ ghost use Rattle.std.specs.Prelude.{◌≡◌, IfOk, length};
 ghost use Rattle.excp_system.specs.Drained.{ArePlaced};
 ghost use Rattle.excp_system.specs.Opening.{AreTasks};
 
+use crate::alarm::Alarm;
 use crate::lines::Lines;
 use crate::runner::Runner;
 use excp_system::{Site, Task};
@@ -24,6 +25,18 @@ pub(crate) fn runners<'r, S: Site>(
         runners.push(Runner::new(alloc, task, script)?)?;
     }
     Ok(runners)
+}
+
+/// What wakes these tasks.
+pub(crate) fn alarm_of<'r, S: Site>(
+    alloc: Global,
+    runners: &[Runner<'r, S>],
+) -> Result<Alarm, AllocError> {
+    let mut tasks = Vec::with_capacity(alloc, runners.len())?;
+    for runner in runners {
+        tasks.push(runner.unparker()?)?;
+    }
+    Ok(Alarm::new(tasks))
 }
 
 /// The tasks after a run, and what is printed of the requests of each; or the fault of the first task that ended before

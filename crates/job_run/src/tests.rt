@@ -1,21 +1,24 @@
 //! Runs on rows and books of one, runs whose tasks wait for their posts or do not, runs in which a worker or a task met
-//! want of memory or nobody takes a status, and one in which a task ends early.
+//! want of memory or nobody takes a status, one in which a task ends early, and purges of what is under way.
 
 ghost use Rattle.std.specs.Prelude.{◌≡◌, ◌<◌, ◌≤◌, All, IfOk, length, vec_len};
 ghost use Rattle.excp_system.specs.Drained.{ArePlaced};
-ghost use Rattle.excp_system.specs.Opening.{AreBooks, AreFresh, AreTasks, site_of};
+ghost use Rattle.excp_system.specs.Opening.{AreBooks, AreFresh, site_of};
 ghost use Rattle.job_script.specs.Commands.{CanBeDone};
 ghost use Rattle.job_run.specs.Complete.{IsComplete};
+
+mod purges;
 
 use crate::alarm::Alarm;
 use crate::crew::{Crew, Workers};
 use crate::lines::Lines;
 use crate::output::write;
 use crate::run::{ended, run_commands, run_on};
-use crate::runner::Job;
-use crate::tasks::{parted, runners};
+use crate::runner::{Job, Runner};
+use crate::tasks::{alarm_of, parted, runners};
 use excp_system::{Gate, Point, Rows, Site, System, Task};
 use job_script::{Fault, FaultName, Script};
+use request_piece::Name;
 use std::alloc::{AllocError, Global};
 use std::marker::Brand;
 use std::sync::Wait;
@@ -104,6 +107,8 @@ enum Way {
     Whole,
     /// Its tasks do not wait for their posts, and there is no worker: all is left to its end.
     Left,
+    /// The same, but what task 0 issued arrives before task 1 begins, and one command of the first is done.
+    Begun,
     /// Until its tasks have ended.
     Tasks,
     /// And a worker meets want of memory before such a call.
@@ -117,16 +122,32 @@ enum Way {
 }
 
 impl Way {
-    /// What tells the tasks of such a run that a worker met want of memory.
-    fn alarm(self) -> Alarm {
-        if let Way::Drill(point) = self {
-            return Alarm::with_drill(point);
+    /// Whether want of memory was met before the tasks began.
+    fn is_alarmed(self) -> bool {
+        matches!(self, Way::Alarmed | Way::NoHandler | Way::Alone)
+    }
+}
+
+/// The gate of a run whose workers meet want of memory before such a call, if any.
+#[derive(Drop)]
+struct Drill<'a> {
+    alarm: &'a Alarm,
+    point: Option<Point>,
+}
+
+impl<'a> Gate for Drill<'a> {
+    fn pass(&self, unit: u16, point: Point) {
+        if self.point == Some(point) {
+            self.alarm.lack_memory(unit, point);
         }
-        let alarm = Alarm::new();
-        if let Way::Alarmed | Way::NoHandler | Way::Alone = self {
-            alarm.lack_memory(0, Point::Take);
-        }
-        alarm
+    }
+
+    fn lack_memory(&self, unit: u16, point: Point) {
+        self.alarm.lack_memory(unit, point);
+    }
+
+    fn delivered(&self, request: Name) {
+        self.alarm.delivered(request);
     }
 }
 
@@ -165,27 +186,40 @@ fn on_rows<S: Site + Send + Sync, R: Threads + Wait + Sync + AllocGlobal>(
             let lines = run_on::<S, R>(rt, alloc, rows, books, script, workers)?;
             return printed(alloc, &lines);
         }
-        Way::Left => {
-            let lines = left::<S, R>(rt, alloc, rows, books, script)?;
+        Way::Left | Way::Begun => {
+            let begins = matches!(way, Way::Begun);
+            let lines = left::<S, R>(rt, alloc, rows, books, script, begins)?;
             return printed(alloc, &lines);
         }
         _ => {}
     }
     let units = script.set_up.units.len() as u16;
     let (system, tasks, takers) = System::<S, UnitDevice>::new(alloc, rows, books)?;
-    let alarm = way.alarm();
+    let runners = runners(alloc, tasks, script)?;
+    let alarm = alarm_of(alloc, runners.as_slice())?;
+    if way.is_alarmed() {
+        alarm.lack_memory(0, Point::Take);
+    }
     let job = Job::new(script, &system, &alarm);
     if let Way::Alone = way {
-        let short = short_alone(rt, alloc, &job, tasks)?;
+        let short = short_alone(rt, alloc, &job, runners)?;
         return Ok(Outcome::Short(short, told(rt, &system, units)?));
     }
+    let gate = Drill {
+        alarm: &alarm,
+        point: if let Way::Drill(point) = way {
+            Some(point)
+        } else {
+            None
+        },
+    };
     let takers = if let Way::NoHandler = way {
         Vec::new(alloc)
     } else {
         takers
     };
     let crew = Crew::new(alloc, units, takers, workers)?;
-    let fault = fault_of(run_commands(rt, alloc, &job, tasks, crew));
+    let fault = fault_of(run_commands(rt, alloc, &job, &gate, runners, crew));
     Ok(Outcome::Ended(fault, told(rt, &system, units)?))
 }
 
@@ -213,13 +247,15 @@ fn printed(alloc: Global, lines: &[Lines]) -> Result<Outcome, Fault>
     Ok(Outcome::Printed(text))
 }
 
-/// Runs a script as `run_on` does, without workers, and its tasks do not wait for their posts.
+/// Runs a script as `run_on` does, without workers, and its tasks do not wait for their posts. What task 0 issued may
+/// begin before task 1 does.
 fn left<S: Site + Send + Sync, R: Threads + Wait + Sync>(
     rt: &R,
     alloc: Global,
     rows: &mut Rows,
     books: Vec<UnitBook<UnitDevice>>,
     script: &Script,
+    begins: bool,
 ) -> Result<Vec<Lines>, Fault>
     requires site { S.rows ≡ site_of rows.old }
     requires fresh { AreFresh rows.old }
@@ -231,9 +267,10 @@ fn left<S: Site + Send + Sync, R: Threads + Wait + Sync>(
 {
     let (system, tasks, _) = System::<S, UnitDevice>::new(alloc, rows, books)?;
     let units = script.set_up.units.len() as u16;
-    let alarm = Alarm::new();
+    let runners = runners(alloc, tasks, script)?;
+    let alarm = alarm_of(alloc, runners.as_slice())?;
     let job = Job::new(script, &system, &alarm);
-    let (tasks, lines) = not_awaited(rt, alloc, &job, tasks)?;
+    let (tasks, lines) = not_awaited(rt, alloc, &job, runners, begins)?;
     ended(rt, alloc, system, tasks, lines, units)
 }
 
@@ -242,18 +279,21 @@ fn not_awaited<'r, S: Site + Send + Sync, R: Threads + Wait + Sync>(
     rt: &R,
     alloc: Global,
     job: &Job<'_, 'r, S>,
-    tasks: Vec<Task<'r, S>>,
+    mut runners: Vec<Runner<'r, S>>,
+    begins: bool,
 ) -> Result<(Vec<Task<'r, S>>, Vec<Lines>), Fault>
-    requires { AreTasks S.rows.tasks S.rows.units tasks.items }
+    requires { ArePlaced (λ runner. runner.task.number) S.rows.tasks runners.items }
     ensures tasks { IfOk result (λ parts. ArePlaced (λ task. task.number) S.rows.tasks parts.0.items) }
     ensures lines { IfOk result (λ parts. length parts.1.items ≡ S.rows.tasks) }
 {
-    let mut runners = runners(alloc, tasks, job.script)?;
     thread::for_each_mut(
         rt,
         runners.as_mut_slice(),
         1,
-        &|_, runner| {
+        &|place, runner| {
+            if begins && place == 1 {
+                purges::begin(rt, job);
+            }
             let _ = runner.commands(rt, alloc, job);
         },
     );
@@ -265,12 +305,10 @@ fn short_alone<'r, S: Site, R: Wait>(
     rt: &R,
     alloc: Global,
     job: &Job<'_, 'r, S>,
-    tasks: Vec<Task<'r, S>>,
-) -> Result<usize, Fault>
-    requires { AreTasks S.rows.tasks S.rows.units tasks.items }
-{
+    runners: Vec<Runner<'r, S>>,
+) -> Result<usize, Fault> {
     let mut short: usize = 0;
-    for runner in runners(alloc, tasks, job.script)? {
+    for runner in runners {
         let mut runner = runner;
         runner.run(rt, alloc, job);
         match runner.into_parts() {
