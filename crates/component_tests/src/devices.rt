@@ -1,9 +1,10 @@
 //! What the tests of all devices share: storage, commands and faults.
 
-use device_port::{Acted, Chain, Device, Fault, Flow, Segment};
+use device_port::{Acted, Chain, Device, Fault, FaultScript, Flow, Segment, is_script};
 use io_area::Area;
 use io_images::{SubStatus, UnitStatus};
 use std::process::Abort;
+use std::test::Fail;
 
 /// Whether storage has these bytes at an address.
 pub fn holds(area: &Area, address: u32, bytes: &[u8]) -> bool {
@@ -53,4 +54,24 @@ pub fn late_fault() -> Fault {
         sub: SubStatus::new(8),
         sense: 0,
     }
+}
+
+/// Faults whose numbers are the first, the last that a command may have, and the last that there is are taken, but no two of
+/// the same number. The first command meets its fault; the next ones meet none, and those of a copy neither.
+#[test]
+fn faults_with_the_first_and_last_numbers(rt: HostRuntime) -> Result<(), Fail> {
+    let last = unit_check(u64::MAX, 0x0800);
+    assert!(rt; !is_script(&[last, last]));
+    let first = unit_check(1, 0x1000);
+    let faults = [first, unit_check(u64::MAX - 1, 0x0800), last];
+    if !is_script(&faults) {
+        return Err(Fail::from("not taken"));
+    }
+    let mut script = FaultScript::new(rt.alloc(), &faults)?;
+    assert_eq!(rt; script.count(), Some(first));
+    let mut copied = script.copy()?;
+    for _ in 0..1000 {
+        assert_eq!(rt; (script.count(), copied.count()), (None, None));
+    }
+    Ok(())
 }

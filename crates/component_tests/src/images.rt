@@ -10,12 +10,19 @@ use io_images::{
 fn ccw_keeps_its_ignored_byte(rt: HostRuntime) {
     let image = [0x06, 0x00, 0x10, 0x60, 0xA0, 0x77, 0x01, 0x02];
     let ccw = Ccw::read(&image);
-    assert_eq!(rt; ccw.command, 6);
-    assert_eq!(rt; ccw.address.get(), 0x1060);
-    assert!(rt; ccw.flags.chains_data() && ccw.flags.suppresses_length());
-    assert!(rt; !ccw.flags.chains_command() && !ccw.flags.skips() && !ccw.flags.is_indirect());
-    assert!(rt; ccw.flags.reserved_off() && ccw.flags.contains(CcwFlags::CHAIN_DATA));
-    assert_eq!(rt; ccw.count, 0x102);
+    assert_eq!(rt;
+        (ccw.command, ccw.address.get(), ccw.count),
+        (6, 0x1060, 0x102)
+    );
+    let flags = ccw.flags;
+    let on = [
+        flags.chains_data(),
+        flags.suppresses_length(),
+        flags.reserved_off(),
+    ];
+    let off = [flags.chains_command(), flags.skips(), flags.is_indirect()];
+    assert_eq!(rt; (on, off), ([true; 3], [false; 3]));
+    assert!(rt; flags.contains(CcwFlags::CHAIN_DATA));
     let mut other = [0xFF; 8];
     ccw.write(&mut other);
     assert_eq!(rt; other, [0x06, 0x00, 0x10, 0x60, 0xA0, 0xFF, 0x01, 0x02]);
@@ -29,8 +36,15 @@ fn csw_and_status(rt: HostRuntime) {
         sub: SubStatus::new(0x40),
         residual: 4,
     };
-    assert!(rt; !csw.unit.is_normal() && csw.unit.contains(UnitStatus::UNIT_CHECK));
-    assert!(rt; !csw.sub.is_clear() && csw.sub.contains(SubStatus::INCORRECT_LENGTH));
+    let (unit, sub) = (csw.unit, csw.sub);
+    assert_eq!(rt;
+        (unit.is_normal(), unit.contains(UnitStatus::UNIT_CHECK)),
+        (false, true)
+    );
+    assert_eq!(rt;
+        (sub.is_clear(), sub.contains(SubStatus::INCORRECT_LENGTH)),
+        (false, true)
+    );
     let mut image = [0xEE; 8];
     csw.write(&mut image);
     assert_eq!(rt; image, [0xEE, 0x00, 0x10, 0x38, 0x0E, 0x40, 0x00, 0x04]);
@@ -38,6 +52,10 @@ fn csw_and_status(rt: HostRuntime) {
     assert_eq!(rt; Address::stored(0xFF_FFF8).get(), 0);
     Csw::empty().write(&mut image);
     assert_eq!(rt; image, [0xEE, 0, 0, 0, 0, 0, 0, 0]);
+}
+
+#[test]
+fn ends_with_and_without_further_bits(rt: HostRuntime) {
     let ends = UnitStatus::CHANNEL_END.bits() + UnitStatus::DEVICE_END.bits();
     for (status, further) in [
         (UnitStatus::NORMAL_END, 0x00),
@@ -53,7 +71,13 @@ fn csw_and_status(rt: HostRuntime) {
 fn iob_keeps_what_it_does_not_name(rt: HostRuntime) {
     let mut image = [0xFF; 40];
     let mut iob = Iob::read(&image);
-    assert!(rt; iob.unrelated && iob.io_error && iob.data_chaining && iob.command_chaining);
+    let flags = [
+        iob.unrelated,
+        iob.io_error,
+        iob.data_chaining,
+        iob.command_chaining,
+    ];
+    assert_eq!(rt; flags, [true; 4]);
     iob.unrelated = false;
     iob.command_chaining = false;
     iob.sense = 0x0800;
@@ -71,7 +95,7 @@ fn iob_keeps_what_it_does_not_name(rt: HostRuntime) {
 }
 
 #[test]
-fn extent_ecb_and_words(rt: HostRuntime) {
+fn extent_is_written_as_read(rt: HostRuntime) {
     let image = [0x18, 0, 0, 0, 0, 0, 0, 1, 0, 2, 0, 3, 0, 4, 0, 9];
     let extent = Extent::read(&image);
     assert_eq!(rt;
@@ -85,15 +109,33 @@ fn extent_ecb_and_words(rt: HostRuntime) {
     let mut other = [0xFF; 16];
     extent.write(&mut other);
     assert_eq!(rt; other, image);
+}
+
+/// What a file mask inhibits: writes, formatting and seeks.
+fn inhibits(mask: FileMask) -> [bool; 3] {
+    [
+        mask.inhibits_writes(),
+        mask.inhibits_formatting(),
+        mask.inhibits_seeks(),
+    ]
+}
+
+#[test]
+fn file_masks(rt: HostRuntime) {
     let (input, output) = (FileMask::INPUT, FileMask::OUTPUT);
     assert_eq!(rt; (input.0, output.0), (0x58, 0x18));
-    assert!(rt; input.inhibits_writes() && input.inhibits_formatting() && input.inhibits_seeks());
-    assert!(rt; !output.inhibits_writes() && !output.inhibits_formatting());
-    assert!(rt; output.inhibits_seeks() && !FileMask(0xC0).inhibits_seeks());
+    assert_eq!(rt; inhibits(input), [true, true, true]);
+    assert_eq!(rt; inhibits(output), [false, false, true]);
+    assert!(rt; !FileMask(0xC0).inhibits_seeks());
+}
+
+#[test]
+fn ecb_and_address_words(rt: HostRuntime) {
     let mut word = [0; 4];
     Ecb::posted(Code::Purged).write(&mut word);
     assert_eq!(rt; word, [0x48, 0, 0, 0]);
-    assert!(rt; Ecb::read(&word).is_complete() && !Ecb::default().is_complete());
+    let complete = (Ecb::read(&word).is_complete(), Ecb::default().is_complete());
+    assert_eq!(rt; complete, (true, false));
     AddressWord::new(0x8000_1000).write(&mut word);
     assert_eq!(rt; AddressWord::read(&word).get(), 0x8000_1000);
 }

@@ -4,6 +4,7 @@ use io_area::Area;
 use io_images::{Address, Code, Csw, SubStatus, UnitStatus};
 use request_piece::{Name, Posted, Request, RequestError, Scope};
 use std::process::Abort;
+use std::sync::Arc;
 use std::test::Fail;
 
 const NAME: Name = Name { task: 3, seq: 1 };
@@ -84,6 +85,20 @@ fn request_says_what_its_iob_says(rt: HostRuntime) -> Result<(), Fail> {
     let (issued, work) = request.into_parts();
     assert_eq!(rt; (issued.name(), work.iob, work.ecb), (NAME, 0x1000, 0x1028));
     assert!(rt; Scope::Dcb(1).covers_piece(&work) && !Scope::Task(1).covers_piece(&work));
+    Ok(())
+}
+
+/// A request over storage that is shared holds that storage, and no copy of it, as issued: it refuses a `Request::over`
+/// that copies.
+#[test]
+fn request_shares_what_it_is_made_over(rt: HostRuntime) -> Result<(), Fail> {
+    let area = Area::new(rt.alloc(), 0x1000, &fixture()).map_err(|_| "no area")?;
+    let area = Arc::new(rt.alloc(), area)?;
+    let request = Request::over(rt.alloc(), NAME, 7, 1, 0x1000, &area)?;
+    assert_eq!(rt; Arc::strong_count(&area), 2);
+    let (issued, _) = request.into_parts();
+    assert_eq!(rt; Arc::strong_count(&area), 2);
+    assert_eq!(rt; issued.area().get(0x1000, 104), Some(fixture().as_slice()));
     Ok(())
 }
 

@@ -5,6 +5,7 @@ ghost use Rattle.std.specs.Prelude.{◌≡◌, ◌+◌, length};
 use fifo_row::{Full, Item, Row, Sender, Taker};
 use std::alloc::AllocError;
 use std::marker::Brand;
+use std::process::Abort;
 use std::sync::Wait;
 use std::sync::atomic::{AtomicBool, Ordering};
 use std::test::Fail;
@@ -190,6 +191,23 @@ fn exchange<'r, S: Shared + Send + Sync, R: Threads + Wait + Sync>(
     )
 }
 
+/// Asserts that the parcels of this sender came in order, and none was left out.
+fn expect_places(rt: &impl Abort, parcels: &[Parcel], number: u16) {
+    let places = parcels
+        .iter()
+        .filter(|parcel| parcel.sender == number)
+        .map(|parcel| parcel.place);
+    assert!(rt; places.eq(1..=1000));
+}
+
+/// Asserts that nothing is left in the row, and that all that both senders sent was taken.
+fn expect_taken<R: Wait + Abort>(rt: &R, taker: &mut Taker<'_, Parcel>)
+    requires { taker.old.senders ≡ 2 }
+{
+    assert!(rt; taker.take(rt).is_none());
+    assert_eq!(rt; (taker.taken_len(0), taker.taken_len(1)), (1000, 1000));
+}
+
 /// Where a sender or the taker can get no thread it ends in want of memory.
 #[test]
 fn two_senders_and_a_taker(rt: HostRuntime) -> Result<(), Fail> {
@@ -208,16 +226,34 @@ fn two_senders_and_a_taker(rt: HostRuntime) -> Result<(), Fail> {
     assert_eq!(rt; (first.sent_len(), second.sent_len()), (1000, 1000));
     taker.meet(first);
     taker.meet(second);
-    assert!(rt; taker.take(&rt).is_none());
-    assert_eq!(rt; (taker.taken_len(0), taker.taken_len(1)), (1000, 1000));
-    for number in 0..2 {
-        let places = parcels
-            .iter()
-            .filter(|parcel| parcel.sender == number)
-            .map(|parcel| parcel.place);
-        assert!(rt; places.eq(1..=1000));
-    }
+    expect_taken(&rt, &mut taker);
+    expect_places(&rt, &parcels, 0);
+    expect_places(&rt, &parcels, 1);
     Ok(())
+}
+
+/// The place of the next parcel, if there is one.
+fn taken_place<R: Wait>(rt: &R, taker: &mut Taker<'_, Parcel>) -> Option<u64>
+    ensures { taker.new.senders ≡ taker.old.senders }
+{
+    taker.take(rt).map(|parcel| parcel.place)
+}
+
+/// Asserts that a row of one place takes a parcel once the one before was taken.
+fn expect_room_for_one<R: Wait + Abort>(
+    rt: &R,
+    sender: &mut Sender<'_, Parcel>,
+    taker: &mut Taker<'_, Parcel>,
+)
+    requires sender { (sender.old.number ≡ 0) × (sender.old.tag ≡ TAG) }
+    requires taker { taker.old.senders ≡ 1 }
+{
+    assert_eq!(rt; offer(rt, sender, 0), None);
+    assert_eq!(rt; offer(rt, sender, 0), Some(2));
+    assert_eq!(rt; taken_place(rt, taker), Some(1));
+    assert_eq!(rt; taken_place(rt, taker), None);
+    assert_eq!(rt; offer(rt, sender, 0), None);
+    assert_eq!(rt; (sender.sent_len(), taker.taken_len(0)), (2, 1));
 }
 
 /// It refuses a row that is always full, or always empty: the wrong bodies of rows_accept_and_give.
@@ -227,12 +263,7 @@ fn row_of_one(rt: HostRuntime) -> Result<(), Fail> {
     let (mut senders, mut taker) = row.seats()?;
     assert_eq!(rt; senders.len(), 1);
     let mut sender = senders.pop().ok_or("a sender")?;
-    assert_eq!(rt; offer(&rt, &mut sender, 0), None);
-    assert_eq!(rt; offer(&rt, &mut sender, 0), Some(2));
-    assert_eq!(rt; taker.take(&rt).map(|parcel| parcel.place), Some(1));
-    assert!(rt; taker.take(&rt).is_none());
-    assert_eq!(rt; offer(&rt, &mut sender, 0), None);
-    assert_eq!(rt; (sender.sent_len(), taker.taken_len(0)), (2, 1));
+    expect_room_for_one(&rt, &mut sender, &mut taker);
     Ok(())
 }
 

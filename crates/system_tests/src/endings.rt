@@ -18,6 +18,7 @@ use unit_book::UnitBook;
 
 mod full;
 mod mixed;
+mod restarts;
 mod under_way;
 
 /// What a report lists for task 0 of a unit: each request's number, how it ended, and the first of the data that it

@@ -7,7 +7,7 @@ ghost use Rattle.excp_system.specs.Opening.{AreBooks};
 
 use ckd_disk::{Disk, Geometry, InitialRecord};
 use device_port::toy::ToyBlock;
-use device_port::{Device, Kind};
+use device_port::{Device, Fault, Kind};
 use excp_system::{Site, Task};
 use fifo_row::Full;
 use io_area::Area;
@@ -18,7 +18,7 @@ use std::sync::Wait;
 use unit_book::{Entry, UnitBook};
 
 /// An unrelated IOB at X'1000' for DCB 1, its ECB at X'1028', and at X'1030' a read of a block to X'1060'.
-const READ_BLOCK: [u8; 104] = [
+pub const READ_BLOCK: [u8; 104] = [
     0x42, 0, 0, 0, 0, 0, 0x10, 0x28, 0, 0, 0, 0, 0, 0, 0, 0, 0, 0, 0x10, 0x30, 0, 0, 0, 1, 0, 0, 0,
     0, 0, 0, 0, 0, 0, 0, 0, 0, 0, 0, 0, 1, 0, 0, 0, 0, 0, 0, 0, 0, 0x02, 0, 0x10, 0x60, 0, 0, 0, 4,
     0, 0, 0, 0, 0, 0, 0, 0, 0, 0, 0, 0, 0, 0, 0, 0, 0, 0, 0, 0, 0, 0, 0, 0, 0, 0, 0, 0, 0, 0, 0, 0,
@@ -27,12 +27,25 @@ const READ_BLOCK: [u8; 104] = [
 
 /// The same IOB and ECB, and from X'1030' on search, transfer back and read of the record whose ID stands at X'1050', to
 /// X'1060'.
-const READ_RECORD: [u8; 104] = [
+pub const READ_RECORD: [u8; 104] = [
     0x42, 0, 0, 0, 0, 0, 0x10, 0x28, 0, 0, 0, 0, 0, 0, 0, 0, 0, 0, 0x10, 0x30, 0, 0, 0, 1, 0, 0, 0,
     0, 0, 0, 0, 0, 0, 0, 0, 0, 0, 0, 0, 1, 0, 0, 0, 0, 0, 0, 0, 0, 0x31, 0, 0x10, 0x50, 0x40, 0, 0,
     5, 0x08, 0, 0x10, 0x30, 0, 0, 0, 0, 0x06, 0, 0x10, 0x60, 0, 0, 0, 4, 0, 0, 0, 0, 0, 0, 0, 0, 0,
     0, 0, 0, 1, 0, 0, 0, 0, 0, 0, 0, 0, 0, 0, 0, 0, 0, 0, 0, 0, 0, 0, 0,
 ];
+
+/// A no-operation to which another command is chained.
+const NO_OPERATION: [u8; 8] = [0x03, 0, 0, 0, 0x40, 0, 0, 1];
+
+/// An image with this IOB and ECB whose program is so many no-operations, one behind another.
+pub fn no_operations(alloc: Global, image: &[u8; 104], count: u32) -> Result<Vec<u8>, AllocError> {
+    let mut bytes = Vec::from_slice(alloc, &image[..48])?;
+    for _ in 1..count {
+        bytes.extend_from_slice(&NO_OPERATION)?;
+    }
+    bytes.extend_from_slice(&[0x03, 0, 0, 0, 0, 0, 0, 1])?;
+    Ok(bytes)
+}
 
 /// What is read of a tape, and of the disk of unit 0.
 pub const BLOCK: [u8; 4] = [0xC1, 0xC2, 0xC3, 0xC4];
@@ -43,8 +56,8 @@ pub const OTHER_BLOCK: [u8; 4] = [0xD1, 0xD2, 0xD3, 0xD4];
 /// The one track of a disk, for input and output.
 pub const TRACK: [u8; 16] = [0x18, 0, 0, 0, 0, 0, 0, 0, 0, 0, 0, 0, 0, 0, 0, 1];
 
-/// A disk of one track with one record, of these data.
-fn disk(alloc: Global, data: [u8; 4]) -> Result<Disk, AllocError> {
+/// A disk of one track with one record, of these data, that meets these faults.
+fn disk(alloc: Global, data: [u8; 4], faults: &[Fault]) -> Result<Disk, AllocError> {
     let geometry = Geometry {
         cylinders: 1,
         heads: 1,
@@ -57,21 +70,23 @@ fn disk(alloc: Global, data: [u8; 4]) -> Result<Disk, AllocError> {
         key: Vec::new(alloc),
         content: data.to_vec(alloc)?,
     }];
-    Disk::mount(alloc, geometry, &records, &[]).map_err(|_| AllocError)
+    Disk::mount(alloc, geometry, &records, faults).map_err(|_| AllocError)
 }
 
-/// The book of a device on subclass 5, for so many requests, whose DCB 1 is open on these extents.
+/// The book of a device on a subclass, for so many requests, whose DCB 1 is open on these extents.
 fn book<D: Device>(
     alloc: Global,
     device: D,
+    isc: u8,
     extents: &[Extent],
     capacity: usize,
 ) -> Result<UnitBook<D>, AllocError>
+    requires isc { isc ≤ 7 }
     requires some { 1 ≤ capacity }
     requires few { capacity ≤ 65536 }
     ensures { IfOk result (λ book. list_all is_opening book.trace ≡ true) }
 {
-    let mut book = UnitBook::new(alloc, device, 5, capacity)?;
+    let mut book = UnitBook::new(alloc, device, isc, capacity)?;
     match book.open(false, extents) {
         Ok(_) => Ok(book),
         Err(_) => Err(AllocError),
@@ -85,7 +100,7 @@ fn tape_book(alloc: Global, capacity: usize) -> Result<UnitBook<ToyBlock>, Alloc
     ensures { IfOk result (λ book. list_all is_opening book.trace ≡ true) }
 {
     let tape = ToyBlock::mount(alloc, Kind::Tape, BLOCK, &[])?;
-    book(alloc, tape, &[], capacity)
+    book(alloc, tape, 5, &[], capacity)
 }
 
 /// The book of a disk of one record, of these data.
@@ -94,8 +109,8 @@ fn disk_book(alloc: Global, data: [u8; 4], capacity: usize) -> Result<UnitBook<D
     requires few { capacity ≤ 65536 }
     ensures { IfOk result (λ book. list_all is_opening book.trace ≡ true) }
 {
-    let disk = disk(alloc, data)?;
-    book(alloc, disk, &[Extent::read(&TRACK)], capacity)
+    let disk = disk(alloc, data, &[])?;
+    book(alloc, disk, 5, &[Extent::read(&TRACK)], capacity)
 }
 
 /// The books of two tapes of one block.
@@ -122,6 +137,27 @@ pub fn disks(alloc: Global, capacity: usize) -> Result<Vec<UnitBook<Disk>>, Allo
     Ok(books)
 }
 
+/// The book of a disk of one record on a subclass, that meets these faults and has two DCBs.
+pub fn faulty_book(
+    alloc: Global,
+    isc: u8,
+    faults: &[Fault],
+    capacity: usize,
+) -> Result<UnitBook<Disk>, AllocError>
+    requires isc { isc ≤ 7 }
+    requires some { 1 ≤ capacity }
+    requires few { capacity ≤ 65536 }
+    ensures { IfOk result (λ book. list_all is_opening book.trace ≡ true) }
+{
+    let extents = [Extent::read(&TRACK)];
+    let disk = disk(alloc, BLOCK, faults)?;
+    let mut book = book(alloc, disk, isc, &extents, capacity)?;
+    match book.open(false, &extents) {
+        Ok(_) => Ok(book),
+        Err(_) => Err(AllocError),
+    }
+}
+
 /// The task issues its next request to a unit of this kind: its name, in an error where the row is full.
 pub fn issue<S: Site, R: Wait>(
     rt: &R,
@@ -137,9 +173,25 @@ pub fn issue<S: Site, R: Wait>(
         Kind::Disk => &READ_RECORD,
         Kind::Tape | Kind::Printer => &READ_BLOCK,
     };
+    issue_over(rt, alloc, task, unit, 1, image)
+}
+
+/// The task issues its next request to a unit, for this DCB and over these bytes from X'1000' on: its name, in an error
+/// where the row is full.
+pub fn issue_over<S: Site, R: Wait>(
+    rt: &R,
+    alloc: Global,
+    task: &mut Task<'_, S>,
+    unit: u16,
+    dcb: u16,
+    image: &[u8],
+) -> Result<Result<Name, Name>, AllocError>
+    requires { unit < S.rows.units }
+    ensures { task.new.number ≡ task.old.number }
+{
     let name = task.name(unit).ok_or(AllocError)?;
     let area = Area::new(alloc, 0x1000, image).map_err(|_| AllocError)?;
-    let request = Request::new(alloc, name, unit, 1, 0x1000, area).map_err(|_| AllocError)?;
+    let request = Request::new(alloc, name, unit, dcb, 0x1000, area).map_err(|_| AllocError)?;
     match task.excp(rt, request) {
         Ok(()) => Ok(Ok(name)),
         Err(Full(request)) => Ok(Err(request.name())),

@@ -10,4 +10,6 @@ mod endings;
 #[cfg(test)]
 mod fixtures;
 #[cfg(test)]
+mod stress;
+#[cfg(test)]
 mod units;

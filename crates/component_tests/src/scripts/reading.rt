@@ -2,6 +2,40 @@
 
 use super::*;
 
+/// Asserts that a script has a task, an area, a disk, a tape and a printer.
+fn expect_set_up(rt: &impl Abort, script: &Script) {
+    let set_up = &script.set_up;
+    assert_eq!(rt; (set_up.tasks, set_up.areas.len()), (1, 1));
+    assert_eq!(rt; set_up.units.len(), 3);
+    assert_eq!(rt; set_up.units[0].openings.len(), 1);
+    let tape = &set_up.units[1];
+    assert_eq!(rt;
+        (tape.openings.len(), tape.faults.len(), tape.isc),
+        (2, 1, 7)
+    );
+}
+
+/// Asserts that the commands of a task stand on its last lines, and that one of them is an EXCP.
+fn expect_commands(rt: &impl Abort, script: &Script) {
+    assert_eq!(rt; (script.most_to_a_unit(), script.most_of_a_task()), (1, 1));
+    assert_eq!(rt; script.commands.len(), 7);
+    for (command, line) in script.commands.iter().zip(15..) {
+        assert_eq!(rt; (command.line, command.task), (line, 0));
+    }
+}
+
+/// Asserts that the first command is the EXCP of the script.
+fn expect_excp(rt: &impl Abort, action: &Action) {
+    match action {
+        Action::Excp(excp) => {
+            assert_eq!(rt; (excp.dcb.unit, excp.dcb.number), (0, 1));
+            assert_eq!(rt; (excp.iob, excp.show, excp.len), (0x1000, 0x1060, 4));
+            assert_eq!(rt; excp.area.len(), 104);
+        }
+        _ => assert!(rt; false, "the first command is an EXCP"),
+    }
+}
+
 /// Every kind of line is taken, and stands where it belongs.
 #[test]
 fn every_kind_of_line(rt: HostRuntime) -> Result<(), Fail> {
@@ -17,32 +51,10 @@ fn every_kind_of_line(rt: HostRuntime) -> Result<(), Fail> {
         ],
     )?;
     let script = checked(rt.alloc(), &text)?;
-    let set_up = &script.set_up;
-    assert_eq!(rt; set_up.tasks, 1);
-    assert_eq!(rt; set_up.areas.len(), 1);
-    assert_eq!(rt; set_up.units.len(), 3);
-    assert_eq!(rt; set_up.units[0].openings.len(), 1);
-    assert_eq!(rt; set_up.units[1].openings.len(), 2);
-    assert_eq!(rt; set_up.units[1].faults.len(), 1);
-    assert_eq!(rt; set_up.units[1].isc, 7);
-    assert_eq!(rt; script.most_to_a_unit(), 1);
-    assert_eq!(rt; script.most_of_a_task(), 1);
-    assert_eq!(rt; script.commands.len(), 7);
-    for (command, line) in script.commands.iter().zip(15..) {
-        assert_eq!(rt; command.line, line);
-        assert_eq!(rt; command.task, 0);
-    }
-    match &script.commands[0].action {
-        Action::Excp(excp) => {
-            assert_eq!(rt; excp.dcb.unit, 0);
-            assert_eq!(rt; excp.dcb.number, 1);
-            assert_eq!(rt; excp.iob, 0x1000);
-            assert_eq!(rt; excp.show, 0x1060);
-            assert_eq!(rt; excp.len, 4);
-            assert_eq!(rt; excp.area.len(), 104);
-        }
-        _ => assert!(rt; false, "the first command is an EXCP"),
-    }
+    expect_set_up(&rt, &script);
+    expect_commands(&rt, &script);
+    let first = script.commands.first().ok_or("a command")?;
+    expect_excp(&rt, &first.action);
     Ok(())
 }
 

@@ -5,24 +5,26 @@ ghost use Rattle.excp_system.specs.Opening.{AreBooks, AreFresh, site_of};
 ghost use Rattle.job_script.specs.Books.{IsFresh};
 
 use cases::{CASES, Case};
-use excp_system::{Delivery, Intake, Rows, Site, System, Task, UnitState};
+use excp_system::{Rows, Site, System, Task};
 use fifo_row::Full;
 use io_area::Area;
-use io_images::{Code, Ecb, Extent, Iob};
+use io_images::{Code, Ecb, Iob};
 use job_script::Script;
+use look::Look;
 use request_piece::{Posted, Request};
 use std::alloc::{AllocError, Global};
 use std::marker::Brand;
 use std::process::Abort;
 use std::sync::Wait;
 use std::test::Fail;
-use unit_book::{
-    Closing, DcbError, Interruption, Mode, OpenError, Purging, Running, Starting, UnitBook,
-};
+use unit_book::{Mode, UnitBook};
 use unit_device::UnitDevice;
+use unit_steps::{by_control, by_worker};
 
 mod cases;
+mod look;
 mod tables;
+mod unit_steps;
 
 /// One task, and a disk of one track with R1, whose data are C1C2C3C4.
 const DISK: &str = "tasks 1\ndisk 0 0 1 1 40\nrec 0 0 0 1 - C1C2C3C4\n";
@@ -78,6 +80,10 @@ enum Step {
     PurgeTask(u16, Mode),
     Close(u16),
     Reset(u16),
+    /// Resets DCB 2 until the trace has room for so many entries.
+    Fill(u16),
+    /// Where it is refused it has made so many entries.
+    Settle(u16),
 }
 
 /// What a step answers: a word or a post, and the number of a request, of a DCB or of commands.
@@ -158,102 +164,6 @@ fn end_of<R: Abort + AllocGlobal>(rt: &R, value: &Posted) -> Result<String, Fail
     )?)
 }
 
-/// The word for a completion code.
-fn word(code: Code) -> &'static str {
-    match code {
-        Code::Ended => "ended",
-        Code::Purged => "purged",
-        _ => "error",
-    }
-}
-
-/// A step of the unit that its workers do.
-fn by_worker<S: Site, R: Wait>(
-    rt: &R,
-    unit: &mut UnitState<'_, S, UnitDevice>,
-    step: Step,
-) -> Option<Told> {
-    match step {
-        Step::Take => match unit.take(rt).ok()? {
-            Intake::Held => Some(("held", 0)),
-            Intake::Quiet => Some(("quiet", 0)),
-            Intake::Took(name) => Some(("took", name.seq)),
-        },
-        Step::Start => match unit.start().ok()? {
-            Starting::Busy => Some(("busy", 0)),
-            Starting::Idle => Some(("idle", 0)),
-            Starting::Started(name) => Some(("started", name.seq)),
-            Starting::Violated(name) => Some(("violated", name.seq)),
-        },
-        Step::Run(max) => match unit.run(rt, u32::from(max).max(1)).ok()? {
-            Running::Quiet => Some(("quiet", 0)),
-            Running::Ran { commands, pending } => {
-                Some((if pending { "pending" } else { "runs" }, commands))
-            }
-        },
-        Step::Interrupt => match unit.interrupt().ok()? {
-            Interruption::Quiet => Some(("quiet", 0)),
-            Interruption::Again(name) => Some(("again", name.seq)),
-            Interruption::Ended(name, code) => Some((word(code), name.seq)),
-        },
-        _ => match unit.deliver(rt) {
-            Delivery::Quiet => Some(("quiet", 0)),
-            Delivery::Delivered(name) => Some(("delivered", name.seq)),
-            Delivery::Full(name) => Some(("full", name.seq)),
-        },
-    }
-}
-
-/// What a purge answers of the active request.
-fn purged(answer: Purging) -> Told {
-    match answer {
-        Purging::Quiet => ("quiet", 0),
-        Purging::Active(name) => ("active", name.seq),
-    }
-}
-
-/// What a call on a DCB answers, which is unknown or was refused.
-fn refused(error: DcbError, dcb: u16) -> Option<Told> {
-    match error {
-        DcbError::NoSuchDcb => Some(("unknown", u32::from(dcb))),
-        DcbError::NoMemory => None,
-    }
-}
-
-/// An opening, a purge, a close or a reset, or a look at a flag.
-fn by_control<S: Site, R: Wait>(
-    rt: &R,
-    unit: &mut UnitState<'_, S, UnitDevice>,
-    step: Step,
-) -> Option<Told> {
-    match step {
-        Step::Open => match unit.open(false, &[Extent::read(&EXTENT)]) {
-            Ok(dcb) => Some(("opened", u32::from(dcb))),
-            Err(OpenError::NoMemory) => None,
-            Err(_) => Some(("not opened", 0)),
-        },
-        Step::Flag(dcb) => {
-            let flag = unit.book().dcb_flag(dcb);
-            Some((if flag { "11" } else { "00" }, u32::from(dcb)))
-        }
-        Step::Purge(dcb, mode) => match unit.purge(rt, dcb, mode) {
-            Ok(answer) => Some(purged(answer)),
-            Err(error) => refused(error, dcb),
-        },
-        Step::PurgeTask(task, mode) => Some(purged(unit.purge_task(rt, task, mode).ok()?)),
-        Step::Close(dcb) => match unit.close(dcb) {
-            Ok(Closing::Closing(name)) => Some(("closing", name.seq)),
-            Ok(Closing::Closed) => Some(("closed", 0)),
-            Err(error) => refused(error, dcb),
-        },
-        Step::Reset(dcb) => match unit.reset(dcb) {
-            Ok(()) => Some(("reset", 0)),
-            Err(error) => refused(error, dcb),
-        },
-        _ => None,
-    }
-}
-
 /// Does a step once, and tells what it answers: nothing where there is no memory for it.
 fn done_once<'r, S: Site, R: Wait + Abort + AllocGlobal>(
     rt: &R,
@@ -284,8 +194,8 @@ fn done_once<'r, S: Site, R: Wait + Abort + AllocGlobal>(
     Ok(Some((String::from_str(rt.alloc(), word)?, number)))
 }
 
-/// Does a step, so many times at most while there is no memory for it, and tells what it answers. Want of memory at the
-/// last of them fails.
+/// Does a step, so many times at most while there is no memory for it, and tells what it answers. Want of memory leaves
+/// what stood, and at the last of these times it fails.
 fn done<'r, S: Site, R: Wait + Abort + AllocGlobal>(
     rt: &R,
     system: &System<'r, S, UnitDevice>,
@@ -295,12 +205,15 @@ fn done<'r, S: Site, R: Wait + Abort + AllocGlobal>(
 ) -> Result<(String, u32), Fail>
     requires { 0 < S.rows.units }
 {
-    for _ in 0..tries {
+    for _ in 1..tries {
+        let before = Look::of(system.lock_of(0).lock(rt).book());
         if let Some(told) = done_once(rt, system, task, step)? {
             return Ok(told);
         }
+        let after = before.again(system.lock_of(0).lock(rt).book());
+        assert_eq!(rt; after, before.kept(step, after.spare()));
     }
-    Err(Fail::from("no memory"))
+    Ok(done_once(rt, system, task, step)?.ok_or("no memory")?)
 }
 
 /// Does the steps of a table on a system of one task and one unit, each so many times at most.
@@ -368,6 +281,8 @@ fn purges_and_closes<R: Wait + Abort + AllocGlobal>(rt: &R, tries: u32) -> Resul
     expect_steps(rt, DISK, 3, 3, tables::BY_COMMANDS, tries)?;
     expect_steps(rt, DISK, 3, 3, tables::QUIESCE, tries)?;
     expect_steps(rt, DISK, 1, 1, tables::UNKNOWN, tries)?;
+    expect_steps(rt, DISK, 3, 4, tables::FULL_TRACES, tries)?;
+    expect_steps(rt, DISK, 3, 4, tables::SETTLED, tries)?;
     expect_steps(rt, FAILS_ONCE, 3, 3, tables::CLOSE, tries)
 }
 
@@ -412,4 +327,27 @@ fn purges_at_each_phase(rt: HostRuntime) -> Result<(), Fail> {
 fn rows_and_books_with_room_for_one(rt: HostRuntime) -> Result<(), Fail> {
     expect_steps(&rt, DISK, 1, 1, tables::ROOM_FOR_ONE, 1)?;
     expect_steps(&rt, DISK, 1, 2, tables::FULL_POST_ROW, 1)
+}
+
+/// How much rows and books may hold.
+const MOST: u32 = 65_536;
+
+/// The intake row, the book and the post row take as much as they may hold, and no more; what is handed back, held or out
+/// goes on once there is room.
+#[test]
+fn rows_and_books_with_most_room(rt: HostRuntime) -> Result<(), Fail> {
+    let mut table = vec![in rt.alloc(); (Step::Open, ("opened", 1))]?;
+    for seq in 1..=MOST {
+        table.push((Step::Excp(1), ("sent", seq)))?;
+    }
+    table.push((Step::Excp(1), ("full", MOST + 1)))?;
+    for seq in 1..=MOST {
+        table.push((Step::Take, ("took", seq)))?;
+    }
+    table.extend_from_slice(tables::BEHIND_MOST)?;
+    for seq in 2..=MOST {
+        table.push((Step::Deliver, ("delivered", seq)))?;
+    }
+    table.extend_from_slice(tables::MOST_POSTS)?;
+    expect_steps(&rt, DISK, 65_536, 65_536, &table, 1)
 }

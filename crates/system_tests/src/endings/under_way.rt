@@ -70,34 +70,37 @@ fn media(alloc: Global, report: &Report<Disk>) -> Result<Vec<(u8, bool)>, AllocE
     Ok(media)
 }
 
-/// The task issues so many requests to unit 0.
-fn issue_some<S: Site, R: Wait>(
+/// The task issues so many requests to a unit.
+pub fn issue_some<S: Site, R: Wait>(
     rt: &R,
     alloc: Global,
     tasks: &mut Vec<Task<'_, S>>,
+    unit: u16,
+    kind: Kind,
     count: u32,
 ) -> Result<(), AllocError>
     requires tasks { ArePlaced (λ task. task.number) S.rows.tasks tasks.old.items }
     requires one { S.rows.tasks ≡ 1 }
-    requires units { 0 < S.rows.units }
+    requires units { unit < S.rows.units }
     ensures { ArePlaced (λ task. task.number) S.rows.tasks tasks.new.items }
 {
     for _ in 0..count {
         let task = &mut tasks[0];
-        issue(rt, alloc, task, 0, Kind::Disk)?.map_err(|_| AllocError)?;
+        issue(rt, alloc, task, unit, kind)?.map_err(|_| AllocError)?;
     }
     Ok(())
 }
 
-/// Does these holds of unit 0.
-fn serve<S: Site, R: Wait>(
+/// Does these holds of a unit.
+pub fn serve<S: Site, D: Device, R: Wait>(
     rt: &R,
-    system: &System<'_, S, Disk>,
+    system: &System<'_, S, D>,
+    unit: u16,
     holds: &[Hold],
 ) -> Result<(), AllocError>
-    requires { 0 < S.rows.units }
+    requires { unit < S.rows.units }
 {
-    let mut unit = system.lock_of(0).lock(rt);
+    let mut unit = system.lock_of(unit).lock(rt);
     for hold in holds {
         held(rt, &mut unit, *hold)?;
     }
@@ -120,8 +123,8 @@ fn begun<'r, S: Site, R: Wait>(
     ensures { IfOk result (λ run. ArePlaced (λ task. task.number) S.rows.tasks run.1.items) }
 {
     let (system, mut tasks, _) = System::<S, Disk>::new(alloc, rows, books)?;
-    issue_some(rt, alloc, &mut tasks, run.issued)?;
-    serve(rt, &system, run.holds)?;
+    issue_some(rt, alloc, &mut tasks, 0, Kind::Disk, run.issued)?;
+    serve(rt, &system, 0, run.holds)?;
     Ok((system, tasks))
 }
 
@@ -147,8 +150,34 @@ fn ended<S: Site, R: Wait>(
     }
 }
 
-/// The report of a run that is resumed as often as there is no memory for its end.
-fn resumed<S: Site, R: Wait + Abort>(
+/// The report of a run that is resumed where there is no memory for its end, at most three times.
+pub fn resumed<'r, S: Site, D: Device, R: Wait + Abort>(
+    rt: &R,
+    alloc: Global,
+    system: System<'r, S, D>,
+    tasks: Vec<Task<'r, S>>,
+) -> Result<Report<D>, AllocError>
+    requires { ArePlaced (λ task. task.number) S.rows.tasks tasks.items }
+    ensures { IfOk result (λ report. IsFor S.rows.units S.rows.tasks report) }
+{
+    let mut left = match finish(rt, alloc, system, tasks) {
+        Ok(report) => return Ok(report),
+        Err(left) => left,
+    };
+    // at most two growths are refused
+    for _ in 0..3 {
+        assert_eq!(rt; left.cause(), Cause::NoMemory);
+        left = match left.resume(rt) {
+            Ok(report) => return Ok(report),
+            Err(left) => left,
+        };
+    }
+    assert!(rt; left.cause() != Cause::NoMemory, "not brought to its end");
+    Err(AllocError)
+}
+
+/// The report of a run that ends, though there may be no memory for it at first.
+fn ended_at_last<S: Site, R: Wait + Abort>(
     rt: &R,
     alloc: Global,
     rows: &mut Rows,
@@ -163,18 +192,7 @@ fn resumed<S: Site, R: Wait + Abort>(
     ensures { IfOk result (λ report. IsFor 2 1 report) }
 {
     let (system, tasks) = begun::<S, _>(rt, alloc, rows, books, run)?;
-    let mut left = match finish(rt, alloc, system, tasks) {
-        Ok(report) => return Ok(report),
-        Err(left) => left,
-    };
-    for _ in 0..1000 {
-        assert_eq!(rt; left.cause(), Cause::NoMemory);
-        left = match left.resume(rt) {
-            Ok(report) => return Ok(report),
-            Err(left) => left,
-        };
-    }
-    Err(AllocError)
+    resumed(rt, alloc, system, tasks)
 }
 
 /// Asserts that a report lists these values for the task at unit 0 and none at unit 1, that the disks are those that were
@@ -214,7 +232,7 @@ fn finish_without_memory(rt: HostRuntime) -> Result<(), Fail> {
     let (run, wanted) = RUNS[2];
     let mut rows = Rows::new(rt.alloc(), 1, 2, 4, 4)?;
     let books = disks(rt.alloc(), 4)?;
-    let report = resumed::<Brand, _>(&rt, rt.alloc(), &mut rows, books, run)?;
+    let report = ended_at_last::<Brand, _>(&rt, rt.alloc(), &mut rows, books, run)?;
     expect_report(&rt, rt.alloc(), &report, wanted)?;
     Ok(())
 }

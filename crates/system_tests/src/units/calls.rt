@@ -1,9 +1,10 @@
 //! Calls of two tasks, and holds of two units, one after another: what each answers.
 
-ghost use Rattle.std.specs.Prelude.{◌≡◌};
+ghost use Rattle.std.specs.Prelude.{◌≡◌, ◌<◌};
 ghost use Rattle.excp_system.specs.Opening.{AreBooks, AreFresh, site_of};
 
 use super::*;
+use device_port::Kind;
 use excp_system::{Delivery, Intake, UnitPurging, UnitState};
 use unit_book::{Closing, DcbError, Interruption, Mode, Purging, Running, Starting};
 
@@ -196,6 +197,55 @@ pub fn held<S: Site, D: Device, R: Wait>(
     })
 }
 
+/// The kind of device that is mounted on a unit.
+fn kind_of<S: Site, D: Device, R: Wait>(rt: &R, system: &System<'_, S, D>, unit: u16) -> Kind
+    requires { unit < S.rows.units }
+{
+    let state = system.lock_of(unit).lock(rt);
+    state.book().mounted().kind()
+}
+
+/// Whether the next request of a task is accepted by a unit.
+fn issued<S: Site, R: Wait + AllocGlobal>(
+    rt: &R,
+    task: &mut Task<'_, S>,
+    unit: u16,
+    kind: Kind,
+) -> Result<Answer, AllocError>
+    requires { unit < S.rows.units }
+{
+    Ok(match issue(rt, rt.alloc(), task, unit, kind)? {
+        Ok(name) => ("accepted", Some(name)),
+        Err(name) => ("full", Some(name)),
+    })
+}
+
+/// Does a call of a unit under its lock, and tells what it answers.
+fn locked<S: Site, D: Device, R: Wait>(
+    rt: &R,
+    system: &System<'_, S, D>,
+    unit: u16,
+    hold: Hold,
+) -> Result<Answer, AllocError>
+    requires { unit < S.rows.units }
+{
+    let mut state = system.lock_of(unit).lock(rt);
+    held(rt, &mut state, hold)
+}
+
+/// Purges a task, and tells what is left active of it.
+fn purged_task<S: Site, D: Device, R: Wait>(
+    rt: &R,
+    system: &System<'_, S, D>,
+    task: u16,
+    mode: Mode,
+) -> Answer {
+    match system.purge_task(rt, task, mode) {
+        Ok(answers) => left_active(answers.as_slice()),
+        Err(AllocError) => ("no memory", None),
+    }
+}
+
 /// Does a call, and tells what it answers.
 pub fn answer<'r, S: Site, D: Device, R: Wait + AllocGlobal>(
     rt: &R,
@@ -208,25 +258,15 @@ pub fn answer<'r, S: Site, D: Device, R: Wait + AllocGlobal>(
     match call {
         Call::Issue(task, unit) => {
             let task = tasks.get_mut(task).ok_or("no such task")?;
-            let unit = unit.min(1);
-            let kind = system.lock_of(unit).lock(rt).book().mounted().kind();
-            Ok(match issue(rt, rt.alloc(), task, unit, kind)? {
-                Ok(name) => ("accepted", Some(name)),
-                Err(name) => ("full", Some(name)),
-            })
+            let kind = kind_of(rt, system, unit.min(1));
+            Ok(issued(rt, task, unit.min(1), kind)?)
         }
         Call::Collect(task) => {
             let task = tasks.get_mut(task).ok_or("no such task")?;
             Ok(collected(rt, task))
         }
-        Call::Hold(unit, hold) => {
-            let mut state = system.lock_of(unit.min(1)).lock(rt);
-            Ok(held(rt, &mut state, hold)?)
-        }
-        Call::PurgeTask(task, mode) => Ok(match system.purge_task(rt, task, mode) {
-            Ok(answers) => left_active(answers.as_slice()),
-            Err(AllocError) => ("no memory", None),
-        }),
+        Call::Hold(unit, hold) => Ok(locked(rt, system, unit.min(1), hold)?),
+        Call::PurgeTask(task, mode) => Ok(purged_task(rt, system, task, mode)),
     }
 }
 

@@ -1,8 +1,8 @@
 //! Steps and what each answers, by the worked rows of the profile.
 
 use super::Step::{
-    Close, Collect, Deliver, Excp, Flag, Interrupt, Open, Outside, Purge, PurgeTask, Related,
-    Reset, Run, Start, Take,
+    Close, Collect, Deliver, Excp, Fill, Flag, Interrupt, Open, Outside, Purge, PurgeTask, Related,
+    Reset, Run, Settle, Start, Take,
 };
 use super::{Step, Told};
 use unit_book::Mode::{Halt, Quiesce};
@@ -257,4 +257,114 @@ pub const FULL_POST_ROW: &[(Step, Told)] = &[
     (Deliver, ("quiet", 0)),
     (Collect, (WAITED, 2)),
     (Collect, ("none", 0)),
+];
+
+/// A step of each kind where the trace has room for one entry less than the step may add.
+pub const FULL_TRACES: &[(Step, Told)] = &[
+    (Open, ("opened", 1)),
+    (Open, ("opened", 2)),
+    (Excp(1), ("sent", 1)),
+    (Excp(1), ("sent", 2)),
+    (Excp(2), ("sent", 3)),
+    (Fill(0), ("room", 0)),
+    (Take, ("took", 1)),
+    (Fill(1), ("room", 1)),
+    (Take, ("took", 2)),
+    (Take, ("took", 3)),
+    (Fill(0), ("room", 0)),
+    (Start, ("started", 1)),
+    (Fill(0), ("room", 0)),
+    (Run(1), ("runs", 1)),
+    // what waits may be posted too
+    (Fill(2), ("room", 2)),
+    (Close(1), ("closing", 1)),
+    (Fill(0), ("room", 0)),
+    (Close(1), ("closing", 1)),
+    (Reset(1), ("unknown", 1)),
+    (Deliver, ("delivered", 2)),
+    (Collect, (WAITED, 2)),
+    (PurgeTask(1, Halt), ("quiet", 0)),
+    (Fill(2), ("room", 2)),
+    (Purge(1, Halt), ("active", 1)),
+    (Fill(1), ("room", 1)),
+    (Interrupt, ("purged", 1)),
+    (Deliver, ("delivered", 1)),
+    (Collect, (HALTED, 1)),
+    (Fill(0), ("room", 0)),
+    (Open, ("opened", 3)),
+    (Outside(3), ("sent", 4)),
+    (Related(3), ("sent", 5)),
+    (Take, ("took", 4)),
+    (Take, ("took", 5)),
+    (Start, ("started", 3)),
+    (Run(16), ("pending", 3)),
+    (Fill(2), ("room", 2)),
+    (Interrupt, ("ended", 3)),
+    (Deliver, ("delivered", 3)),
+    (Collect, (READ, 3)),
+    (Fill(2), ("room", 2)),
+    (Start, ("violated", 4)),
+    (Flag(3), ("11", 3)),
+    (Fill(0), ("room", 0)),
+    (Reset(3), ("reset", 0)),
+    (Flag(3), ("00", 3)),
+    (Deliver, ("delivered", 4)),
+    (Collect, (VIOLATED, 4)),
+    (Deliver, ("delivered", 5)),
+    (Collect, (WAITED, 5)),
+    (Fill(0), ("room", 0)),
+    (Close(2), ("closed", 0)),
+    (Start, ("idle", 0)),
+];
+
+/// A unit is settled where the trace has room for no entry, for the start, and for a start and a run but not for the
+/// posts.
+pub const SETTLED: &[(Step, Told)] = &[
+    (Open, ("opened", 1)),
+    (Open, ("opened", 2)),
+    (Excp(1), ("sent", 1)),
+    (Take, ("took", 1)),
+    (Fill(0), ("room", 0)),
+    (Settle(0), ("settled", 0)),
+    (Deliver, ("delivered", 1)),
+    (Collect, (READ, 1)),
+    (Excp(1), ("sent", 2)),
+    (Take, ("took", 2)),
+    (Fill(1), ("room", 1)),
+    (Settle(1), ("settled", 0)),
+    (Deliver, ("delivered", 2)),
+    (Collect, (READ, 2)),
+    (Excp(1), ("sent", 3)),
+    (Excp(2), ("sent", 4)),
+    (Take, ("took", 3)),
+    (Take, ("took", 4)),
+    (Fill(3), ("room", 3)),
+    (Settle(2), ("settled", 0)),
+    (Deliver, ("delivered", 3)),
+    (Deliver, ("delivered", 4)),
+    (Collect, (READ, 3)),
+    (Collect, (READ, 4)),
+    (Start, ("idle", 0)),
+];
+
+/// Behind as many requests as a book holds: the next one is held in its row until there is room, and what waits is purged.
+pub const BEHIND_MOST: &[(Step, Told)] = &[
+    (Excp(1), ("sent", 65_537)),
+    (Take, ("held", 0)),
+    (Start, ("started", 1)),
+    (Run(16), ("pending", 3)),
+    (Interrupt, ("ended", 1)),
+    (Take, ("held", 0)),
+    (Deliver, ("delivered", 1)),
+    (Take, ("took", 65_537)),
+    (Purge(1, Quiesce), ("quiet", 0)),
+];
+
+/// Behind as many posts as a post row holds.
+pub const MOST_POSTS: &[(Step, Told)] = &[
+    (Deliver, ("full", 65_537)),
+    (Collect, (READ, 1)),
+    (Deliver, ("delivered", 65_537)),
+    (Collect, (WAITED, 2)),
+    (Deliver, ("quiet", 0)),
 ];

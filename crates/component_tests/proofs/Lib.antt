@@ -1,0 +1,2 @@
+-- Faults at the last numbers of commands.
+pub mod Ordinals

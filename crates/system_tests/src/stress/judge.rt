@@ -1,0 +1,277 @@
+//! The judge of a run: it reads what the tasks issued, did and got, and the report, and goes over the trace of each unit
+//! once for each request.
+
+use super::log::{Control, Log};
+use super::requests::{Got, Issue, NEVER_STARTED};
+use io_images::Code;
+use request_piece::{Name, Scope};
+use std::test::Fail;
+use unit_book::{Entry, Mode};
+
+/// How many posts the reports listed, and how many requests a purge met while they waited, and while they were active.
+#[derive(Clone, Copy, PartialEq, Eq, Debug)]
+pub struct Met {
+    pub listed: usize,
+    pub waiting: usize,
+    pub active: usize,
+}
+
+/// What the entries of a trace, up to one, say of a request and its DCB.
+#[derive(Clone, Copy)]
+struct Life {
+    closed: bool,
+    in_error: bool,
+    arrived: bool,
+    /// It is to be posted without a start.
+    doomed: bool,
+    purged: bool,
+    starts: u32,
+    /// A purge with halt came behind its last start.
+    covered: bool,
+    halted: bool,
+    posted: Option<Got>,
+}
+
+fn require(holds: bool, what: &'static str) -> Result<(), Fail> {
+    if holds { Ok(()) } else { Err(Fail::from(what)) }
+}
+
+/// The request with this name among those of a unit.
+fn issue_of(issues: &[Issue], name: Name) -> Option<Issue> {
+    issues.iter().find(|issue| issue.name == name).copied()
+}
+
+impl Life {
+    fn new() -> Life {
+        Life {
+            closed: false,
+            in_error: false,
+            arrived: false,
+            doomed: false,
+            purged: false,
+            starts: 0,
+            covered: false,
+            halted: false,
+            posted: None,
+        }
+    }
+
+    /// It waits.
+    fn waits(&self) -> bool {
+        self.arrived && self.starts == 0 && self.posted.is_none()
+    }
+
+    /// It was started, and not posted.
+    fn is_active(&self) -> bool {
+        self.starts > 0 && self.posted.is_none()
+    }
+
+    /// One entry of the trace more, of a request among these.
+    fn pass(&mut self, entry: &Entry, issue: Issue, issues: &[Issue]) -> Result<(), Fail> {
+        match entry {
+            Entry::Arrive(issued) if issued.name() == issue.name => {
+                require(!self.arrived, "arrived twice")?;
+                self.arrived = true;
+                self.doomed = self.closed || (issue.related && self.in_error);
+            }
+            Entry::Start(name) if *name == issue.name => {
+                require(self.arrived && !self.doomed && !self.covered, "a start")?;
+                require(self.posted.is_none(), "a start behind the post")?;
+                self.starts = self.starts.saturating_add(1);
+            }
+            Entry::Halted(name) if *name == issue.name => {
+                require(self.is_active() && self.covered, "a halt")?;
+                self.halted = true;
+            }
+            Entry::Start(_) => require(!self.is_active(), "two are active")?,
+            _ => {}
+        }
+        self.control(entry, issue);
+        self.error(entry, issue, issues);
+        Ok(())
+    }
+
+    /// What a purge, a close or a reset makes of it.
+    fn control(&mut self, entry: &Entry, issue: Issue) {
+        match entry {
+            Entry::Purge(scope, mode) => {
+                let covers = *scope == Scope::Dcb(issue.dcb)
+                    || *scope == Scope::Task(issue.name.task);
+                self.purged |= covers && self.waits();
+                self.doomed |= covers && self.waits();
+                self.covered |= covers && *mode == Mode::Halt && self.is_active();
+            }
+            Entry::Close(dcb) if *dcb == issue.dcb => {
+                self.closed = true;
+                self.doomed |= self.waits();
+            }
+            Entry::Reset(dcb) if *dcb == issue.dcb => self.in_error = false,
+            _ => {}
+        }
+    }
+
+    /// What the permanent error of a related request of its DCB makes of it.
+    fn error(&mut self, entry: &Entry, issue: Issue, issues: &[Issue]) {
+        if let Entry::Post(name, _, _, Code::PermanentError | Code::ExtentViolated) = entry {
+            let other = issue_of(issues, *name);
+            if other.is_some_and(|other| other.related && other.dcb == issue.dcb) {
+                self.in_error = true;
+                self.doomed |= issue.related && self.waits() && *name != issue.name;
+            }
+        }
+    }
+
+    /// Whether it may be posted so.
+    fn allows(&self, issue: Issue, got: Got) -> bool {
+        let end = got.end;
+        if self.doomed {
+            return end == NEVER_STARTED && self.starts == 0;
+        }
+        if self.starts == 0 {
+            return end == issue.own_end() && end.0 == Code::ExtentViolated;
+        }
+        if self.halted {
+            return issue.halted(end);
+        }
+        let retried = issue.unit == 1 && issue.fails(end, Code::Purged, 0x1000);
+        let failed = issue.unit == 2 && issue.fails(end, Code::PermanentError, 0x4000);
+        (end == issue.own_end() && end.0 != Code::ExtentViolated)
+            || failed
+            || (self.covered && retried)
+    }
+}
+
+/// The post of a request that an entry tells of.
+fn post_of(entry: &Entry) -> Option<(Name, (Code, u32, u8, u8, u16, u16))> {
+    match entry {
+        Entry::Post(name, csw, sense, code) => {
+            let (unit, sub) = (csw.unit.bits(), csw.sub.bits());
+            Some((
+                *name,
+                (*code, csw.address.get(), unit, sub, csw.residual, *sense),
+            ))
+        }
+        _ => None,
+    }
+}
+
+/// Goes over the trace for one request, which was posted as its task got it.
+fn judge_request(trace: &[Entry], issue: Issue, issues: &[Issue], got: Got) -> Result<Life, Fail> {
+    let mut life = Life::new();
+    for entry in trace {
+        if let Some((name, end)) = post_of(entry) {
+            if name == issue.name {
+                require(life.arrived && life.posted.is_none(), "posted twice")?;
+                require(got.end == end, "a post unlike the trace")?;
+                require(life.allows(issue, got), "another end")?;
+                life.posted = Some(got);
+            }
+        }
+        life.pass(entry, issue, issues)?;
+    }
+    require(life.posted.is_some(), "left waiting or active")?;
+    require(life.starts <= 11, "too many starts")?;
+    require(issue.shows(got), "another area")?;
+    Ok(life)
+}
+
+/// The requests of a task to a unit: they arrived in order of number and were first started in this order, and its posts
+/// came to it in the order in which the unit posted them.
+fn judge_order(trace: &[Entry], issues: &[Issue], got: &[Got], task: u16) -> Result<(), Fail> {
+    let mut arrivals = issues.iter().filter(|issue| issue.name.task == task);
+    let mut posts = got.iter();
+    let (mut number, mut started): (u32, u32) = (0, 0);
+    for entry in trace {
+        match entry {
+            Entry::Arrive(issued) if issued.name().task == task => {
+                number = number.saturating_add(1);
+                let issue = arrivals.next().ok_or("an arrival that nobody issued")?;
+                let same = (issued.name(), issued.dcb(), issued.is_related());
+                require(
+                    same == (issue.name, issue.dcb, issue.related),
+                    "another arrival",
+                )?;
+                require(issue.name.seq == number, "a gap")?;
+            }
+            Entry::Start(name) if name.task == task => {
+                // one that is tried again is the last that was started
+                require(name.seq >= started, "started out of order")?;
+                started = name.seq;
+            }
+            Entry::Post(name, ..) if name.task == task => {
+                let post = posts.next().ok_or("a post is lost")?;
+                require(post.name == *name, "posts out of order")?;
+            }
+            _ => {}
+        }
+    }
+    require(arrivals.next().is_none(), "an arrival is lost")?;
+    require(
+        posts.next().is_none(),
+        "a post that the trace does not tell of",
+    )
+}
+
+/// How often the tasks did this to a unit.
+fn times_done(logs: &[Log; 2], unit: u16, control: Control) -> usize {
+    let of = |log: &Log| log
+        .controls
+        .iter()
+        .filter(|done| **done == (unit, control))
+        .count();
+    of(&logs[0]).saturating_add(of(&logs[1]))
+}
+
+/// The trace of a unit tells of what the tasks did to it, and of nothing else: a second close does nothing.
+fn judge_controls(trace: &[Entry], logs: &[Log; 2], unit: u16) -> Result<(), Fail> {
+    for log in logs {
+        for (of, control) in &log.controls {
+            if *of == unit {
+                require(
+                    trace.iter().any(|e| Control::of(e) == Some(*control)),
+                    "not done",
+                )?;
+            }
+        }
+    }
+    for entry in trace {
+        if let Some(control) = Control::of(entry) {
+            let told = trace
+                .iter()
+                .filter(|e| Control::of(e) == Some(control))
+                .count();
+            let done = times_done(logs, unit, control);
+            let closes = matches!(control, Control::Close(_)) && told == 1 && done > 0;
+            require(closes || told == done, "nobody did that")?;
+        }
+    }
+    Ok(())
+}
+
+/// Judges one unit of a run: its trace, all requests to it, what each task did, and what it got of this unit.
+pub fn judge(
+    trace: &[Entry],
+    issues: &[Issue],
+    logs: &[Log; 2],
+    got: [&[Got]; 2],
+    unit: u16,
+) -> Result<Met, Fail> {
+    let mut met = Met {
+        listed: 0,
+        waiting: 0,
+        active: 0,
+    };
+    judge_order(trace, issues, got[0], 0)?;
+    judge_order(trace, issues, got[1], 1)?;
+    judge_controls(trace, logs, unit)?;
+    for issue in issues {
+        let task = if issue.name.task == 0 { got[0] } else { got[1] };
+        let mut posts = task.iter().filter(|post| post.name == issue.name);
+        let post = posts.next().ok_or("a request without a post")?;
+        require(posts.next().is_none(), "a post given twice")?;
+        let life = judge_request(trace, *issue, issues, *post)?;
+        met.waiting = met.waiting.saturating_add(usize::from(life.purged));
+        met.active = met.active.saturating_add(usize::from(life.covered));
+    }
+    Ok(met)
+}
