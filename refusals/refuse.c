@@ -1,9 +1,13 @@
 /* Refuses calls of a program: preloaded into it, those calls of one kind fail whose numbers REFUSE has (one or two, from
- * 1; 0 for none). REFUSE_KIND is `growth` for malloc and realloc, which then answer that there is no memory, and `write`
- * for what is written to standard output. How many such calls there were stands, as eight bytes, in the file that
- * CALLS names. */
+ * 1; 0 for none). REFUSE_KIND is `growth` for malloc and realloc, which then answer that there is no memory, `lasting` for
+ * the same from the first such number on, `write` for what is written to standard output, and `thread` for threads, which
+ * then cannot be made. How many such calls there were
+ * stands, as eight bytes, in the file that CALLS names. */
+#define _GNU_SOURCE
+#include <dlfcn.h>
 #include <errno.h>
 #include <fcntl.h>
+#include <pthread.h>
 #include <stdatomic.h>
 #include <stdlib.h>
 #include <string.h>
@@ -14,8 +18,11 @@
 extern void *__libc_malloc(size_t);
 extern void *__libc_realloc(void *, size_t);
 
-enum kind { GROWTH, WRITE };
+enum kind { GROWTH, WRITE, THREAD };
 
+typedef int create(pthread_t *, const pthread_attr_t *, void *(*)(void *), void *);
+
+static int lasts;
 static atomic_long none;
 static atomic_long *calls = &none;
 static enum kind kind;
@@ -33,7 +40,11 @@ __attribute__((constructor)) static void begin(void)
             calls = page;
     }
     atomic_store(calls, 0);
-    kind = name && strcmp(name, "write") == 0 ? WRITE : GROWTH;
+    lasts = name && strcmp(name, "lasting") == 0;
+    if (name && strcmp(name, "write") == 0)
+        kind = WRITE;
+    if (name && strcmp(name, "thread") == 0)
+        kind = THREAD;
     if (numbers) {
         char *behind;
         refused[0] = strtol(numbers, &behind, 10);
@@ -46,6 +57,8 @@ static int is_refused(enum kind of)
     if (of != kind)
         return 0;
     long number = atomic_fetch_add(calls, 1) + 1;
+    if (lasts)
+        return refused[0] > 0 && number >= refused[0];
     return number == refused[0] || number == refused[1];
 }
 
@@ -74,4 +87,12 @@ ssize_t write(int to, const void *bytes, size_t count)
         return -1;
     }
     return syscall(SYS_write, to, bytes, count);
+}
+
+int pthread_create(pthread_t *thread, const pthread_attr_t *how, void *(*run)(void *), void *with)
+{
+    create *made = (create *)dlsym(RTLD_NEXT, "pthread_create");
+    if (!made || is_refused(THREAD))
+        return EAGAIN;
+    return made(thread, how, run, with);
 }
