@@ -24,6 +24,7 @@ mod notices;
 mod openings;
 mod side_by_side;
 mod task_purges;
+mod told;
 mod turns;
 mod without_memory;
 
