@@ -181,7 +181,8 @@ fn run_each<'r, S: Site + Send + Sync, R: Threads + Wait + Sync>(
     }
 }
 
-/// Runs all tasks beside the workers, which pass this gate, and stops and joins these. Where a worker cannot be started no task runs.
+/// Runs all tasks beside the workers, which pass this gate, and stops and joins these. Where a worker cannot be started
+/// no task runs.
 pub(crate) fn run_tasks<'r, S: Site + Send + Sync, G: Gate + Sync, R: Threads + Wait + Sync>(
     rt: &R,
     alloc: Global,

@@ -91,7 +91,8 @@ pub(crate) fn run_on<S: Site + Send + Sync, R: Threads + Wait + Sync>(
 }
 
 /// Lets the tasks do their commands beside the workers, which pass this gate, and gives them with what is printed of
-/// their requests. Want of memory that a worker met outranks the fault of a line at which a task ended, as it ended the others.
+/// their requests. Want of memory that a worker met outranks the fault of a line at which a task ended, as it ended the
+/// others.
 pub(crate) fn run_commands<'r, S: Site + Send + Sync, G: Gate + Sync, R: Threads + Wait + Sync>(
     rt: &R,
     alloc: Global,
