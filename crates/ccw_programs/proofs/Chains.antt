@@ -5,12 +5,7 @@ use Rattle.ccw_programs.specs.declared.fetch.Fetch.{Fetch}
 use Rattle.ccw_programs.specs.declared.fetch.Fetch.TheVariants.{Refused, Transfer, More, Last}
 use Rattle.io_area.specs.Storage.{Storage}
 use Rattle.ccw_programs.specs.declared.fetch.Link.{Link}
-use Rattle.ccw_programs.specs.Links.{Fetched, Whole, Broken, behind, chain_by, chain_within, fetch_at}
-
--- the same chain behind more CCWs
-abbrev pub behind_all : List Link → Fetched → Fetched
-behind_all [] c = c
-behind_all (l ∷ ls) c = behind l (behind_all ls c)
+use Rattle.ccw_programs.specs.Links.{Fetched, Whole, Broken, behind, behind_all, chain_by, chain_within, fetch_at}
 
 pub behind_all-append : (ls : List Link) (l : Link) (c : Fetched) → behind_all (ls ++ l ∷ []) c ≡ behind_all ls (behind l c)
 behind_all-append [] l c = refl

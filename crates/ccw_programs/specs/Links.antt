@@ -1,5 +1,5 @@
 -- The CCWs that one command fetches (Principles of Operation, chapter 15).
-use Rattle.std.specs.Prelude.{◌≡◌, ℕ, zero, suc, ◌+◌, ◌-◌, ◌%◌, ◌==◌, nat_lt, ◌<◌, ◌≤◌, ◌^◌, Bool, true, false, not, ◌&&◌, if◌then◌else◌, List, [], ◌∷◌, sum_by}
+use Rattle.std.specs.Prelude.{◌≡◌, ℕ, zero, suc, ◌+◌, ◌-◌, ◌%◌, ◌==◌, nat_lt, ◌<◌, ◌≤◌, ◌^◌, Bool, true, false, not, ◌&&◌, if◌then◌else◌, List, [], ◌∷◌, length, sum_by}
 use Rattle.io_area.specs.Storage.{Storage, lies_in, bytes_at}
 use Rattle.io_images.specs.Bits.{is_on, is_off, chain_data_bit, chain_command_bit, suppress_length_bit, skip_bit, indirect_bit, unusable_flags}
 use Rattle.io_images.specs.Images.{ccw_of}
@@ -92,6 +92,16 @@ chain m at fetches = chain_within m (4096 - fetches) (not (fetches == 0)) 0 at
 -- the chain behind its first CCW, which chains data, after so many fetches
 abbrev pub chained : Storage → Link → ℕ → Fetched
 chained m link fetches = behind link (chain_within m (4096 - fetches) true 1 (link.at + 8))
+
+-- the same chain behind more CCWs
+abbrev pub behind_all : List Link → Fetched → Fetched
+behind_all [] c = c
+behind_all (l ∷ ls) c = behind l (behind_all ls c)
+
+-- the chain behind the CCWs that were fetched, after so many fetches, from an address on, where a transfer may come
+-- next or not
+abbrev pub fetched_on : Storage → List Link → ℕ → Bool → ℕ → Fetched
+fetched_on m links fetches may_transfer at = behind_all links (chain_within m (4096 - fetches) may_transfer (length links) at)
 
 -- how a chain begins
 abbrev pub Begins : Storage → First → Fetched → Type 0

@@ -1,13 +1,15 @@
 //! The data areas of a chain: direct or by a list of words (Principles of Operation, chapter 15, "Designation of
 //! Storage Area", "Data Chaining" and "CCW Indirect Data Addressing").
 
-ghost use Rattle.std.specs.Prelude.{◌≡◌, ◌≤◌, ◌<◌, ◌+◌, ◌*◌, ◌^◌, ◌-◌, min, List, length, [], ◌∷◌, MatchResult, MatchOption, OnOk, IfSome, IsSome, All, Some, None, true, false, if◌then◌else◌};
+ghost use Rattle.std.specs.Prelude.{◌≡◌, ◌≤◌, ◌<◌, ◌+◌, ◌*◌, ◌^◌, ◌-◌, min, List, length, [], ◌∷◌, MatchResult, MatchOption, OnOk, IfOk, IfErr, IfSome, IsSome, All, Some, None, true, false};
 ghost use Rattle.io_area.specs.Storage.{lies_in};
 ghost use Rattle.device_port.specs.Moves.{CanAct, segment_lies};
 ghost use Rattle.ccw_programs.specs.Links.{Sound, is_indirect, skips};
-ghost use Rattle.ccw_programs.specs.Areas.{areas, parts_of, parts_from, part_of, is_usable, room_after, indirect_parts, direct_parts, prefixed, word_at, Parts, Bad};
+ghost use Rattle.ccw_programs.specs.Areas.{areas, parts_of, parts_from, part_of, is_usable, room_after, indirect_parts, direct_parts, word_at, Parts, Bad};
+ghost use Rattle.ccw_programs.specs.Rules.{Adds, DataBreaks, ListBreaks, OneBreaks, WordBreaks};
 
 use crate::fetch::Link;
+use crate::rule::{Refusal, Rule};
 use crate::workspace::Parts;
 use device_port::{Flow, Segment};
 use io_area::Area;
@@ -45,31 +47,34 @@ fn segment_lies(flow: Flow, area: &Area, segment: &Segment) -> bool
 }
 
 /// Adds the one part of a CCW that names its data.
-fn push_direct(chain: &mut Parts, flow: Flow, area: &Area, ccw: &Ccw) -> bool
-    requires { length chain.old ≤ 495 }
+fn push_direct(chain: &mut Parts, flow: Flow, area: &Area, ccw: &Ccw) -> Result<(), Rule>
+    requires room { length chain.old ≤ 495 }
+    requires direct { is_indirect ccw.now ≡ false }
     ensures room { length chain.new ≤ length chain.old + 33 }
-    ensures parts { prefixed chain.old (direct_parts flow area.now ccw.now) ≡ (if result then Some chain.new else None) }
+    ensures parts { Adds chain.old (direct_parts flow area.now ccw.now) result chain.new }
+    ensures rule { IfErr result (DataBreaks flow area.now ccw.now) }
 {
     let segment = part_of(ccw);
-    let lies = segment_lies(flow, area, &segment);
-    if lies {
-        chain.push(segment);
+    if !segment_lies(flow, area, &segment) {
+        return Err(Rule::DataOutside);
     }
-    lies
+    chain.push(segment);
+    Ok(())
 }
 
 /// Adds the parts of a CCW that names a list of words.
-fn push_indirect(chain: &mut Parts, area: &Area, ccw: &Ccw) -> bool
-    requires { length chain.old ≤ 495 }
+fn push_indirect(chain: &mut Parts, area: &Area, ccw: &Ccw) -> Result<(), Rule>
+    requires room { length chain.old ≤ 495 }
     ensures room { length chain.new ≤ length chain.old + 33 }
-    ensures parts { prefixed chain.old (indirect_parts area.now ccw.now) ≡ (if result then Some chain.new else None) }
+    ensures parts { Adds chain.old (indirect_parts area.now ccw.now) result chain.new }
+    ensures rule { IfErr result (ListBreaks area.now ccw.now.address) }
 {
     let list = ccw.address.get();
     if list % 4 != 0 {
-        return false;
+        return Err(Rule::ListMisaligned);
     }
     let Some(first) = word_at(area, list) else {
-        return false;
+        return Err(Rule::WordOutside(list));
     };
     let count = ccw.count;
     let words = (first % 2048 + count as u32 + 2047) / 2048;
@@ -77,51 +82,76 @@ fn push_indirect(chain: &mut Parts, area: &Area, ccw: &Ccw) -> bool
 }
 
 /// Adds the parts that so many words of a list give.
-fn push_words(chain: &mut Parts, area: &Area, list: u32, words: u32, bytes: u16, skip: bool) -> bool
+fn push_words(
+    chain: &mut Parts,
+    area: &Area,
+    list: u32,
+    words: u32,
+    bytes: u16,
+    skip: bool,
+) -> Result<(), Rule>
     requires { length chain.old + words ≤ 528 }
     ensures room { length chain.new ≤ length chain.old + words }
-    ensures parts { prefixed chain.old (parts_from area.now skip true list words bytes) ≡ (if result then Some chain.new else None) }
+    ensures parts { Adds chain.old (parts_from area.now skip true list words bytes) result chain.new }
+    ensures rule { IfErr result (WordBreaks area.now) }
 {
     let mut at = list;
     let mut count = bytes;
     for place in 0..words {
-        let Some(part) = usable_part(area, place == 0, at, count, skip) else {
-            return false;
-        };
-        chain.push(part);
-        count -= part.count;
-        at += 4;
+        match usable_part(area, place == 0, at, count, skip) {
+            Err(rule) => return Err(rule),
+            Ok(part) => {
+                chain.push(part);
+                count -= part.count;
+                at += 4;
+            }
+        }
     }
-    true
+    Ok(())
 }
 
 /// The part that a word of a list gives, if the word may be used.
-fn usable_part(area: &Area, is_first: bool, at: u32, count: u16, skip: bool) -> Option<Segment>
-    ensures answer { MatchOption result (is_usable area.now is_first at count ≡ false) (λ s. (is_usable area.now is_first at count ≡ true) × (s ≡ record { address = word_at area.now at; count = min count (room_after (word_at area.now at)); skip = skip })) }
-    ensures bound { IfSome result (λ s. (at + 4 ≤ 2 ^ 24) × (s.count ≤ count) × (count - s.count ≡ count - room_after (word_at area.now at))) }
+fn usable_part(
+    area: &Area,
+    is_first: bool,
+    at: u32,
+    count: u16,
+    skip: bool,
+) -> Result<Segment, Rule>
+    ensures answer { MatchResult result (λ s. (is_usable area.now is_first at count ≡ true) × (s ≡ record { address = word_at area.now at; count = min count (room_after (word_at area.now at)); skip = skip })) (λ _. is_usable area.now is_first at count ≡ false) }
+    ensures bound { IfOk result (λ s. (at + 4 ≤ 2 ^ 24) × (s.count ≤ count) × (count - s.count ≡ count - room_after (word_at area.now at))) }
+    ensures rule { IfErr result (WordBreaks area.now) }
 {
-    let word = word_at(area, at)?;
-    if word >= 0x8000_0000 || (!is_first && word % 2048 != 0) {
-        return None;
+    let Some(word) = word_at(area, at) else {
+        return Err(Rule::WordOutside(at));
+    };
+    if word >= 0x8000_0000 {
+        return Err(Rule::WordReserved(at));
+    }
+    if !is_first && word % 2048 != 0 {
+        return Err(Rule::WordMisaligned(at));
     }
     let size = u32::from(count).min(2048 - word % 2048);
-    area.get(word, size as usize)?;
-    Some(Segment {
+    if area.get(word, size as usize).is_none() {
+        return Err(Rule::WordDataOutside(at));
+    }
+    Ok(Segment {
         address: word,
         count: size as u16,
         skip,
     })
 }
 
-/// Adds the parts of a CCW, and answers whether they lie in storage.
-fn push_parts(chain: &mut Parts, flow: Flow, area: &Area, ccw: &Ccw) -> bool
+/// Adds the parts of a CCW, or tells the rule that they break.
+fn push_parts(chain: &mut Parts, flow: Flow, area: &Area, ccw: &Ccw) -> Result<(), Rule>
     requires { length chain.old ≤ 495 }
     ensures room { length chain.new ≤ length chain.old + 33 }
-    ensures parts { prefixed chain.old (parts_of flow area.now ccw.now) ≡ (if result then Some chain.new else None) }
+    ensures parts { Adds chain.old (parts_of flow area.now ccw.now) result chain.new }
+    ensures rule { IfErr result (DataBreaks flow area.now ccw.now) }
 {
     match flow {
-        Flow::None => true,
-        Flow::Back if ccw.flags.is_indirect() => false,
+        Flow::None => Ok(()),
+        Flow::Back if ccw.flags.is_indirect() => Err(Rule::ListBackward),
         _ if ccw.flags.is_indirect() => push_indirect(chain, area, ccw),
         _ => push_direct(chain, flow, area, ccw),
     }
@@ -164,24 +194,23 @@ pub(crate) fn data_area<'a>(
     }
 }
 
-/// Puts the parts of a whole chain together, or tells the address of the first CCW that failed.
+/// Puts the parts of a whole chain together, or tells the first CCW that failed.
 pub(crate) fn data_areas(
     flow: Flow,
     area: &Area,
     links: &[Link],
     chain: &mut Parts,
-) -> Result<(), u32>
+) -> Result<(), Refusal>
     requires few { length links.now ≤ 16 }
     requires some { 1 ≤ length links.now }
     requires sound { All Sound links.now }
     requires empty { chain.old ≡ [] }
-    ensures value { MatchResult result (λ _. areas flow area.now links.now ≡ Parts chain.new) (λ at. areas flow area.now links.now ≡ Bad at) }
+    ensures value { MatchResult result (λ _. areas flow area.now links.now ≡ Parts chain.new) (λ refusal. areas flow area.now links.now ≡ Bad refusal.at) }
+    ensures rule { IfErr result (OneBreaks flow area.now links.now) }
     ensures can { OnOk result (CanAct flow area.now chain.new) }
 {
     for link in links {
-        if !push_parts(chain, flow, area, &link.ccw) {
-            return Err(link.at);
-        }
+        push_parts(chain, flow, area, &link.ccw).map_err(|rule| Refusal { at: link.at, rule })?;
     }
     Ok(())
 }

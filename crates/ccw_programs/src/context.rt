@@ -85,7 +85,7 @@ impl Context {
     }
 
     /// The address of the next CCW.
-    pub(crate) fn next(&self) -> u32
+    pub fn next(&self) -> u32
         ensures { result ≡ self.now.next }
     {
         self.next

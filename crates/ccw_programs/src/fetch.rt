@@ -1,10 +1,12 @@
 //! The CCWs of one command, fetched from storage (Principles of Operation, chapter 15, "Channel-Command Word", "Data
 //! Chaining" and "Transfer in Channel"; which bits may be on, and the limits, are the profile's).
 
-ghost use Rattle.std.specs.Prelude.{◌≡◌, ◌<◌, ◌≤◌, ◌+◌, ◌-◌, ◌==◌, ◌%◌, length, [], ◌∷◌, false, MatchResult, IfOk, OnOk, All};
-ghost use Rattle.ccw_programs.specs.Links.{Tells, TellsKind, fetch_at, kind_of_fetch, is_transfer, is_allowed, chain, chained, Begins, IsSound, Whole, Broken, Sound};
+ghost use Rattle.std.specs.Prelude.{◌≡◌, ◌<◌, ◌≤◌, ◌+◌, ◌-◌, ◌==◌, ◌%◌, length, [], ◌∷◌, false, MatchResult, IfOk, IfErr, OnOk, All};
+ghost use Rattle.ccw_programs.specs.Links.{Tells, TellsKind, fetch_at, fetched_on, kind_of_fetch, is_transfer, is_allowed, chain, Begins, IsSound, Whole, Broken, Sound};
+ghost use Rattle.ccw_programs.specs.Rules.{CcwBreaks, KindBreaks};
 ghost use Rattle.io_images.specs.Images.{ccw_of};
 
+use crate::rule::{Refusal, Rule};
 use crate::short_list::ShortList;
 use io_area::Area;
 use io_images::Ccw;
@@ -135,29 +137,32 @@ pub(crate) fn fetch_first(area: &Area, start: u32, fetches: u16) -> First
     First::Failed(at)
 }
 
-/// Fetches the CCWs behind the first one of a command, and gives the number of fetches after them, or tells the
-/// address of the CCW that failed.
-pub(crate) fn fetch_rest(
+/// Fetches the CCWs of a command behind those that were fetched, from an address on, where a transfer may come next or
+/// not; gives the number of fetches after them, or tells which CCW failed.
+pub(crate) fn fetch_on(
     area: &Area,
-    first: &Link,
+    from: u32,
+    transfers: bool,
     fetches: u16,
     links: &mut Links,
-) -> Result<u16, u32>
+) -> Result<u16, Refusal>
     requires limit { fetches ≤ 4096 }
-    requires first { Sound first.now }
-    requires empty { links.old ≡ [] }
+    requires sound { All Sound links.old }
     ensures some { OnOk result (1 ≤ length links.new) }
     ensures few { OnOk result (length links.new ≤ 16) }
     ensures sound { OnOk result (All Sound links.new) }
     ensures fetches { IfOk result (λ after. after ≤ 4096) }
-    ensures chain { MatchResult result (λ after. chained area.now first.now fetches ≡ Whole links.new after) (λ at. chained area.now first.now fetches ≡ Broken at) }
+    ensures chain { MatchResult result (λ after. fetched_on area.now links.old fetches transfers from ≡ Whole links.new after) (λ refusal. fetched_on area.now links.old fetches transfers from ≡ Broken refusal.at) }
+    ensures rule { IfErr result (λ refusal. CcwBreaks area.now (length links.new) refusal.at refusal.rule) }
 {
-    links.push(*first);
-    let mut at = first.at + 8;
-    let mut may_transfer = true;
+    let mut at = from;
+    let mut may_transfer = transfers;
     for done in fetches..FETCH_LIMIT {
         match fetch_at(area, may_transfer, links.len(), at) {
-            Fetch::Refused => return Err(at),
+            Fetch::Refused => {
+                let rule = broken_rule(area, may_transfer, links.len(), at);
+                return Err(Refusal { at, rule });
+            }
             Fetch::Transfer(to) => {
                 at = to;
                 may_transfer = false;
@@ -173,5 +178,46 @@ pub(crate) fn fetch_rest(
             }
         }
     }
-    Err(at)
+    Err(Refusal {
+        at,
+        rule: Rule::FetchLimit,
+    })
+}
+
+/// The rule that keeps a CCW from being fetched.
+#[inline(never)]
+fn broken_rule(area: &Area, may_transfer: bool, place: usize, at: u32) -> Rule
+    requires { fetch_at area.now may_transfer place at ≡ Fetch.Refused }
+    ensures { CcwBreaks area.now place at result }
+{
+    if at % 8 != 0 {
+        return Rule::CcwMisaligned;
+    }
+    match area.get(at, 8) {
+        Some(image) => rule_of_kind(may_transfer, place, &read_ccw(image)),
+        None => Rule::CcwOutside,
+    }
+}
+
+/// The rule that a CCW at this place breaks, where a transfer may come next or not.
+fn rule_of_kind(may_transfer: bool, place: usize, ccw: &Ccw) -> Rule
+    requires { kind_of_fetch may_transfer place ccw.now ≡ Fetch.Refused }
+    ensures { KindBreaks place ccw.now result }
+{
+    if is_transfer(ccw) {
+        return if may_transfer {
+            Rule::TransferMisaligned
+        } else {
+            Rule::TransferMisplaced
+        };
+    }
+    if place == 0 && ccw.command % LOW_VALUES == INVALID_BITS {
+        Rule::NoCommand
+    } else if !ccw.flags.reserved_off() {
+        Rule::FlagsReserved
+    } else if ccw.count == 0 {
+        Rule::CountZero
+    } else {
+        Rule::ChainTooLong
+    }
 }

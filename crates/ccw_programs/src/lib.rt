@@ -13,10 +13,15 @@ mod ending;
 mod fetch;
 pub mod laws;
 mod length;
+mod listing;
+mod rule;
 mod run;
 mod short_list;
 mod workspace;
 
 pub use context::{Burst, Context, State};
+pub use fetch::Link;
+pub use listing::{Listing, look};
+pub use rule::{Refusal, Rule};
 pub use run::{burst, bursts};
 pub use workspace::Workspace;

@@ -10,7 +10,7 @@ ghost use Rattle.ccw_programs.specs.Step.{Program, program, step, after, length_
 use crate::areas::{data_area, data_areas, part_of};
 use crate::context::{Burst, Context, State};
 use crate::ending::command_code;
-use crate::fetch::{First, Link, fetch_first, fetch_rest};
+use crate::fetch::{First, Link, fetch_first, fetch_on};
 use crate::workspace::{Parts, Workspace};
 use device_port::{Chain, Device, Flow, Segment};
 use io_area::Area;
@@ -117,9 +117,10 @@ fn command_of_chain<D: Device>(
 {
     let Workspace { links, parts } = workspace;
     links.clear();
+    links.push(*first);
     parts.clear();
-    match fetch_rest(area, first, fetches, links) {
-        Err(at) => context.check(at),
+    match fetch_on(area, first.at + 8, true, fetches, links) {
+        Err(refusal) => context.check(refusal.at),
         Ok(fetches) => command_on(context, device, area, links.as_slice(), fetches, parts),
     }
 }
@@ -146,7 +147,7 @@ fn command_on<D: Device>(
     let code = command_code(links);
     let flow = device.flow(code);
     match data_areas(flow, area, links, parts) {
-        Err(at) => context.check(at),
+        Err(refusal) => context.check(refusal.at),
         Ok(()) => {
             let acted = device.act(code, &Chain::of(parts.as_slice()), area);
             context.advance(flow, links, fetches, acted);

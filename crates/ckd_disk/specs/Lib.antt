@@ -8,3 +8,4 @@ pub mod Disk
 pub mod DiskLaws
 pub mod Mount
 pub mod MountFacts
+pub mod Refusals

@@ -14,5 +14,7 @@ mod track;
 mod walk;
 
 pub use disk::Disk;
-pub use mount::{Geometry, InitialRecord};
+pub use mount::{
+    Geometry, GeometryRefusal, InitialRecord, Overfull, RecordRefusal, first_overfull,
+};
 pub use track::{Records, Stored};

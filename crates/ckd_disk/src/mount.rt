@@ -1,5 +1,7 @@
 //! What is checked and made when a disk is mounted.
 
+mod refusal;
+
 ghost use Rattle.std.specs.Prelude.{◌≡◌, ℕ, ◌+◌, ◌*◌, ◌/◌, ◌%◌, ◌^◌, ◌<◌, ◌≤◌, IfOk, All, [], length, true, false, nat_le};
 ghost use Rattle.std.specs.Bool.{OnTrue};
 ghost use Rattle.std.specs.List.{list_all};
@@ -9,6 +11,7 @@ ghost use Rattle.ckd_disk.specs.Mount.{track_count, is_geometry, is_initial, has
 ghost use Rattle.ckd_disk.specs.MountFacts.{IsGeometry, IsInitial};
 
 use crate::track::Track;
+pub use refusal::{GeometryRefusal, Overfull, RecordRefusal, first_overfull};
 use std::alloc::{AllocError, Global};
 
 /// How large a disk is (profile). The numbers are as they were read: mounting checks them.

@@ -25,7 +25,7 @@ fn empty_area_and_top(rt: HostRuntime) -> Result<(), Fail> {
     let empty = Area::new(rt.alloc(), 0x1000, &[])?;
     assert!(rt; empty.is_empty() && empty.get(7, 0).is_some() && empty.get(0x1000, 1).is_none());
     let top = Area::new(rt.alloc(), 0xFF_FFF8, &[9; 8])?;
-    assert_eq!(rt; top.get(0xFF_FFFF, 1), Some([9].as_slice()));
+    assert!(rt; top.get(0xFF_FFFF, 1) == Some([9].as_slice()));
     assert!(rt; top.get(0xFF_FFFF, 2).is_none() && top.get(0xFF_FFF7, 1).is_none());
     Ok(())
 }
@@ -36,11 +36,8 @@ fn put_and_copy(rt: HostRuntime) -> Result<(), Fail> {
     let before = area.copy()?;
     assert!(rt; area.put(0x1001, &[7, 8]) && area.put(0, &[]));
     assert!(rt; !area.put(0x1003, &[5, 6]) && !area.put(0xFFF, &[5]));
-    assert_eq!(rt; area.get(0x1000, 4), Some([1, 7, 8, 4].as_slice()));
-    assert_eq!(rt;
-        before.get(before.base(), before.len()),
-        Some([1, 2, 3, 4].as_slice())
-    );
+    assert!(rt; area.get(0x1000, 4) == Some([1, 7, 8, 4].as_slice()));
+    assert!(rt; before.get(before.base(), before.len()) == Some([1, 2, 3, 4].as_slice()));
     Ok(())
 }
 

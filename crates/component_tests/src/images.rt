@@ -10,18 +10,10 @@ use io_images::{
 fn ccw_keeps_its_ignored_byte(rt: HostRuntime) {
     let image = [0x06, 0x00, 0x10, 0x60, 0xA0, 0x77, 0x01, 0x02];
     let ccw = Ccw::read(&image);
-    assert_eq!(rt;
-        (ccw.command, ccw.address.get(), ccw.count),
-        (6, 0x1060, 0x102)
-    );
+    assert!(rt; ccw.command == 6 && ccw.address.get() == 0x1060 && ccw.count == 0x102);
     let flags = ccw.flags;
-    let on = [
-        flags.chains_data(),
-        flags.suppresses_length(),
-        flags.reserved_off(),
-    ];
-    let off = [flags.chains_command(), flags.skips(), flags.is_indirect()];
-    assert_eq!(rt; (on, off), ([true; 3], [false; 3]));
+    assert!(rt; flags.chains_data() && flags.suppresses_length() && flags.reserved_off());
+    assert!(rt; !flags.chains_command() && !flags.skips() && !flags.is_indirect());
     assert!(rt; flags.contains(CcwFlags::CHAIN_DATA));
     let mut other = [0xFF; 8];
     ccw.write(&mut other);
@@ -37,19 +29,12 @@ fn csw_and_status(rt: HostRuntime) {
         residual: 4,
     };
     let (unit, sub) = (csw.unit, csw.sub);
-    assert_eq!(rt;
-        (unit.is_normal(), unit.contains(UnitStatus::UNIT_CHECK)),
-        (false, true)
-    );
-    assert_eq!(rt;
-        (sub.is_clear(), sub.contains(SubStatus::INCORRECT_LENGTH)),
-        (false, true)
-    );
+    assert!(rt; !unit.is_normal() && unit.contains(UnitStatus::UNIT_CHECK));
+    assert!(rt; !sub.is_clear() && sub.contains(SubStatus::INCORRECT_LENGTH));
     let mut image = [0xEE; 8];
     csw.write(&mut image);
     assert_eq!(rt; image, [0xEE, 0x00, 0x10, 0x38, 0x0E, 0x40, 0x00, 0x04]);
-    assert_eq!(rt; Csw::read(&image), csw);
-    assert_eq!(rt; Address::stored(0xFF_FFF8).get(), 0);
+    assert!(rt; Csw::read(&image) == csw && Address::stored(0xFF_FFF8).get() == 0);
     Csw::empty().write(&mut image);
     assert_eq!(rt; image, [0xEE, 0, 0, 0, 0, 0, 0, 0]);
 }

@@ -26,10 +26,11 @@ fn piece(alloc: Global, seq: u32, task: u16, dcb: u16, related: bool) -> Result<
 
 /// Takes all requests out and compares their numbers.
 fn expect_numbers(rt: &impl Abort, queue: &mut WaitQueue, numbers: &[u32]) {
-    assert_eq!(rt; queue.len(), numbers.len());
+    assert!(rt; queue.len() == numbers.len());
     for number in numbers {
-        assert_eq!(rt; queue.front().map(|piece| piece.name.seq), Some(*number));
-        assert_eq!(rt; queue.pop().map(|piece| piece.name.seq), Some(*number));
+        let in_front = queue.front().is_some_and(|piece| piece.name.seq == *number);
+        let taken = queue.pop().is_some_and(|piece| piece.name.seq == *number);
+        assert!(rt; in_front && taken, "{number}");
     }
     assert!(rt; queue.is_empty() && queue.pop().is_none());
 }

@@ -67,23 +67,37 @@ fn requests_without_memory(rt: HostRuntime) -> Result<(), Fail> {
     Ok(())
 }
 
+/// Whether a request has the names and places of the fixture's IOB, and its storage.
+fn says_its_iob(request: &Request) -> bool {
+    request.name() == NAME
+        && request.unit() == 7
+        && request.dcb() == 1
+        && !request.is_related()
+        && request.start().get() == 0x1030
+        && request.area().get(0x1000, 104) == Some(fixture().as_slice())
+}
+
+/// Whether a request has the seek address of the fixture's IOB.
+fn says_its_seek(request: &Request) -> bool {
+    let seek = request.seek();
+    (seek.extent, seek.bin, seek.cylinder) == (1, 0, 2) && (seek.head, seek.record) == (3, 4)
+}
+
+/// Whether a request is of its DCB and of its task, and of no other.
+fn is_covered(request: &Request) -> bool {
+    Scope::Dcb(1).covers(request)
+        && Scope::Task(3).covers(request)
+        && !Scope::Dcb(3).covers(request)
+        && !Scope::Task(1).covers(request)
+}
+
 #[test]
 fn request_says_what_its_iob_says(rt: HostRuntime) -> Result<(), Fail> {
     let request = issued(&rt, rt.alloc(), &fixture(), 0x1000)?;
-    assert_eq!(rt; request.name(), NAME);
-    assert_eq!(rt;
-        (request.unit(), request.dcb(), request.is_related()),
-        (7, 1, false)
-    );
-    assert_eq!(rt; request.start().get(), 0x1030);
-    let seek = request.seek();
-    assert_eq!(rt; (seek.extent, seek.bin, seek.cylinder), (1, 0, 2));
-    assert_eq!(rt; (seek.head, seek.record), (3, 4));
-    assert_eq!(rt; request.area().get(0x1000, 104), Some(fixture().as_slice()));
-    assert!(rt; Scope::Dcb(1).covers(&request) && Scope::Task(3).covers(&request));
-    assert!(rt; !Scope::Dcb(3).covers(&request) && !Scope::Task(1).covers(&request));
+    assert!(rt; says_its_iob(&request) && says_its_seek(&request));
+    assert!(rt; is_covered(&request));
     let (issued, work) = request.into_parts();
-    assert_eq!(rt; (issued.name(), work.iob, work.ecb), (NAME, 0x1000, 0x1028));
+    assert!(rt; issued.name() == NAME && work.iob == 0x1000 && work.ecb == 0x1028);
     assert!(rt; Scope::Dcb(1).covers_piece(&work) && !Scope::Task(1).covers_piece(&work));
     Ok(())
 }
@@ -95,17 +109,25 @@ fn request_shares_what_it_is_made_over(rt: HostRuntime) -> Result<(), Fail> {
     let area = Area::new(rt.alloc(), 0x1000, &fixture()).map_err(|_| "no area")?;
     let area = Arc::new(rt.alloc(), area)?;
     let request = Request::over(rt.alloc(), NAME, 7, 1, 0x1000, &area)?;
-    assert_eq!(rt; Arc::strong_count(&area), 2);
+    assert!(rt; Arc::strong_count(&area) == 2);
     let (issued, _) = request.into_parts();
-    assert_eq!(rt; Arc::strong_count(&area), 2);
-    assert_eq!(rt; issued.area().get(0x1000, 104), Some(fixture().as_slice()));
+    assert!(rt; Arc::strong_count(&area) == 2);
+    assert!(rt; issued.area().get(0x1000, 104) == Some(fixture().as_slice()));
     Ok(())
+}
+
+/// The fixture's storage behind a post with this status.
+fn posted_bytes() -> [u8; 104] {
+    let mut bytes = fixture();
+    bytes[..8].copy_from_slice(&[0x06, 0, 0x00, 0x08, 0x41, 0x00, 0x10, 0x28]);
+    bytes[8..16].copy_from_slice(&[0, 0x00, 0x10, 0x38, 0x0E, 0x00, 0x00, 0x05]);
+    bytes[40] = 0x41;
+    bytes
 }
 
 #[test]
 fn post_writes_iob_and_ecb(rt: HostRuntime) -> Result<(), Fail> {
-    let request = issued(&rt, rt.alloc(), &fixture(), 0x1000)?;
-    let (_, work) = request.into_parts();
+    let (_, work) = issued(&rt, rt.alloc(), &fixture(), 0x1000)?.into_parts();
     let csw = Csw {
         address: Address::new(0x1038),
         unit: UnitStatus::new(0x0E),
@@ -113,14 +135,9 @@ fn post_writes_iob_and_ecb(rt: HostRuntime) -> Result<(), Fail> {
         residual: 5,
     };
     let posted = Posted::new(work, Code::PermanentError, csw, 0x0008);
-    let mut expected = fixture();
-    expected[..8].copy_from_slice(&[0x06, 0, 0x00, 0x08, 0x41, 0x00, 0x10, 0x28]);
-    expected[8..16].copy_from_slice(&[0, 0x00, 0x10, 0x38, 0x0E, 0x00, 0x00, 0x05]);
-    expected[40] = 0x41;
-    assert_eq!(rt; posted.area().get(0x1000, 104), Some(expected.as_slice()));
-    assert_eq!(rt; posted.name(), NAME);
-    assert_eq!(rt; (posted.unit(), posted.dcb(), posted.sense()), (7, 1, 8));
-    assert_eq!(rt; posted.code(), Code::PermanentError);
-    assert_eq!(rt; posted.csw().residual, 5);
+    assert!(rt; posted.area().get(0x1000, 104) == Some(posted_bytes().as_slice()));
+    assert!(rt; posted.name() == NAME && posted.code() == Code::PermanentError);
+    assert!(rt; posted.unit() == 7 && posted.dcb() == 1 && posted.sense() == 8);
+    assert!(rt; posted.csw().residual == 5);
     Ok(())
 }

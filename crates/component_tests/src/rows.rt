@@ -205,7 +205,7 @@ fn expect_taken<R: Wait + Abort>(rt: &R, taker: &mut Taker<'_, Parcel>)
     requires { taker.old.senders ≡ 2 }
 {
     assert!(rt; taker.take(rt).is_none());
-    assert_eq!(rt; (taker.taken_len(0), taker.taken_len(1)), (1000, 1000));
+    assert!(rt; taker.taken_len(0) == 1000 && taker.taken_len(1) == 1000);
 }
 
 /// Where a sender or the taker can get no thread it ends in want of memory.
@@ -223,7 +223,7 @@ fn two_senders_and_a_taker(rt: HostRuntime) -> Result<(), Fail> {
     if given_up.load(Ordering::SeqCst) {
         return Err(Fail::from(AllocError));
     }
-    assert_eq!(rt; (first.sent_len(), second.sent_len()), (1000, 1000));
+    assert!(rt; first.sent_len() == 1000 && second.sent_len() == 1000);
     taker.meet(first);
     taker.meet(second);
     expect_taken(&rt, &mut taker);
@@ -248,12 +248,11 @@ fn expect_room_for_one<R: Wait + Abort>(
     requires sender { (sender.old.number ≡ 0) × (sender.old.tag ≡ TAG) }
     requires taker { taker.old.senders ≡ 1 }
 {
-    assert_eq!(rt; offer(rt, sender, 0), None);
-    assert_eq!(rt; offer(rt, sender, 0), Some(2));
-    assert_eq!(rt; taken_place(rt, taker), Some(1));
-    assert_eq!(rt; taken_place(rt, taker), None);
-    assert_eq!(rt; offer(rt, sender, 0), None);
-    assert_eq!(rt; (sender.sent_len(), taker.taken_len(0)), (2, 1));
+    let offered = [offer(rt, sender, 0), offer(rt, sender, 0)];
+    let taken = [taken_place(rt, taker), taken_place(rt, taker)];
+    let last = offer(rt, sender, 0);
+    assert!(rt; offered == [None, Some(2)] && taken == [Some(1), None] && last.is_none());
+    assert!(rt; sender.sent_len() == 2 && taker.taken_len(0) == 1);
 }
 
 /// It refuses a row that is always full, or always empty: the wrong bodies of rows_accept_and_give.

@@ -1,15 +1,14 @@
-//! Whole scripts and their faults. Expected values are those of the profile's tables.
+//! What scripts say, and scripts that are cut, too long or unreadable. Broken lines are cases of `runs/scripts/broken`.
 
-use job_script::{Action, Fault, FaultName, LIMIT, Script, read_script};
+use job_script::{Action, Fault, LIMIT, Script, check_script, read_script};
 use std::alloc::{AllocError, Global};
 use std::io;
 use std::io::Read;
 use std::process::Abort;
 use std::test::Fail;
 
-mod broken;
+mod mistakes;
 mod reading;
-mod texts;
 
 /// One task, and a disk of one track with R1, whose data are C1C2C3C4; DCB 1 for output.
 const DISK: &str =
@@ -37,19 +36,4 @@ fn checked(alloc: Global, text: &[u8]) -> Result<Script, Fault> {
     let capacity = script.most_to_a_unit().clamp(1, 65_536);
     script.books(alloc, capacity)?;
     Ok(script)
-}
-
-/// Asserts that a script of these parts has this fault.
-fn expect_fault<R: Abort + AllocGlobal>(
-    rt: &R,
-    parts: &[&str],
-    line: usize,
-    name: FaultName,
-) -> Result<(), Fail> {
-    let text = joined(rt.alloc(), parts)?;
-    match checked(rt.alloc(), &text) {
-        Ok(_) => assert!(rt; false, "no fault at line {line}"),
-        Err(fault) => assert_eq!(rt; fault, Fault::Line { line, name }),
-    }
-    Ok(())
 }

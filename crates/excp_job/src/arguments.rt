@@ -1,13 +1,60 @@
-//! The command line: `excp_job run [--channels N] [--handlers N]`.
+//! The command line: `excp_job run [--channels N] [--handlers N]`, `report` with the same options, and `check`.
 
 ghost use Rattle.std.specs.Prelude.{◌≤◌, IfSome};
 
 use clap::error::ErrorKind;
-use clap::{Arg, ArgMatches, Command, Error, value_parser};
+use clap::{Arg, ArgAction, ArgMatches, Command, Error, value_parser};
 use job_run::Workers;
 use std::alloc::{AllocError, Global};
 
+/// What is printed of a run.
+#[derive(Clone, Copy)]
+pub enum Output {
+    /// Its posts.
+    Posts,
+    /// Its posts, and what it left behind, with `steps` every command too.
+    Report { steps: bool },
+}
+
+/// What the command line asks for.
+#[derive(Clone, Copy)]
+pub enum Order {
+    /// To run a script by so many workers.
+    Run(Output, Workers),
+    /// To tell what is wrong in a script.
+    Check,
+}
+
 fn command<'a>(alloc: Global) -> Result<Command<'a>, AllocError> {
+    let run = subcommand(
+        alloc,
+        "run",
+        "Reads a script from standard input and prints its posts",
+    )?;
+    let steps = Arg::new(alloc, "steps")
+        .long("steps")
+        .help("Every command of each history too")
+        .action(ArgAction::SetTrue);
+    let report = subcommand(
+        alloc,
+        "report",
+        "Reads a script from standard input and prints its posts, the history of each unit and what lies on its medium",
+    )?
+    .arg(steps)?;
+    let check = Command::new(alloc, "check").about(
+        "Reads a script from standard input and prints every fault of it, and what is hardly meant",
+    );
+    Command::new(alloc, "excp_job")
+        .about("Runs a script of EXCP requests on models of disk, tape and printer")
+        .version("1.0")
+        .subcommand_required(true)
+        .subcommand(run)?
+        .subcommand(report)?
+        .subcommand(check)
+}
+
+/// A subcommand that runs a script, with the options of all of them.
+fn subcommand<'a>(alloc: Global, name: &'a str, about: &'a str) -> Result<Command<'a>, AllocError> {
     let channels = Arg::new(alloc, "channels")
         .long("channels")
         .value_name("N")
@@ -20,33 +67,45 @@ fn command<'a>(alloc: Global) -> Result<Command<'a>, AllocError> {
         .help("How many handlers serve interruptions, 1 to 8")
         .value_parser(value_parser!(u8).range(1..=8))
         .default_value("1");
-    let run = Command::new(alloc, "run")
-        .about("Reads a script from standard input and prints its posts")
+    Command::new(alloc, name)
+        .about(about)
         .arg(channels)?
-        .arg(handlers)?;
-    Command::new(alloc, "excp_job")
-        .about("Runs a script of EXCP requests on models of disk, tape and printer")
-        .subcommand_required(true)
-        .subcommand(run)
+        .arg(handlers)
 }
 
 /// What the words of the command line say, or what `clap` says of them.
-pub fn parse(alloc: Global, words: &[String]) -> Result<Workers, Error> {
+pub fn parse(alloc: Global, words: &[String]) -> Result<Order, Error> {
     let mut command = command(alloc)?;
     let matches = command.try_get_matches_from_mut(words)?;
-    let channels = number(&matches, "channels", 16);
-    let handlers = number(&matches, "handlers", 8);
-    match (channels, handlers) {
-        (Some(channels), Some(handlers)) => Ok(Workers { channels, handlers }),
-        // no words come to this: `run` is required, and its options have defaults and ranges
-        _ => Err(command.error(ErrorKind::ValueValidation, "no number of workers")?),
+    match asked_for(&matches) {
+        Some(order) => Ok(order),
+        // no words come to this: a subcommand is required, and its options have defaults and ranges
+        None => Err(command.error(ErrorKind::ValueValidation, "no number of workers")?),
     }
 }
 
-/// The value of an option of `run`, where it is one from 1 to `most`.
-fn number(matches: &ArgMatches<'_>, option: &str, most: u8) -> Option<u8>
+/// What a subcommand and its options ask for.
+fn asked_for(matches: &ArgMatches<'_>) -> Option<Order> {
+    let (name, options) = matches.subcommand()?;
+    if name == "check" {
+        return Some(Order::Check);
+    }
+    let output = match name {
+        "report" => Output::Report {
+            steps: options.get_flag("steps"),
+        },
+        _ => Output::Posts,
+    };
+    let channels = number(options, "channels", 16)?;
+    let handlers = number(options, "handlers", 8)?;
+    let workers = Workers { channels, handlers };
+    Some(Order::Run(output, workers))
+}
+
+/// The value of an option, where it is one from 1 to `most`.
+fn number(options: &ArgMatches<'_>, option: &str, most: u8) -> Option<u8>
     ensures { IfSome result (λ value. (1 ≤ value) × (value ≤ most)) }
 {
-    let value = matches.subcommand_matches("run")?.get_one::<u8>(option)?;
+    let value = options.get_one::<u8>(option)?;
     (1 <= value && value <= most).then_some(value)
 }

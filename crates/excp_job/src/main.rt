@@ -1,40 +1,70 @@
 //! `excp_job` reads a script of EXCP requests from standard input, runs it on models of devices, and prints
-//! what each request was posted with.
+//! what each request was posted with; by `report` also what the run left behind. By `check` it runs nothing and prints
+//! what is wrong in the script.
 #![tactic(auto)]
 
 mod arguments;
 
+use arguments::{Order, Output};
 use clap::error::ErrorKind;
-use job_run::{Workers, run_script};
-use job_script::Fault;
-use std::alloc::AllocError;
+use job_run::{Workers, report_script, run_script};
+use job_script::{Fault, check_script};
+use std::alloc::{AllocError, Global};
 use std::env;
+use std::io::{Read, Write};
 use std::process::ExitCode;
+use std::sync::Wait;
+use std::thread::Threads;
 
 /// The exit status of a fault of the command line.
 const USAGE: u8 = 2;
 
+/// The exit status of a script that is refused, or of a run that could not be brought to its end.
+const REFUSED: u8 = 1;
+
 fn main(rt: HostRuntime) -> ExitCode {
-    let workers = match command_line(&rt) {
-        Ok(workers) => workers,
+    let alloc = rt.alloc();
+    let mut input = rt.stdin();
+    let done = match command_line(&rt) {
+        Ok(Order::Run(output, workers)) => {
+            run(&rt, alloc, &mut input, rt.stdout(), output, workers)
+        }
+        Ok(Order::Check) => check(alloc, &mut input, rt.stdout()),
         Err(status) => return ExitCode::from(status),
     };
-    let done = run_script(
-        &rt,
-        rt.alloc(),
-        &mut rt.stdin(),
-        rt.stdout(),
-        workers.channels,
-        workers.handlers,
-    );
     match done {
-        Ok(()) => ExitCode::SUCCESS,
+        Ok(status) => ExitCode::from(status),
         Err(fault) => ExitCode::from(ended_by(&rt, fault)),
     }
 }
 
+/// Runs a script, and prints what is asked for.
+fn run<R: Threads + Wait + Sync, I: Read, W: Write + Drop>(
+    rt: &R,
+    alloc: Global,
+    input: &mut I,
+    writer: W,
+    output: Output,
+    workers: Workers,
+) -> Result<u8, Fault> {
+    let Workers { channels, handlers } = workers;
+    match output {
+        Output::Posts => run_script(rt, alloc, input, writer, channels, handlers)?,
+        Output::Report { steps } => {
+            report_script(rt, alloc, input, writer, channels, handlers, steps)?;
+        }
+    }
+    Ok(0)
+}
+
+/// Prints what is wrong in a script, and gives the exit status.
+fn check<I: Read, W: Write + Drop>(alloc: Global, input: &mut I, writer: W) -> Result<u8, Fault> {
+    let refused = check_script(alloc, input, writer)?;
+    Ok(if refused { REFUSED } else { 0 })
+}
+
 /// Reads the command line, before any byte of the script is read, or gives the exit status.
-fn command_line(rt: &HostRuntime) -> Result<Workers, u8> {
+fn command_line(rt: &HostRuntime) -> Result<Order, u8> {
     let Ok(arguments) = env::args(rt) else {
         return Err(ended_by(rt, Fault::NoMemory));
     };

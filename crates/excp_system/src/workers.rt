@@ -16,7 +16,7 @@ use std::sync::Wait;
 use unit_book::{Interruption, Running, Starting};
 
 /// How many commands a channel worker runs in one turn.
-const TURN: u32 = 16;
+const TURN: u32 = 64;
 
 /// Serves units and interruption subclasses in turn until it is stopped. For each unit it lets a request arrive, starts
 /// what comes next, runs it for some commands, and sends a posted value back; for each notice of a pending status it

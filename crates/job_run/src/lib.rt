@@ -16,7 +16,7 @@ mod tasks;
 mod unit_calls;
 
 pub use crew::Workers;
-pub use run::run_script;
+pub use run::{report_script, run_script};
 
 #[cfg(test)]
 mod tests;

@@ -1,30 +1,61 @@
-//! The lines that a run prints: one for each post, and their number.
+//! The lines that a run prints: one for each post, and their number; and behind them, in a report, what the run left
+//! behind.
 
-ghost use Rattle.std.specs.Prelude.{◌+◌, ◌*◌, ◌≤◌, ◌<◌, All, length};
+ghost use Rattle.std.specs.Prelude.{◌≤◌, All, length};
 ghost use Rattle.job_run.specs.Complete.{IsComplete, IsWhole};
 
 use crate::lines::{End, Line, Lines};
-use itoa::write_digits;
-use job_script::Fault;
+use job_report::{put_decimal, put_digits, write_bytes, write_units};
+use job_script::{Fault, SetUp};
 use std::alloc::Global;
 use std::io;
 use std::io::{BufWriter, Write};
+use unit_book::UnitBook;
+use unit_device::UnitDevice;
 
-/// The hexadecimal digits.
-const DIGITS: [u8; 16] = *b"0123456789ABCDEF";
+/// What a run prints.
+#[derive(Drop)]
+pub(crate) enum Output<'a> {
+    /// What the requests of each task were posted with.
+    Posts,
+    /// And then of each unit of the script, as its book has it, what happened at it, with `steps` every command too, and
+    /// what lies on its medium.
+    Report {
+        set_up: &'a SetUp,
+        books: &'a [UnitBook<UnitDevice>],
+        steps: bool,
+    },
+}
 
 /// Writes what the requests of each task were posted with, in order of tasks, units and numbers, each with its shown
-/// bytes, and then how many there are.
-pub(crate) fn write<W: Write + Drop>(alloc: Global, lines: &[Lines], writer: W) -> Result<(), Fault>
+/// bytes, and then how many there are; and what else is to be printed.
+pub(crate) fn write<W: Write + Drop>(
+    alloc: Global,
+    lines: &[Lines],
+    output: Output<'_>,
+    writer: W,
+) -> Result<(), Fault>
     requires { All IsComplete lines.now }
 {
     let Ok(mut out) = BufWriter::new(alloc, writer) else {
         return Err(Fault::NoMemory);
     };
-    match write_all_lines(&mut out, lines) {
-        Ok(()) => Ok(()),
-        Err(_) => Err(Fault::NotWritten),
+    write_posts(&mut out, lines)?;
+    if let Output::Report {
+        set_up,
+        books,
+        steps,
+    } = output
+    {
+        write_units(&mut out, set_up, books, steps)?;
     }
+    out.flush().or(Err(Fault::NotWritten))
+}
+
+fn write_posts<W: Write>(out: &mut W, lines: &[Lines]) -> Result<(), Fault>
+    requires { All IsComplete lines.now }
+{
+    write_all_lines(out, lines).or(Err(Fault::NotWritten))
 }
 
 fn write_all_lines<W: Write>(out: &mut W, lines: &[Lines]) -> io::Result<()>
@@ -38,8 +69,7 @@ fn write_all_lines<W: Write>(out: &mut W, lines: &[Lines]) -> io::Result<()>
             written = written.saturating_add(units[unit].len() as u64);
         }
     }
-    writeln!(out, "end {}", written)?;
-    out.flush()
+    writeln!(out, "end {}", written)
 }
 
 /// Writes the lines of the requests of a task to a unit, whose shown bytes stand among these.
@@ -81,14 +111,6 @@ fn write_head<W: Write>(
     out.write_all(&text[start..])
 }
 
-/// Puts a number in decimal into a text, up to this place, and gives the place of its first digit.
-fn put_decimal(text: &mut [u8], end: usize, number: usize) -> usize
-    requires { (20 ≤ end) × (end ≤ length text.old) }
-    ensures { (end ≤ result + 20) × (result ≤ end) }
-{
-    write_digits(number as u64, text, end)
-}
-
 /// Puts the completion code, the CSW (the address, both status bytes, the residual count) and the sense bytes into a
 /// text of blanks.
 fn put_end(text: &mut [u8], end: &End)
@@ -101,28 +123,4 @@ fn put_end(text: &mut [u8], end: &End)
     put_digits(text, 10, &csw[4..6]);
     put_digits(text, 15, &csw[6..]);
     put_digits(text, 20, &end.sense.to_be_bytes());
-}
-
-/// Puts bytes in hexadecimal into a text, from this place on.
-fn put_digits(text: &mut [u8], place: usize, bytes: &[u8])
-    requires { place + 2 * length bytes.now ≤ length text.old }
-{
-    for number in 0..bytes.len() {
-        let byte = bytes[number];
-        text[place + 2 * number] = DIGITS[usize::from(byte / 16)];
-        text[place + 2 * number + 1] = DIGITS[usize::from(byte % 16)];
-    }
-}
-
-/// Writes bytes in hexadecimal, or `-` for none.
-fn write_bytes<W: Write>(out: &mut W, bytes: &[u8]) -> io::Result<()> {
-    if bytes.is_empty() {
-        return out.write_all(b"-");
-    }
-    for part in bytes.chunks(32) {
-        let mut text = [0; 64];
-        put_digits(&mut text, 0, part);
-        out.write_all(&text[..2 * part.len()])?;
-    }
-    Ok(())
 }

@@ -11,7 +11,7 @@ ghost use Rattle.post_ledger.specs.Work.{lists_of};
 
 use crate::crew::{Crew, Workers, leave_used, run_tasks};
 use crate::lines::Lines;
-use crate::output::write;
+use crate::output::{Output, write};
 use crate::rooms::rows_and_books;
 use crate::runner::{Job, Runner};
 use crate::tasks::{alarm_of, parted, runners};
@@ -25,6 +25,14 @@ use std::sync::Wait;
 use std::thread::Threads;
 use unit_book::UnitBook;
 use unit_device::UnitDevice;
+
+/// A run that was brought to its end: what is printed of the requests of each task, and the account of its units.
+#[derive(Drop)]
+pub(crate) struct Finished {
+    pub lines: Vec<Lines>,
+    pub report: Report<UnitDevice>,
+    ghost complete: { All IsComplete lines.items },
+}
 
 /// Reads a script, at most 1,048,576 bytes and one more, runs its tasks beside so many channel workers and interruption
 /// handlers, and writes what its requests were posted with, or tells why not.
@@ -40,23 +48,58 @@ pub fn run_script<R: Threads + Wait + Sync, I: Read, W: Write + Drop>(
     requires handlers { (1 ≤ handlers) × (handlers ≤ 8) }
     ensures { ReadsAtMost (LIMIT + 1) (I.remaining reader.old) (I.remaining reader.new) }
 {
-    let text = read_script(alloc, reader)?;
-    let script = Script::parse(alloc, &text)?;
-    let workers = Workers { channels, handlers };
-    let lines = lines(rt, alloc, &script, workers)?;
-    write(alloc, &lines, writer)
+    let (_, run) = read_and_run(rt, alloc, reader, Workers { channels, handlers })?;
+    write(alloc, &run.lines, Output::Posts, writer)
 }
 
-/// What is printed of the requests of each task, once all were posted.
-fn lines<R: Threads + Wait + Sync>(
+/// Does so, and writes behind that, for each unit, its history, with `steps` every command of it too, and its medium: all
+/// of that is again text of a script, comments and set-up lines.
+pub fn report_script<R: Threads + Wait + Sync, I: Read, W: Write + Drop>(
+    rt: &R,
+    alloc: Global,
+    reader: &mut I,
+    writer: W,
+    channels: u8,
+    handlers: u8,
+    steps: bool,
+) -> Result<(), Fault>
+    requires channels { (1 ≤ channels) × (channels ≤ 16) }
+    requires handlers { (1 ≤ handlers) × (handlers ≤ 8) }
+    ensures { ReadsAtMost (LIMIT + 1) (I.remaining reader.old) (I.remaining reader.new) }
+{
+    let (script, run) = read_and_run(rt, alloc, reader, Workers { channels, handlers })?;
+    let output = Output::Report {
+        set_up: &script.set_up,
+        books: run.report.units(),
+        steps,
+    };
+    write(alloc, &run.lines, output, writer)
+}
+
+/// Reads a script and runs it.
+fn read_and_run<R: Threads + Wait + Sync, I: Read>(
+    rt: &R,
+    alloc: Global,
+    reader: &mut I,
+    workers: Workers,
+) -> Result<(Script, Finished), Fault>
+    ensures { ReadsAtMost (LIMIT + 1) (I.remaining reader.old) (I.remaining reader.new) }
+{
+    let text = read_script(alloc, reader)?;
+    let script = Script::parse(alloc, &text)?;
+    let run = run_to_end(rt, alloc, &script, workers)?;
+    Ok((script, run))
+}
+
+/// Runs a script on rows and books of its own.
+fn run_to_end<R: Threads + Wait + Sync>(
     rt: &R,
     alloc: Global,
     script: &Script,
     workers: Workers,
-) -> Result<Vec<Lines>, Fault>
+) -> Result<Finished, Fault>
     requires tasks { (1 ≤ script.now.set_up.tasks) × (script.now.set_up.tasks ≤ 64) }
     requires units { (1 ≤ vec_len script.now.set_up.units) × (vec_len script.now.set_up.units ≤ 64) }
-    ensures { IfOk result (λ lines. All IsComplete lines.items) }
 {
     let (mut rows, books) = rows_and_books(alloc, script)?;
     run_on::<Brand, R>(rt, alloc, &mut rows, books, script, workers)
@@ -70,14 +113,13 @@ pub(crate) fn run_on<S: Site + Send + Sync, R: Threads + Wait + Sync>(
     books: Vec<UnitBook<UnitDevice>>,
     script: &Script,
     workers: Workers,
-) -> Result<Vec<Lines>, Fault>
+) -> Result<Finished, Fault>
     requires site { S.rows ≡ site_of rows.old }
     requires fresh { AreFresh rows.old }
     requires books { AreBooks S.rows.units books.items }
     requires units { vec_len script.now.set_up.units ≡ S.rows.units }
     requires few { (S.rows.units ≤ 64) × (S.rows.tasks ≤ 64) }
     requires requests { All CanBeDone script.now.commands.items }
-    ensures { IfOk result (λ lines. All IsComplete lines.items) }
 {
     let (system, tasks, mut takers) = System::<S, UnitDevice>::new(alloc, rows, books)?;
     leave_used(&mut takers, script);
@@ -112,8 +154,7 @@ pub(crate) fn run_commands<'r, S: Site + Send + Sync, G: Gate + Sync, R: Threads
     parted(alloc, runners)
 }
 
-/// Brings a run to its end whose tasks have done their commands: what is printed of their requests, with what they had
-/// not collected.
+/// Brings a run to its end whose tasks have done their commands: what they had not collected is printed too.
 pub(crate) fn ended<'r, S: Site, R: Wait>(
     rt: &R,
     alloc: Global,
@@ -121,21 +162,20 @@ pub(crate) fn ended<'r, S: Site, R: Wait>(
     tasks: Vec<Task<'r, S>>,
     mut lines: Vec<Lines>,
     units: u16,
-) -> Result<Vec<Lines>, Fault>
+) -> Result<Finished, Fault>
     requires tasks { ArePlaced (λ task. task.number) S.rows.tasks tasks.items }
     requires lines { length lines.items ≡ S.rows.tasks }
     requires units { units ≡ S.rows.units }
     requires few { S.rows.tasks ≤ 64 }
-    ensures { IfOk result (λ lines. All IsComplete lines.items) }
 {
-    match finish(rt, alloc, system, tasks) {
-        Ok(report) => add_rest(&mut lines, &report, units),
-        Err(_) => return Err(Fault::NoMemory),
-    }
+    let Ok(report) = finish(rt, alloc, system, tasks) else {
+        return Err(Fault::NoMemory);
+    };
+    add_rest(&mut lines, &report, units);
     if !lines.iter().all(|of_task| of_task.is_complete()) {
         return Err(Fault::Unmatched);
     }
-    Ok(lines)
+    Ok(Finished { lines, report })
 }
 
 /// Adds what the report of a run lists to the lines of each task.

@@ -12,8 +12,8 @@ mod purges;
 use crate::alarm::Alarm;
 use crate::crew::{Crew, Workers};
 use crate::lines::Lines;
-use crate::output::write;
-use crate::run::{ended, run_commands, run_on};
+use crate::output::{Output, write};
+use crate::run::{Finished, ended, run_commands, run_on};
 use crate::runner::{Job, Runner};
 use crate::tasks::{alarm_of, parted, runners};
 use excp_system::{Gate, Point, Rows, Site, System, Task};
@@ -183,13 +183,13 @@ fn on_rows<S: Site + Send + Sync, R: Threads + Wait + Sync + AllocGlobal>(
     };
     match way {
         Way::Whole => {
-            let lines = run_on::<S, R>(rt, alloc, rows, books, script, workers)?;
-            return printed(alloc, &lines);
+            let run = run_on::<S, R>(rt, alloc, rows, books, script, workers)?;
+            return printed(alloc, &run.lines);
         }
         Way::Left | Way::Begun => {
             let begins = matches!(way, Way::Begun);
-            let lines = left::<S, R>(rt, alloc, rows, books, script, begins)?;
-            return printed(alloc, &lines);
+            let run = left::<S, R>(rt, alloc, rows, books, script, begins)?;
+            return printed(alloc, &run.lines);
         }
         _ => {}
     }
@@ -243,7 +243,7 @@ fn printed(alloc: Global, lines: &[Lines]) -> Result<Outcome, Fault>
     requires { All IsComplete lines.now }
 {
     let mut text = Vec::new(alloc);
-    write(alloc, lines, &mut text)?;
+    write(alloc, lines, Output::Posts, &mut text)?;
     Ok(Outcome::Printed(text))
 }
 
@@ -256,14 +256,13 @@ fn left<S: Site + Send + Sync, R: Threads + Wait + Sync>(
     books: Vec<UnitBook<UnitDevice>>,
     script: &Script,
     begins: bool,
-) -> Result<Vec<Lines>, Fault>
+) -> Result<Finished, Fault>
     requires site { S.rows ≡ site_of rows.old }
     requires fresh { AreFresh rows.old }
     requires books { AreBooks S.rows.units books.items }
     requires units { vec_len script.now.set_up.units ≡ S.rows.units }
     requires few { (S.rows.units ≤ 64) × (S.rows.tasks ≤ 64) }
     requires requests { All CanBeDone script.now.commands.items }
-    ensures { IfOk result (λ lines. All IsComplete lines.items) }
 {
     let (system, tasks, _) = System::<S, UnitDevice>::new(alloc, rows, books)?;
     let units = script.set_up.units.len() as u16;

@@ -5,6 +5,8 @@
 //! whose first word begins with `#` says nothing. Set-up lines stand before the first command.
 #![tactic(auto)]
 
+mod cause;
+mod check;
 mod command;
 mod fault;
 mod line;
@@ -14,6 +16,7 @@ mod set_up;
 mod units;
 mod words;
 
+pub use check::check_script;
 pub use command::{Action, Command, DcbName, Excp};
 pub use fault::{Fault, FaultName, LineFault};
 pub use reading::{LIMIT, read_script};

@@ -4,11 +4,12 @@
 mod areas;
 mod commands;
 mod units;
+mod verb;
 
 ghost use Rattle.std.specs.Prelude.{◌≤◌, ◌<◌};
 
+use crate::cause::{Cause, Refusal, WordsCause};
 use crate::command::{Command, DcbName, Excp};
-use crate::fault::{FaultName, LineFault};
 use crate::set_up::{Opening, UnitSetup};
 use crate::words::Words;
 use areas::{area, opening, tasks};
@@ -20,6 +21,7 @@ use std::alloc::Global;
 use std::sync::Arc;
 use tape_unit::InitialItem;
 use units::{block, disk, fault, mark, printer, record, tape};
+pub use verb::{SetUpVerb, Verb};
 
 /// A line that declares something; the number in front is that of the unit.
 #[derive(Drop)]
@@ -105,7 +107,7 @@ pub enum Line {
 
 impl Line {
     /// Reads the line with this number.
-    pub fn read(alloc: Global, number: usize, bytes: &[u8]) -> Result<Line, LineFault> {
+    pub fn read(alloc: Global, number: usize, bytes: &[u8]) -> Result<Line, Refusal> {
         let mut words = Words::of(bytes);
         let count = words.count();
         let Some(kind) = words.next_word() else {
@@ -114,17 +116,18 @@ impl Line {
         if let [b'#', ..] = kind {
             return Ok(Line::Nothing);
         }
-        if !bytes.iter().all(|byte| is_printable(*byte)) {
-            return Err(LineFault::Named(FaultName::Words));
-        }
-        match (kind, count) {
-            (b"excp", 8) => Ok(Line::Excp(excp(number, &mut words)?)),
-            (b"purge", 5) => Ok(Line::Command(purge(number, &mut words)?)),
-            (b"purgetask", 4) => Ok(Line::Command(purge_task(number, &mut words)?)),
-            (b"close", 4) => Ok(Line::Command(close(number, &mut words)?)),
-            (b"reset", 4) => Ok(Line::Command(reset(number, &mut words)?)),
-            (b"wait", 2) => Ok(Line::Command(wait(number, &mut words)?)),
-            _ => Ok(Line::SetUp(SetUpLine::read(alloc, number, kind, count, &mut words)?)),
+        let verb = first_word(bytes, kind, count).map_err(Cause::Words)?;
+        match verb {
+            Verb::SetUp(verb) => {
+                let line = SetUpLine::read(alloc, number, verb, count, &mut words)?;
+                Ok(Line::SetUp(line))
+            }
+            Verb::Excp => Ok(Line::Excp(excp(number, &mut words)?)),
+            Verb::Purge => Ok(Line::Command(purge(number, &mut words)?)),
+            Verb::PurgeTask => Ok(Line::Command(purge_task(number, &mut words)?)),
+            Verb::Close => Ok(Line::Command(close(number, &mut words)?)),
+            Verb::Reset => Ok(Line::Command(reset(number, &mut words)?)),
+            Verb::Wait => Ok(Line::Command(wait(number, &mut words)?)),
         }
     }
 }
@@ -134,24 +137,38 @@ impl SetUpLine {
     fn read(
         alloc: Global,
         number: usize,
-        kind: &[u8],
+        verb: SetUpVerb,
         count: usize,
         words: &mut Words<'_>,
-    ) -> Result<SetUpLine, LineFault> {
-        match (kind, count) {
-            (b"tasks", 2) => tasks(words),
-            (b"disk", 6) => disk(alloc, number, words),
-            (b"tape", 4) => tape(alloc, number, words),
-            (b"printer", 5) => printer(alloc, number, words),
-            (b"rec", 7) => record(alloc, words),
-            (b"block", 3) => block(alloc, words),
-            (b"mark", 2) => mark(words),
-            (b"fault", 6) => fault(words),
-            (b"open", 3..) => opening(alloc, number, words, count - 3),
-            (b"area", 3..) => area(alloc, words, count - 3),
-            _ => Err(LineFault::Named(FaultName::Words)),
-        }
+    ) -> Result<SetUpLine, Refusal> {
+        let rest = count.saturating_sub(3);
+        let line = match verb {
+            SetUpVerb::Record => return record(alloc, words),
+            SetUpVerb::Block => return block(alloc, words),
+            SetUpVerb::Open => return opening(alloc, number, words, rest),
+            SetUpVerb::Area => return area(alloc, words, rest),
+            SetUpVerb::Tasks => tasks(words),
+            SetUpVerb::Disk => disk(alloc, number, words),
+            SetUpVerb::Tape => tape(alloc, number, words),
+            SetUpVerb::Printer => printer(alloc, number, words),
+            SetUpVerb::Mark => mark(words),
+            SetUpVerb::Fault => fault(words),
+        };
+        Ok(line?)
     }
+}
+
+/// What the first word of a line says, where its bytes and the number of its words may be so.
+fn first_word(bytes: &[u8], kind: &[u8], count: usize) -> Result<Verb, WordsCause> {
+    if let Some(place) = bytes.iter().position(|byte| !is_printable(*byte)) {
+        return Err(WordsCause::Byte {
+            place: place.saturating_add(1),
+            value: bytes[place],
+        });
+    }
+    let verb = Verb::of(kind).ok_or(WordsCause::Unknown)?;
+    verb.takes(count)?;
+    Ok(verb)
 }
 
 fn is_printable(byte: u8) -> bool {

@@ -4,8 +4,9 @@ ghost use Rattle.std.specs.Prelude.{◌≡◌, ◌≤◌, Contains, IfOk, vec_le
 ghost use Rattle.job_script.specs.Commands.{NamesUnits, most, requests_of, requests_to};
 ghost use Rattle.job_script.specs.declared.command.Command.{Command as OneCommand};
 
-use crate::command::{Action, Command};
-use crate::fault::{Fault, FaultName, LineFault};
+use crate::cause::{Cause, OrderCause, Refusal};
+use crate::command::Command;
+use crate::fault::Fault;
 use crate::line::{ExcpLine, Line};
 use crate::set_up::SetUp;
 use memchr::memchr;
@@ -39,8 +40,11 @@ impl Script {
             rest = &others[1..];
         }
         script.read_line(alloc, number, rest)?;
-        if script.set_up.tasks == 0 || script.set_up.units.is_empty() {
-            return Err(LineFault::Named(FaultName::Order).at(0));
+        if script.set_up.tasks == 0 {
+            return Err(Refusal::Caused(Cause::Order(OrderCause::NoTasks)).at(0));
+        }
+        if script.set_up.units.is_empty() {
+            return Err(Refusal::Caused(Cause::Order(OrderCause::NoUnit)).at(0));
         }
         Ok(script)
     }
@@ -51,24 +55,19 @@ impl Script {
             Some(excp) => self.add_excp(excp),
             None => self.read_any_line(alloc, number, bytes),
         };
-        read.map_err(|fault| fault.at(number))
+        read.map_err(|refusal| refusal.at(number))
     }
 
     /// Adds what a line of any kind says.
     #[inline(never)]
-    fn read_any_line(
-        &mut self,
-        alloc: Global,
-        number: usize,
-        bytes: &[u8],
-    ) -> Result<(), LineFault> {
+    fn read_any_line(&mut self, alloc: Global, number: usize, bytes: &[u8]) -> Result<(), Refusal> {
         match Line::read(alloc, number, bytes)? {
             Line::Nothing => Ok(()),
             Line::SetUp(line) => {
-                if !self.commands.is_empty() {
-                    return Err(LineFault::Named(FaultName::Order));
+                if let Some(first) = self.commands.first() {
+                    return Err(late(first.line));
                 }
-                self.set_up.add(alloc, line)
+                self.set_up.add(alloc, number, line)
             }
             Line::Excp(excp) => self.add_excp(excp),
             Line::Command(command) => self.add_command(command),
@@ -76,20 +75,14 @@ impl Script {
     }
 
     /// Adds the command of an EXCP, with its area.
-    fn add_excp(&mut self, line: ExcpLine) -> Result<(), LineFault> {
-        let area = self.set_up.area(line.area)?;
-        self.add_command(Command {
-            line: line.line,
-            task: line.task,
-            action: Action::Excp(line.over(area)),
-        })
+    fn add_excp(&mut self, line: ExcpLine) -> Result<(), Refusal> {
+        let command = self.set_up.excp(line)?;
+        self.add_command(command)
     }
 
     /// Adds a command, where all that it names is declared.
-    fn add_command(&mut self, command: Command) -> Result<(), LineFault> {
-        if !self.set_up.declares(&command) {
-            return Err(LineFault::Named(FaultName::Name));
-        }
+    fn add_command(&mut self, command: Command) -> Result<(), Refusal> {
+        self.set_up.names(&command)?;
         self.commands.push(command)?;
         Ok(())
     }
@@ -135,4 +128,9 @@ impl Script {
             .filter(|command| command.issues_of(task))
             .count()
     }
+}
+
+/// That a set-up line stands behind the first command, which has this line.
+pub(crate) fn late(command: usize) -> Refusal {
+    Refusal::Caused(Cause::Order(OrderCause::Late { command }))
 }

@@ -1,12 +1,14 @@
 //! What the set-up lines of a script declare: its tasks, units, DCBs and areas; and the faults of such lines: of their
 //! order, of names, of kinds and of areas.
 
-ghost use Rattle.std.specs.Prelude.{◌≤◌, ◌<◌, IsTrue, vec_len};
+mod assumed;
+
+ghost use Rattle.std.specs.Prelude.{◌≤◌, ◌<◌, OnOk, vec_len};
 ghost use Rattle.job_script.specs.Commands.{NamesUnits};
 
+use crate::cause::{AreaCause, Cause, KindCause, NameCause, OrderCause, Refusal};
 use crate::command::{Action, Command, DcbName};
-use crate::fault::{FaultName, LineFault};
-use crate::line::{AreaLine, SetUpLine, TasksLine, UnitLine};
+use crate::line::{AreaLine, ExcpLine, SetUpLine, TasksLine, UnitLine};
 use ckd_disk::{Geometry, InitialRecord};
 use device_port::Fault as DeviceFault;
 use io_area::{Area, AreaError};
@@ -39,7 +41,11 @@ pub struct UnitSetup {
     pub line: usize,
     pub isc: u8,
     pub medium: Medium,
+    /// The lines of its records or items, in their order.
+    pub content_lines: Vec<usize>,
     pub faults: Vec<DeviceFault>,
+    /// The lines of its faults, in their order.
+    pub fault_lines: Vec<usize>,
     pub openings: Vec<Opening>,
     ghost subclass: { isc ≤ 7 },
 }
@@ -67,116 +73,185 @@ impl SetUp {
         }
     }
 
-    /// Whether a unit has this DCB.
-    fn has_dcb(&self, dcb: DcbName) -> bool
-        ensures { IsTrue result → dcb.unit < vec_len self.now.units }
+    /// A unit has this DCB.
+    fn names_dcb(&self, dcb: DcbName) -> Result<(), NameCause>
+        ensures { OnOk result (dcb.unit < vec_len self.now.units) }
     {
-        match self.units.get(usize::from(dcb.unit)) {
-            Some(unit) => usize::from(dcb.number) <= unit.openings.len(),
-            None => false,
+        let DcbName { unit, number } = dcb;
+        let Some(declared) = self.units.get(usize::from(unit)) else {
+            return Err(self.no_unit(unit));
+        };
+        let count = declared.openings.len();
+        if usize::from(number) > count {
+            return Err(NameCause::Dcb {
+                unit,
+                number,
+                count,
+            });
+        }
+        Ok(())
+    }
+
+    /// A task has this number.
+    fn names_task(&self, number: u16) -> Result<(), NameCause> {
+        let count = self.tasks;
+        if number < count {
+            Ok(())
+        } else {
+            Err(NameCause::Task { number, count })
         }
     }
 
-    /// Whether all that a command names is declared: its task, and a DCB or another task.
-    pub fn declares(&self, command: &Command) -> bool
-        ensures { IsTrue result → NamesUnits (vec_len self.now.units) command.now }
+    /// All that a command names is declared: its task, and a DCB or another task.
+    pub(crate) fn names(&self, command: &Command) -> Result<(), NameCause>
+        ensures { OnOk result (NamesUnits (vec_len self.now.units) command.now) }
     {
-        let named = match &command.action {
-            Action::Excp(excp) => self.has_dcb(excp.dcb),
-            Action::Purge(dcb, _) | Action::Close(dcb) | Action::Reset(dcb) => self.has_dcb(*dcb),
-            Action::PurgeTask(task, _) => *task < self.tasks,
-            Action::Wait => true,
-        };
-        command.task < self.tasks && named
+        self.names_task(command.task)?;
+        match &command.action {
+            Action::Excp(excp) => self.names_dcb(excp.dcb),
+            Action::Purge(dcb, _) | Action::Close(dcb) | Action::Reset(dcb) => self.names_dcb(*dcb),
+            Action::PurgeTask(task, _) => self.names_task(*task),
+            Action::Wait => Ok(()),
+        }
     }
 
     /// The area with this number.
-    pub(crate) fn area(&self, number: u64) -> Result<Arc<Area, Global>, LineFault> {
+    fn area(&self, number: u64) -> Result<Arc<Area, Global>, Refusal> {
         match self.areas.get(number as usize) {
             Some(area) => Ok(Arc::try_clone(area)?),
-            None => Err(LineFault::Named(FaultName::Name)),
+            None => Err(Refusal::from(NameCause::Area {
+                number,
+                count: self.areas.len(),
+            })),
         }
     }
 
-    /// Adds what a line says, in the order of the faults that it may have.
-    pub(crate) fn add(&mut self, alloc: Global, line: SetUpLine) -> Result<(), LineFault> {
+    /// The command of an EXCP, with its area.
+    pub(crate) fn excp(&self, line: ExcpLine) -> Result<Command, Refusal> {
+        let area = self.area(line.area)?;
+        Ok(Command {
+            line: line.line,
+            task: line.task,
+            action: Action::Excp(line.over(area)),
+        })
+    }
+
+    /// Adds what the line with this number says, in the order of the faults that it may have.
+    pub(crate) fn add(
+        &mut self,
+        alloc: Global,
+        number: usize,
+        line: SetUpLine,
+    ) -> Result<(), Refusal> {
         match line {
             SetUpLine::Tasks(line) => self.add_tasks(line),
             SetUpLine::Unit(line) => self.add_unit(line),
-            SetUpLine::Record(unit, record) => self.add_record(unit, record),
-            SetUpLine::Item(unit, item) => self.add_item(unit, item),
-            SetUpLine::Fault(unit, fault) => self.add_fault(unit, fault),
+            SetUpLine::Record(unit, record) => self.add_record(unit, number, record),
+            SetUpLine::Item(unit, item) => self.add_item(unit, number, item),
+            SetUpLine::Fault(unit, fault) => self.add_fault(unit, number, fault),
             SetUpLine::Opening(unit, opening) => self.add_opening(unit, opening),
             SetUpLine::Area(area) => self.add_area(alloc, area),
         }
     }
 
     /// The tasks are declared once.
-    fn add_tasks(&mut self, line: TasksLine) -> Result<(), LineFault> {
+    fn add_tasks(&mut self, line: TasksLine) -> Result<(), Refusal> {
         if self.tasks != 0 {
-            return Err(LineFault::Named(FaultName::Order));
+            return Err(Refusal::Caused(Cause::Order(OrderCause::TasksTwice)));
         }
         self.tasks = line.tasks;
         Ok(())
     }
 
     /// A unit has the next number.
-    fn add_unit(&mut self, line: UnitLine) -> Result<(), LineFault> {
+    fn add_unit(&mut self, line: UnitLine) -> Result<(), Refusal> {
         let UnitLine { number, unit } = line;
         if usize::from(number) != self.units.len() {
-            return Err(LineFault::Named(FaultName::Order));
+            return Err(Refusal::Caused(Cause::Order(OrderCause::Unit {
+                number: u64::from(number),
+                expected: self.units.len() as u64,
+            })));
         }
         self.units.push(unit)?;
         Ok(())
     }
 
     /// A record lies on a disk.
-    fn add_record(&mut self, unit: u16, record: InitialRecord) -> Result<(), LineFault> {
-        match &mut self.unit(unit)?.medium {
+    fn add_record(
+        &mut self,
+        number: u16,
+        line: usize,
+        record: InitialRecord,
+    ) -> Result<(), Refusal> {
+        let unit = self.unit(number)?;
+        match &mut unit.medium {
             Medium::Disk(_, records) => records.push(record)?,
-            _ => return Err(LineFault::Named(FaultName::Kind)),
+            _ => return Err(Refusal::Caused(Cause::Kind(KindCause::NoDisk { unit: number }))),
         }
+        unit.content_lines.push(line)?;
         Ok(())
     }
 
     /// A block or a mark lies on a tape.
-    fn add_item(&mut self, unit: u16, item: InitialItem) -> Result<(), LineFault> {
-        match &mut self.unit(unit)?.medium {
+    fn add_item(&mut self, number: u16, line: usize, item: InitialItem) -> Result<(), Refusal> {
+        let unit = self.unit(number)?;
+        match &mut unit.medium {
             Medium::Tape(_, items) => items.push(item)?,
-            _ => return Err(LineFault::Named(FaultName::Kind)),
+            _ => return Err(Refusal::Caused(Cause::Kind(KindCause::NoTape { unit: number }))),
         }
+        unit.content_lines.push(line)?;
         Ok(())
     }
 
     /// A unit meets a fault.
-    fn add_fault(&mut self, unit: u16, fault: DeviceFault) -> Result<(), LineFault> {
-        self.unit(unit)?.faults.push(fault)?;
+    fn add_fault(&mut self, number: u16, line: usize, fault: DeviceFault) -> Result<(), Refusal> {
+        let unit = self.unit(number)?;
+        unit.faults.push(fault)?;
+        unit.fault_lines.push(line)?;
         Ok(())
     }
 
     /// A DCB has the next number of its unit.
-    fn add_opening(&mut self, unit: u16, opening: Opening) -> Result<(), LineFault> {
+    fn add_opening(&mut self, unit: u16, opening: Opening) -> Result<(), Refusal> {
         self.unit(unit)?.openings.push(opening)?;
         Ok(())
     }
 
     /// An area has the next number.
-    fn add_area(&mut self, alloc: Global, line: AreaLine) -> Result<(), LineFault> {
-        if line.number != self.areas.len() as u64 {
-            return Err(LineFault::Named(FaultName::Order));
+    fn add_area(&mut self, alloc: Global, line: AreaLine) -> Result<(), Refusal> {
+        let expected = self.areas.len() as u64;
+        if line.number != expected {
+            return Err(Refusal::Caused(Cause::Order(OrderCause::Area {
+                number: line.number,
+                expected,
+            })));
         }
-        match Area::new(alloc, line.base, &line.bytes) {
-            Ok(area) => self.areas.push(Arc::new(alloc, area)?)?,
-            Err(AreaError::NoMemory) => return Err(LineFault::NoMemory),
-            Err(_) => return Err(LineFault::Named(FaultName::Area)),
-        }
-        Ok(())
+        let base = line.base;
+        let len = line.bytes.len();
+        let cause = match Area::new(alloc, base, &line.bytes) {
+            Ok(area) => {
+                self.areas.push(Arc::new(alloc, area)?)?;
+                return Ok(());
+            }
+            Err(AreaError::NoMemory) => return Err(Refusal::NoMemory),
+            Err(AreaError::Misaligned) => AreaCause::Misaligned { base },
+            Err(AreaError::TooLong) => AreaCause::TooLong { len },
+            Err(AreaError::PastTop) => AreaCause::PastTop { base, len },
+        };
+        Err(Refusal::Caused(Cause::Area(cause)))
     }
 
     /// The unit with this number.
-    fn unit(&mut self, number: u16) -> Result<&mut UnitSetup, FaultName> {
-        self.units
-            .get_mut(usize::from(number))
-            .ok_or(FaultName::Name)
+    fn unit(&mut self, number: u16) -> Result<&mut UnitSetup, NameCause> {
+        let missing = self.no_unit(number);
+        self.units.get_mut(usize::from(number)).ok_or(missing)
+    }
+
+    /// That a unit with this number is not declared.
+    fn no_unit(&self, number: u16) -> NameCause {
+        NameCause::Unit {
+            number,
+            count: self.units.len(),
+        }
     }
 }

@@ -74,7 +74,7 @@ impl UnitSetup {
     }
 
     /// Its device, just mounted, with the faults that it is to meet.
-    fn mounted(&self, alloc: Global) -> Result<UnitDevice, MountError> {
+    pub(crate) fn mounted(&self, alloc: Global) -> Result<UnitDevice, MountError> {
         match &self.medium {
             Medium::Disk(geometry, records) => {
                 Disk::mount(alloc, *geometry, records, &self.faults).map(UnitDevice::Disk)
@@ -84,6 +84,19 @@ impl UnitSetup {
             }
             Medium::Printer { lines, pages } => {
                 Printer::mount(alloc, *lines, *pages, &self.faults).map(UnitDevice::Printer)
+            }
+        }
+    }
+
+    /// Its device with nothing on its medium, and no fault to meet.
+    pub(crate) fn bare(&self, alloc: Global) -> Result<UnitDevice, MountError> {
+        match &self.medium {
+            Medium::Disk(geometry, _) => {
+                Disk::mount(alloc, *geometry, &[], &[]).map(UnitDevice::Disk)
+            }
+            Medium::Tape(bytes, _) => Tape::mount(alloc, &[], *bytes, &[]).map(UnitDevice::Tape),
+            Medium::Printer { lines, pages } => {
+                Printer::mount(alloc, *lines, *pages, &[]).map(UnitDevice::Printer)
             }
         }
     }
@@ -127,7 +140,7 @@ impl Command {
 
 impl Excp {
     /// A request can be made of its area, in which the bytes that are shown lie.
-    fn check(&self) -> Result<(), LineFault>
+    pub(crate) fn check(&self) -> Result<(), LineFault>
         ensures { OnOk result (CanIssue self.now) }
     {
         Request::check(self.dcb.number, self.iob, &self.area)?;

@@ -2,17 +2,21 @@
 
 ghost use Rattle.std.specs.Prelude.{◌<◌, ◌≤◌, IfOk, IfSome};
 
-use crate::fault::{FaultName, LineFault};
+use crate::cause::{NumberCause, Refusal, Wanted};
 
-/// The words of a line that were not taken yet.
+/// The words of a line that were not taken yet, and how many were.
 #[derive(Drop)]
 pub struct Words<'a> {
     rest: &'a [u8],
+    taken: usize,
 }
 
 impl<'a> Words<'a> {
     pub fn of(line: &'a [u8]) -> Self {
-        Words { rest: line }
+        Words {
+            rest: line,
+            taken: 0,
+        }
     }
 
     /// How many words are left.
@@ -38,96 +42,122 @@ impl<'a> Words<'a> {
             .unwrap_or(line.len());
         let (word, rest) = line.split_at(end);
         self.rest = rest;
+        self.taken = self.taken.saturating_add(1);
         Some(word)
     }
 
-    /// A word of the line's form.
-    pub fn word(&mut self) -> Result<&'a [u8], FaultName> {
-        self.next_word().ok_or(FaultName::Words)
+    /// The next word, and none where there is none: a word without bytes has no form.
+    pub fn word(&mut self) -> &'a [u8] {
+        self.next_word().unwrap_or(&[])
     }
 
-    /// A decimal number of 1 to 10 digits.
-    pub fn number(&mut self) -> Result<u64, FaultName> {
-        let word = self.word()?;
-        decimal(word).ok_or(FaultName::Number)
-    }
-
-    /// A decimal number that is at most this.
-    pub fn number_to(&mut self, most: u8) -> Result<u8, FaultName>
-        ensures { IfOk result (λ number. number ≤ most) }
-    {
-        let number = self.number()?;
-        match u8::try_from(number) {
-            Ok(number) if number <= most => Ok(number),
-            _ => Err(FaultName::Number),
+    /// That the word taken last is not what it should be.
+    pub fn refused(&self, wanted: Wanted) -> NumberCause {
+        NumberCause {
+            word: self.taken,
+            wanted,
         }
     }
 
+    /// A decimal number of 1 to 10 digits.
+    pub fn number(&mut self) -> Result<u64, NumberCause> {
+        match decimal(self.word()) {
+            Some(number) => Ok(number),
+            None => Err(self.refused(Wanted::Decimal)),
+        }
+    }
+
+    /// A decimal number from `least` to `most`.
+    pub fn number_in(&mut self, least: u16, most: u16) -> Result<u16, NumberCause>
+        ensures { IfOk result (λ number. (least ≤ number) × (number ≤ most)) }
+    {
+        let number = decimal(self.word()).and_then(|number| u16::try_from(number).ok());
+        match number {
+            Some(number) if least <= number && number <= most => Ok(number),
+            _ => Err(self.refused(Wanted::Range(least, most))),
+        }
+    }
+
+    /// A decimal number that is at most this.
+    pub fn number_to(&mut self, most: u8) -> Result<u8, NumberCause>
+        ensures { IfOk result (λ number. number ≤ most) }
+    {
+        let number = self.number_in(0, u16::from(most))?;
+        Ok(number as u8)
+    }
+
     /// A decimal number of 16 bits.
-    pub fn halfword(&mut self) -> Result<u16, FaultName> {
-        let number = self.number()?;
-        u16::try_from(number).or(Err(FaultName::Number))
+    pub fn halfword(&mut self) -> Result<u16, NumberCause> {
+        self.number_in(0, u16::MAX)
     }
 
     /// The number of a task or a unit, below 64.
-    pub fn index(&mut self) -> Result<u16, FaultName>
+    pub fn index(&mut self) -> Result<u16, NumberCause>
         ensures { IfOk result (λ number. number < 64) }
     {
-        let number = self.halfword()?;
-        if number < 64 {
-            Ok(number)
-        } else {
-            Err(FaultName::Number)
+        self.number_in(0, 63)
+    }
+
+    /// A number of so many hexadecimal digits.
+    fn digits(&mut self, count: u8) -> Result<u32, NumberCause> {
+        match hexadecimal(self.word(), usize::from(count)) {
+            Some(number) => Ok(number),
+            None => Err(self.refused(Wanted::Digits(count))),
         }
     }
 
     /// An address of 6 hexadecimal digits.
-    pub fn address(&mut self) -> Result<u32, FaultName> {
-        let word = self.word()?;
-        hexadecimal(word, 6).ok_or(FaultName::Number)
+    pub fn address(&mut self) -> Result<u32, NumberCause> {
+        self.digits(6)
     }
 
     /// A byte of 2 hexadecimal digits.
-    pub fn byte(&mut self) -> Result<u8, FaultName> {
-        let word = self.word()?;
-        let number = hexadecimal(word, 2).ok_or(FaultName::Number)?;
-        u8::try_from(number).or(Err(FaultName::Number))
+    pub fn byte(&mut self) -> Result<u8, NumberCause> {
+        let number = self.digits(2)?;
+        u8::try_from(number).or(Err(self.refused(Wanted::Digits(2))))
     }
 
     /// Two bytes of 4 hexadecimal digits.
-    pub fn two_bytes(&mut self) -> Result<u16, FaultName> {
-        let word = self.word()?;
-        let number = hexadecimal(word, 4).ok_or(FaultName::Number)?;
-        u16::try_from(number).or(Err(FaultName::Number))
+    pub fn two_bytes(&mut self) -> Result<u16, NumberCause> {
+        let number = self.digits(4)?;
+        u16::try_from(number).or(Err(self.refused(Wanted::Digits(4))))
     }
 
     /// Sixteen bytes of 32 hexadecimal digits.
-    pub fn sixteen_bytes(&mut self) -> Result<[u8; 16], FaultName> {
-        let word = self.word()?;
-        if word.len() != 32 {
-            return Err(FaultName::Number);
-        }
-        let mut bytes = [0; 16];
-        for (place, byte) in bytes.iter_mut().enumerate() {
-            *byte = pair_value(word[2 * place], word[2 * place + 1]).ok_or(FaultName::Number)?;
-        }
-        Ok(bytes)
+    pub fn sixteen_bytes(&mut self) -> Result<[u8; 16], NumberCause> {
+        let word = self.word();
+        sixteen_bytes(word).ok_or(self.refused(Wanted::Digits(32)))
     }
 
     /// Bytes as an even number of hexadecimal digits, or `-` for none, put behind those that are there.
-    pub fn bytes(&mut self, into: &mut Vec<u8>) -> Result<(), LineFault> {
-        let word = self.word()?;
+    pub fn bytes(&mut self, into: &mut Vec<u8>) -> Result<(), Refusal> {
+        let word = self.word();
         if let b"-" = word {
             return Ok(());
         }
         for pair in word.chunks(2) {
             let [high, low] = pair else {
-                return Err(LineFault::Named(FaultName::Number));
+                return Err(Refusal::from(self.refused(Wanted::Bytes)));
             };
-            into.push(pair_value(*high, *low).ok_or(FaultName::Number)?)?;
+            let Some(byte) = pair_value(*high, *low) else {
+                return Err(Refusal::from(self.refused(Wanted::Bytes)));
+            };
+            into.push(byte)?;
         }
         Ok(())
     }
+}
+
+/// The bytes of 32 hexadecimal digits.
+fn sixteen_bytes(word: &[u8]) -> Option<[u8; 16]> {
+    if word.len() != 32 {
+        return None;
+    }
+    let mut bytes = [0; 16];
+    for (place, byte) in bytes.iter_mut().enumerate() {
+        *byte = pair_value(word[2 * place], word[2 * place + 1])?;
+    }
+    Some(bytes)
 }
 
 fn decimal(word: &[u8]) -> Option<u64> {

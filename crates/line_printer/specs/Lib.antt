@@ -3,3 +3,4 @@ pub mod Command
 pub mod Printer
 pub mod PrinterLaws
 pub mod Mount
+pub mod Refusals

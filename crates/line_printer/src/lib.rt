@@ -12,4 +12,4 @@ mod printer;
 
 pub use paper::Position;
 pub use printed_line::PrintedLine;
-pub use printer::Printer;
+pub use printer::{PaperRefusal, Printer, paper_refusal};

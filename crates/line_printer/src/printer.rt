@@ -1,5 +1,7 @@
 //! The printer as a device: its mounting, its commands, and its readers.
 
+mod refusal;
+
 ghost use Rattle.std.specs.Prelude.{◌≡◌};
 ghost use Rattle.line_printer.specs.Mount.{is_paper};
 ghost use Rattle.line_printer.specs.Printer.{printer};
@@ -15,6 +17,7 @@ use device_port::{
 };
 use io_area::Area;
 use io_images::Seek;
+pub use refusal::{PaperRefusal, paper_refusal};
 use std::alloc::{AllocError, Global};
 use std::marker::Model;
 use std::slice::Iter;

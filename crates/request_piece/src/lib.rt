@@ -13,5 +13,5 @@ pub use error::RequestError;
 pub use issued::Issued;
 pub use piece::{Name, Piece};
 pub use posted::Posted;
-pub use request::Request;
+pub use request::{Misplaced, Request, RequestRefusal};
 pub use scope::Scope;

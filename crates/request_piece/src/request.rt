@@ -1,5 +1,7 @@
 //! A request that is made from its IOB.
 
+mod refusal;
+
 ghost use Rattle.std.specs.Prelude.{◌≡◌, true, false, IfErr, IfOk, IfSome, MatchOption};
 ghost use Rattle.std.specs.Arc.{arc_value};
 ghost use Rattle.io_area.specs.Storage.{lies_in};
@@ -12,6 +14,7 @@ use crate::issued::Issued;
 use crate::piece::{Name, Piece};
 use io_area::Area;
 use io_images::{Address, Iob, Seek};
+pub use refusal::{Misplaced, RequestRefusal};
 use std::alloc::Global;
 use std::marker::Model;
 use std::sync::Arc;

@@ -11,7 +11,7 @@ use device_port::{Device, Fault, Kind};
 use excp_system::{Site, Task};
 use fifo_row::Full;
 use io_area::Area;
-use io_images::Extent;
+use io_images::{Extent, SubStatus, UnitStatus};
 use request_piece::{Name, Request};
 use std::alloc::{AllocError, Global};
 use std::sync::Wait;
@@ -55,6 +55,16 @@ pub const OTHER_BLOCK: [u8; 4] = [0xD1, 0xD2, 0xD3, 0xD4];
 
 /// The one track of a disk, for input and output.
 pub const TRACK: [u8; 16] = [0x18, 0, 0, 0, 0, 0, 0, 0, 0, 0, 0, 0, 0, 0, 0, 1];
+
+/// A command that fails with a unit check and this sense.
+pub fn fault(ordinal: u32, sense: u16) -> Fault {
+    Fault {
+        ordinal: u64::from(ordinal),
+        unit: UnitStatus::new(0x0E),
+        sub: SubStatus::new(0),
+        sense,
+    }
+}
 
 /// A disk of one track with one record, of these data, that meets these faults.
 fn disk(alloc: Global, data: [u8; 4], faults: &[Fault]) -> Result<Disk, AllocError> {
@@ -103,13 +113,18 @@ fn tape_book(alloc: Global, capacity: usize) -> Result<UnitBook<ToyBlock>, Alloc
     book(alloc, tape, 5, &[], capacity)
 }
 
-/// The book of a disk of one record, of these data.
-fn disk_book(alloc: Global, data: [u8; 4], capacity: usize) -> Result<UnitBook<Disk>, AllocError>
+/// The book of a disk of one record, of these data, that meets these faults.
+fn disk_book(
+    alloc: Global,
+    data: [u8; 4],
+    faults: &[Fault],
+    capacity: usize,
+) -> Result<UnitBook<Disk>, AllocError>
     requires some { 1 ≤ capacity }
     requires few { capacity ≤ 65536 }
     ensures { IfOk result (λ book. list_all is_opening book.trace ≡ true) }
 {
-    let disk = disk(alloc, data, &[])?;
+    let disk = disk(alloc, data, faults)?;
     book(alloc, disk, 5, &[Extent::read(&TRACK)], capacity)
 }
 
@@ -131,9 +146,22 @@ pub fn disks(alloc: Global, capacity: usize) -> Result<Vec<UnitBook<Disk>>, Allo
     requires few { capacity ≤ 65536 }
     ensures { IfOk result (λ books. AreBooks 2 books.items) }
 {
+    faulty_disks(alloc, &[], capacity)
+}
+
+/// The books of two disks of one record, the first of which meets these faults.
+pub fn faulty_disks(
+    alloc: Global,
+    faults: &[Fault],
+    capacity: usize,
+) -> Result<Vec<UnitBook<Disk>>, AllocError>
+    requires some { 1 ≤ capacity }
+    requires few { capacity ≤ 65536 }
+    ensures { IfOk result (λ books. AreBooks 2 books.items) }
+{
     let mut books = Vec::with_capacity(alloc, 2)?;
-    books.push_reserved(disk_book(alloc, BLOCK, capacity)?);
-    books.push_reserved(disk_book(alloc, OTHER_BLOCK, capacity)?);
+    books.push_reserved(disk_book(alloc, BLOCK, faults, capacity)?);
+    books.push_reserved(disk_book(alloc, OTHER_BLOCK, &[], capacity)?);
     Ok(books)
 }
 

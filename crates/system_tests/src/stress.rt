@@ -4,16 +4,15 @@ ghost use Rattle.std.specs.Prelude.{◌≡◌, ◌<◌, ◌≤◌, IfOk};
 ghost use Rattle.excp_system.specs.Opening.{AreBooks, AreFresh, site_of};
 ghost use Rattle.post_ledger.specs.Report.{IsFor};
 
-use crate::fixtures::faulty_book;
+use crate::fixtures::{fault, faulty_book};
 use ckd_disk::Disk;
 use crew::{Plan, played};
 use device_port::Fault;
 use excp_system::{Rows, Site, System};
-use io_images::{SubStatus, UnitStatus};
-use judge::{Met, judge};
+use judge::judge;
 use log::Log;
 use post_ledger::{Report, finish};
-use requests::{Got, Issue};
+use requests::{FAILED, Got, Issue, RETRIED};
 use std::alloc::{AllocError, Global};
 use std::marker::Brand;
 use std::process::Abort;
@@ -22,20 +21,51 @@ use std::test::Fail;
 use std::thread::Threads;
 use unit_book::UnitBook;
 
+mod course;
 mod crew;
 mod judge;
 mod log;
 mod requests;
 mod tasks;
 
-/// A command that fails with a unit check and this sense.
-fn fault(ordinal: u64, sense: u16) -> Fault {
-    Fault {
-        ordinal,
-        unit: UnitStatus::new(0x0E),
-        sub: SubStatus::new(0),
-        sense,
+/// What the runs met: posts that the reports listed, requests that a purge met while they waited and while they were
+/// active, further starts, and halts.
+#[derive(Clone, Copy)]
+struct Met {
+    listed: usize,
+    waiting: usize,
+    active: usize,
+    retried: usize,
+    halted: usize,
+}
+
+impl Met {
+    fn new() -> Met {
+        Met {
+            listed: 0,
+            waiting: 0,
+            active: 0,
+            retried: 0,
+            halted: 0,
+        }
     }
+
+    fn add(&mut self, more: Met) {
+        self.listed = self.listed.saturating_add(more.listed);
+        self.waiting = self.waiting.saturating_add(more.waiting);
+        self.active = self.active.saturating_add(more.active);
+        self.retried = self.retried.saturating_add(more.retried);
+        self.halted = self.halted.saturating_add(more.halted);
+    }
+}
+
+fn require(holds: bool, what: &'static str) -> Result<(), Fail> {
+    if holds { Ok(()) } else { Err(Fail::from(what)) }
+}
+
+/// Commands that fail with a unit check and this sense.
+fn faults(ordinals: [u32; 4], sense: u16) -> [Fault; 4] {
+    ordinals.map(|ordinal| fault(ordinal, sense))
 }
 
 /// The books of three disks: no command of the first fails, four of the second are tried again, and four of the third
@@ -45,18 +75,8 @@ fn books(alloc: Global, capacity: usize) -> Result<Vec<UnitBook<Disk>>, AllocErr
     requires few { capacity ≤ 65536 }
     ensures { IfOk result (λ books. AreBooks 3 books.items) }
 {
-    let retried = [
-        fault(1, 0x1000),
-        fault(5, 0x1000),
-        fault(6, 0x1000),
-        fault(40, 0x1000),
-    ];
-    let failed = [
-        fault(2, 0x4000),
-        fault(7, 0x4000),
-        fault(30, 0x4000),
-        fault(60, 0x4000),
-    ];
+    let retried = faults(RETRIED, 0x1000);
+    let failed = faults(FAILED, 0x4000);
     let mut books = Vec::with_capacity(alloc, 3)?;
     books.push_reserved(faulty_book(alloc, 0, &[], capacity)?);
     books.push_reserved(faulty_book(alloc, 1, &retried, capacity)?);
@@ -149,67 +169,80 @@ fn got_of(
 fn judge_run(alloc: Global, report: &Report<Disk>, logs: &[Log; 2]) -> Result<Met, Fail>
     requires { IsFor 3 2 report.now }
 {
-    let mut all = Met {
-        listed: 0,
-        waiting: 0,
-        active: 0,
-    };
-    if logs[0].short || logs[1].short {
-        return Err(Fail::from("no memory"));
+    let mut all = Met::new();
+    for log in logs {
+        require(!log.short, "no memory")?;
+        require(log.did_each(), "a task without one of its controls")?;
     }
     for unit in 0..3 {
         let book = report.units().get(usize::from(unit)).ok_or("no such unit")?;
         let issues = issues_to(alloc, logs, unit)?;
         let first = got_of(alloc, report, &logs[0], 0, unit)?;
         let second = got_of(alloc, report, &logs[1], 1, unit)?;
-        let met = judge(
-            book.trace(),
-            &issues,
-            logs,
-            [first.as_slice(), second.as_slice()],
-            unit,
-        )?;
-        let listed = report
-            .posts(0, unit)
-            .len()
-            .saturating_add(report.posts(1, unit).len());
-        all.listed = all.listed.saturating_add(listed);
-        all.waiting = all.waiting.saturating_add(met.waiting);
-        all.active = all.active.saturating_add(met.active);
+        let got = [first.as_slice(), second.as_slice()];
+        all.add(judge(alloc, book.trace(), &issues, logs, got, unit)?);
+        for task in 0..2 {
+            all.listed = all.listed.saturating_add(report.posts(task, unit).len());
+        }
     }
     Ok(all)
 }
 
-/// Runs with 1 to 3 channel workers and 1 or 2 handlers, rows and books of this room, and 34 seeds each.
-fn runs<R: Threads + Wait + Sync + Abort + AllocGlobal>(rt: &R, room: usize) -> Result<(), Fail>
+/// What a run with this plan meets, with rows and books of this room.
+fn run_of<R: Threads + Wait + Sync + AllocGlobal>(
+    rt: &R,
+    room: usize,
+    plan: Plan,
+) -> Result<Met, Fail>
     requires some { 1 ≤ room }
     requires few { room ≤ 65536 }
 {
-    let (mut listed, mut waiting, mut active): (usize, usize, usize) = (0, 0, 0);
+    let mut rows = Rows::new(rt.alloc(), 2, 3, room, room)?;
+    let books = books(rt.alloc(), room)?;
+    let (report, logs) = run::<Brand, R>(rt, rt.alloc(), &mut rows, books, plan)?;
+    judge_run(rt.alloc(), &report, &logs)
+}
+
+/// Runs with 1 to 3 channel workers and 1 or 2 handlers, rows and books of this room, and 34 seeds each.
+fn runs<R: Threads + Wait + Sync + AllocGlobal>(rt: &R, room: usize) -> Result<Met, Fail>
+    requires some { 1 ≤ room }
+    requires few { room ≤ 65536 }
+{
+    let mut all = Met::new();
     for seed in 0..102 {
         let plan = Plan {
             seed,
             channels: seed % 3 + 1,
             handlers: seed / 3 % 2 + 1,
         };
-        let mut rows = Rows::new(rt.alloc(), 2, 3, room, room)?;
-        let books = books(rt.alloc(), room)?;
-        let (report, logs) = run::<Brand, R>(rt, rt.alloc(), &mut rows, books, plan)?;
-        let met = judge_run(rt.alloc(), &report, &logs)?;
-        listed = listed.saturating_add(met.listed);
-        waiting = waiting.saturating_add(met.waiting);
-        active = active.saturating_add(met.active);
+        all.add(run_of(rt, room, plan)?);
     }
+    Ok(all)
+}
+
+/// Asserts that runs met enough of each.
+fn expect_enough(rt: &impl Abort, all: &Met) {
+    assert!(rt; all.listed > 100, "{}", all.listed);
     assert!(rt;
-        listed > 100 && waiting > 50 && active > 20,
-        "{listed} {waiting} {active}"
+        all.waiting > 50 && all.active > 20,
+        "{} {}",
+        all.waiting,
+        all.active
     );
-    Ok(())
+    assert!(rt;
+        all.retried > 100 && all.halted > 10,
+        "{} {}",
+        all.retried,
+        all.halted
+    );
 }
 
 /// Rows and books with room for three, and for all.
 #[test]
 fn reports_of_runs_at_random(rt: HostRuntime) -> Result<(), Fail> {
-    runs(&rt, 3)?;
-    runs(&rt, 64)
+    for room in [3, 64] {
+        let all = runs(&rt, room)?;
+        expect_enough(&rt, &all);
+    }
+    Ok(())
 }

@@ -17,6 +17,7 @@ use std::test::Fail;
 use std::thread;
 use unit_book::UnitBook;
 
+mod arrivals;
 pub mod calls;
 mod interleavings;
 mod new_system;

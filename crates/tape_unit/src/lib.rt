@@ -13,6 +13,6 @@ mod reel;
 mod stored;
 mod tape;
 
-pub use mount::InitialItem;
+pub use mount::{InitialItem, Overrun, overrun_of};
 pub use stored::{Items, Stored};
 pub use tape::Tape;

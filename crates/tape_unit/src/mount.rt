@@ -1,5 +1,7 @@
 //! What is checked and made when a tape is mounted.
 
+mod refusal;
+
 ghost use Rattle.std.specs.Prelude.{◌≡◌, IfOk, true, nat_le};
 ghost use Rattle.std.specs.List.{list_all};
 ghost use Rattle.tape_unit.specs.Item.{content_of};
@@ -7,6 +9,7 @@ ghost use Rattle.tape_unit.specs.Reel.{bytes_of};
 ghost use Rattle.tape_unit.specs.Mount.{is_size, initial, is_initial, opening_items};
 
 use crate::reel::{LENGTH_WORD, Reel};
+pub use refusal::{Overrun, overrun_of};
 use std::alloc::{AllocError, Global};
 
 /// An item that a tape has when it is mounted (profile).

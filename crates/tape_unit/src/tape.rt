@@ -87,6 +87,13 @@ impl Tape {
         self.reel.items()
     }
 
+    /// Where the tape stands: how many items lie before its head.
+    pub fn place(&self) -> usize
+        ensures { result ≡ self.now.place }
+    {
+        self.place
+    }
+
     /// A command that moves no data.
     fn control(&mut self, command: Control) -> Acted
         ensures acted { result ≡ (control_on self.old command).acted }

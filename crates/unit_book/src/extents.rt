@@ -1,11 +1,14 @@
 //! The extents of a DCB.
 
+mod refusal;
+
 ghost use Rattle.std.specs.Prelude.{◌≡◌, ◌<◌, ◌^◌, IfOk, slice_get};
 ghost use Rattle.std.specs.List.{list_all};
 ghost use Rattle.unit_book.specs.Extents.{track, is_inside, counts_tracks, is_extent, takes_extents, lies_within, passes_check};
 
 use device_port::Kind;
 use io_images::{Extent, Seek};
+pub use refusal::{ExtentRefusal, ExtentsRefusal, extents_refusal};
 use std::alloc::{AllocError, Global};
 use std::marker::Model;
 

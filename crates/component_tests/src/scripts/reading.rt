@@ -58,22 +58,36 @@ fn every_kind_of_line(rt: HostRuntime) -> Result<(), Fail> {
     Ok(())
 }
 
+/// Asserts that a script is taken or has a fault of its lines, and that a check refuses it where a run does.
+fn expect_judged<R: Abort + AllocGlobal>(rt: &R, text: &[u8]) -> Result<(), Fail> {
+    let refused = match checked(rt.alloc(), text) {
+        Ok(_) => false,
+        Err(fault) => {
+            assert_eq!(rt; fault.status(), 1);
+            true
+        }
+    };
+    let mut reader = text;
+    let mut output = Vec::new(rt.alloc());
+    assert_eq!(rt;
+        check_script(rt.alloc(), &mut reader, &mut output)?,
+        refused
+    );
+    Ok(())
+}
+
 /// A script cut after each byte, and with each byte replaced, is taken or has a fault of its lines.
 #[test]
 fn cut_and_replaced(rt: HostRuntime) -> Result<(), Fail> {
     let mut text = joined(rt.alloc(), &[DISK, AREA, EXCP])?;
     for cut in 0..text.len() {
-        if let Err(fault) = checked(rt.alloc(), &text[..cut]) {
-            assert_eq!(rt; fault.status(), 1);
-        }
+        expect_judged(&rt, &text[..cut])?;
     }
     for place in 0..text.len() {
         let kept = text[place];
         for byte in [b'0', b'F', b' ', 0xFF] {
             text[place] = byte;
-            if let Err(fault) = checked(rt.alloc(), &text) {
-                assert_eq!(rt; fault.status(), 1);
-            }
+            expect_judged(&rt, &text)?;
         }
         text[place] = kept;
     }

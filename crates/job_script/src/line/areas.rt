@@ -1,18 +1,15 @@
 //! Lines on tasks, DCBs and areas.
 
 use super::{AreaLine, SetUpLine, TasksLine};
-use crate::fault::{FaultName, LineFault};
+use crate::cause::{NumberCause, Refusal, Wanted};
 use crate::set_up::Opening;
 use crate::words::Words;
 use io_images::Extent;
 use std::alloc::Global;
 
 /// `tasks N`
-pub fn tasks(words: &mut Words<'_>) -> Result<SetUpLine, LineFault> {
-    let tasks = words.halfword()?;
-    if tasks == 0 || tasks > 64 {
-        return Err(LineFault::Named(FaultName::Number));
-    }
+pub fn tasks(words: &mut Words<'_>) -> Result<SetUpLine, NumberCause> {
+    let tasks = words.number_in(1, 64)?;
     Ok(SetUpLine::Tasks(TasksLine { tasks }))
 }
 
@@ -22,12 +19,12 @@ pub fn opening(
     line: usize,
     words: &mut Words<'_>,
     count: usize,
-) -> Result<SetUpLine, LineFault> {
+) -> Result<SetUpLine, Refusal> {
     let unit = words.index()?;
-    let input = match words.word()? {
+    let input = match words.word() {
         b"in" => true,
         b"out" => false,
-        _ => return Err(LineFault::Named(FaultName::Number)),
+        _ => return Err(Refusal::from(words.refused(Wanted::Direction))),
     };
     let mut extents = Vec::new(alloc);
     for _ in 0..count {
@@ -43,7 +40,7 @@ pub fn opening(
 }
 
 /// `area A ADDR HEX ...`
-pub fn area(alloc: Global, words: &mut Words<'_>, count: usize) -> Result<SetUpLine, LineFault> {
+pub fn area(alloc: Global, words: &mut Words<'_>, count: usize) -> Result<SetUpLine, Refusal> {
     let number = words.number()?;
     let base = words.address()?;
     let mut bytes = Vec::new(alloc);

@@ -3,7 +3,7 @@
 ghost use Rattle.std.specs.Prelude.{◌≤◌};
 
 use super::{SetUpLine, UnitLine};
-use crate::fault::LineFault;
+use crate::cause::{NumberCause, Refusal};
 use crate::set_up::{Medium, UnitSetup};
 use crate::words::Words;
 use ckd_disk::{Geometry, InitialRecord};
@@ -13,7 +13,7 @@ use std::alloc::Global;
 use tape_unit::InitialItem;
 
 /// `disk U ISC CYLS HEADS BYTES`
-pub fn disk(alloc: Global, line: usize, words: &mut Words<'_>) -> Result<SetUpLine, LineFault> {
+pub fn disk(alloc: Global, line: usize, words: &mut Words<'_>) -> Result<SetUpLine, NumberCause> {
     let number = words.index()?;
     let isc = words.number_to(7)?;
     let geometry = Geometry {
@@ -27,7 +27,7 @@ pub fn disk(alloc: Global, line: usize, words: &mut Words<'_>) -> Result<SetUpLi
 }
 
 /// `tape U ISC BYTES`
-pub fn tape(alloc: Global, line: usize, words: &mut Words<'_>) -> Result<SetUpLine, LineFault> {
+pub fn tape(alloc: Global, line: usize, words: &mut Words<'_>) -> Result<SetUpLine, NumberCause> {
     let number = words.index()?;
     let isc = words.number_to(7)?;
     let medium = Medium::Tape(words.number()?, Vec::new(alloc));
@@ -36,7 +36,11 @@ pub fn tape(alloc: Global, line: usize, words: &mut Words<'_>) -> Result<SetUpLi
 }
 
 /// `printer U ISC LINES PAGES`
-pub fn printer(alloc: Global, line: usize, words: &mut Words<'_>) -> Result<SetUpLine, LineFault> {
+pub fn printer(
+    alloc: Global,
+    line: usize,
+    words: &mut Words<'_>,
+) -> Result<SetUpLine, NumberCause> {
     let number = words.index()?;
     let isc = words.number_to(7)?;
     let medium = Medium::Printer {
@@ -55,13 +59,15 @@ fn unit(alloc: Global, line: usize, isc: u8, medium: Medium) -> UnitSetup
         line,
         isc,
         medium,
+        content_lines: Vec::new(alloc),
         faults: Vec::new(alloc),
+        fault_lines: Vec::new(alloc),
         openings: Vec::new(alloc),
     }
 }
 
 /// `rec U CC HH R KEY HEX`
-pub fn record(alloc: Global, words: &mut Words<'_>) -> Result<SetUpLine, LineFault> {
+pub fn record(alloc: Global, words: &mut Words<'_>) -> Result<SetUpLine, Refusal> {
     let unit = words.index()?;
     let mut record = InitialRecord {
         cylinder: words.halfword()?,
@@ -76,7 +82,7 @@ pub fn record(alloc: Global, words: &mut Words<'_>) -> Result<SetUpLine, LineFau
 }
 
 /// `block U HEX`
-pub fn block(alloc: Global, words: &mut Words<'_>) -> Result<SetUpLine, LineFault> {
+pub fn block(alloc: Global, words: &mut Words<'_>) -> Result<SetUpLine, Refusal> {
     let unit = words.index()?;
     let mut bytes = Vec::new(alloc);
     words.bytes(&mut bytes)?;
@@ -84,12 +90,12 @@ pub fn block(alloc: Global, words: &mut Words<'_>) -> Result<SetUpLine, LineFaul
 }
 
 /// `mark U`
-pub fn mark(words: &mut Words<'_>) -> Result<SetUpLine, LineFault> {
+pub fn mark(words: &mut Words<'_>) -> Result<SetUpLine, NumberCause> {
     Ok(SetUpLine::Item(words.index()?, InitialItem::Mark))
 }
 
 /// `fault U ORDINAL UU SS XXXX`
-pub fn fault(words: &mut Words<'_>) -> Result<SetUpLine, LineFault> {
+pub fn fault(words: &mut Words<'_>) -> Result<SetUpLine, NumberCause> {
     let unit = words.index()?;
     let fault = Fault {
         ordinal: words.number()?,

@@ -33,13 +33,18 @@ const RELATED_ERROR: u32 = 3;
 
 /// Numbers that look random (a linear congruential generator).
 #[derive(Drop)]
-struct Random {
+pub struct Random {
     state: u32,
 }
 
 impl Random {
+    /// The numbers behind this one.
+    pub fn new(state: u32) -> Random {
+        Random { state }
+    }
+
     /// A number below 64.
-    fn next(&mut self) -> u32
+    pub fn next(&mut self) -> u32
         ensures { result < 64 }
     {
         self.state = self.state.wrapping_mul(1_103_515_245).wrapping_add(12_345);
@@ -300,7 +305,7 @@ fn runs<R: Threads + Wait + Sync + Abort + AllocGlobal>(
 
 #[test]
 fn purges_and_closes_at_random(rt: HostRuntime) -> Result<(), Fail> {
-    let mut random = Random { state: 1 };
+    let mut random = Random::new(1);
     for (channels, handlers) in [(1, 1), (1, 3), (2, 1), (2, 2)] {
         runs(&rt, &mut random, channels, handlers)?;
     }
@@ -309,7 +314,7 @@ fn purges_and_closes_at_random(rt: HostRuntime) -> Result<(), Fail> {
 
 #[test]
 fn purges_and_closes_at_random_by_many(rt: HostRuntime) -> Result<(), Fail> {
-    let mut random = Random { state: 2 };
+    let mut random = Random::new(2);
     for (channels, handlers) in [(3, 1), (3, 3), (4, 2), (4, 4)] {
         runs(&rt, &mut random, channels, handlers)?;
     }

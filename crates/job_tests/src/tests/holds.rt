@@ -9,6 +9,7 @@ use excp_system::{Rows, Site, System, Task};
 use fifo_row::Full;
 use io_area::Area;
 use io_images::{Code, Ecb, Iob};
+use job_report::write_history;
 use job_script::Script;
 use look::Look;
 use request_piece::{Posted, Request};
@@ -22,6 +23,7 @@ use unit_device::UnitDevice;
 use unit_steps::{by_control, by_worker};
 
 mod cases;
+mod histories;
 mod look;
 mod tables;
 mod unit_steps;
@@ -84,6 +86,8 @@ enum Step {
     Fill(u16),
     /// Where it is refused it has made so many entries.
     Settle(u16),
+    /// Asserts that this is the history of the unit.
+    History(&'static str),
 }
 
 /// What a step answers: a word or a post, and the number of a request, of a DCB or of commands.
@@ -164,6 +168,18 @@ fn end_of<R: Abort + AllocGlobal>(rt: &R, value: &Posted) -> Result<String, Fail
     )?)
 }
 
+/// Asserts that this is what is told of what happened at the unit.
+fn told_history<R: Abort + AllocGlobal>(
+    rt: &R,
+    book: &UnitBook<UnitDevice>,
+    wanted: &str,
+) -> Result<Told, Fail> {
+    let mut text = Vec::new(rt.alloc());
+    write_history(&mut text, 0, book, None)?;
+    assert_eq!(rt; String::from_utf8(text)?.as_str(), wanted);
+    Ok(("told", 0))
+}
+
 /// Does a step once, and tells what it answers: nothing where there is no memory for it.
 fn done_once<'r, S: Site, R: Wait + Abort + AllocGlobal>(
     rt: &R,
@@ -186,6 +202,7 @@ fn done_once<'r, S: Site, R: Wait + Abort + AllocGlobal>(
         Step::Take | Step::Start | Step::Run(_) | Step::Interrupt | Step::Deliver => {
             by_worker(rt, &mut system.lock_of(0).lock(rt), step)
         }
+        Step::History(wanted) => Some(told_history(rt, system.lock_of(0).lock(rt).book(), wanted)?),
         _ => by_control(rt, &mut system.lock_of(0).lock(rt), step),
     };
     let Some((word, number)) = told else {
@@ -276,6 +293,18 @@ fn expect_case<R: Wait + Abort + AllocGlobal>(rt: &R, case: &Case) -> Result<(),
     Ok(())
 }
 
+/// The steps of a table, and then what is told of what happened at the unit.
+fn expect_history<R: Wait + Abort + AllocGlobal>(
+    rt: &R,
+    script: &str,
+    table: &[(Step, Told)],
+    history: &'static str,
+) -> Result<(), Fail> {
+    let mut table = table.to_vec(rt.alloc())?;
+    table.push((Step::History(history), ("told", 0)))?;
+    expect_steps(rt, script, 3, 3, &table, 1)
+}
+
 fn purges_and_closes<R: Wait + Abort + AllocGlobal>(rt: &R, tries: u32) -> Result<(), Fail> {
     expect_steps(rt, DISK, 3, 3, tables::HALT_AT_EACH_PLACE, tries)?;
     expect_steps(rt, DISK, 3, 3, tables::BY_COMMANDS, tries)?;
@@ -321,6 +350,16 @@ fn purges_at_each_phase(rt: HostRuntime) -> Result<(), Fail> {
         expect_case(&rt, case)?;
     }
     Ok(())
+}
+
+#[test]
+fn histories_through_a_lock(rt: HostRuntime) -> Result<(), Fail> {
+    let halts = tables::HALT_AT_EACH_PLACE;
+    expect_history(&rt, DISK, halts, histories::HALT_AT_EACH_PLACE)?;
+    expect_history(&rt, DISK, tables::BY_COMMANDS, histories::BY_COMMANDS)?;
+    expect_history(&rt, DISK, tables::QUIESCE, histories::QUIESCE)?;
+    expect_history(&rt, FAILS_ONCE, tables::CLOSE, histories::CLOSE)?;
+    expect_history(&rt, DISK, tables::VIOLATION, histories::VIOLATION)
 }
 
 #[test]

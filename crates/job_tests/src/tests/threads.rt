@@ -18,7 +18,7 @@ area 1 001000 4200000000001028 0000000000000000 0000103000000001 000000000000000
 ";
 
 /// The commands of tasks 0 and 1, each with 100 requests to each unit, a write and a read in turn.
-fn four_hundred_excps(alloc: Global) -> Result<String, AllocError> {
+pub fn four_hundred_excps(alloc: Global) -> Result<String, AllocError> {
     let mut text = String::from_str(alloc, TWO_DISKS)?;
     for number in 0..100 {
         let area = number % 2;
@@ -34,7 +34,7 @@ fn four_hundred_excps(alloc: Global) -> Result<String, AllocError> {
 }
 
 /// What they print.
-fn four_hundred_posts(alloc: Global) -> Result<String, AllocError> {
+pub fn four_hundred_posts(alloc: Global) -> Result<String, AllocError> {
     let mut text = String::new(alloc);
     for task in 0..2 {
         for unit in 0..2 {

@@ -54,8 +54,8 @@ fn serve_both<S: Site, R: Wait + Abort>(
     serve(rt, system, 0, &first)?;
     serve(rt, system, 1, &[Hold::Take, Hold::Start])?;
     let mut unit = system.lock_of(0).lock(rt);
-    assert_eq!(rt; held(rt, &mut unit, Hold::Interrupt)?, ("again", R1));
-    assert_eq!(rt; unit.book().waiting_len(), 1);
+    let answer = held(rt, &mut unit, Hold::Interrupt)?;
+    assert!(rt; answer == ("again", R1) && unit.book().waiting_len() == 1);
     Ok(())
 }
 
@@ -91,6 +91,20 @@ fn starts(trace: &[Entry]) -> usize {
     starts
 }
 
+/// Asserts what the report lists of each unit, and how often each was started.
+fn expect_read<R: Abort + AllocGlobal>(rt: &R, report: &Report<ToyBlock>) -> Result<(), Fail>
+    requires { IsFor 2 1 report.now }
+{
+    let read = [(1, Code::Ended, 0xC1), (2, Code::Ended, 0xC1)];
+    let first = listed(rt.alloc(), report, 0)?;
+    let second = listed(rt.alloc(), report, 1)?;
+    assert!(rt; first.as_slice() == read.as_slice() && second.as_slice() == &read[..1]);
+    for (book, wanted) in report.units().iter().zip([3, 2]) {
+        assert!(rt; is_undisturbed(book.trace()) && starts(book.trace()) == wanted);
+    }
+    Ok(())
+}
+
 /// Each request is read to its end, those whose program met the fault by a second start: run it with each growth refused
 /// in turn.
 #[test]
@@ -98,16 +112,5 @@ fn restarts_without_memory(rt: HostRuntime) -> Result<(), Fail> {
     let mut rows = Rows::new(rt.alloc(), 1, 2, 4, 4)?;
     let books = books(rt.alloc())?;
     let report = reported::<Brand, _>(&rt, rt.alloc(), &mut rows, books)?;
-    let (first, second) = (
-        listed(rt.alloc(), &report, 0)?,
-        listed(rt.alloc(), &report, 1)?,
-    );
-    let read = [(1, Code::Ended, 0xC1), (2, Code::Ended, 0xC1)];
-    assert_eq!(rt; first.as_slice(), read.as_slice());
-    assert_eq!(rt; second.as_slice(), &read[..1]);
-    for (book, wanted) in report.units().iter().zip([3, 2]) {
-        assert!(rt; is_undisturbed(book.trace()));
-        assert_eq!(rt; starts(book.trace()), wanted);
-    }
-    Ok(())
+    expect_read(&rt, &report)
 }

@@ -206,9 +206,9 @@ fn expect_report<R: Abort>(
     requires { IsFor 2 1 report.now }
 {
     let (first, second) = (listed(alloc, report, 0)?, listed(alloc, report, 1)?);
-    assert_eq!(rt; (first.as_slice(), second.as_slice()), (wanted, NONE));
+    assert!(rt; first.as_slice() == wanted && second.as_slice() == NONE);
     let media = media(alloc, report)?;
-    assert_eq!(rt; media.as_slice(), [(0xC1, true), (0xD1, true)].as_slice());
+    assert!(rt; media.as_slice() == [(0xC1, true), (0xD1, true)].as_slice());
     Ok(())
 }
 

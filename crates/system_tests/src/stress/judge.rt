@@ -1,20 +1,15 @@
 //! The judge of a run: it reads what the tasks issued, did and got, and the report, and goes over the trace of each unit
-//! once for each request.
+//! once for its course, and once for each request.
 
+use super::course::Course;
 use super::log::{Control, Log};
-use super::requests::{Got, Issue, NEVER_STARTED};
+use super::requests::{Got, Issue, NEVER_STARTED, issue_of, post_of};
+use super::{Met, require};
 use io_images::Code;
-use request_piece::{Name, Scope};
+use request_piece::Scope;
+use std::alloc::Global;
 use std::test::Fail;
 use unit_book::{Entry, Mode};
-
-/// How many posts the reports listed, and how many requests a purge met while they waited, and while they were active.
-#[derive(Clone, Copy, PartialEq, Eq, Debug)]
-pub struct Met {
-    pub listed: usize,
-    pub waiting: usize,
-    pub active: usize,
-}
 
 /// What the entries of a trace, up to one, say of a request and its DCB.
 #[derive(Clone, Copy)]
@@ -28,17 +23,7 @@ struct Life {
     starts: u32,
     /// A purge with halt came behind its last start.
     covered: bool,
-    halted: bool,
     posted: Option<Got>,
-}
-
-fn require(holds: bool, what: &'static str) -> Result<(), Fail> {
-    if holds { Ok(()) } else { Err(Fail::from(what)) }
-}
-
-/// The request with this name among those of a unit.
-fn issue_of(issues: &[Issue], name: Name) -> Option<Issue> {
-    issues.iter().find(|issue| issue.name == name).copied()
 }
 
 impl Life {
@@ -51,7 +36,6 @@ impl Life {
             purged: false,
             starts: 0,
             covered: false,
-            halted: false,
             posted: None,
         }
     }
@@ -79,11 +63,6 @@ impl Life {
                 require(self.posted.is_none(), "a start behind the post")?;
                 self.starts = self.starts.saturating_add(1);
             }
-            Entry::Halted(name) if *name == issue.name => {
-                require(self.is_active() && self.covered, "a halt")?;
-                self.halted = true;
-            }
-            Entry::Start(_) => require(!self.is_active(), "two are active")?,
             _ => {}
         }
         self.control(entry, issue);
@@ -121,37 +100,13 @@ impl Life {
         }
     }
 
-    /// Whether it may be posted so.
+    /// Whether it may be posted so. How one ends that was started its unit's course tells.
     fn allows(&self, issue: Issue, got: Got) -> bool {
-        let end = got.end;
         if self.doomed {
-            return end == NEVER_STARTED && self.starts == 0;
+            got.end == NEVER_STARTED && self.starts == 0
+        } else {
+            self.starts > 0 || (got.end == issue.own_end() && got.end.0 == Code::ExtentViolated)
         }
-        if self.starts == 0 {
-            return end == issue.own_end() && end.0 == Code::ExtentViolated;
-        }
-        if self.halted {
-            return issue.halted(end);
-        }
-        let retried = issue.unit == 1 && issue.fails(end, Code::Purged, 0x1000);
-        let failed = issue.unit == 2 && issue.fails(end, Code::PermanentError, 0x4000);
-        (end == issue.own_end() && end.0 != Code::ExtentViolated)
-            || failed
-            || (self.covered && retried)
-    }
-}
-
-/// The post of a request that an entry tells of.
-fn post_of(entry: &Entry) -> Option<(Name, (Code, u32, u8, u8, u16, u16))> {
-    match entry {
-        Entry::Post(name, csw, sense, code) => {
-            let (unit, sub) = (csw.unit.bits(), csw.sub.bits());
-            Some((
-                *name,
-                (*code, csw.address.get(), unit, sub, csw.residual, *sense),
-            ))
-        }
-        _ => None,
     }
 }
 
@@ -175,12 +130,12 @@ fn judge_request(trace: &[Entry], issue: Issue, issues: &[Issue], got: Got) -> R
     Ok(life)
 }
 
-/// The requests of a task to a unit: they arrived in order of number and were first started in this order, and its posts
-/// came to it in the order in which the unit posted them.
+/// The requests of a task to a unit arrived in order of number, and its posts came to it in the order in which the unit
+/// posted them.
 fn judge_order(trace: &[Entry], issues: &[Issue], got: &[Got], task: u16) -> Result<(), Fail> {
     let mut arrivals = issues.iter().filter(|issue| issue.name.task == task);
     let mut posts = got.iter();
-    let (mut number, mut started): (u32, u32) = (0, 0);
+    let mut number: u32 = 0;
     for entry in trace {
         match entry {
             Entry::Arrive(issued) if issued.name().task == task => {
@@ -192,11 +147,6 @@ fn judge_order(trace: &[Entry], issues: &[Issue], got: &[Got], task: u16) -> Res
                     "another arrival",
                 )?;
                 require(issue.name.seq == number, "a gap")?;
-            }
-            Entry::Start(name) if name.task == task => {
-                // one that is tried again is the last that was started
-                require(name.seq >= started, "started out of order")?;
-                started = name.seq;
             }
             Entry::Post(name, ..) if name.task == task => {
                 let post = posts.next().ok_or("a post is lost")?;
@@ -248,22 +198,31 @@ fn judge_controls(trace: &[Entry], logs: &[Log; 2], unit: u16) -> Result<(), Fai
     Ok(())
 }
 
+/// Goes over the trace for the course of the unit.
+fn judge_course(alloc: Global, trace: &[Entry], issues: &[Issue]) -> Result<Course, Fail> {
+    let mut course = Course::new(alloc);
+    for entry in trace {
+        course.pass(entry, issues)?;
+    }
+    Ok(course)
+}
+
 /// Judges one unit of a run: its trace, all requests to it, what each task did, and what it got of this unit.
 pub fn judge(
+    alloc: Global,
     trace: &[Entry],
     issues: &[Issue],
     logs: &[Log; 2],
     got: [&[Got]; 2],
     unit: u16,
 ) -> Result<Met, Fail> {
-    let mut met = Met {
-        listed: 0,
-        waiting: 0,
-        active: 0,
-    };
     judge_order(trace, issues, got[0], 0)?;
     judge_order(trace, issues, got[1], 1)?;
     judge_controls(trace, logs, unit)?;
+    let course = judge_course(alloc, trace, issues)?;
+    let mut met = Met::new();
+    met.retried = course.retried;
+    met.halted = course.halted;
     for issue in issues {
         let task = if issue.name.task == 0 { got[0] } else { got[1] };
         let mut posts = task.iter().filter(|post| post.name == issue.name);

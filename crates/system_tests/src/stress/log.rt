@@ -45,6 +45,20 @@ impl Log {
         }
     }
 
+    /// Whether it did a purge of a DCB, a purge of a task, a close and a reset.
+    pub fn did_each(&self) -> bool {
+        let (mut dcb, mut task, mut closed, mut reset) = (false, false, false, false);
+        for (_, control) in &self.controls {
+            match control {
+                Control::Purge(Scope::Dcb(_), _) => dcb = true,
+                Control::Purge(Scope::Task(_), _) => task = true,
+                Control::Close(_) => closed = true,
+                Control::Reset(_) => reset = true,
+            }
+        }
+        dcb && task && closed && reset
+    }
+
     /// The task did this to a unit.
     pub fn did(&mut self, unit: u16, control: Control) -> Result<(), AllocError> {
         self.controls.push((unit, control))?;

@@ -4,6 +4,7 @@ use crate::fixtures::{READ_RECORD, no_operations};
 use io_images::Code;
 use request_piece::{Name, Posted};
 use std::alloc::{AllocError, Global};
+use unit_book::Entry;
 
 /// What a channel program does: it reads the record; it does so with a count that is too large, which is a permanent
 /// error; it is outside its extents; or it is no-operations, for three turns of a worker.
@@ -17,6 +18,12 @@ pub enum Program {
 
 /// How many commands a program has that lasts.
 const COMMANDS: u32 = 40;
+
+/// The commands of the device of unit 1 after which a request is tried again, and those of unit 2 that are permanent
+/// errors.
+pub const RETRIED: [u32; 4] = [1, 5, 6, 40];
+
+pub const FAILED: [u32; 4] = [2, 7, 30, 60];
 
 /// A request that a task issued.
 #[derive(Clone, Copy, PartialEq, Eq, Debug)]
@@ -44,7 +51,27 @@ pub struct Got {
 /// A post without a start.
 pub const NEVER_STARTED: End = (Code::Purged, 0, 0, 0, 0, 0);
 
-const VIOLATED: End = (Code::ExtentViolated, 0, 0, 0, 0, 0);
+/// A post where the extent check fails.
+pub const VIOLATED: End = (Code::ExtentViolated, 0, 0, 0, 0, 0);
+
+/// The request with this name among those of a unit.
+pub fn issue_of(issues: &[Issue], name: Name) -> Option<Issue> {
+    issues.iter().find(|issue| issue.name == name).copied()
+}
+
+/// The post of a request that an entry tells of.
+pub fn post_of(entry: &Entry) -> Option<(Name, End)> {
+    match entry {
+        Entry::Post(name, csw, sense, code) => {
+            let (unit, sub) = (csw.unit.bits(), csw.sub.bits());
+            Some((
+                *name,
+                (*code, csw.address.get(), unit, sub, csw.residual, *sense),
+            ))
+        }
+        _ => None,
+    }
+}
 
 impl Got {
     /// What a task is told by a posted value.
@@ -98,31 +125,48 @@ impl Issue {
         }
     }
 
-    /// Whether one of its commands has this address behind it, and this count.
-    fn has_command(self, address: u32, count: u16) -> bool {
-        match self.program {
-            Program::Reads => (address, count) == (0x1038, 5) || (address, count) == (0x1048, 4),
-            Program::TooLong => (address, count) == (0x1038, 5) || (address, count) == (0x1048, 8),
-            Program::Outside => false,
-            Program::Lasts => {
-                address % 8 == 0 && address >= 0x1038 && address <= 0x1170 && count == 1
-            }
+    /// How many commands it has: a read searches twice, since record 0 comes first.
+    pub fn commands(self) -> u32 {
+        if self.program == Program::Lasts {
+            COMMANDS
+        } else {
+            3
         }
     }
 
-    /// Whether it may be posted so where one of its commands meets a fault of this sense.
-    pub fn fails(self, end: End, code: Code, sense: u16) -> bool {
-        end == (code, end.1, 0x0E, 0, end.4, sense) && self.has_command(end.1, end.4)
+    /// Which commands of its unit's device meet a fault.
+    pub fn faults(self) -> &'static [u32] {
+        match self.unit {
+            0 => &[],
+            1 => &RETRIED,
+            _ => &FAILED,
+        }
     }
 
-    /// Whether it may be posted so where it was halted: before its first command, or behind another than its last.
-    pub fn halted(self, end: End) -> bool {
-        let residual = if self.program == Program::Lasts { 1 } else { 0 };
-        let before = (Code::Purged, 0x1030, 0x0C, 0, 0, 0);
-        let behind = (Code::Purged, end.1, 0x0C, 0, residual, 0);
-        let last = self.own_end().1;
-        let count = if residual == 1 { 1 } else { 5 };
-        end == before || (end == behind && end.1 != last && self.has_command(end.1, count))
+    /// The address behind a command, and its count.
+    fn command(self, number: u32) -> (u32, u16) {
+        match (self.program, number) {
+            (Program::Lasts, _) => (number.saturating_mul(8).saturating_add(0x1030), 1),
+            (_, 1 | 2) => (0x1038, 5),
+            (Program::TooLong, _) => (0x1048, 8),
+            _ => (0x1048, 4),
+        }
+    }
+
+    /// How it ends where this command meets a fault of this sense.
+    pub fn failed_at(self, number: u32, code: Code, sense: u16) -> End {
+        let (address, count) = self.command(number);
+        (code, address, 0x0E, 0, count, sense)
+    }
+
+    /// How it ends where it was halted behind so many of its commands: of a search nothing is left.
+    pub fn halted_behind(self, number: u32) -> End {
+        let (address, count) = match number {
+            0 => (0x1030, 0),
+            _ => self.command(number),
+        };
+        let residual = if count == 5 { 0 } else { count };
+        (Code::Purged, address, 0x0C, 0, residual, 0)
     }
 
     /// Whether its ECB and its buffer are what they are to be with this end.

@@ -11,10 +11,19 @@ use request_piece::Scope;
 use std::alloc::{AllocError, Global};
 use std::sync::Wait;
 use std::thread;
-use unit_book::{DcbError, Mode};
+use unit_book::Mode;
 
-/// How many things a task does.
+/// How many things a task does beside a purge of a DCB, a purge of a task, a close and a reset.
 const STEPS: u32 = 32;
+
+/// The steps before which it does these.
+#[derive(Clone, Copy)]
+struct Moments {
+    purge: u32,
+    purge_task: u32,
+    close: u32,
+    reset: u32,
+}
 
 /// Numbers that look random (a linear congruential generator).
 #[derive(Drop)]
@@ -58,6 +67,16 @@ impl Random {
         }
     }
 
+    /// Four of the steps of a task.
+    fn moments(&mut self) -> Moments {
+        Moments {
+            purge: self.next() % STEPS,
+            purge_task: self.next() % STEPS,
+            close: self.next() % STEPS,
+            reset: self.next() % STEPS,
+        }
+    }
+
     fn program(&mut self) -> Program {
         match self.next() {
             0..=5 => Program::TooLong,
@@ -93,17 +112,42 @@ impl<'a, 'r, S: Site> Stage<'a, 'r, S> {
     ) -> Result<(), AllocError>
         ensures { task.new.number ≡ task.old.number }
     {
-        for _ in 0..STEPS {
+        let moments = random.moments();
+        for step in 0..STEPS {
+            self.control(rt, log, random, moments, step)?;
             match random.next() {
-                0..=35 => self.issue(rt, alloc, task, log, random)?,
-                36..=43 => collect(rt, task, log)?,
-                44..=47 => thread::yield_now(),
-                48..=50 => self.purge_task(rt, log, random)?,
-                51..=54 => self.begin(rt, log, random)?,
-                55..=57 => self.purge(rt, log, random)?,
-                58..=59 => self.close(rt, log, random)?,
+                0..=37 => self.issue(rt, alloc, task, log, random)?,
+                38..=45 => collect(rt, task, log)?,
+                46..=49 => thread::yield_now(),
+                50..=52 => self.purge_task(rt, log, random)?,
+                53..=56 => self.begin(rt, log, random)?,
+                57..=59 => self.purge(rt, log, random)?,
                 _ => self.reset(rt, log, random)?,
             }
+        }
+        Ok(())
+    }
+
+    /// Does what has its moment at this step.
+    fn control<R: Wait>(
+        &self,
+        rt: &R,
+        log: &mut Log,
+        random: &mut Random,
+        moments: Moments,
+        step: u32,
+    ) -> Result<(), AllocError> {
+        if step == moments.purge {
+            self.purge(rt, log, random)?;
+        }
+        if step == moments.purge_task {
+            self.purge_task(rt, log, random)?;
+        }
+        if step == moments.close {
+            self.close(rt, log, random)?;
+        }
+        if step == moments.reset {
+            self.reset(rt, log, random)?;
         }
         Ok(())
     }
@@ -182,25 +226,25 @@ impl<'a, 'r, S: Site> Stage<'a, 'r, S> {
         }
     }
 
-    /// Closes DCB 2, now and then.
+    /// Closes DCB 2.
     fn close<R: Wait>(&self, rt: &R, log: &mut Log, random: &mut Random) -> Result<(), AllocError> {
         let unit = random.unit();
-        if random.is_below(40) {
-            return Ok(());
-        }
         match self.system.lock_of(unit).lock(rt).close(2) {
             Ok(_) => log.did(unit, Control::Close(2)),
             Err(_) => Err(AllocError),
         }
     }
 
-    /// Clears the error flag of a DCB, if it is open.
+    /// Clears the error flag of DCB 1, which stays open, and, now and then, of DCB 2, if it is open.
     fn reset<R: Wait>(&self, rt: &R, log: &mut Log, random: &mut Random) -> Result<(), AllocError> {
         let (unit, dcb) = (random.unit(), random.dcb());
-        match self.system.lock_of(unit).lock(rt).reset(dcb) {
-            Ok(()) => log.did(unit, Control::Reset(dcb)),
-            Err(DcbError::NoSuchDcb) => Ok(()),
-            Err(DcbError::NoMemory) => Err(AllocError),
+        let mut state = self.system.lock_of(unit).lock(rt);
+        if dcb == 2 && state.reset(2).is_ok() {
+            log.did(unit, Control::Reset(2))?;
+        }
+        match state.reset(1) {
+            Ok(()) => log.did(unit, Control::Reset(1)),
+            Err(_) => Err(AllocError),
         }
     }
 }

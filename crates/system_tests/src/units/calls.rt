@@ -280,7 +280,8 @@ pub fn expect_answers<'r, S: Site, D: Device, R: Wait + Abort + AllocGlobal>(
     requires { S.rows.units ≡ 2 }
 {
     for (at, (call, wanted)) in table.iter().enumerate() {
-        assert_eq!(rt; answer(rt, system, tasks, *call)?, *wanted, "{at}");
+        let found = answer(rt, system, tasks, *call)?;
+        assert!(rt; found == *wanted, "{at}: {}", found.0);
     }
     Ok(())
 }

@@ -78,6 +78,11 @@ fn tells_of(entry: &Entry, other: Hold) -> bool {
     }
 }
 
+/// How many entries of a trace tell of this purge or close of DCB 1.
+fn times_told(trace: &[Entry], other: Hold) -> usize {
+    trace.iter().filter(|entry| tells_of(entry, other)).count()
+}
+
 /// Purges or closes DCB 1 of unit 0, and asserts that it answers what it is to with this request active, and that the
 /// trace tells of it.
 fn disturb<S: Site, D: Device, R: Wait + Abort>(
@@ -89,13 +94,9 @@ fn disturb<S: Site, D: Device, R: Wait + Abort>(
     requires { S.rows.units ≡ 2 }
 {
     let mut state = system.lock_of(0).lock(rt);
-    assert_eq!(rt; held(rt, &mut state, other)?, expected(other, active));
-    let told = state
-        .book()
-        .trace()
-        .iter()
-        .filter(|entry| tells_of(entry, other));
-    assert_eq!(rt; told.count(), 1);
+    let answer = held(rt, &mut state, other)?;
+    let told = times_told(state.book().trace(), other);
+    assert!(rt; answer == expected(other, active) && told == 1);
     Ok(())
 }
 
@@ -148,8 +149,41 @@ fn starts_behind_close<S: Site, D: Device, R: Wait>(rt: &R, system: &System<'_, 
     starts
 }
 
-/// Does all calls, a purge or a close before the one at a place, and then all that is left. Asserts that each request has
-/// one post, and that nothing was started behind a close.
+/// Does all calls, and a purge or a close before the one at a place.
+fn do_all<'r, S: Site, D: Device, R: Wait + Abort + AllocGlobal>(
+    rt: &R,
+    system: &System<'r, S, D>,
+    tasks: &mut [Task<'r, S>],
+    calls: &[(Call, Option<Name>)],
+    place: usize,
+    other: Hold,
+) -> Result<(), Fail>
+    requires { S.rows.units ≡ 2 }
+{
+    for (at, (call, active)) in calls.iter().enumerate() {
+        if at == place {
+            disturb(rt, system, other, *active)?;
+        }
+        answer(rt, system, tasks, *call)?;
+    }
+    Ok(())
+}
+
+/// Does all that is left. Asserts that each request has one post, and that nothing was started behind a close.
+fn expect_posts<'r, S: Site, D: Device, R: Wait + Abort + AllocGlobal>(
+    rt: &R,
+    system: &System<'r, S, D>,
+    tasks: &mut [Task<'r, S>],
+) -> Result<(), Fail>
+    requires { S.rows.units ≡ 2 }
+{
+    answer(rt, system, tasks, Call::Hold(0, Hold::Settle))?;
+    let counts = posts(rt, system, tasks)?;
+    assert!(rt; counts == [1; 4] && starts_behind_close(rt, system) == 0);
+    Ok(())
+}
+
+/// Does all calls, a purge or a close before the one at a place, and then all that is left.
 fn run<S: Site, D: Device, R: Wait + Abort + AllocGlobal>(
     rt: &R,
     rows: &mut Rows,
@@ -164,18 +198,8 @@ fn run<S: Site, D: Device, R: Wait + Abort + AllocGlobal>(
     requires two { S.rows.units ≡ 2 }
 {
     let (system, mut tasks, _) = System::<S, D>::new(rt.alloc(), rows, books)?;
-    for (at, (call, active)) in calls.iter().enumerate() {
-        if at == place {
-            disturb(rt, &system, other, *active)?;
-        }
-        answer(rt, &system, tasks.as_mut_slice(), *call)?;
-    }
-    let settle = Call::Hold(0, Hold::Settle);
-    answer(rt, &system, tasks.as_mut_slice(), settle)?;
-    let counts = posts(rt, &system, tasks.as_mut_slice())?;
-    assert_eq!(rt; counts, [1; 4], "{place}");
-    assert_eq!(rt; starts_behind_close(rt, &system), 0, "{place}");
-    Ok(())
+    do_all(rt, &system, tasks.as_mut_slice(), calls, place, other)?;
+    expect_posts(rt, &system, tasks.as_mut_slice())
 }
 
 /// Two tapes, whose programs are of one command.

@@ -104,6 +104,23 @@ fn books_again(alloc: Global) -> Result<Vec<UnitBook<ToyBlock>>, AllocError>
     Ok(books)
 }
 
+/// Asserts that the list of a system's units can be had, once more where there is no memory for it, and what their traces
+/// tell of: an opening, an arrival, a start, a run and a post; and on unit 1 an opening and an arrival.
+fn expect_units<S: Site>(
+    rt: &impl Abort,
+    system: System<'_, S, ToyBlock>,
+) -> Result<(), AllocError> {
+    let units = match system.into_units() {
+        Ok(units) => units,
+        Err(failed) => failed.value.into_units()?,
+    };
+    assert!(rt; units.len() == 2);
+    for (unit, entries) in units.iter().zip([5, 2]) {
+        assert!(rt; unit.book().trace().len() == entries);
+    }
+    Ok(())
+}
+
 /// Runs a system of these rows and books to its end, from what is handed back where there is no memory for the list of its
 /// units. Hands the books back where there is none for the system.
 fn run_on<S: Site, R: Wait + Abort + AllocGlobal>(
@@ -121,17 +138,9 @@ fn run_on<S: Site, R: Wait + Abort + AllocGlobal>(
         Ok(made) => made,
         Err(failed) => return Ok(Some(failed.value)),
     };
-    assert_eq!(rt; (tasks.len(), handlers.len()), (2, 8));
+    assert!(rt; tasks.len() == 2 && handlers.len() == 8);
     expect_answers(rt, &system, tasks.as_mut_slice(), &TO_THEIR_ENDS)?;
-    let units = match system.into_units() {
-        Ok(units) => units,
-        Err(failed) => failed.value.into_units()?,
-    };
-    assert_eq!(rt; units.len(), 2);
-    // an opening, an arrival, a start, a run and a post; and on unit 1 an opening and an arrival
-    for (unit, entries) in units.iter().zip([5, 2]) {
-        assert_eq!(rt; unit.book().trace().len(), entries);
-    }
+    expect_units(rt, system)?;
     Ok(None)
 }
 

@@ -17,6 +17,19 @@ const HALTED: [(Call, Answer); 4] = [
 ];
 
 /// The halted request comes back when the handlers alone are served.
+fn expect_halted<'r, S: Site + Send + Sync, R: Threads + Wait + Sync + Abort>(
+    rt: &R,
+    system: &System<'r, S, Disk>,
+    handlers: Vec<IscTaker<'r, S>>,
+    tasks: &mut [Task<'r, S>],
+) -> Result<(), Fail> {
+    let task = tasks.first_mut().ok_or("no task")?;
+    let posted = halted(rt, system, handlers, task)?.ok_or("no posted value")?;
+    assert!(rt; ended(&posted) == ("halted before its first command", R1));
+    Ok(())
+}
+
+/// Halts a request, and serves the handlers.
 fn steps<S: Site + Send + Sync, R: Threads + Wait + Sync + Abort + AllocGlobal>(
     rt: &R,
     rows: &mut Rows,
@@ -29,10 +42,7 @@ fn steps<S: Site + Send + Sync, R: Threads + Wait + Sync + Abort + AllocGlobal>(
 {
     let (system, mut tasks, handlers) = System::<S, Disk>::new(rt.alloc(), rows, books)?;
     expect_answers(rt, &system, tasks.as_mut_slice(), &HALTED)?;
-    let task = tasks.first_mut().ok_or("no task")?;
-    let posted = halted(rt, &system, handlers, task)?.ok_or("no posted value")?;
-    assert_eq!(rt; ended(&posted), ("halted before its first command", R1));
-    Ok(())
+    expect_halted(rt, &system, handlers, tasks.as_mut_slice())
 }
 
 /// Serves the handlers in a thread of their own until the task has collected.

@@ -36,15 +36,12 @@ fn expect_opening<S: Site, D: Device>(
 ) {
     let before = unit.book().trace().len();
     let answer = unit.open(true, extents);
-    assert_eq!(rt; answer, wanted);
     let trace = unit.book().trace();
-    match answer {
-        Ok(dcb) => {
-            assert!(rt; tells_of(trace, dcb, extents));
-            assert_eq!(rt; unit.book().dcb_state(dcb), DcbState::Open);
-        }
-        Err(_) => assert_eq!(rt; trace.len(), before),
-    }
+    let is_told = match answer {
+        Ok(dcb) => tells_of(trace, dcb, extents) && unit.book().dcb_state(dcb) == DcbState::Open,
+        Err(_) => trace.len() == before,
+    };
+    assert!(rt; answer == wanted && is_told);
 }
 
 /// Opens DCBs of unit 0, whose DCB 1 is open, and asserts that each is answered as it is to be.
@@ -92,6 +89,16 @@ fn fill<S: Site, R: Wait + Abort + AllocGlobal>(
     Ok(())
 }
 
+/// Opens DCB 2 of a locked unit, and once more where there was no memory for it.
+fn expect_opened<S: Site>(rt: &impl Abort, unit: &mut UnitState<'_, S, Disk>) {
+    let track = [Extent::read(&TRACK)];
+    if let Err(error) = unit.open(true, &track) {
+        assert!(rt; error == OpenError::NoMemory && unit.book().trace().len() == 1);
+        expect_opening(rt, unit, &track, Ok(2));
+    }
+    assert!(rt; tells_of(unit.book().trace(), 2, &track));
+}
+
 /// Opens a DCB of unit 0, and once more where there was no memory for it.
 fn open_again<S: Site, R: Wait + Abort + AllocGlobal>(
     rt: &R,
@@ -105,13 +112,7 @@ fn open_again<S: Site, R: Wait + Abort + AllocGlobal>(
 {
     let (system, _, _) = System::<S, Disk>::new(rt.alloc(), rows, books)?;
     let mut unit = system.lock_of(0).lock(rt);
-    let track = [Extent::read(&TRACK)];
-    if let Err(error) = unit.open(true, &track) {
-        assert_eq!(rt; error, OpenError::NoMemory);
-        assert_eq!(rt; unit.book().trace().len(), 1);
-        expect_opening(rt, &mut *unit, &track, Ok(2));
-    }
-    assert!(rt; tells_of(unit.book().trace(), 2, &track));
+    expect_opened(rt, &mut *unit);
     Ok(())
 }
 

@@ -179,6 +179,15 @@ fn served<'r, S: Site + Send + Sync, R: Threads + Wait + Sync>(
     )
 }
 
+/// Asserts that unit 0 was held up, and that the task collected of unit 1 first.
+fn expect_collected(rt: &impl Abort, barrier: &Barrier, got: [Collected; 2]) {
+    assert!(rt; got == [Some((1, Code::Ended)), Some((0, Code::Ended))]);
+    assert!(rt;
+        !barrier.gave_up.load(Ordering::SeqCst),
+        "it was held up to the end"
+    );
+}
+
 /// The report of the run.
 fn ended<S: Site + Send + Sync, R: Threads + Wait + Sync + Abort + AllocGlobal>(
     rt: &R,
@@ -195,15 +204,24 @@ fn ended<S: Site + Send + Sync, R: Threads + Wait + Sync + Abort + AllocGlobal>(
     let (system, tasks, handlers) = System::<S, ToyBlock>::new(rt.alloc(), rows, books)?;
     let barrier = Barrier::new();
     let (tasks, got) = served(rt, rt.alloc(), &system, handlers, tasks, &barrier)?;
-    assert_eq!(rt; got, [Some((1, Code::Ended)), Some((0, Code::Ended))]);
-    assert!(rt;
-        !barrier.gave_up.load(Ordering::SeqCst),
-        "it was held up to the end"
-    );
+    expect_collected(rt, &barrier, got);
     match finish(rt, rt.alloc(), system, tasks) {
         Ok(report) => Ok(report),
         Err(_) => Err(AllocError),
     }
+}
+
+/// Asserts that the report lists the second post of unit 0, and that nobody purged, closed or reset a unit.
+fn expect_report<R: Abort + AllocGlobal>(rt: &R, report: &Report<ToyBlock>) -> Result<(), Fail>
+    requires { IsFor 2 1 report.now }
+{
+    let first = listed(rt.alloc(), report, 0)?;
+    let second = listed(rt.alloc(), report, 1)?;
+    assert!(rt; first.as_slice() == [(2, Code::Ended, 0xC1)].as_slice() && second.is_empty());
+    for book in report.units() {
+        assert!(rt; is_undisturbed(book.trace()));
+    }
+    Ok(())
 }
 
 /// The end of the run gives the post that the task has not collected. It refuses the wrong bodies of workers_serve and of
@@ -213,12 +231,5 @@ fn units_run_side_by_side(rt: HostRuntime) -> Result<(), Fail> {
     let mut rows = Rows::new(rt.alloc(), 1, 2, 2, 2)?;
     let books = tapes(rt.alloc(), 2)?;
     let report = ended::<Brand, _>(&rt, &mut rows, books)?;
-    let first = listed(rt.alloc(), &report, 0)?;
-    assert_eq!(rt; first.as_slice(), [(2, Code::Ended, 0xC1)].as_slice());
-    let second = listed(rt.alloc(), &report, 1)?;
-    assert_eq!(rt; second.len(), 0);
-    for book in report.units() {
-        assert!(rt; is_undisturbed(book.trace()));
-    }
-    Ok(())
+    expect_report(&rt, &report)
 }

@@ -137,6 +137,47 @@ fn is_left_alone<S: Site, R: Wait>(rt: &R, system: &System<'_, S, Disk>, unit: u
     is_undisturbed(system.lock_of(unit).lock(rt).book().trace())
 }
 
+/// Asserts that units were left alone, and requests end, as an outcome says, with this behind a purge of unit 0.
+fn expect_what_follows<'r, S: Site, R: Wait + Abort + AllocGlobal>(
+    rt: &R,
+    system: &System<'r, S, Disk>,
+    tasks: &mut [Task<'r, S>],
+    active: Table,
+    outcome: &Outcome,
+) -> Result<(), Fail>
+    requires { S.rows.units ≡ 2 }
+{
+    let left_alone = [is_left_alone(rt, system, 0), is_left_alone(rt, system, 1)];
+    assert!(rt; left_alone == outcome.left_alone);
+    for table in &outcome.then {
+        expect_answers(rt, system, tasks, table)?;
+    }
+    if !left_alone[0] {
+        expect_answers(rt, system, tasks, active)?;
+    }
+    Ok(())
+}
+
+/// Purges task 0 of two units, and asserts that what comes of it is one of these outcomes.
+fn expect_one_of<'r, S: Site, R: Wait + Abort + AllocGlobal>(
+    rt: &R,
+    system: &System<'r, S, Disk>,
+    tasks: &mut [Task<'r, S>],
+    mode: Mode,
+    active: Table,
+    outcomes: &[Outcome],
+) -> Result<(), Fail>
+    requires { S.rows.units ≡ 2 }
+{
+    let answered = answer(rt, system, tasks, Call::PurgeTask(0, mode))?;
+    for outcome in outcomes {
+        if outcome.answer == answered {
+            return expect_what_follows(rt, system, tasks, active, outcome);
+        }
+    }
+    Err(Fail::from("a purge of a task with another outcome"))
+}
+
 /// Purges task 0, and asserts that what comes of it is one of these outcomes, with this behind a purge of unit 0.
 fn expect_outcome<S: Site, R: Wait + Abort + AllocGlobal>(
     rt: &R,
@@ -152,23 +193,8 @@ fn expect_outcome<S: Site, R: Wait + Abort + AllocGlobal>(
     requires two { S.rows.units ≡ 2 }
 {
     let (system, mut tasks, _) = System::<S, Disk>::new(rt.alloc(), rows, books)?;
-    let tasks = tasks.as_mut_slice();
-    expect_answers(rt, &system, tasks, &TWO_UNITS)?;
-    let answered = answer(rt, &system, tasks, Call::PurgeTask(0, mode))?;
-    for outcome in outcomes {
-        if outcome.answer == answered {
-            let left_alone = [is_left_alone(rt, &system, 0), is_left_alone(rt, &system, 1)];
-            assert_eq!(rt; left_alone, outcome.left_alone);
-            for table in &outcome.then {
-                expect_answers(rt, &system, tasks, table)?;
-            }
-            if !left_alone[0] {
-                expect_answers(rt, &system, tasks, active)?;
-            }
-            return Ok(());
-        }
-    }
-    Err(Fail::from("a purge of a task with another outcome"))
+    expect_answers(rt, &system, tasks.as_mut_slice(), &TWO_UNITS)?;
+    expect_one_of(rt, &system, tasks.as_mut_slice(), mode, active, outcomes)
 }
 
 /// It refuses the wrong bodies of workers_act_and_add_nothing for a purge of a task, which does nothing or purges another.

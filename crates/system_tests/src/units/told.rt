@@ -68,6 +68,23 @@ fn collected<'t, 'r, S: Site, R: Wait>(
 }
 
 /// Three requests are served, and each post is there when the gate is told of it.
+fn expect_told<'r, S: Site, R: Wait + Abort + AllocGlobal>(
+    rt: &R,
+    system: &System<'r, S, Disk>,
+    handlers: &mut [IscTaker<'r, S>],
+    tasks: &mut [Task<'r, S>],
+) -> Result<(), Fail>
+    requires { 0 < S.rows.units }
+{
+    let task = tasks.first_mut().ok_or("no task")?;
+    for _ in 0..3 {
+        issue(rt, rt.alloc(), task, 0, Kind::Disk)?.map_err(|_| AllocError)?;
+    }
+    assert!(rt; collected(rt, system, handlers, task) == 3);
+    Ok(())
+}
+
+/// Serves three requests of task 0.
 fn steps<S: Site, R: Wait + Abort + AllocGlobal>(
     rt: &R,
     rows: &mut Rows,
@@ -79,13 +96,7 @@ fn steps<S: Site, R: Wait + Abort + AllocGlobal>(
     requires two { S.rows.units ≡ 2 }
 {
     let (system, mut tasks, mut handlers) = System::<S, Disk>::new(rt.alloc(), rows, books)?;
-    let task = tasks.first_mut().ok_or("no task")?;
-    for _ in 0..3 {
-        issue(rt, rt.alloc(), task, 0, Kind::Disk)?.map_err(|_| AllocError)?;
-    }
-    let posts = collected(rt, &system, handlers.as_mut_slice(), task);
-    assert_eq!(rt; posts, 3);
-    Ok(())
+    expect_told(rt, &system, handlers.as_mut_slice(), tasks.as_mut_slice())
 }
 
 /// It refuses a worker that does not tell its gate of a post, tells of it before it is sent, or tells of another.

@@ -36,7 +36,39 @@ fn runs(alloc: Global, trace: &[Entry]) -> Result<Vec<u32>, AllocError> {
     Ok(runs)
 }
 
-/// A worker serves a program of 64 commands for four turns, of 16 commands each, and then for one more.
+/// Task 0 issues a program of 256 commands to unit 0.
+fn issue_program<S: Site, R: Wait + AllocGlobal>(
+    rt: &R,
+    tasks: &mut [Task<'_, S>],
+) -> Result<(), Fail>
+    requires { S.rows.units ≡ 2 }
+{
+    let task = tasks.first_mut().ok_or("no task")?;
+    let image = no_operations(rt.alloc(), &READ_RECORD, 256)?;
+    issue_over(rt, rt.alloc(), task, 0, 1, &image)?.map_err(|_| AllocError)?;
+    Ok(())
+}
+
+/// A worker serves unit 0 for so many turns, behind which the program has ended, 64 commands a turn.
+fn expect_turns<S: Site, R: Wait + Abort + AllocGlobal>(
+    rt: &R,
+    system: &System<'_, S, Disk>,
+    turns: u32,
+) -> Result<(), Fail>
+    requires { S.rows.units ≡ 2 }
+{
+    let gate = Turns {
+        stop: Stop::new(),
+        left: AtomicU32::new(turns),
+    };
+    serve_channel(rt, system, &[0], &gate, &gate.stop);
+    let unit = system.lock_of(0).lock(rt);
+    let runs = runs(rt.alloc(), unit.book().trace())?;
+    assert!(rt; runs.as_slice() == [64; 4].as_slice() && unit.book().pending());
+    Ok(())
+}
+
+/// A worker serves a program of 256 commands for four turns, of 64 commands each, and then for one more.
 fn steps<S: Site, R: Wait + Abort + AllocGlobal>(
     rt: &R,
     rows: &mut Rows,
@@ -48,26 +80,14 @@ fn steps<S: Site, R: Wait + Abort + AllocGlobal>(
     requires two { S.rows.units ≡ 2 }
 {
     let (system, mut tasks, _) = System::<S, Disk>::new(rt.alloc(), rows, books)?;
-    let task = tasks.first_mut().ok_or("no task")?;
-    let image = no_operations(rt.alloc(), &READ_RECORD, 64)?;
-    issue_over(rt, rt.alloc(), task, 0, 1, &image)?.map_err(|_| AllocError)?;
-    for turns in [4, 1] {
-        let gate = Turns {
-            stop: Stop::new(),
-            left: AtomicU32::new(turns),
-        };
-        serve_channel(rt, &system, &[0], &gate, &gate.stop);
-        let unit = system.lock_of(0).lock(rt);
-        let runs = runs(rt.alloc(), unit.book().trace())?;
-        assert_eq!(rt; runs.as_slice(), [16; 4].as_slice());
-        assert!(rt; unit.book().pending());
-    }
-    Ok(())
+    issue_program(rt, tasks.as_mut_slice())?;
+    expect_turns(rt, &system, 4)?;
+    expect_turns(rt, &system, 1)
 }
 
 /// It refuses another number of commands in a turn.
 #[test]
-fn turns_of_sixteen_commands(rt: HostRuntime) -> Result<(), Fail> {
+fn turns_of_sixty_four_commands(rt: HostRuntime) -> Result<(), Fail> {
     let mut rows = Rows::new(rt.alloc(), 1, 2, 1, 1)?;
     let books = disks(rt.alloc(), 1)?;
     steps::<Brand, _>(&rt, &mut rows, books)

@@ -4,8 +4,10 @@ ghost use Rattle.std.specs.Prelude.{◌≡◌, ◌<◌};
 ghost use Rattle.excp_system.specs.Opening.{AreBooks, AreFresh, site_of};
 
 use super::*;
-use device_port::Kind;
+use crate::fixtures::{READ_RECORD, TRACK, fault, faulty_disks, issue_over};
+use device_port::Fault;
 use excp_system::{Gate, IscTaker, Point, Stop, serve_channel, serve_isc};
+use io_images::Extent;
 use std::cell::Cell;
 use unit_book::OpenError;
 
@@ -48,7 +50,7 @@ impl Gate for OneTurn {
 /// gate was told that there was no memory.
 fn serve_once<'r, S: Site, R: Wait>(
     rt: &R,
-    system: &System<'r, S, ToyBlock>,
+    system: &System<'r, S, Disk>,
     handlers: &mut [IscTaker<'r, S>],
 ) -> u32
     requires { 0 < S.rows.units }
@@ -68,7 +70,7 @@ fn serve_once<'r, S: Site, R: Wait>(
 /// Serves unit 0 until the task collects: how that request ended, the turn, and how many calls were told of by then.
 fn served<'r, S: Site, R: Wait>(
     rt: &R,
-    system: &System<'r, S, ToyBlock>,
+    system: &System<'r, S, Disk>,
     handlers: &mut [IscTaker<'r, S>],
     task: &mut Task<'r, S>,
 ) -> Option<(Code, u32, u32)>
@@ -87,50 +89,112 @@ fn served<'r, S: Site, R: Wait>(
 /// Opens so many DCBs more on unit 0.
 fn open_more<S: Site, R: Wait>(
     rt: &R,
-    system: &System<'_, S, ToyBlock>,
+    system: &System<'_, S, Disk>,
     more: u16,
 ) -> Result<(), OpenError>
     requires { 0 < S.rows.units }
 {
     for _ in 0..more {
-        system.lock_of(0).lock(rt).open(false, &[])?;
+        let extents = [Extent::read(&TRACK)];
+        system.lock_of(0).lock(rt).open(false, &extents)?;
     }
     Ok(())
 }
 
-/// Issues a request to unit 0, on which so many DCBs more are opened, and serves it. It is posted in the first turn, and
-/// a turn later for each call without memory, of which the gate was told.
+/// What a request meets.
+#[derive(Clone, Copy, PartialEq, Eq)]
+enum Meets {
+    Nothing,
+    /// A fault of its first command, which is tried again.
+    Fault,
+    /// It is outside its extents.
+    Violation,
+}
+
+/// How many DCBs are opened more, and what the request meets, which say which call finds its trace full; how it ends, and
+/// in which turn where there is memory.
+type Case = (u16, Meets, Code, u32);
+
+/// The trace is full at an interruption, at a run and at a take; at a start once more, since the active request takes the
+/// one place of its book; and at a start that posts.
+const CASES: [Case; 5] = [
+    (0, Meets::Nothing, Code::Ended, 0),
+    (1, Meets::Nothing, Code::Ended, 0),
+    (2, Meets::Nothing, Code::Ended, 0),
+    (0, Meets::Fault, Code::Ended, 1),
+    (1, Meets::Violation, Code::ExtentViolated, 0),
+];
+
+/// The task issues to unit 0 a request that meets this.
+fn issue_one<S: Site, R: Wait + AllocGlobal>(
+    rt: &R,
+    task: &mut Task<'_, S>,
+    meets: Meets,
+) -> Result<(), Fail>
+    requires { 0 < S.rows.units }
+{
+    let mut image = READ_RECORD;
+    image[32] = if meets == Meets::Violation { 1 } else { 0 };
+    issue_over(rt, rt.alloc(), task, 0, 1, &image)?.map_err(|_| AllocError)?;
+    Ok(())
+}
+
+/// Issues the request of a case to unit 0, and serves it. It is posted in its turn, and a turn later for each call
+/// without memory, of which the gate was told.
+fn expect_served<'r, S: Site, R: Wait + Abort + AllocGlobal>(
+    rt: &R,
+    system: &System<'r, S, Disk>,
+    handlers: &mut [IscTaker<'r, S>],
+    tasks: &mut [Task<'r, S>],
+    case: &Case,
+) -> Result<(), Fail>
+    requires { 0 < S.rows.units }
+{
+    let (more, meets, ends, in_turn) = *case;
+    let task = tasks.first_mut().ok_or("no task")?;
+    open_more(rt, system, more)?;
+    issue_one(rt, task, meets)?;
+    let (code, turn, lacks) = served(rt, system, handlers, task).ok_or("no posted value")?;
+    assert!(rt; code == ends && turn == lacks.saturating_add(in_turn));
+    Ok(())
+}
+
+/// Serves the request of a case on a system over these rows and books.
 fn steps<S: Site, R: Wait + Abort + AllocGlobal>(
     rt: &R,
     rows: &mut Rows,
-    books: Vec<UnitBook<ToyBlock>>,
-    more: u16,
+    books: Vec<UnitBook<Disk>>,
+    case: &Case,
 ) -> Result<(), Fail>
     requires site { S.rows ≡ site_of rows.old }
     requires fresh { AreFresh rows.old }
     requires books { AreBooks S.rows.units books.items }
     requires two { S.rows.units ≡ 2 }
 {
-    let (system, mut tasks, mut handlers) = System::<S, ToyBlock>::new(rt.alloc(), rows, books)?;
-    let task = tasks.first_mut().ok_or("no task")?;
-    open_more(rt, &system, more)?;
-    issue(rt, rt.alloc(), task, 0, Kind::Tape)?.map_err(|_| AllocError)?;
-    let posted = served(rt, &system, handlers.as_mut_slice(), task);
-    let (code, turn, lacks) = posted.ok_or("no posted value")?;
-    assert_eq!(rt; code, Code::Ended);
-    assert_eq!(rt; lacks, turn, "{more}");
-    Ok(())
+    let (system, mut tasks, mut handlers) = System::<S, Disk>::new(rt.alloc(), rows, books)?;
+    expect_served(
+        rt,
+        &system,
+        handlers.as_mut_slice(),
+        tasks.as_mut_slice(),
+        case,
+    )
 }
 
 /// A worker's gate is told of each call without memory, and with memory again everything is posted: run it with each
-/// allocation refused in turn. How many DCBs are opened says which call finds its trace full. Where another call is
-/// refused it ends with that error.
+/// allocation refused in turn. Where another call is refused it ends with that error.
 #[test]
 fn gate_is_told_of_want_of_memory(rt: HostRuntime) -> Result<(), Fail> {
-    for more in 0..3 {
+    let failing = [fault(1, 0x1000)];
+    for case in &CASES {
         let mut rows = Rows::new(rt.alloc(), 1, 2, 1, 1)?;
-        let books = tapes(rt.alloc(), 1)?;
-        steps::<Brand, _>(&rt, &mut rows, books, more)?;
+        let faults: &[Fault] = if case.1 == Meets::Fault {
+            &failing
+        } else {
+            &[]
+        };
+        let books = faulty_disks(rt.alloc(), faults, 1)?;
+        steps::<Brand, _>(&rt, &mut rows, books, case)?;
     }
     Ok(())
 }

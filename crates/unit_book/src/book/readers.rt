@@ -2,7 +2,7 @@
 
 ghost use Rattle.std.specs.Prelude.{◌≡◌, ◌≤◌, ◌<◌, IsTrue, ◌↔◌, reverse, length};
 ghost use Rattle.unit_book.specs.Book.{occupancy, is_pending};
-ghost use Rattle.unit_book.specs.Dcbs.{dcb_state, flag};
+ghost use Rattle.unit_book.specs.Dcbs.{dcb_state, flag, mask_of};
 ghost use Rattle.unit_book.specs.Media.{device};
 ghost use Rattle.unit_book.specs.Trace.{waiting};
 
@@ -82,6 +82,13 @@ impl<D: Device> UnitBook<D> {
         ensures { result ≡ flag dcb self.now.trace }
     {
         self.ledger.in_error(dcb)
+    }
+
+    /// The file mask under which the programs of the DCB with a number run (profile).
+    pub fn mask(&self, dcb: u16) -> u8
+        ensures { result ≡ mask_of dcb self.now.trace }
+    {
+        self.ledger.mask(dcb)
     }
 
     /// How many entries the trace has room for.

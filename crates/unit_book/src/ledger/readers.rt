@@ -4,7 +4,7 @@ ghost use Rattle.std.specs.Prelude.{◌≡◌, ◌≤◌, ◌<◌, IsTrue, ◌�
 ghost use Rattle.request_piece.specs.declared.piece.Piece.{Piece};
 ghost use Rattle.unit_book.specs.Answers.{takes};
 ghost use Rattle.unit_book.specs.Book.{running_name, occupancy, is_pending};
-ghost use Rattle.unit_book.specs.Dcbs.{dcb_state, flag, is_refused, opened_count};
+ghost use Rattle.unit_book.specs.Dcbs.{dcb_state, flag, is_refused, mask_of, opened_count};
 ghost use Rattle.unit_book.specs.Media.{device};
 ghost use Rattle.unit_book.specs.Trace.{waiting};
 
@@ -113,6 +113,13 @@ impl<D: Device> Ledger<D> {
             mounted.heads(),
             extents,
         )
+    }
+
+    /// The file mask of a DCB.
+    pub fn mask(&self, dcb: u16) -> u8
+        ensures { result ≡ mask_of dcb self.now.trace }
+    {
+        self.dcbs.mask(dcb)
     }
 
     /// The state of a DCB.

@@ -4,15 +4,15 @@ use Rattle.ccw_programs.specs.Areas.{prefixed}
 use Rattle.ccw_programs.proofs.Parts.{no_part, part_more, parts_from-none}
 use Rattle.ccw_programs.proofs.areas.push_words.Goals as goal
 
-pub returns-in_default-clause-parts : goal.returns-in_default-clause-parts
-returns-in_default-clause-parts c =
-    no_part c.args.area.now c.args.skip (nat_eq c.loop-place.place 0) c.loop-place.chain _ c.loop-place.at c.args.words c.loop-place.place c.loop-place.count (omega arith) c.loop-place.invariant.told c.in_default.ensures.answer
+pub returns-in-Err-clause-parts : goal.returns-in-Err-clause-parts
+returns-in-Err-clause-parts c =
+    no_part c.args.area.now c.args.skip (nat_eq c.loop-place.place 0) c.loop-place.chain _ c.loop-place.at c.args.words c.loop-place.place c.loop-place.count (omega arith) c.loop-place.invariant.told c.in-Err.ensures.answer
 
 pub loop-place-preserved : goal.loop-place-preserved
 loop-place-preserved c = record {
-  room = omega (arith, ap length c.push.ensures, length-append c.loop-place.chain (c.in-Some.part ∷ []));
+  room = omega (arith, ap length c.push.ensures, length-append c.loop-place.chain (c.in-Ok.part ∷ []));
   told = part_more c.args.area.now c.args.skip (nat_eq c.loop-place.place 0) c.loop-place.chain _ c.loop-place.at c.args.words c.loop-place.place c.loop-place.count (omega arith) c.loop-place.invariant.told
-      c.in-Some.part c.in-Some.ensures.answer.0 c.in-Some.ensures.answer.1 c.in-Some.ensures.bound.2 ∙ rw c.push.ensures refl;
+      c.in-Ok.part c.in-Ok.ensures.answer.0 c.in-Ok.ensures.answer.1 c.in-Ok.ensures.bound.2 ∙ rw c.push.ensures refl;
 }
 
 pub returns-clause-parts : goal.returns-clause-parts

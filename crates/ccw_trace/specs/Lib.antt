@@ -1,0 +1,3 @@
+-- What stands at each place of a replay.
+pub mod Replayed
+pub mod Ties

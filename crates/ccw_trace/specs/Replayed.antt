@@ -1,0 +1,72 @@
+-- THE PLACE OF A REPLAY in the trace of a book, and what was replayed up to there (profile).
+use Rattle.std.specs.Prelude.{◌≡◌, ℕ, zero, suc, ◌+◌, ◌==◌, if◌then◌else◌, Option, Some, None, List, ◌∷◌, reverse, slice_get, take}
+use Rattle.device_port.specs.Meaning.{Meaning}
+use Rattle.io_area.specs.Storage.{Storage}
+use Rattle.request_piece.specs.declared.piece.Name.{Name}
+use Rattle.ccw_trace.specs.declared.replay.Step.{Step}
+use Rattle.ccw_trace.specs.declared.replay.Step.TheVariants.{Command, Entry as Whole, End}
+use Rattle.unit_book.specs.Book.{Book}
+use Rattle.unit_book.specs.Media.{area}
+use Rattle.unit_book.specs.Trace.{active, request_of}
+use Rattle.unit_book.specs.declared.entry.Entry.{Entry}
+use Rattle.unit_book.specs.declared.entry.Entry.TheVariants.{Post, Ran, Start}
+
+-- the book, how many of its entries were replayed, oldest first, and how many commands of the next one
+pub record Place (D : Type 0) : Type 0 where
+  pub book : Book D
+  pub done : ℕ
+  pub ran : ℕ
+
+-- a trace, newest entry first, with so many commands of the entry that comes next
+abbrev pub partly : ℕ → Option Entry → List Entry → List Entry
+partly zero next H = H
+partly (suc k) (Some (Ran n j)) H = Ran n (suc k) ∷ H
+partly (suc k) _ H = H
+
+-- what was replayed of these entries, oldest first; newest first
+abbrev pub replayed : List Entry → ℕ → ℕ → List Entry
+replayed entries done ran = partly ran (slice_get entries done) (reverse (take done entries))
+
+-- WHAT WAS REPLAYED, a trace
+abbrev pub so_far : {D : Type 0} → Place D → List Entry
+so_far p = replayed (reverse p.book.trace) p.done p.ran
+
+-- the place behind one more command of an entry that has so many
+abbrev pub behind_command : {D : Type 0} → ℕ → Place D → Place D
+behind_command commands p = if p.ran + 1 == commands then record p { done = p.done + 1; ran = 0 } else record p { ran = p.ran + 1 }
+
+-- THE NEXT PLACE: behind the next entry, or behind its next command where it is of commands that ran; the same at the
+-- end
+abbrev pub behind : {D : Type 0} → Option Entry → Place D → Place D
+behind None p = p
+behind (Some (Ran n j)) p = behind_command j p
+behind _ p = record p { done = p.done + 1; ran = 0 }
+
+abbrev pub next_place : {D : Type 0} → Place D → Place D
+next_place p = behind (slice_get (reverse p.book.trace) p.done) p
+
+-- an entry of so many commands that ran
+abbrev pub IsRan : ℕ → Option Entry → Type 0
+IsRan j (Some (Ran n k)) = k ≡ j
+IsRan j _ = ⊥
+
+-- a post of this name
+abbrev pub IsPost : Name → Option Entry → Type 0
+IsPost n (Some (Post m csw sense code)) = m ≡ n
+IsPost n _ = ⊥
+
+-- this is the storage of the active request, if there is one
+abbrev pub ShowsArea : {D : Type 0} → Meaning D → Place D → Option Storage → Type 0
+ShowsArea meaning p None = active (so_far p) ≡ None
+ShowsArea meaning p (Some m) = (n : Name) × (active (so_far p) ≡ Some n) × (m ≡ area meaning p.book.mounted (request_of n (so_far p)) (so_far p))
+
+-- a start
+abbrev pub IsStart : Option Entry → Type 0
+IsStart (Some (Start n)) = Unit {0}
+IsStart _ = ⊥
+
+-- what a step is that goes on to this entry
+abbrev pub step_to : Option Entry → Step
+step_to None = End
+step_to (Some (Ran n j)) = Command
+step_to _ = Whole

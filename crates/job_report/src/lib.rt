@@ -1,0 +1,16 @@
+//! What a run left behind, as text that a script takes again: of each unit its history, in words and as comments, and
+//! its medium, in the lines that declare it.
+#![tactic(auto)]
+
+mod characters;
+mod digits;
+mod history;
+mod medium;
+mod names;
+mod steps;
+mod units;
+mod words;
+
+pub use digits::{put_decimal, put_digits, write_bytes};
+pub use history::write_history;
+pub use units::write_units;

@@ -1,0 +1,43 @@
+//! The medium of a unit, in the lines of a script that declare it.
+
+mod disk;
+mod printer;
+mod tape;
+
+use disk::write_disk;
+use job_script::{Medium, UnitSetup};
+use printer::write_printer;
+use std::io;
+use std::io::Write;
+use tape::write_tape;
+use unit_device::UnitDevice;
+
+/// The unit that a line speaks of: its number, and its interruption subclass.
+#[derive(Clone, Copy)]
+struct Unit {
+    number: usize,
+    isc: u8,
+}
+
+/// Writes what lies on the medium of a unit: its sizes and its subclass are those of its set-up, and what lies on it is
+/// that of its device. The faults that it meets are no part of it.
+pub(crate) fn write_medium<W: Write>(
+    out: &mut W,
+    number: usize,
+    unit: &UnitSetup,
+    device: &UnitDevice,
+) -> io::Result<()> {
+    let isc = unit.isc;
+    let at = Unit { number, isc };
+    match (&unit.medium, device) {
+        (Medium::Disk(geometry, _), UnitDevice::Disk(disk)) => {
+            write_disk(out, at, *geometry, disk)
+        }
+        (Medium::Tape(bytes, _), UnitDevice::Tape(tape)) => write_tape(out, at, *bytes, tape),
+        (Medium::Printer { lines, pages }, UnitDevice::Printer(printer)) => {
+            write_printer(out, at, *lines, *pages, printer)
+        }
+        // no device comes to this: it was mounted as its set-up says
+        _ => Ok(()),
+    }
+}

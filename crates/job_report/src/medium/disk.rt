@@ -1,0 +1,115 @@
+//! The records of a disk.
+
+use super::Unit;
+use crate::digits::write_bytes;
+use ckd_disk::{Disk, Geometry, Stored};
+use device_port::Device;
+use std::io;
+use std::io::Write;
+
+/// A track, by its cylinder and its head.
+#[derive(Clone, Copy)]
+struct Track {
+    cylinder: u16,
+    head: u16,
+}
+
+impl Track {
+    /// The CCHHR of a record of it.
+    fn id(self, number: u8) -> [u8; 5] {
+        let [cylinder_high, cylinder_low] = self.cylinder.to_be_bytes();
+        let [head_high, head_low] = self.head.to_be_bytes();
+        [cylinder_high, cylinder_low, head_high, head_low, number]
+    }
+
+    /// Whether a record is the R0 that mounting puts on it.
+    fn has_mounted(self, record: &Stored<'_>) -> bool {
+        record.id() == self.id(0).as_slice()
+            && record.key().is_empty()
+            && record.content() == [0; 8].as_slice()
+    }
+
+    /// The number of a record that a line can declare: its CCHHR is of the track, and it is not R0.
+    fn number_of(self, record: &Stored<'_>) -> Option<u8> {
+        let number = *record.id().last()?;
+        (number > 0 && record.id() == self.id(number).as_slice()).then_some(number)
+    }
+}
+
+/// Writes the lines of a disk, its tracks in the order of their numbers.
+pub(super) fn write_disk<W: Write>(
+    out: &mut W,
+    unit: Unit,
+    geometry: Geometry,
+    disk: &Disk,
+) -> io::Result<()> {
+    let Geometry {
+        cylinders,
+        heads,
+        track_bytes,
+    } = geometry;
+    let Unit { number, isc } = unit;
+    writeln!(out, "disk {number} {isc} {cylinders} {heads} {track_bytes}")?;
+    for cylinder in 0..disk.cylinders() {
+        write_cylinder(out, number, disk, cylinder)?;
+    }
+    Ok(())
+}
+
+fn write_cylinder<W: Write>(
+    out: &mut W,
+    unit: usize,
+    disk: &Disk,
+    cylinder: u16,
+) -> io::Result<()> {
+    for head in 0..disk.heads() {
+        write_track(out, unit, disk, Track { cylinder, head })?;
+    }
+    Ok(())
+}
+
+/// Writes the records of a track. Of R0, which has no line, nothing is said where it is as mounting makes it.
+fn write_track<W: Write>(out: &mut W, unit: usize, disk: &Disk, track: Track) -> io::Result<()> {
+    let mut records = disk.records(track.cylinder, track.head);
+    if let Some(first) = records.next() {
+        if !track.has_mounted(&first) {
+            write_undeclared(out, track, &first)?;
+        }
+    }
+    for record in records {
+        write_record(out, unit, track, &record)?;
+    }
+    Ok(())
+}
+
+fn write_record<W: Write>(
+    out: &mut W,
+    unit: usize,
+    track: Track,
+    record: &Stored<'_>,
+) -> io::Result<()> {
+    let Some(number) = track.number_of(record) else {
+        return write_undeclared(out, track, record);
+    };
+    let Track { cylinder, head } = track;
+    write!(out, "rec {unit} {cylinder} {head} {number} ")?;
+    write_bytes(out, record.key())?;
+    out.write_all(b" ")?;
+    write_bytes(out, record.content())?;
+    out.write_all(b"\n")
+}
+
+/// Writes, as a comment, a record that no line can declare where it stands.
+fn write_undeclared<W: Write>(out: &mut W, track: Track, record: &Stored<'_>) -> io::Result<()> {
+    let Track { cylinder, head } = track;
+    write!(
+        out,
+        "# no line declares, on track {cylinder} {head}: CCHHR "
+    )?;
+    write_bytes(out, record.id())?;
+    out.write_all(b", key ")?;
+    write_bytes(out, record.key())?;
+    out.write_all(b", data ")?;
+    write_bytes(out, record.content())?;
+    out.write_all(b"\n")
+}

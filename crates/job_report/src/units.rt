@@ -1,0 +1,26 @@
+//! The units of a run, one after another.
+
+use crate::history::write_history;
+use crate::medium::write_medium;
+use job_script::{Fault, SetUp};
+use std::io::Write;
+use unit_book::UnitBook;
+use unit_device::UnitDevice;
+
+/// Writes of each unit of a script its history, with `steps` each command of it too, and its medium, as its book has them
+/// at the end of a run. The books are in the order of the units' numbers.
+pub fn write_units<W: Write>(
+    out: &mut W,
+    set_up: &SetUp,
+    books: &[UnitBook<UnitDevice>],
+    steps: bool,
+) -> Result<(), Fault> {
+    for (number, (unit, book)) in set_up.units.iter().zip(books).enumerate() {
+        let faults = steps.then_some(unit.faults.as_slice());
+        write_history(out, number, book, faults)?;
+        if write_medium(out, number, unit, book.device()).is_err() {
+            return Err(Fault::NotWritten);
+        }
+    }
+    Ok(())
+}

@@ -1,0 +1,242 @@
+//! Scripts, and behind `--` the report of each, word by word.
+
+/// Each request is waited for before the next one, so that its unit has one history.
+pub const REPORTS: &str = "\
+# a disk: one command fails once, and a read that wants too much is a permanent error
+tasks 1
+disk 0 0 1 1 40
+rec 0 0 0 1 - C1C2C3C4
+fault 0 1 0E 00 1000
+open 0 out 18000000000000000000000000000001
+area 0 001000 4200000000001028 0000000000000000 0000103000000001 0000000000000000 0000000000000001 0000000000000000 3100105040000005 0800103000000000 0600106000000004 0000000000000000 0000000001000000 0000000000000000 0000000000000000
+area 1 001000 4200000000001028 0000000000000000 0000103000000001 0000000000000000 0000000000000001 0000000000000000 3100105040000005 0800103000000000 0600106000000008 0000000000000000 0000000001000000 0000000000000000 0000000000000000
+excp 0 0 1 001000 0 001060 4
+wait 0
+excp 0 0 1 001000 1 001060 4
+--
+post 0 0 1 7F 001048 0C00 0000 0000 C1C2C3C4
+post 0 0 2 41 001048 0C40 0004 0000 C1C2C3C4
+end 2
+# unit 0: disk, 11 entries
+#     1 DCB 1 opened for output, 1 extent
+#     2 task 0 request 1 arrived for DCB 1
+#     3 task 0 request 1 started
+#     4 task 0 request 1 ran 1 command
+#     5 task 0 request 1 started again, attempt 2
+#     6 task 0 request 1 ran 3 commands
+#     7 task 0 request 1 posted 7F, CSW 001048 0C00 0000, sense 0000
+#     8 task 0 request 2 arrived for DCB 1
+#     9 task 0 request 2 started
+#    10 task 0 request 2 ran 3 commands
+#    11 task 0 request 2 posted 41, CSW 001048 0C40 0004, sense 0000
+disk 0 0 1 1 40
+rec 0 0 0 1 - C1C2C3C4
+==
+# purges, a close and resets behind what they might have met
+tasks 1
+disk 0 3 1 1 40
+rec 0 0 0 1 - C1C2C3C4
+open 0 out 18000000000000000000000000000001
+open 0 in 18000000000000000000000000000001 18000000000000000000000000000001
+area 0 001000 4200000000001028 0000000000000000 0000103000000001 0000000000000000 0000000000000001 0000000000000000 3100105040000005 0800103000000000 0600106000000004 0000000000000000 0000000001000000 0000000000000000 0000000000000000
+area 1 001000 4000000000001028 0000000000000000 0000103000000002 0000000000000000 0000000000000001 0000000000000000 3100105040000005 0800103000000000 0600106000000004 0000000000000000 0000000001000000 0000000000000000 0000000000000000
+excp 0 0 1 001000 0 001060 4
+wait 0
+purge 0 0 1 halt
+purgetask 0 0 quiesce
+close 0 0 1
+excp 0 0 1 001000 0 001060 4
+wait 0
+reset 0 0 1
+reset 0 0 2
+excp 0 0 2 001000 1 001060 4
+--
+post 0 0 1 7F 001048 0C00 0000 0000 C1C2C3C4
+post 0 0 2 48 000000 0000 0000 0000 00000000
+post 0 0 3 7F 001048 0C00 0000 0000 C1C2C3C4
+end 3
+# unit 0: disk, 16 entries
+#     1 DCB 1 opened for output, 1 extent
+#     2 DCB 2 opened for input, 2 extents
+#     3 task 0 request 1 arrived for DCB 1
+#     4 task 0 request 1 started
+#     5 task 0 request 1 ran 3 commands
+#     6 task 0 request 1 posted 7F, CSW 001048 0C00 0000, sense 0000
+#     7 purge of DCB 1 with halt, nothing active
+#     8 purge of task 0 with quiesce, nothing active
+#     9 DCB 1 closed
+#    10 task 0 request 2 arrived for DCB 1
+#    11 task 0 request 2 posted 48, CSW 000000 0000 0000, sense 0000, not started: purged
+#    12 DCB 2 reset
+#    13 task 0 request 3 arrived for DCB 2, related
+#    14 task 0 request 3 started
+#    15 task 0 request 3 ran 3 commands
+#    16 task 0 request 3 posted 7F, CSW 001048 0C00 0000, sense 0000
+disk 0 3 1 1 40
+rec 0 0 0 1 - C1C2C3C4
+==
+# a disk of two tracks: what is written is declared, but for the data of record 0 and a record of another track
+tasks 1
+disk 0 2 1 2 100
+rec 0 0 0 1 - C1C2C3C4
+rec 0 0 1 7 D1 -
+open 0 out 18000000000000000000000000000001
+area 0 001000 4200000000001028 0000000000000000 0000103000000001 0000000000000000 0000000000000000 0000000000000000 3100106040000005 0800103000000000 0500106800000008 0000000000000000 0000000000000000 0000000000000000 0000000000000000 D9F0D9F0D9F0D9F0
+area 1 001000 4200000000001028 0000000000000000 0000103000000001 0000000000000000 0000000000000000 0000000000000000 3100106040000005 0800103000000000 1D0010684000000B 1D00107800000009 0000000000000000 0000000000000000 0000000000000000 0000000001010002 C1C2C30000000000 0005000009000001 E700000000000000
+excp 0 0 1 001000 0 001060 0
+wait 0
+excp 0 0 1 001000 1 001060 0
+--
+post 0 0 1 7F 001048 0C00 0000 0000 -
+post 0 0 2 7F 001050 0C00 0000 0000 -
+end 2
+# unit 0: disk, 9 entries
+#     1 DCB 1 opened for output, 1 extent
+#     2 task 0 request 1 arrived for DCB 1
+#     3 task 0 request 1 started
+#     4 task 0 request 1 ran 2 commands
+#     5 task 0 request 1 posted 7F, CSW 001048 0C00 0000, sense 0000
+#     6 task 0 request 2 arrived for DCB 1
+#     7 task 0 request 2 started
+#     8 task 0 request 2 ran 3 commands
+#     9 task 0 request 2 posted 7F, CSW 001050 0C00 0000, sense 0000
+disk 0 2 1 2 100
+# no line declares, on track 0 0: CCHHR 0000000000, key -, data D9F0D9F0D9F0D9F0
+rec 0 0 0 1 C1 C2C3
+# no line declares, on track 0 0: CCHHR 0005000009, key -, data E7
+rec 0 0 1 7 D1 -
+==
+# tapes: one is read, one is written from its load point on, and one is empty
+tasks 1
+tape 0 0 40
+block 0 C1C2C3
+mark 0
+block 0 D1
+tape 1 7 41
+block 1 C1C2C3
+mark 1
+tape 2 0 4
+open 0 in
+open 1 out
+area 0 001000 4200000000001028 0000000000000000 0000103000000001 0000000000000000 0000000000000001 0000000000000000 0200106000000003 0000000000000000 0000000000000000 0000000000000000 0000000000000000 0000000000000000 0000000000000000
+area 1 001000 4200000000001028 0000000000000000 0000103000000001 0000000000000000 0000000000000001 0000000000000000 0100106000000002 0000000000000000 0000000000000000 0000000000000000 0000000000000000 0000000000000000 E1E2000000000000
+excp 0 0 1 001000 0 001060 3
+excp 0 1 1 001000 1 001060 2
+--
+post 0 0 1 7F 001038 0C00 0000 0000 C1C2C3
+post 0 1 1 7F 001038 0C00 0000 0000 E1E2
+end 2
+# unit 0: tape, 5 entries
+#     1 DCB 1 opened for input
+#     2 task 0 request 1 arrived for DCB 1
+#     3 task 0 request 1 started
+#     4 task 0 request 1 ran 1 command
+#     5 task 0 request 1 posted 7F, CSW 001038 0C00 0000, sense 0000
+tape 0 0 40
+block 0 C1C2C3
+# the tape stands here, behind 1 of 3 items
+mark 0
+block 0 D1
+# unit 1: tape, 5 entries
+#     1 DCB 1 opened for output
+#     2 task 0 request 1 arrived for DCB 1
+#     3 task 0 request 1 started
+#     4 task 0 request 1 ran 1 command
+#     5 task 0 request 1 posted 7F, CSW 001038 0C00 0000, sense 0000
+tape 1 7 41
+block 1 E1E2
+# the tape stands here, behind 1 of 1 items
+# unit 2: tape, 0 entries
+tape 2 0 4
+# the tape stands here, behind 0 of 0 items
+==
+# a printer: a line printed over another one, and a skip to the next page
+tasks 1
+printer 0 0 10 3
+open 0 out
+area 0 001000 4200000000001028 0000000000000000 0000103000000001 0000000000000000 0000000000000001 0000000000000000 0100106040000005 0900106840000005 8900107040000004 1100107800000003 0000000000000000 0000000000000000 C8C5D3D3D6000000 6D6D6D6D6D000000 C100FF4A00000000 5FD0F10000000000
+excp 0 0 1 001000 0 001060 0
+--
+post 0 0 1 7F 001050 0C00 0000 0000 -
+end 1
+# unit 0: printer, 5 entries
+#     1 DCB 1 opened for output
+#     2 task 0 request 1 arrived for DCB 1
+#     3 task 0 request 1 started
+#     4 task 0 request 1 ran 4 commands
+#     5 task 0 request 1 posted 7F, CSW 001050 0C00 0000, sense 0000
+printer 0 0 10 3
+# page     1 line  1 |HELLO
+# page     1 line  1 |_____
+# page     1 line  2 |A..¢
+# page     2 line  1 |¬}1
+# the paper stands at page 2, line 3
+==
+# all bytes as characters of code page 037, and a paper that stands on its second page
+tasks 1
+printer 0 0 2 2
+open 0 out
+area 0 001000 4200000000001028 0000000000000000 0000103000000001 0000000000000000 0000000000000001 0000000000000000 0900104040000080 110010C000000080 000102030405060708090A0B0C0D0E0F101112131415161718191A1B1C1D1E1F202122232425262728292A2B2C2D2E2F303132333435363738393A3B3C3D3E3F404142434445464748494A4B4C4D4E4F505152535455565758595A5B5C5D5E5F606162636465666768696A6B6C6D6E6F707172737475767778797A7B7C7D7E7F808182838485868788898A8B8C8D8E8F909192939495969798999A9B9C9D9E9FA0A1A2A3A4A5A6A7A8A9AAABACADAEAFB0B1B2B3B4B5B6B7B8B9BABBBCBDBEBFC0C1C2C3C4C5C6C7C8C9CACBCCCDCECFD0D1D2D3D4D5D6D7D8D9DADBDCDDDEDFE0E1E2E3E4E5E6E7E8E9EAEBECEDEEEFF0F1F2F3F4F5F6F7F8F9FAFBFCFDFEFF
+area 1 001000 4200000000001028 0000000000000000 0000103000000001 0000000000000000 0000000000000001 0000000000000000 8B00104000000001 0000000000000000 0000000000000000
+excp 0 0 1 001000 0 001040 0
+wait 0
+excp 0 0 1 001000 1 001040 0
+--
+post 0 0 1 7F 001040 0C00 0000 0000 -
+post 0 0 2 7F 001038 0C00 0001 0000 -
+end 2
+# unit 0: printer, 9 entries
+#     1 DCB 1 opened for output
+#     2 task 0 request 1 arrived for DCB 1
+#     3 task 0 request 1 started
+#     4 task 0 request 1 ran 2 commands
+#     5 task 0 request 1 posted 7F, CSW 001040 0C00 0000, sense 0000
+#     6 task 0 request 2 arrived for DCB 1
+#     7 task 0 request 2 started
+#     8 task 0 request 2 ran 1 command
+#     9 task 0 request 2 posted 7F, CSW 001038 0C00 0001, sense 0000
+printer 0 0 2 2
+# page     1 line  1 |................................................................ .âäàáãåçñ¢.<(+|&éêëèíîïìß!$*);¬-/ÂÄÀÁÃÅÇÑ¦,%_>?øÉÊËÈÍÎÏÌ`:#@'=\"
+# page     1 line  2 |Øabcdefghi«»ðýþ±°jklmnopqrªºæ¸Æ¤µ~stuvwxyz¡¿ÐÝÞ®^£¥·©§¶¼½¾[]¯¨´×{ABCDEFGHI.ôöòóõ}JKLMNOPQR¹ûüùúÿ\\÷STUVWXYZ²ÔÖÒÓÕ0123456789³ÛÜÙÚ.
+# the paper stands at page 2, line 1
+";
+
+/// Two tasks, each with a unit of its own and three requests to it that it does not wait for; and what is told of it, but
+/// for what happened at the units.
+pub const TAPE_AND_PRINTER: &str = "\
+tasks 2
+tape 0 3 40
+printer 1 6 10 2
+open 0 out
+open 1 out
+area 0 001000 4200000000001028 0000000000000000 0000103000000001 0000000000000000 0000000000000001 0000000000000000 0100106040000002 1F00106000000001 0000000000000000 0000000000000000 0000000000000000 0000000000000000 E1E2000000000000
+area 1 001000 4200000000001028 0000000000000000 0000103000000001 0000000000000000 0000000000000001 0000000000000000 0100106000000003 0000000000000000 0000000000000000 0000000000000000 0000000000000000 0000000000000000 C1C2C30000000000
+area 2 001000 4200000000001028 0000000000000000 0000103000000001 0000000000000000 0000000000000001 0000000000000000 0900106000000003 0000000000000000 0000000000000000 0000000000000000 0000000000000000 0000000000000000 D1D2D30000000000
+area 3 001000 4200000000001028 0000000000000000 0000103000000001 0000000000000000 0000000000000001 0000000000000000 8900106000000002 0000000000000000 0000000000000000 0000000000000000 0000000000000000 0000000000000000 F1F2000000000000
+excp 0 0 1 001000 0 001060 0
+excp 1 1 1 001000 2 001060 0
+excp 0 0 1 001000 1 001060 0
+excp 1 1 1 001000 3 001060 0
+excp 0 0 1 001000 0 001060 0
+excp 1 1 1 001000 2 001060 0
+--
+post 0 0 1 7F 001040 0C00 0001 0000 -
+post 0 0 2 7F 001038 0C00 0000 0000 -
+post 0 0 3 7F 001040 0C00 0001 0000 -
+post 1 1 1 7F 001038 0C00 0000 0000 -
+post 1 1 2 7F 001038 0C00 0000 0000 -
+post 1 1 3 7F 001038 0C00 0000 0000 -
+end 6
+tape 0 3 40
+block 0 E1E2
+mark 0
+block 0 C1C2C3
+block 0 E1E2
+mark 0
+# the tape stands here, behind 5 of 5 items
+printer 1 6 10 2
+# page     1 line  1 |JKL
+# page     1 line  2 |12
+# page     2 line  1 |JKL
+# the paper stands at page 2, line 2
+";
