@@ -203,7 +203,7 @@ fn run_of<R: Threads + Wait + Sync + AllocGlobal>(
     judge_run(rt.alloc(), &report, &logs)
 }
 
-/// Runs with 1 to 3 channel workers and 1 or 2 handlers, rows and books of this room, and 34 seeds each.
+/// Runs with 1 to 3 channel workers and 1 or 2 handlers, rows and books of this room, and 17 seeds each.
 fn runs<R: Threads + Wait + Sync + AllocGlobal>(rt: &R, room: usize) -> Result<Met, Fail>
     requires some { 1 ≤ room }
     requires few { room ≤ 65536 }
