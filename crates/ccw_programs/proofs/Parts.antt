@@ -1,34 +1,35 @@
 -- The parts of a data area put together one after another.
-use Rattle.std.proofs.Common.{◌≡◌, ℕ, suc, ◌+◌, ◌-◌, ◌<◌, min, List, [], ◌∷◌, ◌++◌, refl, ap, arith, ◌∙◌, Bool, true, false, sym, append_assoc, Option, Some, None, nat_eq}
+use Rattle.std.proofs.Common.{◌≡◌, ℕ, suc, ◌+◌, ◌-◌, ◌<◌, min, List, [], ◌∷◌, ◌++◌, refl, ap, arith, ◌∙◌, Bool, true, false, sym, append_assoc, Result, Ok, Err, nat_eq}
 use Rattle.io_area.specs.Storage.{Storage}
 use Rattle.device_port.specs.declared.chain.Segment.{Segment}
 use Rattle.device_port.specs.declared.kind.Flow.{Flow}
 use Rattle.ccw_programs.specs.declared.fetch.Link.{Link}
-use Rattle.ccw_programs.specs.Areas.{Areas, Parts, Bad, areas, joined, parts_of, preceded, prefixed, with_part, only_if, parts_from, is_usable, word_at, room_after}
+use Rattle.ccw_programs.specs.declared.rule.Rule.{Rule}
+use Rattle.ccw_programs.specs.Areas.{Areas, Parts, Bad, areas, joined, parts_of, preceded, prefixed, with_part, only_if, parts_from, is_usable, word_at, word_rule, room_after}
 
-pub prefixed-with_part : (xs : List Segment) (p : Segment) (o : Option (List Segment)) → prefixed xs (with_part p o) ≡ prefixed (xs ++ p ∷ []) o
-prefixed-with_part xs p None = refl
-prefixed-with_part xs p (Some ps) = ap Some (sym (append_assoc xs (p ∷ []) ps))
+pub prefixed-with_part : (xs : List Segment) (p : Segment) (o : Result (List Segment) Rule) → prefixed xs (with_part p o) ≡ prefixed (xs ++ p ∷ []) o
+prefixed-with_part xs p (Err rule) = refl
+prefixed-with_part xs p (Ok ps) = ap Ok (sym (append_assoc xs (p ∷ []) ps))
 
 pub parts_from-next : (m : Storage) (skip is_first : Bool) (at words place count : ℕ) → place < words →
     parts_from m skip is_first at (words - place) count ≡
-    only_if (is_usable m is_first at count)
+    only_if (is_usable m is_first at count) (word_rule m is_first at)
     (with_part (record { address = word_at m at; count = min count (room_after (word_at m at)); skip = skip })
     (parts_from m skip false (at + 4) (words - (place + 1)) (count - room_after (word_at m at))))
 unfolding parts_from
 parts_from-next m skip is_first at words place count h =
     let e : words - place ≡ suc (words - (place + 1)) = omega arith in rw e refl
 
-pub parts_from-none : (m : Storage) (skip is_first : Bool) (at words count : ℕ) → words ≡ 0 → parts_from m skip is_first at words count ≡ Some []
+pub parts_from-none : (m : Storage) (skip is_first : Bool) (at words count : ℕ) → words ≡ 0 → parts_from m skip is_first at words count ≡ Ok []
 unfolding parts_from
 parts_from-none m skip is_first at words count h = rw h refl
 
-module _ (m : Storage) (skip is_first : Bool) (old : List Segment) (whole : Option (List Segment)) (at words place count : ℕ)
+module _ (m : Storage) (skip is_first : Bool) (old : List Segment) (whole : Result (List Segment) Rule) (at words place count : ℕ)
     (more : place < words)
     (so_far : whole ≡ prefixed old (parts_from m skip is_first at (words - place) count)) where
-  pub no_part : is_usable m is_first at count ≡ false → whole ≡ None
+  pub no_part : is_usable m is_first at count ≡ false → whole ≡ Err (word_rule m is_first at)
   no_part h =
-      let e : parts_from m skip is_first at (words - place) count ≡ None = parts_from-next m skip is_first at words place count more ∙ rw h refl in
+      let e : parts_from m skip is_first at (words - place) count ≡ Err (word_rule m is_first at) = parts_from-next m skip is_first at words place count more ∙ rw h refl in
       so_far ∙ ap (prefixed old) e
 
   pub part_more : (s : Segment) → is_usable m is_first at count ≡ true →
@@ -41,25 +42,27 @@ module _ (m : Storage) (skip is_first : Bool) (old : List Segment) (whole : Opti
       parts_from-next m skip is_first at words place count more ∙ rw (h, never, rest, is) refl in
       so_far ∙ ap (prefixed old) e ∙ prefixed-with_part old s _
 
-preceded-joined : (xs : List Segment) (at : ℕ) (ps : List Segment) (rest : Areas) → preceded xs (joined at (Some ps) rest) ≡ preceded (xs ++ ps) rest
+preceded-joined : (xs : List Segment) (at : ℕ) (ps : List Segment) (rest : Areas) → preceded xs (joined at (Ok ps) rest) ≡ preceded (xs ++ ps) rest
 preceded-joined xs at ps (Parts more) = ap Parts (sym (append_assoc xs ps more))
 preceded-joined xs at ps (Bad other) = refl
 
 -- what a CCW's parts do to the areas of what is left
-module _ (flow : Flow) (m : Storage) (old new : List Segment) (whole : Areas) (l : Link) (ls : List Link)
+module _ (flow : Flow) (m : Storage) (old new : List Segment) (whole : Areas) (l : Link) (ls : List Link) (rule : Rule)
     (so_far : whole ≡ preceded old (areas flow m (l ∷ ls))) where
-  bad_part : (o : Option (List Segment)) → o ≡ parts_of flow m l.ccw → prefixed old o ≡ None → whole ≡ Bad l.at
-  bad_part None e h = so_far ∙ ap (λ k. preceded old (joined l.at k (areas flow m ls))) (sym e)
-  bad_part (Some ps) e h = absurd (cc)
+  bad_part : (o : Result (List Segment) Rule) → o ≡ parts_of flow m l.ccw → prefixed old o ≡ Err rule → whole ≡ Bad (record { at = l.at; rule = rule })
+  bad_part (Err broken) e h =
+      let same : broken ≡ rule = cc in
+      so_far ∙ ap (λ k. preceded old (joined l.at k (areas flow m ls))) (sym e) ∙ ap (λ k. Bad (record { at = l.at; rule = k })) same
+  bad_part (Ok ps) e h = absurd (cc)
 
-  pub no_parts : prefixed old (parts_of flow m l.ccw) ≡ None → whole ≡ Bad l.at
+  pub no_parts : prefixed old (parts_of flow m l.ccw) ≡ Err rule → whole ≡ Bad (record { at = l.at; rule = rule })
   no_parts h = bad_part (parts_of flow m l.ccw) refl h
 
-  good_part : (o : Option (List Segment)) → o ≡ parts_of flow m l.ccw → prefixed old o ≡ Some new → whole ≡ preceded new (areas flow m ls)
-  good_part None e h = absurd (cc)
-  good_part (Some ps) e h =
+  good_part : (o : Result (List Segment) Rule) → o ≡ parts_of flow m l.ccw → prefixed old o ≡ Ok new → whole ≡ preceded new (areas flow m ls)
+  good_part (Err broken) e h = absurd (cc)
+  good_part (Ok ps) e h =
       let same : old ++ ps ≡ new = cc in
       so_far ∙ ap (λ k. preceded old (joined l.at k (areas flow m ls))) (sym e) ∙ preceded-joined old l.at ps (areas flow m ls) ∙ ap (λ k. preceded k (areas flow m ls)) same
 
-  pub more_parts : prefixed old (parts_of flow m l.ccw) ≡ Some new → whole ≡ preceded new (areas flow m ls)
+  pub more_parts : prefixed old (parts_of flow m l.ccw) ≡ Ok new → whole ≡ preceded new (areas flow m ls)
   more_parts h = good_part (parts_of flow m l.ccw) refl h

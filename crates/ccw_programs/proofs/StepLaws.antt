@@ -12,7 +12,8 @@ use Rattle.ccw_programs.specs.declared.fetch.Fetch.TheVariants.{Refused, Transfe
 use Rattle.ccw_programs.specs.declared.context.State.{State}
 use Rattle.ccw_programs.specs.declared.context.State.TheVariants.{Running, Ended}
 use Rattle.ccw_programs.specs.declared.ending.Ending.{Ending}
-use Rattle.ccw_programs.specs.Links.{Fetched, Whole, Broken, behind, chain_by, chain_within, fetch_at, chain, total_count}
+use Rattle.ccw_programs.specs.declared.rule.Rule.{Rule}
+use Rattle.ccw_programs.specs.Links.{Fetched, Whole, Broken, behind, chain_by, chain_within, fetch_at, rule_at, chain, total_count}
 use Rattle.ccw_programs.specs.Areas.{areas, Areas, Parts, Bad}
 use Rattle.ccw_programs.specs.Place.{Place}
 use Rattle.ccw_programs.specs.Step.{Program, step, step_from, step_on_chain, step_on_areas, after, steps_within, length_of, is_running, placed, goes_on, first_of, last_of, sub_status, ending, moved}
@@ -26,19 +27,19 @@ behind-whole : (l : Link) (f : Fetched) (links : List Link) (n : ℕ) → behind
 behind-whole l (Whole ks m) links n h = (ks, ap (Whole ks) (whole-fetches (l ∷ ks) links m n h)) where
   whole-fetches : (ls ms : List Link) (i j : ℕ) → Whole ls i ≡ Whole ms j → i ≡ j
   whole-fetches ls ms i j e = cc
-behind-whole l (Broken at) links n h = absurd cc
+behind-whole l (Broken before refusal) links n h = absurd cc
 
 less : (left n : ℕ) → Later left n → Later (suc left) n
 less left n l = record { more = omega (arith, l.more); few = l.few }
 
 chain_by-later : (left place at n : ℕ) (links : List Link) (rest : Bool → ℕ → ℕ → Fetched) → suc left ≤ 4096 →
     ((may : Bool) (next to : ℕ) (ks : List Link) → rest may next to ≡ Whole ks n → Later left n) →
-    (f : Fetch) → chain_by f at place (4096 - left) rest ≡ Whole links n → Later (suc left) n
-chain_by-later left place at n links rest b more Refused e = absurd cc
-chain_by-later left place at n links rest b more (Transfer to) e = less left n (more false place to links e)
-chain_by-later left place at n links rest b more (More ccw) e =
+    (f : Fetch) (rule : Rule) → chain_by f rule at place (4096 - left) rest ≡ Whole links n → Later (suc left) n
+chain_by-later left place at n links rest b more Refused rule e = absurd cc
+chain_by-later left place at n links rest b more (Transfer to) rule e = less left n (more false place to links e)
+chain_by-later left place at n links rest b more (More ccw) rule e =
     let r = behind-whole _ _ links n e in less left n (more true (suc place) (at + 8) r.0 r.1)
-chain_by-later left place at n links rest b more (Last ccw) e = let k : 4096 - left ≡ n = cc in record { more = omega arith; few = omega arith }
+chain_by-later left place at n links rest b more (Last ccw) rule e = let k : 4096 - left ≡ n = cc in record { more = omega arith; few = omega arith }
 
 chain_within-later : (left : ℕ) (m : Storage) (may : Bool) (place at : ℕ) (links : List Link) (n : ℕ) → left ≤ 4096 →
     chain_within m left may place at ≡ Whole links n → Later left n
@@ -46,7 +47,7 @@ unfolding chain_within
 chain_within-later zero m may place at links n b h = absurd cc
 chain_within-later (suc left) m may place at links n b h =
     chain_by-later left place at n links (λ may' next to. chain_within m left may' next to) (omega arith)
-    (λ may' next to ks e. chain_within-later left m may' next to ks n (omega arith) e) (fetch_at m may place at) h
+    (λ may' next to ks e. chain_within-later left m may' next to ks n (omega arith) e) (fetch_at m may place at) (rule_at m may place at) h
 
 pub chain-later : (m : Storage) (at fetches : ℕ) (links : List Link) (n : ℕ) → fetches ≤ 4096 → chain m at fetches ≡ Whole links n → (fetches < n) × (n ≤ 4096)
 chain-later m at fetches links n b h =
@@ -94,7 +95,7 @@ module _ {D : Type 0} (meaning : Meaning D) where
   GoesLater f q = is_running q.place.state ≡ true → (f < q.place.fetched) × (q.place.fetched ≤ 4096)
 
   areas-later : (p : Program D) (links : List Link) (n f : ℕ) → f < n → n ≤ 4096 → (a : Areas) → GoesLater f (step_on_areas meaning p links n a)
-  areas-later p links n f lt le (Bad at) h = absurd cc
+  areas-later p links n f lt le (Bad refusal) h = absurd cc
   areas-later p links n f lt le (Parts parts) h =
       let flow = meaning.flow p.device (first_of links).ccw.command in
       let acted = (effect meaning p.device (first_of links).ccw.command parts p.area).acted in
@@ -104,7 +105,7 @@ module _ {D : Type 0} (meaning : Meaning D) where
       (omega arith, omega arith)
 
   fetched-later : (p : Program D) (f : ℕ) (c : Fetched) → ((links : List Link) (n : ℕ) → c ≡ Whole links n → (f < n) × (n ≤ 4096)) → GoesLater f (step_on_chain meaning p c)
-  fetched-later p f (Broken at) k h = absurd cc
+  fetched-later p f (Broken before refusal) k h = absurd cc
   fetched-later p f (Whole links n) k h = let b = k links n refl in areas-later p links n f b.0 b.1 _ h
 
   -- a step of a program that goes on fetches a CCW
@@ -275,12 +276,12 @@ module _ {D : Type 0} (meaning : Meaning D) where
   -- what no command changes of a device stays over every program
   module _ {X : Type 0} (f : D → X) (keeps : (d : D) (command : ℕ) (bytes : List ℕ) → f (meaning.act d command bytes).device ≡ f d) where
     stays-areas : (p : Program D) (links : List Link) (n : ℕ) (a : Areas) → f (step_on_areas meaning p links n a).device ≡ f p.device
-    stays-areas p links n (Bad at) = refl
+    stays-areas p links n (Bad refusal) = refl
     stays-areas p links n (Parts parts) =
         keeps p.device (first_of links).ccw.command (offered (meaning.flow p.device (first_of links).ccw.command) p.area parts)
 
     stays-chain : (p : Program D) (c : Fetched) → f (step_on_chain meaning p c).device ≡ f p.device
-    stays-chain p (Broken at) = refl
+    stays-chain p (Broken before refusal) = refl
     stays-chain p (Whole links n) = stays-areas p links n (areas (meaning.flow p.device (first_of links).ccw.command) p.area links)
 
     stays-from : (p : Program D) (s : State) → f (step_from meaning p s).device ≡ f p.device

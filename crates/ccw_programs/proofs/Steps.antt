@@ -4,6 +4,7 @@ use Rattle.device_port.specs.Meaning.{Meaning, effect}
 use Rattle.device_port.specs.declared.chain.Segment.{Segment}
 use Rattle.ccw_programs.specs.declared.fetch.Link.{Link}
 use Rattle.ccw_programs.specs.declared.context.State.TheVariants.{Running}
+use Rattle.ccw_programs.specs.declared.rule.Refusal.{Refusal}
 use Rattle.ccw_programs.specs.Links.{Whole, Broken, chain}
 use Rattle.ccw_programs.specs.Areas.{Parts, Bad, areas}
 use Rattle.ccw_programs.specs.Place.{checked_place}
@@ -14,16 +15,18 @@ module _ {D : Type 0} (meaning : Meaning D) (p : Program D) (running : p.place.s
   unfolding step
   step-running = ap (step_from meaning p) running
 
-  pub step-broken : (at : ℕ) → chain p.area p.place.next p.place.fetched ≡ Broken at → step meaning p ≡ program (checked_place p.place at) p.device p.area
-  step-broken at h = step-running ∙ ap (step_on_chain meaning p) h
+  pub step-broken : (before : List Link) (refusal : Refusal) → chain p.area p.place.next p.place.fetched ≡ Broken before refusal →
+      step meaning p ≡ program (checked_place p.place refusal.at) p.device p.area
+  step-broken before refusal h = step-running ∙ ap (step_on_chain meaning p) h
 
   module _ (links : List Link) (fetches code : ℕ) (is_chain : chain p.area p.place.next p.place.fetched ≡ Whole links fetches)
       (is_first : code ≡ (first_of links).ccw.command) where
     step-whole : step meaning p ≡ step_on_areas meaning p links fetches (areas (meaning.flow p.device code) p.area links)
     step-whole = step-running ∙ ap (step_on_chain meaning p) is_chain ∙ ap (λ k. step_on_areas meaning p links fetches (areas (meaning.flow p.device k) p.area links)) (sym is_first)
 
-    pub step-bad : (at : ℕ) → areas (meaning.flow p.device code) p.area links ≡ Bad at → step meaning p ≡ program (checked_place p.place at) p.device p.area
-    step-bad at h = step-whole ∙ ap (step_on_areas meaning p links fetches) h
+    pub step-bad : (refusal : Refusal) → areas (meaning.flow p.device code) p.area links ≡ Bad refusal →
+        step meaning p ≡ program (checked_place p.place refusal.at) p.device p.area
+    step-bad refusal h = step-whole ∙ ap (step_on_areas meaning p links fetches) h
 
     pub step-acted : (parts : List Segment) → areas (meaning.flow p.device code) p.area links ≡ Parts parts →
         step meaning p ≡ program (acted_place p.place (meaning.flow p.device code) links fetches (effect meaning p.device code parts p.area).acted)

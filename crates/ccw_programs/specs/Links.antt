@@ -9,6 +9,9 @@ use Rattle.ccw_programs.specs.declared.fetch.First.{First}
 use Rattle.ccw_programs.specs.declared.fetch.First.TheVariants.{Single, Chained, Failed}
 use Rattle.ccw_programs.specs.declared.fetch.Fetch.{Fetch}
 use Rattle.ccw_programs.specs.declared.fetch.Fetch.TheVariants.{Refused, Transfer, More, Last}
+use Rattle.ccw_programs.specs.declared.rule.Refusal.{Refusal}
+use Rattle.ccw_programs.specs.declared.rule.Rule.{Rule}
+use Rattle.ccw_programs.specs.declared.rule.Rule.TheVariants.{CcwMisaligned, CcwOutside, TransferMisaligned, TransferMisplaced, NoCommand, FlagsReserved, CountZero, ChainTooLong, FetchLimit}
 
 -- flags of a CCW
 abbrev pub chains_data : Ccw → Bool
@@ -61,28 +64,49 @@ abbrev pub fetch_at : Storage → Bool → ℕ → ℕ → Fetch
 fetch_at m may_transfer place at =
     if (at % 8 == 0) && lies_in m at 8 then kind_of_fetch may_transfer place (ccw_of (bytes_at m at 8)) else Refused
 
--- the CCWs of a command and the number of fetches after them, or the address of the one that failed
+-- WHICH RULE a CCW breaks that is refused, the first in this order: that of a CCW at this place of its chain, where a
+-- transfer may come next or not
+abbrev pub rule_of_kind : Bool → ℕ → Ccw → Rule
+rule_of_kind may_transfer place ccw =
+    if is_transfer ccw then (if may_transfer then TransferMisaligned else TransferMisplaced)
+    else (if (place == 0) && (low_bits ccw == invalid_bits) then NoCommand
+    else (if not (is_off unusable_flags ccw.flags.0) then FlagsReserved
+    else (if ccw.count == 0 then CountZero else ChainTooLong)))
+
+-- and that of what is fetched from an address
+abbrev pub rule_at : Storage → Bool → ℕ → ℕ → Rule
+rule_at m may_transfer place at =
+    if not (at % 8 == 0) then CcwMisaligned
+    else (if lies_in m at 8 then rule_of_kind may_transfer place (ccw_of (bytes_at m at 8)) else CcwOutside)
+
+-- the CCWs of a command and the number of fetches after them; or those in front of the one that failed, and that one
+-- with the rule that it breaks
 pub data Fetched : Type 0 where
   Whole : List Link → ℕ → Fetched
-  Broken : ℕ → Fetched
+  Broken : List Link → Refusal → Fetched
+
+-- the CCW at an address failed, which is the first of these
+abbrev pub broken_at : ℕ → Rule → Fetched
+broken_at at rule = Broken [] (record { at = at; rule = rule })
 
 -- the same chain behind one more CCW
 abbrev pub behind : Link → Fetched → Fetched
 behind link (Whole links fetches) = Whole (link ∷ links) fetches
-behind link (Broken at) = Broken at
+behind link (Broken links refusal) = Broken (link ∷ links) refusal
 
--- what a fetch at an address adds to `rest`, which is what comes from a next address on
-abbrev pub chain_by : Fetch → ℕ → ℕ → ℕ → (Bool → ℕ → ℕ → Fetched) → Fetched
-chain_by Refused at place fetches rest = Broken at
-chain_by (Transfer to) at place fetches rest = rest false place to
-chain_by (More ccw) at place fetches rest = behind (record { at = at; ccw = ccw }) (rest true (suc place) (at + 8))
-chain_by (Last ccw) at place fetches rest = Whole (record { at = at; ccw = ccw } ∷ []) fetches
+-- what a fetch at an address, which is refused by this rule if it is, adds to `rest`, which is what comes from a next
+-- address on
+abbrev pub chain_by : Fetch → Rule → ℕ → ℕ → ℕ → (Bool → ℕ → ℕ → Fetched) → Fetched
+chain_by Refused rule at place fetches rest = broken_at at rule
+chain_by (Transfer to) rule at place fetches rest = rest false place to
+chain_by (More ccw) rule at place fetches rest = behind (record { at = at; ccw = ccw }) (rest true (suc place) (at + 8))
+chain_by (Last ccw) rule at place fetches rest = Whole (record { at = at; ccw = ccw } ∷ []) fetches
 
 -- the chain from an address on, with so many fetches left of 4,096
 unfoldable pub chain_within : Storage → ℕ → Bool → ℕ → ℕ → Fetched
-chain_within m zero may_transfer place at = Broken at
+chain_within m zero may_transfer place at = broken_at at FetchLimit
 chain_within m (suc left) may_transfer place at =
-    chain_by (fetch_at m may_transfer place at) at place (4096 - left) (λ may next to. chain_within m left may next to)
+    chain_by (fetch_at m may_transfer place at) (rule_at m may_transfer place at) at place (4096 - left) (λ may next to. chain_within m left may next to)
 
 -- THE CHAIN that one command fetches from an address, after so many fetches: a transfer may not be
 -- the first CCW of all
@@ -107,7 +131,7 @@ fetched_on m links fetches may_transfer at = behind_all links (chain_within m (4
 abbrev pub Begins : Storage → First → Fetched → Type 0
 Begins m (Single link fetches) whole = whole ≡ Whole (link ∷ []) fetches
 Begins m (Chained link fetches) whole = whole ≡ chained m link fetches
-Begins m (Failed at) whole = whole ≡ Broken at
+Begins m (Failed at) whole = (rule : Rule) × (whole ≡ broken_at at rule)
 
 -- the bytes that the CCWs of a chain count
 abbrev pub total_count : List Link → ℕ

@@ -1,6 +1,6 @@
 -- WHAT A PROGRAM IS TO DO NEXT: the chain of its next command, how its data flow, and the parts of its data area; or the
--- CCW that fails, and the rule that it breaks (Principles of Operation, chapter 15).
-use Rattle.std.specs.Prelude.{◌≡◌, ℕ, length, List, Option, Some, None}
+-- CCW that fails, with the rule that it breaks, behind those in front of it (Principles of Operation, chapter 15).
+use Rattle.std.specs.Prelude.{◌≡◌, ℕ, List, [], Option, Some, None}
 use Rattle.io_area.specs.Storage.{Storage}
 use Rattle.device_port.specs.Meaning.{Meaning}
 use Rattle.device_port.specs.declared.chain.Segment.{Segment}
@@ -10,7 +10,6 @@ use Rattle.ccw_programs.specs.declared.rule.Refusal.{Refusal}
 use Rattle.ccw_programs.specs.Areas.{Parts, Bad, areas}
 use Rattle.ccw_programs.specs.Links.{chain, Whole, Broken}
 use Rattle.ccw_programs.specs.Place.{Place}
-use Rattle.ccw_programs.specs.Rules.{CcwBreaks, OneBreaks}
 use Rattle.ccw_programs.specs.Step.{first_of}
 
 module _ {D : Type 0} (meaning : Meaning D) (device : D) (m : Storage) (place : Place) where
@@ -23,6 +22,6 @@ module _ {D : Type 0} (meaning : Meaning D) (device : D) (m : Storage) (place : 
   -- WHAT IS LISTED: CCWs, a flow where all of them can be fetched, parts, and the CCW that fails
   abbrev pub Lists : List Link → Option Flow → List Segment → Option Refusal → Type 0
   Lists links (Some flow) parts None = Fetches links flow × (areas flow m links ≡ Parts parts)
-  Lists links (Some flow) parts (Some refusal) = Fetches links flow × (areas flow m links ≡ Bad refusal.at) × OneBreaks flow m links refusal
-  Lists links None parts (Some refusal) = (chain m place.next place.fetched ≡ Broken refusal.at) × CcwBreaks m (length links) refusal.at refusal.rule
+  Lists links (Some flow) parts (Some refusal) = Fetches links flow × (areas flow m links ≡ Bad refusal) × (parts ≡ [])
+  Lists links None parts (Some refusal) = (chain m place.next place.fetched ≡ Broken links refusal) × (parts ≡ [])
   Lists links None parts None = ⊥

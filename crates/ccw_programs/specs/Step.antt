@@ -88,14 +88,14 @@ is_running (Ended csw sense) = false
 module _ {D : Type 0} (meaning : Meaning D) where
   -- the chain lies in these areas: the device acts
   abbrev pub step_on_areas : Program D → List Link → ℕ → Areas → Program D
-  step_on_areas p links fetches (Bad at) = program (checked_place p.place at) p.device p.area
+  step_on_areas p links fetches (Bad refusal) = program (checked_place p.place refusal.at) p.device p.area
   step_on_areas p links fetches (Parts parts) =
       let done = effect meaning p.device (first_of links).ccw.command parts p.area in
       program (acted_place p.place (meaning.flow p.device (first_of links).ccw.command) links fetches done.acted) done.device done.area
 
   -- the command has fetched this chain
   abbrev pub step_on_chain : Program D → Fetched → Program D
-  step_on_chain p (Broken at) = program (checked_place p.place at) p.device p.area
+  step_on_chain p (Broken links refusal) = program (checked_place p.place refusal.at) p.device p.area
   step_on_chain p (Whole links fetches) =
       step_on_areas p links fetches (areas (meaning.flow p.device (first_of links).ccw.command) p.area links)
 

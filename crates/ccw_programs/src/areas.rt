@@ -5,8 +5,7 @@ ghost use Rattle.std.specs.Prelude.{◌≡◌, ◌≤◌, ◌<◌, ◌+◌, ◌*
 ghost use Rattle.io_area.specs.Storage.{lies_in};
 ghost use Rattle.device_port.specs.Moves.{CanAct, segment_lies};
 ghost use Rattle.ccw_programs.specs.Links.{Sound, is_indirect, skips};
-ghost use Rattle.ccw_programs.specs.Areas.{areas, parts_of, parts_from, part_of, is_usable, room_after, indirect_parts, direct_parts, word_at, Parts, Bad};
-ghost use Rattle.ccw_programs.specs.Rules.{Adds, DataBreaks, ListBreaks, OneBreaks, WordBreaks};
+ghost use Rattle.ccw_programs.specs.Areas.{areas, parts_of, parts_from, part_of, word_rule, is_usable, room_after, indirect_parts, direct_parts, word_at, Parts, Bad, Adds};
 
 use crate::fetch::Link;
 use crate::rule::{Refusal, Rule};
@@ -52,7 +51,6 @@ fn push_direct(chain: &mut Parts, flow: Flow, area: &Area, ccw: &Ccw) -> Result<
     requires direct { is_indirect ccw.now ≡ false }
     ensures room { length chain.new ≤ length chain.old + 33 }
     ensures parts { Adds chain.old (direct_parts flow area.now ccw.now) result chain.new }
-    ensures rule { IfErr result (DataBreaks flow area.now ccw.now) }
 {
     let segment = part_of(ccw);
     if !segment_lies(flow, area, &segment) {
@@ -67,7 +65,6 @@ fn push_indirect(chain: &mut Parts, area: &Area, ccw: &Ccw) -> Result<(), Rule>
     requires room { length chain.old ≤ 495 }
     ensures room { length chain.new ≤ length chain.old + 33 }
     ensures parts { Adds chain.old (indirect_parts area.now ccw.now) result chain.new }
-    ensures rule { IfErr result (ListBreaks area.now ccw.now.address) }
 {
     let list = ccw.address.get();
     if list % 4 != 0 {
@@ -93,7 +90,6 @@ fn push_words(
     requires { length chain.old + words ≤ 528 }
     ensures room { length chain.new ≤ length chain.old + words }
     ensures parts { Adds chain.old (parts_from area.now skip true list words bytes) result chain.new }
-    ensures rule { IfErr result (WordBreaks area.now) }
 {
     let mut at = list;
     let mut count = bytes;
@@ -120,7 +116,7 @@ fn usable_part(
 ) -> Result<Segment, Rule>
     ensures answer { MatchResult result (λ s. (is_usable area.now is_first at count ≡ true) × (s ≡ record { address = word_at area.now at; count = min count (room_after (word_at area.now at)); skip = skip })) (λ _. is_usable area.now is_first at count ≡ false) }
     ensures bound { IfOk result (λ s. (at + 4 ≤ 2 ^ 24) × (s.count ≤ count) × (count - s.count ≡ count - room_after (word_at area.now at))) }
-    ensures rule { IfErr result (WordBreaks area.now) }
+    ensures rule { IfErr result (λ rule. rule ≡ word_rule area.now is_first at) }
 {
     let Some(word) = word_at(area, at) else {
         return Err(Rule::WordOutside(at));
@@ -147,7 +143,6 @@ fn push_parts(chain: &mut Parts, flow: Flow, area: &Area, ccw: &Ccw) -> Result<(
     requires { length chain.old ≤ 495 }
     ensures room { length chain.new ≤ length chain.old + 33 }
     ensures parts { Adds chain.old (parts_of flow area.now ccw.now) result chain.new }
-    ensures rule { IfErr result (DataBreaks flow area.now ccw.now) }
 {
     match flow {
         Flow::None => Ok(()),
@@ -179,7 +174,7 @@ pub(crate) fn data_area<'a>(
 ) -> Option<&'a [Segment]>
     requires direct { is_indirect link.now.ccw ≡ false }
     requires part { part.now ≡ part_of link.now.ccw ∷ [] }
-    ensures value { MatchOption result (areas flow area.now (link.now ∷ []) ≡ Bad link.now.at) (λ parts. areas flow area.now (link.now ∷ []) ≡ Parts parts.now) }
+    ensures value { MatchOption result (areas flow area.now (link.now ∷ []) ≡ Bad (record { at = link.now.at; rule = Rule.DataOutside })) (λ parts. areas flow area.now (link.now ∷ []) ≡ Parts parts.now) }
     ensures few { IfSome result (λ parts. length parts.now ≤ 1) }
 {
     match flow {
@@ -205,8 +200,7 @@ pub(crate) fn data_areas(
     requires some { 1 ≤ length links.now }
     requires sound { All Sound links.now }
     requires empty { chain.old ≡ [] }
-    ensures value { MatchResult result (λ _. areas flow area.now links.now ≡ Parts chain.new) (λ refusal. areas flow area.now links.now ≡ Bad refusal.at) }
-    ensures rule { IfErr result (OneBreaks flow area.now links.now) }
+    ensures value { MatchResult result (λ _. areas flow area.now links.now ≡ Parts chain.new) (λ refusal. areas flow area.now links.now ≡ Bad refusal) }
     ensures can { OnOk result (CanAct flow area.now chain.new) }
 {
     for link in links {

@@ -64,7 +64,7 @@ impl Context {
     }
 
     /// Whether it runs, or how it ended.
-    pub(crate) fn state(&self) -> State
+    pub fn state(&self) -> State
         ensures { result ≡ self.now.state }
     {
         self.state

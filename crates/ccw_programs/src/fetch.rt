@@ -2,8 +2,7 @@
 //! Chaining" and "Transfer in Channel"; which bits may be on, and the limits, are the profile's).
 
 ghost use Rattle.std.specs.Prelude.{◌≡◌, ◌<◌, ◌≤◌, ◌+◌, ◌-◌, ◌==◌, ◌%◌, length, [], ◌∷◌, false, MatchResult, IfOk, IfErr, OnOk, All};
-ghost use Rattle.ccw_programs.specs.Links.{Tells, TellsKind, fetch_at, fetched_on, kind_of_fetch, is_transfer, is_allowed, chain, Begins, IsSound, Whole, Broken, Sound};
-ghost use Rattle.ccw_programs.specs.Rules.{CcwBreaks, KindBreaks};
+ghost use Rattle.ccw_programs.specs.Links.{Tells, TellsKind, rule_at, rule_of_kind, fetch_at, fetched_on, kind_of_fetch, is_transfer, is_allowed, chain, Begins, IsSound, Whole, Broken, Sound};
 ghost use Rattle.io_images.specs.Images.{ccw_of};
 
 use crate::rule::{Refusal, Rule};
@@ -152,8 +151,7 @@ pub(crate) fn fetch_on(
     ensures few { OnOk result (length links.new ≤ 16) }
     ensures sound { OnOk result (All Sound links.new) }
     ensures fetches { IfOk result (λ after. after ≤ 4096) }
-    ensures chain { MatchResult result (λ after. fetched_on area.now links.old fetches transfers from ≡ Whole links.new after) (λ refusal. fetched_on area.now links.old fetches transfers from ≡ Broken refusal.at) }
-    ensures rule { IfErr result (λ refusal. CcwBreaks area.now (length links.new) refusal.at refusal.rule) }
+    ensures chain { MatchResult result (λ after. fetched_on area.now links.old fetches transfers from ≡ Whole links.new after) (λ refusal. fetched_on area.now links.old fetches transfers from ≡ Broken links.new refusal) }
 {
     let mut at = from;
     let mut may_transfer = transfers;
@@ -184,11 +182,10 @@ pub(crate) fn fetch_on(
     })
 }
 
-/// The rule that keeps a CCW from being fetched.
+/// The rule that a CCW at an address breaks which is refused.
 #[inline(never)]
 fn broken_rule(area: &Area, may_transfer: bool, place: usize, at: u32) -> Rule
-    requires { fetch_at area.now may_transfer place at ≡ Fetch.Refused }
-    ensures { CcwBreaks area.now place at result }
+    ensures { result ≡ rule_at area.now may_transfer place at }
 {
     if at % 8 != 0 {
         return Rule::CcwMisaligned;
@@ -199,10 +196,9 @@ fn broken_rule(area: &Area, may_transfer: bool, place: usize, at: u32) -> Rule
     }
 }
 
-/// The rule that a CCW at this place breaks, where a transfer may come next or not.
+/// The rule that a CCW at this place breaks which is refused, where a transfer may come next or not.
 fn rule_of_kind(may_transfer: bool, place: usize, ccw: &Ccw) -> Rule
-    requires { kind_of_fetch may_transfer place ccw.now ≡ Fetch.Refused }
-    ensures { KindBreaks place ccw.now result }
+    ensures { result ≡ rule_of_kind may_transfer place ccw.now }
 {
     if is_transfer(ccw) {
         return if may_transfer {

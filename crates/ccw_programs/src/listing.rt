@@ -13,7 +13,8 @@ use device_port::{Device, Flow, Segment};
 use io_area::Area;
 
 /// The next command of a program: the CCWs that are fetched for it; how its data flow, where all of them can be; the
-/// parts of its data in storage; and which CCW fails, where one does (chapter 15, "Channel-Command Word").
+/// parts of its data in storage; and which CCW fails, where one does, and then those in front of it, or the whole chain
+/// where the data area of one fails, and no parts (chapter 15, "Channel-Command Word").
 #[derive(Drop)]
 pub struct Listing<'w> {
     pub links: &'w [Link],
@@ -47,6 +48,9 @@ pub fn look<'w, D: Device>(
     let links = links.as_slice();
     let flow = device.flow(command_code(links));
     let refusal = data_areas(flow, area, links, parts).err();
+    if refusal.is_some() {
+        parts.clear();
+    }
     Listing {
         links,
         flow: Some(flow),

@@ -24,14 +24,4 @@ impl Workspace {
             parts: ShortList::new(Segment::default()),
         }
     }
-
-    /// The CCWs that were put together in it.
-    pub fn links(&self) -> &[Link] {
-        self.links.as_slice()
-    }
-
-    /// The parts of data that were put together in it.
-    pub fn parts(&self) -> &[Segment] {
-        self.parts.as_slice()
-    }
 }

@@ -1,12 +1,19 @@
 -- THE PLACE OF A REPLAY in the trace of a book, and what was replayed up to there (profile).
-use Rattle.std.specs.Prelude.{◌≡◌, ℕ, zero, suc, ◌+◌, ◌==◌, if◌then◌else◌, Option, Some, None, List, ◌∷◌, reverse, slice_get, take}
+use Rattle.std.specs.Prelude.{◌≡◌, ◌⊎◌, false, IsSome, ℕ, zero, suc, ◌+◌, ◌==◌, if◌then◌else◌, Option, Some, None, List, ◌∷◌, reverse, slice_get, take}
 use Rattle.device_port.specs.Meaning.{Meaning}
+use Rattle.device_port.specs.declared.chain.Segment.{Segment}
+use Rattle.device_port.specs.declared.kind.Flow.{Flow}
+use Rattle.ccw_programs.specs.declared.fetch.Link.{Link}
+use Rattle.ccw_programs.specs.declared.rule.Refusal.{Refusal}
+use Rattle.ccw_programs.specs.Listings.{Lists}
+use Rattle.ccw_programs.specs.Place.{Place as Standing}
+use Rattle.ccw_programs.specs.Step.{is_running}
 use Rattle.io_area.specs.Storage.{Storage}
 use Rattle.request_piece.specs.declared.piece.Name.{Name}
 use Rattle.ccw_trace.specs.declared.replay.Step.{Step}
 use Rattle.ccw_trace.specs.declared.replay.Step.TheVariants.{Command, Entry as Whole, End}
 use Rattle.unit_book.specs.Book.{Book}
-use Rattle.unit_book.specs.Media.{area}
+use Rattle.unit_book.specs.Media.{area, current, device}
 use Rattle.unit_book.specs.Trace.{active, request_of}
 use Rattle.unit_book.specs.declared.entry.Entry.{Entry}
 use Rattle.unit_book.specs.declared.entry.Entry.TheVariants.{Post, Ran, Start}
@@ -59,6 +66,21 @@ IsPost n _ = ⊥
 abbrev pub ShowsArea : {D : Type 0} → Meaning D → Place D → Option Storage → Type 0
 ShowsArea meaning p None = active (so_far p) ≡ None
 ShowsArea meaning p (Some m) = (n : Name) × (active (so_far p) ≡ Some n) × (m ≡ area meaning p.book.mounted (request_of n (so_far p)) (so_far p))
+
+-- this is where the program of the active request stands, if there is one
+abbrev pub ShowsContext : {D : Type 0} → Meaning D → Place D → Option Standing → Type 0
+ShowsContext meaning p None = active (so_far p) ≡ None
+ShowsContext meaning p (Some c) = IsSome (active (so_far p)) × (c ≡ (current meaning p.book.mounted (so_far p)).place)
+
+-- no request is active, or its program has ended
+abbrev pub IsIdle : {D : Type 0} → Meaning D → Place D → Type 0
+IsIdle meaning p = (active (so_far p) ≡ None) ⊎ (is_running (current meaning p.book.mounted (so_far p)).place.state ≡ false)
+
+-- this is what the program of the active request is to do next
+abbrev pub ListsNext : {D : Type 0} → Meaning D → Place D → List Link → Option Flow → List Segment → Option Refusal → Type 0
+ListsNext meaning p =
+    let now = current meaning p.book.mounted (so_far p) in
+    Lists meaning (device meaning p.book.mounted (so_far p)) now.area now.place
 
 -- a start
 abbrev pub IsStart : Option Entry → Type 0

@@ -1,17 +1,16 @@
 //! A replay, and its place in a trace.
 
-ghost use Rattle.std.specs.Prelude.{◌≡◌, ◌<◌, ◌+◌, IfOk, OnOk, OnErr, Some, length, reverse, slice_get};
+ghost use Rattle.std.specs.Prelude.{◌≡◌, ◌<◌, ◌+◌, IfOk, MatchOption, OnOk, OnErr, Some, length, reverse, slice_get};
 ghost use Rattle.std.specs.Option.{option_copied};
 ghost use Rattle.unit_book.specs.Legal.{Legal};
 ghost use Rattle.unit_book.specs.Media.{device};
-ghost use Rattle.ccw_trace.specs.Replayed.{IsPost, IsRan, IsStart, ShowsArea, behind_command, next_place, so_far, step_to};
+ghost use Rattle.ccw_trace.specs.Replayed.{IsIdle, IsPost, IsRan, IsStart, ListsNext, ShowsArea, ShowsContext, behind_command, next_place, so_far, step_to};
 
 use crate::arrivals::arrival_of;
-use crate::attempt::{Attempt, Told};
-use ccw_programs::{Link, Refusal, State, Workspace};
-use device_port::{Device, Flow, Segment};
+use crate::attempt::Attempt;
+use ccw_programs::{Context, Listing, State, Workspace, look};
+use device_port::Device;
 use io_area::Area;
-use io_images::Csw;
 use request_piece::Name;
 use std::alloc::AllocError;
 use std::marker::Model;
@@ -28,8 +27,6 @@ pub struct Replay<'t, D: Device> {
     attempt: Option<Attempt<'t>>,
     /// Where the search for the next request that is started begins.
     searched: usize,
-    told: Option<Told>,
-    listed: Workspace,
     workspace: Workspace,
 }
 
@@ -39,21 +36,6 @@ pub enum Step {
     Command,
     Entry,
     End,
-}
-
-/// The command that was replayed last: the CCWs that were fetched for it; how its data flow, unless a CCW could not be
-/// fetched; the parts of its data in storage; which CCW failed and the rule that it breaks; the storage behind it; whether
-/// the program goes on or has ended; the address of its next CCW; and the CCW address and residual count that it stored.
-#[derive(Drop)]
-pub struct Command<'a> {
-    pub links: &'a [Link],
-    pub flow: Option<Flow>,
-    pub parts: &'a [Segment],
-    pub refusal: Option<Refusal>,
-    pub area: &'a Area,
-    pub state: State,
-    pub next: u32,
-    pub stored: Csw,
 }
 
 impl<'t, D: Device> Model for Replay<'t, D> {
@@ -81,8 +63,6 @@ impl<'t, D: Device> Replay<'t, D> {
             device: book.mounted().copy()?,
             attempt: None,
             searched: 0,
-            told: None,
-            listed: Workspace::new(),
             workspace: Workspace::new(),
         })
     }
@@ -112,20 +92,28 @@ impl<'t, D: Device> Replay<'t, D> {
         }
     }
 
-    /// The command that was replayed last, where its request is still the active one.
-    pub fn command(&self) -> Option<Command<'_>> {
-        let told = self.told?;
-        let attempt = self.attempt.as_ref()?;
-        Some(Command {
-            links: self.listed.links(),
-            flow: told.flow,
-            parts: self.listed.parts(),
-            refusal: told.refusal,
-            area: &attempt.area,
-            state: told.state,
-            next: told.next,
-            stored: told.stored,
-        })
+    /// Where the program of the active request stands at this place.
+    pub fn context(&self) -> Option<&Context>
+        ensures { ShowsContext D.meaning self.now (option_copied result) }
+    {
+        match &self.attempt {
+            Some(attempt) => Some(&attempt.context),
+            None => None,
+        }
+    }
+
+    /// What the program of the active request is to do next, put together in a workspace, where it has not ended: a step
+    /// that goes on to a command does this.
+    pub fn next_command<'w>(&self, workspace: &'w mut Workspace) -> Option<Listing<'w>>
+        ensures { MatchOption result (IsIdle D.meaning self.now) (λ l. ListsNext D.meaning self.now l.links.now l.flow l.parts.now l.refusal) }
+    {
+        let Some(attempt) = &self.attempt else {
+            return None;
+        };
+        if attempt.context.state() != State::Running {
+            return None;
+        }
+        Some(look(&attempt.context, &self.device, &attempt.area, workspace))
     }
 
     /// Goes on behind the next entry, or behind its next command where it is of commands that ran, and answers which of
@@ -165,8 +153,7 @@ impl<'t, D: Device> Replay<'t, D> {
         let Some(attempt) = &mut self.attempt else {
             unreachable!()
         };
-        let told = attempt.run(&mut self.device, &mut self.listed, &mut self.workspace);
-        self.told = Some(told);
+        attempt.run(&mut self.device, &mut self.workspace);
         self.ran += 1;
         if self.ran == commands {
             self.ran = 0;
@@ -194,7 +181,6 @@ impl<'t, D: Device> Replay<'t, D> {
         let mask = self.book.mask(attempt.issued.dcb());
         self.device.prefix(&attempt.issued.seek(), mask);
         self.attempt = Some(attempt);
-        self.told = None;
         self.done = next;
         Ok(())
     }

@@ -1,3 +1,4 @@
+-- The lemmas of ckd_disk.
 pub mod Packing
 pub mod Tracks
 pub mod Opening

@@ -1,3 +1,5 @@
+-- The definitions of ckd_disk: records and tracks, the commands of a disk, what it means as a device, and when it is
+-- mounted.
 pub mod Record
 pub mod Track
 pub mod Access

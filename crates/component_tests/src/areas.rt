@@ -1,5 +1,6 @@
 //! The limits of an area, and bytes read and written at its ends.
 
+use crate::memory::TWICE;
 use io_area::{Area, AreaError};
 use std::alloc::AllocError;
 use std::test::Fail;
@@ -47,12 +48,12 @@ fn put_and_copy(rt: HostRuntime) -> Result<(), Fail> {
 fn areas_without_memory(rt: HostRuntime) -> Result<(), Fail> {
     let bytes = [1, 2, 3, 4];
     let area = match Area::new(rt.alloc(), 0x1000, &bytes) {
-        Err(AreaError::NoMemory) => Area::new(rt.alloc(), 0x1000, &bytes)?,
+        Err(AreaError::NoMemory) => Area::new(rt.alloc(), 0x1000, &bytes).or(Err(TWICE))?,
         made => made?,
     };
     let copy = match area.copy() {
         Ok(copy) => copy,
-        Err(AllocError) => area.copy()?,
+        Err(AllocError) => area.copy().or(Err(TWICE))?,
     };
     assert_eq!(rt; copy.get(0x1000, 4), Some(bytes.as_slice()));
     Ok(())

@@ -1,6 +1,7 @@
 //! Records read, searched and written, and mounting refused.
 
 use crate::devices::{Step, expect_every_command, expect_steps, holds, late_fault, unit_check};
+use crate::memory::TWICE;
 use ckd_disk::{Disk, Geometry, InitialRecord};
 use device_port::{Device, MountError};
 use io_area::Area;
@@ -346,6 +347,9 @@ fn refusal(
     Ok(Disk::mount(alloc, shape, &records, faults).err())
 }
 
+/// Record 0 as mounting makes it, and the record of the disk of two tracks.
+const MOUNTED: [(u8, &[u8], &[u8]); 2] = [(0, &[], &[0; 8]), (1, &[0xD1], &[0xC1])];
+
 /// Mounting is refused with the first reason.
 #[test]
 fn mount_is_refused(rt: HostRuntime) -> Result<(), Fail> {
@@ -356,32 +360,48 @@ fn mount_is_refused(rt: HostRuntime) -> Result<(), Fail> {
     Ok(())
 }
 
-/// A disk of two tracks with one record, and a fault that no command comes to.
-fn two_tracks(alloc: Global) -> Result<Disk, MountError> {
-    let records = record(alloc, 0, 1, &[0xD1], &[0xC1]).map_err(|_| MountError::NoMemory)?;
-    Disk::mount(alloc, geometry(1, 2, 40), &records, &[late_fault()])
+/// A disk of two tracks with these records, and a fault that no command comes to.
+fn two_tracks(alloc: Global, records: &[InitialRecord]) -> Result<Disk, MountError> {
+    Disk::mount(alloc, geometry(1, 2, 40), records, &[late_fault()])
 }
 
 #[test]
 fn every_command(rt: HostRuntime) -> Result<(), Fail> {
     let mut area = Area::new(rt.alloc(), 0x1050, &[0; 16])?;
-    let mut disk = two_tracks(rt.alloc())?;
+    let records = record(rt.alloc(), 0, 1, &[0xD1], &[0xC1])?;
+    let mut disk = two_tracks(rt.alloc(), &records)?;
     expect_every_command(&rt, &mut disk, &mut area, 0x1050, 8, &COMMANDS)?;
     Ok(())
 }
 
-/// Where there is no memory for a mounting or a copy, no other reason is told, and the next one is had: run it with each
-/// growth refused in turn.
+/// Asserts that the records that a mounting was refused with are as they were made.
+fn expect_as_made(rt: &impl Abort, records: &[InitialRecord]) {
+    let is_as_made = |record: &InitialRecord| {
+        (record.cylinder, record.head, record.number) == (0, 0, 1)
+            && record.key.as_slice() == [0xD1].as_slice()
+            && record.content.as_slice() == [0xC1].as_slice()
+    };
+    assert!(rt; records.len() == 1 && records.iter().all(is_as_made));
+}
+
+/// Where there is no memory for a mounting or a copy, no other reason is told, and the next one from the same records is
+/// had: run it with each growth refused in turn.
 #[test]
 fn mount_without_memory(rt: HostRuntime) -> Result<(), Fail> {
-    let disk = match two_tracks(rt.alloc()) {
-        Err(MountError::NoMemory) => two_tracks(rt.alloc())?,
+    let records = record(rt.alloc(), 0, 1, &[0xD1], &[0xC1])?;
+    let disk = match two_tracks(rt.alloc(), &records) {
+        Err(MountError::NoMemory) => {
+            expect_as_made(&rt, &records);
+            two_tracks(rt.alloc(), &records).or(Err(TWICE))?
+        }
         mounted => mounted?,
     };
     let copy = match disk.copy() {
         Ok(copy) => copy,
-        Err(AllocError) => disk.copy()?,
+        Err(AllocError) => disk.copy().or(Err(TWICE))?,
     };
-    assert_eq!(rt; copy.kind(), disk.kind());
+    for disk in [&disk, &copy] {
+        expect_records(&rt, disk, &MOUNTED);
+    }
     Ok(())
 }

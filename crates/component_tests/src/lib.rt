@@ -15,6 +15,8 @@ mod disks;
 #[cfg(test)]
 mod images;
 #[cfg(test)]
+mod memory;
+#[cfg(test)]
 mod printers;
 #[cfg(test)]
 mod queues;

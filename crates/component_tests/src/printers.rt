@@ -3,6 +3,7 @@
 use crate::devices::{
     Step, expect_every_command, expect_no_tracks, expect_steps, holds, late_fault, unit_check,
 };
+use crate::memory::TWICE;
 use device_port::{Device, Flow, Kind, MountError};
 use io_area::Area;
 use line_printer::{Position, Printer};
@@ -226,12 +227,12 @@ fn every_command(rt: HostRuntime) -> Result<(), Fail> {
 #[test]
 fn mount_without_memory(rt: HostRuntime) -> Result<(), Fail> {
     let printer = match largest(rt.alloc()) {
-        Err(MountError::NoMemory) => largest(rt.alloc())?,
+        Err(MountError::NoMemory) => largest(rt.alloc()).or(Err(TWICE))?,
         mounted => mounted?,
     };
     let copy = match printer.copy() {
         Ok(copy) => copy,
-        Err(AllocError) => printer.copy()?,
+        Err(AllocError) => printer.copy().or(Err(TWICE))?,
     };
     assert_eq!(rt; copy.kind(), printer.kind());
     Ok(())

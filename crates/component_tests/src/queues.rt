@@ -1,5 +1,6 @@
 //! Both orders of the ring, through pushes, pops and sweeps.
 
+use crate::memory::TWICE;
 use io_area::Area;
 use io_images::{Address, Seek};
 use request_piece::{Name, Piece, Scope};
@@ -91,7 +92,7 @@ fn sweeps_keep_both_orders(rt: HostRuntime) -> Result<(), Fail> {
 fn queues_without_memory(rt: HostRuntime) -> Result<(), Fail> {
     let queue = match WaitQueue::new(rt.alloc(), 65_536) {
         Ok(queue) => queue,
-        Err(AllocError) => WaitQueue::new(rt.alloc(), 65_536)?,
+        Err(AllocError) => WaitQueue::new(rt.alloc(), 65_536).or(Err(TWICE))?,
     };
     assert!(rt; queue.is_empty() && queue.capacity() == 65_536);
     Ok(())

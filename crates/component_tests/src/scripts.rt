@@ -1,4 +1,5 @@
-//! What scripts say, and scripts that are cut, too long or unreadable. Broken lines are cases of `runs/scripts/broken`.
+//! What scripts say, and scripts that are cut, too long or unreadable. Broken lines are cases of `runs/scripts/broken`,
+//! and what a check tells of them of `runs/mistakes`.
 
 use job_script::{Action, Fault, LIMIT, Script, check_script, read_script};
 use std::alloc::{AllocError, Global};
@@ -7,7 +8,6 @@ use std::io::Read;
 use std::process::Abort;
 use std::test::Fail;
 
-mod mistakes;
 mod reading;
 
 /// One task, and a disk of one track with R1, whose data are C1C2C3C4; DCB 1 for output.

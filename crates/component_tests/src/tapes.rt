@@ -3,6 +3,7 @@
 use crate::devices::{
     Step, expect_every_command, expect_no_tracks, expect_steps, holds, late_fault, unit_check,
 };
+use crate::memory::TWICE;
 use device_port::{Device, Flow, Kind, MountError};
 use io_area::Area;
 use std::alloc::{AllocError, Global};
@@ -290,32 +291,50 @@ fn mount_is_refused(rt: HostRuntime) -> Result<(), Fail> {
     Ok(())
 }
 
-/// A tape of the most bytes with a block and a tape mark, and a fault that no command comes to.
-fn longest(alloc: Global) -> Result<Tape, MountError> {
-    let items = items(alloc, &[&[5], &[]]).map_err(|_| MountError::NoMemory)?;
-    Tape::mount(alloc, &items, 16_777_216, &[late_fault()])
+/// A tape of the most bytes with these items, and a fault that no command comes to.
+fn longest(alloc: Global, items: &[InitialItem]) -> Result<Tape, MountError> {
+    Tape::mount(alloc, items, 16_777_216, &[late_fault()])
 }
+
+/// A block and a tape mark.
+const TWO_ITEMS: [&[u8]; 2] = [&[5], &[]];
 
 #[test]
 fn every_command(rt: HostRuntime) -> Result<(), Fail> {
     let mut area = storage(&rt, rt.alloc(), &[])?;
-    let mut tape = longest(rt.alloc())?;
+    let items = items(rt.alloc(), &TWO_ITEMS)?;
+    let mut tape = longest(rt.alloc(), &items)?;
     expect_every_command(&rt, &mut tape, &mut area, 0x1060, 1, &COMMANDS)?;
     Ok(())
 }
 
-/// Where there is no memory for a mounting or a copy, no other reason is told, and the next one is had: run it with each
-/// growth refused in turn.
+/// Asserts that the items that a mounting was refused with are as they were made.
+fn expect_as_made(rt: &impl Abort, items: &[InitialItem]) {
+    let is_as_made = match items {
+        [InitialItem::Block(block), InitialItem::Mark] => block.as_slice() == [5].as_slice(),
+        _ => false,
+    };
+    assert!(rt; is_as_made);
+}
+
+/// Where there is no memory for a mounting or a copy, no other reason is told, and the next one from the same items is
+/// had: run it with each growth refused in turn.
 #[test]
 fn mount_without_memory(rt: HostRuntime) -> Result<(), Fail> {
-    let tape = match longest(rt.alloc()) {
-        Err(MountError::NoMemory) => longest(rt.alloc())?,
+    let items = items(rt.alloc(), &TWO_ITEMS)?;
+    let tape = match longest(rt.alloc(), &items) {
+        Err(MountError::NoMemory) => {
+            expect_as_made(&rt, &items);
+            longest(rt.alloc(), &items).or(Err(TWICE))?
+        }
         mounted => mounted?,
     };
     let copy = match tape.copy() {
         Ok(copy) => copy,
-        Err(AllocError) => tape.copy()?,
+        Err(AllocError) => tape.copy().or(Err(TWICE))?,
     };
-    assert_eq!(rt; copy.kind(), tape.kind());
+    for tape in [&tape, &copy] {
+        expect_items(&rt, tape, &TWO_ITEMS);
+    }
     Ok(())
 }

@@ -1,3 +1,5 @@
+-- The definitions of device_port: the meaning of a device and its laws, how bytes move, faults, what all devices have
+-- in common, and a toy device.
 pub mod Answers
 pub mod Common
 pub mod Faults

@@ -1,4 +1,4 @@
-//! The command line: `excp_job run [--channels N] [--handlers N]`, `report` with the same options, and `check`.
+//! The command line: `excp_job run [--channels N] [--handlers N]`, `report` with the same options, `check` and `assemble`.
 
 ghost use Rattle.std.specs.Prelude.{◌≤◌, IfSome};
 
@@ -23,6 +23,8 @@ pub enum Order {
     Run(Output, Workers),
     /// To tell what is wrong in a script.
     Check,
+    /// To make a plain script of one with symbolic areas.
+    Assemble,
 }
 
 fn command<'a>(alloc: Global) -> Result<Command<'a>, AllocError> {
@@ -44,13 +46,17 @@ fn command<'a>(alloc: Global) -> Result<Command<'a>, AllocError> {
     let check = Command::new(alloc, "check").about(
         "Reads a script from standard input and prints every fault of it, and what is hardly meant",
     );
+    let assemble = Command::new(alloc, "assemble").about(
+        "Reads a script with symbolic areas from standard input and prints the plain script that it comes to, or every fault of it",
+    );
     Command::new(alloc, "excp_job")
         .about("Runs a script of EXCP requests on models of disk, tape and printer")
         .version("1.0")
         .subcommand_required(true)
         .subcommand(run)?
         .subcommand(report)?
-        .subcommand(check)
+        .subcommand(check)?
+        .subcommand(assemble)
 }
 
 /// A subcommand that runs a script, with the options of all of them.
@@ -87,10 +93,9 @@ pub fn parse(alloc: Global, words: &[String]) -> Result<Order, Error> {
 /// What a subcommand and its options ask for.
 fn asked_for(matches: &ArgMatches<'_>) -> Option<Order> {
     let (name, options) = matches.subcommand()?;
-    if name == "check" {
-        return Some(Order::Check);
-    }
     let output = match name {
+        "check" => return Some(Order::Check),
+        "assemble" => return Some(Order::Assemble),
         "report" => Output::Report {
             steps: options.get_flag("steps"),
         },

@@ -1,12 +1,13 @@
 //! `excp_job` reads a script of EXCP requests from standard input, runs it on models of devices, and prints
 //! what each request was posted with; by `report` also what the run left behind. By `check` it runs nothing and prints
-//! what is wrong in the script.
+//! what is wrong in the script; by `assemble` it makes a plain script of one with symbolic areas.
 #![tactic(auto)]
 
 mod arguments;
 
 use arguments::{Order, Output};
 use clap::error::ErrorKind;
+use job_assembler::assemble_script;
 use job_run::{Workers, report_script, run_script};
 use job_script::{Fault, check_script};
 use std::alloc::{AllocError, Global};
@@ -30,6 +31,7 @@ fn main(rt: HostRuntime) -> ExitCode {
             run(&rt, alloc, &mut input, rt.stdout(), output, workers)
         }
         Ok(Order::Check) => check(alloc, &mut input, rt.stdout()),
+        Ok(Order::Assemble) => assemble(alloc, &mut input, rt.stdout(), rt.stderr()),
         Err(status) => return ExitCode::from(status),
     };
     match done {
@@ -60,6 +62,17 @@ fn run<R: Threads + Wait + Sync, I: Read, W: Write + Drop>(
 /// Prints what is wrong in a script, and gives the exit status.
 fn check<I: Read, W: Write + Drop>(alloc: Global, input: &mut I, writer: W) -> Result<u8, Fault> {
     let refused = check_script(alloc, input, writer)?;
+    Ok(if refused { REFUSED } else { 0 })
+}
+
+/// Prints the plain script that a script comes to, or its faults, and gives the exit status.
+fn assemble<I: Read, W: Write + Drop, E: Write + Drop>(
+    alloc: Global,
+    input: &mut I,
+    writer: W,
+    faults: E,
+) -> Result<u8, Fault> {
+    let refused = assemble_script(alloc, input, writer, faults)?;
     Ok(if refused { REFUSED } else { 0 })
 }
 

@@ -1,3 +1,4 @@
+-- The lemmas of excp_system.
 pub mod Places
 pub mod Fans
 pub mod Deals

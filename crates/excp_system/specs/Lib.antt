@@ -1,3 +1,5 @@
+-- The definitions of excp_system: which row is whose, what a lock and a task keep, what is told of a pending status,
+-- and the calls of tasks and units.
 pub mod Sites
 pub mod Fans
 pub mod States

@@ -1,3 +1,4 @@
+-- The lemmas of fifo_row.
 pub mod Filters
 pub mod Places
 pub mod Fitting

@@ -38,9 +38,9 @@ fn character(byte: u8) -> char {
     }
 }
 
-/// Printed bytes, as text.
+/// Printed bytes, as text: code page 037, a dot for what cannot be seen.
 #[derive(Clone, Copy)]
-pub(crate) struct Text<'a>(pub &'a [u8]);
+pub struct Text<'a>(pub &'a [u8]);
 
 impl<'a> fmt::Display for Text<'a> {
     fn fmt<W: fmt::Write>(&self, f: &mut fmt::Formatter<W>) -> fmt::Result {

@@ -11,6 +11,7 @@ mod steps;
 mod units;
 mod words;
 
+pub use characters::Text;
 pub use digits::{put_decimal, put_digits, write_bytes};
 pub use history::write_history;
 pub use units::write_units;

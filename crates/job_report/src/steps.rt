@@ -2,10 +2,11 @@
 //! how it ended.
 
 use crate::digits::write_bytes;
-use crate::names::{FLAGS, SENSE, STATUS, command_name};
+use crate::names::{SENSE, STATUS};
 use crate::words::Count;
-use ccw_programs::{Link, Refusal, State};
-use ccw_trace::{Command, Replay, Step};
+use ccw_programs::{Context, Link, Listing, Refusal, State, Workspace};
+use ccw_trace::Replay;
+use command_names::{CCW_FLAGS, command_name};
 use device_port::{Device, Fault as DeviceFault, Flow, Kind, Segment};
 use io_area::Area;
 use io_images::Csw;
@@ -22,6 +23,8 @@ const SHOWN: u32 = 16;
 #[derive(Drop)]
 pub(crate) struct Steps<'t, D: Device> {
     replay: Replay<'t, D>,
+    /// Where the next command is put together.
+    listed: Workspace,
     kind: Kind,
     faults: &'t [DeviceFault],
     /// How many of the faults were met.
@@ -38,6 +41,7 @@ impl<'t, D: Device> Steps<'t, D> {
     ) -> Result<Steps<'t, D>, AllocError> {
         Ok(Steps {
             replay: Replay::of(book)?,
+            listed: Workspace::new(),
             kind: book.mounted().kind(),
             faults,
             met: 0,
@@ -47,25 +51,31 @@ impl<'t, D: Device> Steps<'t, D> {
 
     /// Replays the next entry, which is this one, and writes its commands if it has any.
     pub fn write_entry<W: Write>(&mut self, out: &mut W, entry: &Entry) -> Result<(), Fault> {
-        let steps = match entry {
-            Entry::Ran(_, commands) => *commands,
-            _ => 1,
+        let Entry::Ran(_, commands) = entry else {
+            self.replay.step()?;
+            return Ok(());
         };
-        for _ in 0..steps {
-            if self.replay.step()? == Step::Command {
-                self.write_command(out)?;
-            }
+        for _ in 0..*commands {
+            self.write_command(out)?;
         }
         Ok(())
     }
 
-    /// Writes the command that was replayed last.
+    /// Replays the next command, and writes it: what is listed of it before, and where its program and its storage stand
+    /// behind it.
     fn write_command<W: Write>(&mut self, out: &mut W) -> Result<(), Fault> {
-        let Some(command) = self.replay.command() else {
+        let Some(listing) = self.replay.next_command(&mut self.listed) else {
             return Ok(());
         };
-        let fault = met_by(&command, self.faults, &mut self.met, &mut self.acted);
-        match write_told(out, self.kind, &command, fault) {
+        self.replay.step()?;
+        let Some(context) = self.replay.context() else {
+            return Ok(());
+        };
+        let Some(area) = self.replay.area() else {
+            return Ok(());
+        };
+        let fault = met_by(&listing, self.faults, &mut self.met, &mut self.acted);
+        match write_told(out, self.kind, &listing, context, area, fault) {
             Ok(()) => Ok(()),
             Err(_) => Err(Fault::NotWritten),
         }
@@ -74,12 +84,12 @@ impl<'t, D: Device> Steps<'t, D> {
 
 /// The number of the fault that a command met, from 1, if it met one.
 fn met_by(
-    command: &Command<'_>,
+    listing: &Listing<'_>,
     faults: &[DeviceFault],
     met: &mut usize,
     acted: &mut u64,
 ) -> Option<usize> {
-    if command.refusal.is_some() {
+    if listing.refusal.is_some() {
         return None;
     }
     *acted = acted.saturating_add(1);
@@ -95,17 +105,20 @@ fn met_by(
 fn write_told<W: Write>(
     out: &mut W,
     kind: Kind,
-    command: &Command<'_>,
+    listing: &Listing<'_>,
+    context: &Context,
+    area: &Area,
     fault: Option<usize>,
 ) -> io::Result<()> {
-    for place in 0..command.links.len() {
-        write_ccw(out, kind, place, &command.links[place])?;
+    let links = listing.links;
+    for place in 0..links.len() {
+        write_ccw(out, kind, place, &links[place])?;
     }
-    if let Some(refusal) = command.refusal {
-        return write_refusal(out, &refusal, command);
+    if let Some(refusal) = listing.refusal {
+        return write_refusal(out, &refusal, links, area);
     }
-    write_data(out, command)?;
-    write_end(out, command)?;
+    write_data(out, listing, context, area)?;
+    write_end(out, links, context)?;
     if let Some(number) = fault {
         write!(out, ", fault {number} of the unit")?;
     }
@@ -124,9 +137,9 @@ fn write_ccw<W: Write>(out: &mut W, kind: Kind, place: usize, link: &Link) -> io
     write!(out, "#         {:06X}  ", link.at)?;
     write_bytes(out, &image)?;
     write!(out, "  {name}")?;
-    for (bit, flag) in FLAGS {
+    for (bit, flag) in CCW_FLAGS {
         if image[4] & bit != 0 {
-            out.write_all(flag.as_bytes())?;
+            write!(out, " {flag}")?;
         }
     }
     out.write_all(b"\n")
@@ -136,12 +149,13 @@ fn write_ccw<W: Write>(out: &mut W, kind: Kind, place: usize, link: &Link) -> io
 fn write_refusal<W: Write>(
     out: &mut W,
     refusal: &Refusal,
-    command: &Command<'_>,
+    links: &[Link],
+    area: &Area,
 ) -> io::Result<()> {
     let Refusal { at, rule } = refusal;
     write!(out, "#           program check at {at:06X}")?;
-    let is_written = command.links.iter().any(|link| link.at == *at);
-    match command.area.get(*at, 8) {
+    let is_written = links.iter().any(|link| link.at == *at);
+    match area.get(*at, 8) {
         Some(image) if !is_written => {
             out.write_all(b"  ")?;
             write_bytes(out, image)?;
@@ -152,16 +166,21 @@ fn write_refusal<W: Write>(
 }
 
 /// Writes the first of the bytes that a command moved, if it moved any.
-fn write_data<W: Write>(out: &mut W, command: &Command<'_>) -> io::Result<()> {
-    let moved = moved(command.links, &command.stored);
-    let [part, ..] = command.parts else {
+fn write_data<W: Write>(
+    out: &mut W,
+    listing: &Listing<'_>,
+    context: &Context,
+    area: &Area,
+) -> io::Result<()> {
+    let moved = moved(listing.links, &context.halted());
+    let [part, ..] = listing.parts else {
         return Ok(());
     };
     if moved == 0 {
         return Ok(());
     }
     let shown = moved.min(u32::from(part.count)).min(SHOWN);
-    let (way, from) = match command.flow {
+    let (way, from) = match listing.flow {
         Some(Flow::Out) => ("from", part.address),
         Some(Flow::Back) => ("down from", lowest(part, shown)),
         _ => ("to", part.address),
@@ -172,7 +191,7 @@ fn write_data<W: Write>(out: &mut W, command: &Command<'_>) -> io::Result<()> {
         "#           {moved_bytes} {way} {:06X}: ",
         part.address
     )?;
-    match command.area.get(from, shown as usize) {
+    match area.get(from, shown as usize) {
         Some(_) if part.skip => out.write_all(b"skipped")?,
         Some(bytes) => write_bytes(out, bytes)?,
         None => out.write_all(b"-")?,
@@ -185,7 +204,8 @@ fn lowest(part: &Segment, count: u32) -> u32 {
     part.address.saturating_sub(count.saturating_sub(1))
 }
 
-/// How many bytes a command moved: those that its CCWs count up to the one where it ended, but for what was left of that.
+/// How many bytes a command moved: those that its CCWs count up to the one where it ended, which it stored, but for what
+/// was left of that.
 fn moved(links: &[Link], stored: &Csw) -> u32 {
     let mut moved: u32 = 0;
     for link in links {
@@ -200,12 +220,13 @@ fn moved(links: &[Link], stored: &Csw) -> u32 {
 
 /// Writes how a command ended: unit status, subchannel status and residual count, and where the program goes on, or the
 /// sense bits of its end.
-fn write_end<W: Write>(out: &mut W, command: &Command<'_>) -> io::Result<()> {
-    match command.state {
+fn write_end<W: Write>(out: &mut W, links: &[Link], context: &Context) -> io::Result<()> {
+    match context.state() {
         State::Running => {
-            let modifier = leaves_out(command.links, command.next);
-            write_status(out, &command.stored, modifier)?;
-            write!(out, ", on to {:06X}", command.next)
+            let next = context.next();
+            let modifier = leaves_out(links, next);
+            write_status(out, &context.halted(), modifier)?;
+            write!(out, ", on to {next:06X}")
         }
         State::Ended(csw, sense) => {
             write_status(out, &csw, 0)?;

@@ -8,7 +8,7 @@ use std::sync::atomic::{AtomicBool, Ordering};
 /// Wakes a task that sleeps when a post is there for it, and all tasks when a worker met want of memory. It is a gate
 /// that holds nobody up.
 #[derive(Drop)]
-pub(crate) struct Alarm {
+pub struct Alarm {
     tasks: Vec<Unparker>,
     raised: AtomicBool,
 }

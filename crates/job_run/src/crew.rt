@@ -26,8 +26,8 @@ pub struct Workers {
 
 /// The units that one channel worker serves.
 #[derive(Drop)]
-struct Channel<S: Site> {
-    units: Vec<u16>,
+pub struct Channel<S: Site> {
+    pub units: Vec<u16>,
     of: PhantomData<S>,
     ghost of_the_site: { All (λ unit. unit < S.rows.units) units.items },
 }
@@ -63,9 +63,9 @@ pub(crate) fn leave_used<S: Site>(takers: &mut Vec<IscTaker<'_, S>>, script: &Sc
 /// The workers of a system: each channel worker with its units, and each handler with the ends of the notice rows of
 /// its subclasses.
 #[derive(Drop)]
-pub(crate) struct Crew<'r, S: Site> {
-    channels: Vec<Channel<S>>,
-    handlers: Vec<Vec<IscTaker<'r, S>>>,
+pub struct Crew<'r, S: Site> {
+    pub channels: Vec<Channel<S>>,
+    pub handlers: Vec<Vec<IscTaker<'r, S>>>,
 }
 
 impl<'r, S: Site> Crew<'r, S> {

@@ -47,16 +47,16 @@ fn are_whole(lines: &[Line], shown: usize) -> bool
 /// What is printed of the requests of a task: for each unit a line for each of the requests to it, in order of their
 /// numbers, and the bytes that are shown of all of them, whose room is made before they are issued.
 #[derive(Drop)]
-pub(crate) struct Lines {
-    pub units: Vec<Vec<Line>>,
-    pub shown: Vec<u8>,
+pub struct Lines {
+    pub(crate) units: Vec<Vec<Line>>,
+    pub(crate) shown: Vec<u8>,
     /// Whether a post came that no request waits for.
     stray: bool,
 }
 
 impl Lines {
     /// A line for each request that the script issues by a task.
-    pub fn of_task(alloc: Global, script: &Script, task: u16) -> Result<Lines, AllocError> {
+    pub(crate) fn of_task(alloc: Global, script: &Script, task: u16) -> Result<Lines, AllocError> {
         let mut lines = Lines::new(alloc, script.set_up.units.len())?;
         for command in &script.commands {
             if command.task == task {
@@ -111,7 +111,7 @@ impl Lines {
     }
 
     /// Notes what a request of the task was posted with. It takes no memory.
-    pub fn fill(&mut self, posted: &Posted) {
+    pub(crate) fn fill(&mut self, posted: &Posted) {
         let filled = self.fill_line(posted).is_some();
         self.stray |= !filled;
     }

@@ -15,7 +15,7 @@ use unit_device::UnitDevice;
 
 /// What a run prints.
 #[derive(Drop)]
-pub(crate) enum Output<'a> {
+pub enum Output<'a> {
     /// What the requests of each task were posted with.
     Posts,
     /// And then of each unit of the script, as its book has it, what happened at it, with `steps` every command too, and
@@ -29,7 +29,7 @@ pub(crate) enum Output<'a> {
 
 /// Writes what the requests of each task were posted with, in order of tasks, units and numbers, each with its shown
 /// bytes, and then how many there are; and what else is to be printed.
-pub(crate) fn write<W: Write + Drop>(
+pub fn write<W: Write + Drop>(
     alloc: Global,
     lines: &[Lines],
     output: Output<'_>,

@@ -28,7 +28,7 @@ use unit_device::UnitDevice;
 
 /// A run that was brought to its end: what is printed of the requests of each task, and the account of its units.
 #[derive(Drop)]
-pub(crate) struct Finished {
+pub struct Finished {
     pub lines: Vec<Lines>,
     pub report: Report<UnitDevice>,
     ghost complete: { All IsComplete lines.items },
@@ -105,8 +105,9 @@ fn run_to_end<R: Threads + Wait + Sync>(
     run_on::<Brand, R>(rt, alloc, &mut rows, books, script, workers)
 }
 
-/// Runs a script on a system of these rows and books, to its end.
-pub(crate) fn run_on<S: Site + Send + Sync, R: Threads + Wait + Sync>(
+/// Runs a script on a system of these rows and books, to its end. It is refused for want of memory, and as
+/// `run_commands` and `ended` are.
+pub fn run_on<S: Site + Send + Sync, R: Threads + Wait + Sync>(
     rt: &R,
     alloc: Global,
     rows: &mut Rows,
@@ -133,9 +134,10 @@ pub(crate) fn run_on<S: Site + Send + Sync, R: Threads + Wait + Sync>(
 }
 
 /// Lets the tasks do their commands beside the workers, which pass this gate, and gives them with what is printed of
-/// their requests. Want of memory that a worker met outranks the fault of a line at which a task ended, as it ended the
-/// others.
-pub(crate) fn run_commands<'r, S: Site + Send + Sync, G: Gate + Sync, R: Threads + Wait + Sync>(
+/// their requests. The gate has to hand on to the job's alarm what it is told of posts and of want of memory, since the
+/// tasks sleep until they are woken by it. It is refused where a task ended before its last command, and for want of
+/// memory; where a worker met that, it outranks the fault of a line at which a task ended, as it ended the others.
+pub fn run_commands<'r, S: Site + Send + Sync, G: Gate + Sync, R: Threads + Wait + Sync>(
     rt: &R,
     alloc: Global,
     job: &Job<'_, 'r, S>,
@@ -154,8 +156,10 @@ pub(crate) fn run_commands<'r, S: Site + Send + Sync, G: Gate + Sync, R: Threads
     parted(alloc, runners)
 }
 
-/// Brings a run to its end whose tasks have done their commands: what they had not collected is printed too.
-pub(crate) fn ended<'r, S: Site, R: Wait>(
+/// Brings a run to its end whose tasks have done their commands: what they had not collected is added to their lines. It
+/// is refused for want of memory, with all that is left of the run (a state under another unit's lock, which no worker
+/// leaves there, is told so too), and where a line has no post of its own.
+pub fn ended<'r, S: Site, R: Wait>(
     rt: &R,
     alloc: Global,
     system: System<'r, S, UnitDevice>,

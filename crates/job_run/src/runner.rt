@@ -22,10 +22,10 @@ const MOST_UNDER_WAY: usize = 256;
 
 /// What the tasks of a run share: the script, the system of its units, and whether a worker met want of memory.
 #[derive(Drop)]
-pub(crate) struct Job<'a, 'r, S: Site> {
-    pub(crate) script: &'a Script,
-    pub(crate) system: &'a System<'r, S, UnitDevice>,
-    pub(crate) alarm: &'a Alarm,
+pub struct Job<'a, 'r, S: Site> {
+    pub script: &'a Script,
+    pub system: &'a System<'r, S, UnitDevice>,
+    pub alarm: &'a Alarm,
     ghost units_are: { vec_len script.now.set_up.units ≡ S.rows.units },
     ghost requests_can_be_made: { All CanBeDone script.now.commands.items },
 }
@@ -51,7 +51,7 @@ impl<'a, 'r, S: Site> Job<'a, 'r, S> {
 /// A task, what is printed of its requests, how many of them it has not collected yet, where it sleeps until they are
 /// posted, and why it ended before its last command.
 #[derive(Drop)]
-pub(crate) struct Runner<'r, S: Site> {
+pub struct Runner<'r, S: Site> {
     pub task: Task<'r, S>,
     lines: Lines,
     awaited: usize,
@@ -61,7 +61,7 @@ pub(crate) struct Runner<'r, S: Site> {
 
 impl<'r, S: Site> Runner<'r, S> {
     /// The task with what is printed of the requests that the script issues by it.
-    pub fn new(
+    pub(crate) fn new(
         alloc: Global,
         task: Task<'r, S>,
         script: &Script,
@@ -79,11 +79,11 @@ impl<'r, S: Site> Runner<'r, S> {
     }
 
     /// What wakes the task.
-    pub fn unparker(&self) -> Result<Unparker, AllocError> {
+    pub(crate) fn unparker(&self) -> Result<Unparker, AllocError> {
         self.parker.unparker().clone()
     }
 
-    /// The task, and what is printed of its requests; or why it ended before its last command.
+    /// The task, and what is printed of its requests; or, behind `run`, why it ended before its last command.
     pub fn into_parts(self) -> Result<(Task<'r, S>, Lines), Fault>
         ensures { IfOk result (λ parts. parts.0 ≡ self.entry.task) }
     {
@@ -106,7 +106,7 @@ impl<'r, S: Site> Runner<'r, S> {
         };
     }
 
-    /// Does the commands of the task, in order, up to the first fault.
+    /// Does the commands of the task, in order, up to the first fault, which it answers and does not keep.
     pub fn commands<R: Wait>(
         &mut self,
         rt: &R,

@@ -12,7 +12,7 @@ use job_script::{Fault, Script};
 use std::alloc::{AllocError, Global};
 
 /// The tasks of a system, each with what is printed of the requests that the script issues by it.
-pub(crate) fn runners<'r, S: Site>(
+pub fn runners<'r, S: Site>(
     alloc: Global,
     tasks: Vec<Task<'r, S>>,
     script: &Script,
@@ -28,7 +28,7 @@ pub(crate) fn runners<'r, S: Site>(
 }
 
 /// What wakes these tasks.
-pub(crate) fn alarm_of<'r, S: Site>(
+pub fn alarm_of<'r, S: Site>(
     alloc: Global,
     runners: &[Runner<'r, S>],
 ) -> Result<Alarm, AllocError> {
@@ -39,9 +39,9 @@ pub(crate) fn alarm_of<'r, S: Site>(
     Ok(Alarm::new(tasks))
 }
 
-/// The tasks after a run, and what is printed of the requests of each; or the fault of the first task that ended before
-/// its last command.
-pub(crate) fn parted<'r, S: Site>(
+/// The tasks after a run, and what is printed of the requests of each; or the fault of the first task whose
+/// `Runner::run` ended before its last command, or want of memory.
+pub fn parted<'r, S: Site>(
     alloc: Global,
     runners: Vec<Runner<'r, S>>,
 ) -> Result<(Vec<Task<'r, S>>, Vec<Lines>), Fault>

@@ -1,59 +1,22 @@
-//! Why a line of a script is refused: the cause, which says what is wrong and what would be right, behind the name of
-//! each fault.
-
-mod content;
-mod lines;
+//! Why a line of a script is refused: the name of its fault, and a message that says what is wrong and what would be
+//! right.
 
 use crate::fault::{Fault, FaultName};
-pub use content::{AreaCause, ExtentCause, MediumCause, Place, RequestCause};
-pub use lines::{KindCause, NameCause, NumberCause, OrderCause, Wanted, WordsCause};
+use crate::message::Message;
 use std::alloc::{AllocError, AllocFailed};
-use std::fmt;
 
-/// Why a line is refused. Each name of a fault has its causes.
+/// Why a line is refused.
 #[derive(Clone, Copy)]
-pub enum Cause {
-    Words(WordsCause),
-    Number(NumberCause),
-    Order(OrderCause),
-    Name(NameCause),
-    Kind(KindCause),
-    Area(AreaCause),
-    Medium(MediumCause),
-    Extent(ExtentCause),
-    Request(RequestCause),
+pub struct Cause {
+    pub name: FaultName,
+    pub message: Message,
 }
 
 impl Cause {
-    /// The name of the fault.
-    pub fn name(self) -> FaultName {
-        match self {
-            Cause::Words(_) => FaultName::Words,
-            Cause::Number(_) => FaultName::Number,
-            Cause::Order(_) => FaultName::Order,
-            Cause::Name(_) => FaultName::Name,
-            Cause::Kind(_) => FaultName::Kind,
-            Cause::Area(_) => FaultName::Area,
-            Cause::Medium(_) => FaultName::Medium,
-            Cause::Extent(_) => FaultName::Extent,
-            Cause::Request(_) => FaultName::Request,
-        }
-    }
-}
-
-impl fmt::Display for Cause {
-    fn fmt<W: fmt::Write>(&self, f: &mut fmt::Formatter<W>) -> fmt::Result {
-        match *self {
-            Cause::Words(cause) => write!(f, "{cause}"),
-            Cause::Number(cause) => write!(f, "{cause}"),
-            Cause::Order(cause) => write!(f, "{cause}"),
-            Cause::Name(cause) => write!(f, "{cause}"),
-            Cause::Kind(cause) => write!(f, "{cause}"),
-            Cause::Area(cause) => write!(f, "{cause}"),
-            Cause::Medium(cause) => write!(f, "{cause}"),
-            Cause::Extent(cause) => write!(f, "{cause}"),
-            Cause::Request(cause) => write!(f, "{cause}"),
-        }
+    /// A fault with this name, and the text that is told of it, in which these numbers stand.
+    pub fn new(name: FaultName, text: &'static str, numbers: &[u64]) -> Self {
+        let message = Message::new(text, numbers);
+        Cause { name, message }
     }
 }
 
@@ -70,7 +33,7 @@ impl Refusal {
         match self {
             Refusal::Caused(cause) => Fault::Line {
                 line,
-                name: cause.name(),
+                name: cause.name,
             },
             Refusal::NoMemory => Fault::NoMemory,
         }
@@ -80,18 +43,6 @@ impl Refusal {
 impl From<Cause> for Refusal {
     fn from(cause: Cause) -> Self {
         Refusal::Caused(cause)
-    }
-}
-
-impl From<NumberCause> for Refusal {
-    fn from(cause: NumberCause) -> Self {
-        Refusal::Caused(Cause::Number(cause))
-    }
-}
-
-impl From<NameCause> for Refusal {
-    fn from(cause: NameCause) -> Self {
-        Refusal::Caused(Cause::Name(cause))
     }
 }
 

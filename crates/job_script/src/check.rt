@@ -9,18 +9,23 @@ mod requests;
 ghost use Rattle.std.specs.Prelude.{◌+◌};
 ghost use Rattle.job_script.specs.Reading.{ReadsAtMost};
 
-use crate::cause::{Cause, OrderCause, Refusal};
+use crate::cause::{Cause, Refusal};
 use crate::command::{Action, Command};
-use crate::fault::Fault;
+use crate::fault::{Fault, FaultName};
 use crate::line::{ExcpLine, Line};
+use crate::message::Message;
 use crate::reading::{LIMIT, read_script};
 use crate::script::late;
 use crate::set_up::SetUp;
-use finding::{Finding, write_findings};
+use finding::{Finding, tell, write_findings};
 use media::check_unit;
-use notes::{AreaUse, Note, note_unused};
+use notes::{AreaUse, note_unused};
 use std::alloc::{AllocError, Global};
 use std::io::{Read, Write};
+
+/// A task resets a DCB before it has waited for its requests.
+const EARLY_RESET: &str =
+    "task # has not waited since its last excp, the error may come behind this reset";
 
 /// Reads a script, at most 1,048,576 bytes and one more, and writes every fault and note that is found, in the order of
 /// lines. It answers whether a run would refuse the script.
@@ -34,7 +39,7 @@ pub fn check_script<R: Read, W: Write + Drop>(
     let text = read_script(alloc, reader)?;
     let findings = findings(alloc, &text)?;
     write_findings(alloc, &findings, writer)?;
-    Ok(findings.iter().any(|finding| finding.is_fault()))
+    Ok(refuses(&findings))
 }
 
 /// What is found in the text of a script, in the order of lines.
@@ -60,15 +65,30 @@ fn findings(alloc: Global, text: &[u8]) -> Result<Vec<Finding>, AllocError> {
     Ok(findings)
 }
 
+/// Whether a run refuses the script for what was found.
+fn refuses(findings: &[Finding]) -> bool {
+    for finding in findings {
+        if finding.is_fault() {
+            return true;
+        }
+    }
+    false
+}
+
 /// Tells what no line declares.
 fn tell_lacks(set_up: &SetUp, findings: &mut Vec<Finding>) -> Result<(), AllocError> {
     if set_up.tasks == 0 {
-        findings.push(Finding::fault(0, Cause::Order(OrderCause::NoTasks)))?;
+        tell(findings, 0, lack("no line declares the tasks"))?;
     }
     if set_up.units.is_empty() {
-        findings.push(Finding::fault(0, Cause::Order(OrderCause::NoUnit)))?;
+        tell(findings, 0, lack("no line declares a unit"))?;
     }
     Ok(())
+}
+
+/// That no line declares something.
+fn lack(text: &'static str) -> Cause {
+    Cause::new(FaultName::Order, text, &[])
 }
 
 /// What a script declares as far as it was read, and what was found in it. A line with a fault says nothing, but what it was to declare
@@ -109,9 +129,7 @@ impl Check {
             Ok(()) => Ok(()),
             Err(Refusal::NoMemory) => Err(AllocError),
             Err(Refusal::Caused(cause)) => {
-                if !self.follows_from_assumed(cause) {
-                    self.findings.push(Finding::fault(number, cause))?;
-                }
+                tell(&mut self.findings, number, cause)?;
                 self.assume(alloc, number, bytes)
             }
         }
@@ -124,6 +142,9 @@ impl Check {
             Line::SetUp(line) => {
                 if let Some(first) = self.first_command {
                     return Err(late(first));
+                }
+                if self.lies_on_assumed(&line) {
+                    return Ok(());
                 }
                 self.set_up.add(alloc, number, line)?;
                 self.count_areas(number)?;
@@ -147,7 +168,7 @@ impl Check {
             return Ok(());
         }
         if let Some(cause) = made.refused() {
-            return Err(Refusal::Caused(Cause::Request(cause)));
+            return Err(Refusal::Caused(cause));
         }
         if let Some(note) = self.set_up.forbidden(made) {
             self.findings.push(Finding::note(line, note))?;
@@ -169,7 +190,7 @@ impl Check {
             Action::Excp(_) => *unwaited = true,
             Action::Wait => *unwaited = false,
             Action::Reset(_) if *unwaited => {
-                let note = Note::Reset { task };
+                let note = Message::new(EARLY_RESET, &[u64::from(task)]);
                 self.findings.push(Finding::note(command.line, note))?;
             }
             _ => {}

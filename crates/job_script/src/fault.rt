@@ -47,7 +47,7 @@ impl fmt::Display for FaultName {
 }
 
 /// Why a line of a script is not taken, or its command not done.
-#[derive(Clone, Copy, PartialEq, Eq, Debug)]
+#[derive(Clone, Copy)]
 pub enum LineFault {
     Named(FaultName),
     NoMemory,

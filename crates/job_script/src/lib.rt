@@ -10,6 +10,7 @@ mod check;
 mod command;
 mod fault;
 mod line;
+mod message;
 mod reading;
 mod script;
 mod set_up;

@@ -8,8 +8,9 @@ mod verb;
 
 ghost use Rattle.std.specs.Prelude.{◌≤◌, ◌<◌};
 
-use crate::cause::{Cause, Refusal, WordsCause};
+use crate::cause::{Cause, Refusal};
 use crate::command::{Command, DcbName, Excp};
+use crate::fault::FaultName;
 use crate::set_up::{Opening, UnitSetup};
 use crate::words::Words;
 use areas::{area, opening, tasks};
@@ -17,7 +18,7 @@ use ckd_disk::InitialRecord;
 use commands::{close, excp, purge, purge_task, reset, wait};
 use device_port::Fault as DeviceFault;
 use io_area::Area;
-use std::alloc::Global;
+use std::alloc::{AllocError, Global};
 use std::sync::Arc;
 use tape_unit::InitialItem;
 use units::{block, disk, fault, mark, printer, record, tape};
@@ -78,8 +79,12 @@ impl ExcpLine {
         let b"excp" = words.next_word()? else {
             return None;
         };
-        let excp = excp(number, &mut words).ok()?;
-        words.is_empty().then_some(excp)
+        let excp = excp(number, &mut words);
+        if words.refused().is_none() && words.is_empty() {
+            Some(excp)
+        } else {
+            None
+        }
     }
 
     /// The EXCP on a copy of this area.
@@ -116,18 +121,20 @@ impl Line {
         if let [b'#', ..] = kind {
             return Ok(Line::Nothing);
         }
-        let verb = first_word(bytes, kind, count).map_err(Cause::Words)?;
-        match verb {
+        let line = match first_word(bytes, kind, count)? {
             Verb::SetUp(verb) => {
-                let line = SetUpLine::read(alloc, number, verb, count, &mut words)?;
-                Ok(Line::SetUp(line))
+                Line::SetUp(SetUpLine::read(alloc, number, verb, count, &mut words)?)
             }
-            Verb::Excp => Ok(Line::Excp(excp(number, &mut words)?)),
-            Verb::Purge => Ok(Line::Command(purge(number, &mut words)?)),
-            Verb::PurgeTask => Ok(Line::Command(purge_task(number, &mut words)?)),
-            Verb::Close => Ok(Line::Command(close(number, &mut words)?)),
-            Verb::Reset => Ok(Line::Command(reset(number, &mut words)?)),
-            Verb::Wait => Ok(Line::Command(wait(number, &mut words)?)),
+            Verb::Excp => Line::Excp(excp(number, &mut words)),
+            Verb::Purge => Line::Command(purge(number, &mut words)),
+            Verb::PurgeTask => Line::Command(purge_task(number, &mut words)),
+            Verb::Close => Line::Command(close(number, &mut words)),
+            Verb::Reset => Line::Command(reset(number, &mut words)),
+            Verb::Wait => Line::Command(wait(number, &mut words)),
+        };
+        match words.refused() {
+            Some(cause) => Err(Refusal::Caused(cause)),
+            None => Ok(line),
         }
     }
 }
@@ -140,7 +147,7 @@ impl SetUpLine {
         verb: SetUpVerb,
         count: usize,
         words: &mut Words<'_>,
-    ) -> Result<SetUpLine, Refusal> {
+    ) -> Result<SetUpLine, AllocError> {
         let rest = count.saturating_sub(3);
         let line = match verb {
             SetUpVerb::Record => return record(alloc, words),
@@ -154,23 +161,36 @@ impl SetUpLine {
             SetUpVerb::Mark => mark(words),
             SetUpVerb::Fault => fault(words),
         };
-        Ok(line?)
+        Ok(line)
     }
 }
 
 /// What the first word of a line says, where its bytes and the number of its words may be so.
-fn first_word(bytes: &[u8], kind: &[u8], count: usize) -> Result<Verb, WordsCause> {
-    if let Some(place) = bytes.iter().position(|byte| !is_printable(*byte)) {
-        return Err(WordsCause::Byte {
-            place: place.saturating_add(1),
-            value: bytes[place],
-        });
+fn first_word(bytes: &[u8], kind: &[u8], count: usize) -> Result<Verb, Cause> {
+    for (place, byte) in bytes.iter().enumerate() {
+        if *byte < b' ' || *byte > b'~' {
+            return Err(unprintable(place, *byte));
+        }
     }
-    let verb = Verb::of(kind).ok_or(WordsCause::Unknown)?;
+    let Some(verb) = Verb::of(kind) else {
+        let text = "no line begins with word 1";
+        return Err(Cause::new(FaultName::Words, text, &[]));
+    };
     verb.takes(count)?;
     Ok(verb)
 }
 
-fn is_printable(byte: u8) -> bool {
-    byte >= b' ' && byte <= b'~'
+/// That the byte at this place, which counts from 0, is no printable ASCII character.
+fn unprintable(place: usize, byte: u8) -> Cause {
+    let text = match byte {
+        b'\r' => "byte # is X'%', lines end with a line feed",
+        b'\t' => "byte # is X'%', words are parted by blanks",
+        _ => "byte # is X'%', which is no printable ASCII character",
+    };
+    let place = place as u64;
+    Cause::new(
+        FaultName::Words,
+        text,
+        &[place.saturating_add(1), u64::from(byte)],
+    )
 }

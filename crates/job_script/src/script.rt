@@ -4,13 +4,19 @@ ghost use Rattle.std.specs.Prelude.{◌≡◌, ◌≤◌, Contains, IfOk, vec_le
 ghost use Rattle.job_script.specs.Commands.{NamesUnits, most, requests_of, requests_to};
 ghost use Rattle.job_script.specs.declared.command.Command.{Command as OneCommand};
 
-use crate::cause::{Cause, OrderCause, Refusal};
+use crate::cause::{Cause, Refusal};
 use crate::command::Command;
-use crate::fault::Fault;
+use crate::fault::{Fault, FaultName};
 use crate::line::{ExcpLine, Line};
 use crate::set_up::SetUp;
 use memchr::memchr;
 use std::alloc::Global;
+
+/// That no line declares the tasks, or a unit.
+const NO_LINE: Fault = Fault::Line {
+    line: 0,
+    name: FaultName::Order,
+};
 
 /// What a script says. The units that its commands name are declared.
 #[derive(Drop)]
@@ -41,10 +47,10 @@ impl Script {
         }
         script.read_line(alloc, number, rest)?;
         if script.set_up.tasks == 0 {
-            return Err(Refusal::Caused(Cause::Order(OrderCause::NoTasks)).at(0));
+            return Err(NO_LINE);
         }
         if script.set_up.units.is_empty() {
-            return Err(Refusal::Caused(Cause::Order(OrderCause::NoUnit)).at(0));
+            return Err(NO_LINE);
         }
         Ok(script)
     }
@@ -55,7 +61,10 @@ impl Script {
             Some(excp) => self.add_excp(excp),
             None => self.read_any_line(alloc, number, bytes),
         };
-        read.map_err(|refusal| refusal.at(number))
+        match read {
+            Ok(()) => Ok(()),
+            Err(refusal) => Err(refusal.at(number)),
+        }
     }
 
     /// Adds what a line of any kind says.
@@ -132,5 +141,6 @@ impl Script {
 
 /// That a set-up line stands behind the first command, which has this line.
 pub(crate) fn late(command: usize) -> Refusal {
-    Refusal::Caused(Cause::Order(OrderCause::Late { command }))
+    let text = "a set-up line stands before the first command, which is line #";
+    Refusal::Caused(Cause::new(FaultName::Order, text, &[command as u64]))
 }

@@ -6,8 +6,9 @@ mod assumed;
 ghost use Rattle.std.specs.Prelude.{◌≤◌, ◌<◌, OnOk, vec_len};
 ghost use Rattle.job_script.specs.Commands.{NamesUnits};
 
-use crate::cause::{AreaCause, Cause, KindCause, NameCause, OrderCause, Refusal};
+use crate::cause::{Cause, Refusal};
 use crate::command::{Action, Command, DcbName};
+use crate::fault::FaultName;
 use crate::line::{AreaLine, ExcpLine, SetUpLine, TasksLine, UnitLine};
 use ckd_disk::{Geometry, InitialRecord};
 use device_port::Fault as DeviceFault;
@@ -74,7 +75,7 @@ impl SetUp {
     }
 
     /// A unit has this DCB.
-    fn names_dcb(&self, dcb: DcbName) -> Result<(), NameCause>
+    fn names_dcb(&self, dcb: DcbName) -> Result<(), Cause>
         ensures { OnOk result (dcb.unit < vec_len self.now.units) }
     {
         let DcbName { unit, number } = dcb;
@@ -83,27 +84,27 @@ impl SetUp {
         };
         let count = declared.openings.len();
         if usize::from(number) > count {
-            return Err(NameCause::Dcb {
-                unit,
-                number,
-                count,
-            });
+            let text = "DCB # of # of unit #, which count from 1";
+            let numbers = [u64::from(number), count as u64, u64::from(unit)];
+            return Err(Cause::new(FaultName::Name, text, &numbers));
         }
         Ok(())
     }
 
     /// A task has this number.
-    fn names_task(&self, number: u16) -> Result<(), NameCause> {
+    fn names_task(&self, number: u16) -> Result<(), Cause> {
         let count = self.tasks;
         if number < count {
             Ok(())
         } else {
-            Err(NameCause::Task { number, count })
+            let text = "task # of #, which count from 0";
+            let numbers = [u64::from(number), u64::from(count)];
+            Err(Cause::new(FaultName::Name, text, &numbers))
         }
     }
 
     /// All that a command names is declared: its task, and a DCB or another task.
-    pub(crate) fn names(&self, command: &Command) -> Result<(), NameCause>
+    pub(crate) fn names(&self, command: &Command) -> Result<(), Cause>
         ensures { OnOk result (NamesUnits (vec_len self.now.units) command.now) }
     {
         self.names_task(command.task)?;
@@ -119,10 +120,11 @@ impl SetUp {
     fn area(&self, number: u64) -> Result<Arc<Area, Global>, Refusal> {
         match self.areas.get(number as usize) {
             Some(area) => Ok(Arc::try_clone(area)?),
-            None => Err(Refusal::from(NameCause::Area {
-                number,
-                count: self.areas.len(),
-            })),
+            None => {
+                let text = "area # of #, which count from 0";
+                let numbers = [number, self.areas.len() as u64];
+                Err(Refusal::Caused(Cause::new(FaultName::Name, text, &numbers)))
+            }
         }
     }
 
@@ -157,7 +159,7 @@ impl SetUp {
     /// The tasks are declared once.
     fn add_tasks(&mut self, line: TasksLine) -> Result<(), Refusal> {
         if self.tasks != 0 {
-            return Err(Refusal::Caused(Cause::Order(OrderCause::TasksTwice)));
+            return Err(order("the number of tasks is declared once", &[]));
         }
         self.tasks = line.tasks;
         Ok(())
@@ -167,10 +169,8 @@ impl SetUp {
     fn add_unit(&mut self, line: UnitLine) -> Result<(), Refusal> {
         let UnitLine { number, unit } = line;
         if usize::from(number) != self.units.len() {
-            return Err(Refusal::Caused(Cause::Order(OrderCause::Unit {
-                number: u64::from(number),
-                expected: self.units.len() as u64,
-            })));
+            let numbers = [u64::from(number), self.units.len() as u64];
+            return Err(order("unit #, expected #", &numbers));
         }
         self.units.push(unit)?;
         Ok(())
@@ -186,7 +186,7 @@ impl SetUp {
         let unit = self.unit(number)?;
         match &mut unit.medium {
             Medium::Disk(_, records) => records.push(record)?,
-            _ => return Err(Refusal::Caused(Cause::Kind(KindCause::NoDisk { unit: number }))),
+            _ => return Err(kind("unit # is no disk", number)),
         }
         unit.content_lines.push(line)?;
         Ok(())
@@ -197,7 +197,7 @@ impl SetUp {
         let unit = self.unit(number)?;
         match &mut unit.medium {
             Medium::Tape(_, items) => items.push(item)?,
-            _ => return Err(Refusal::Caused(Cause::Kind(KindCause::NoTape { unit: number }))),
+            _ => return Err(kind("unit # is no tape", number)),
         }
         unit.content_lines.push(line)?;
         Ok(())
@@ -221,37 +221,53 @@ impl SetUp {
     fn add_area(&mut self, alloc: Global, line: AreaLine) -> Result<(), Refusal> {
         let expected = self.areas.len() as u64;
         if line.number != expected {
-            return Err(Refusal::Caused(Cause::Order(OrderCause::Area {
-                number: line.number,
-                expected,
-            })));
+            return Err(order("area #, expected #", &[line.number, expected]));
         }
-        let base = line.base;
-        let len = line.bytes.len();
-        let cause = match Area::new(alloc, base, &line.bytes) {
+        match Area::new(alloc, line.base, &line.bytes) {
             Ok(area) => {
                 self.areas.push(Arc::new(alloc, area)?)?;
-                return Ok(());
+                Ok(())
             }
-            Err(AreaError::NoMemory) => return Err(Refusal::NoMemory),
-            Err(AreaError::Misaligned) => AreaCause::Misaligned { base },
-            Err(AreaError::TooLong) => AreaCause::TooLong { len },
-            Err(AreaError::PastTop) => AreaCause::PastTop { base, len },
-        };
-        Err(Refusal::Caused(Cause::Area(cause)))
+            Err(error) => Err(no_area(error, line.base, line.bytes.len())),
+        }
     }
 
     /// The unit with this number.
-    fn unit(&mut self, number: u16) -> Result<&mut UnitSetup, NameCause> {
-        let missing = self.no_unit(number);
-        self.units.get_mut(usize::from(number)).ok_or(missing)
+    fn unit(&mut self, number: u16) -> Result<&mut UnitSetup, Cause> {
+        let place = usize::from(number);
+        if place >= self.units.len() {
+            return Err(self.no_unit(number));
+        }
+        Ok(&mut self.units[place])
     }
 
     /// That a unit with this number is not declared.
-    fn no_unit(&self, number: u16) -> NameCause {
-        NameCause::Unit {
-            number,
-            count: self.units.len(),
-        }
+    fn no_unit(&self, number: u16) -> Cause {
+        let text = "unit # of #, which count from 0";
+        let numbers = [u64::from(number), self.units.len() as u64];
+        Cause::new(FaultName::Name, text, &numbers)
     }
+}
+
+/// That a line stands out of its order.
+fn order(text: &'static str, numbers: &[u64]) -> Refusal {
+    Refusal::Caused(Cause::new(FaultName::Order, text, numbers))
+}
+
+/// That a unit is not of the kind that a line is for.
+fn kind(text: &'static str, unit: u16) -> Refusal {
+    Refusal::Caused(Cause::new(FaultName::Kind, text, &[u64::from(unit)]))
+}
+
+/// Why an area of so many bytes is none.
+fn no_area(error: AreaError, base: u32, len: usize) -> Refusal {
+    let base = u64::from(base);
+    let len = len as u64;
+    let (text, numbers) = match error {
+        AreaError::NoMemory => return Refusal::NoMemory,
+        AreaError::Misaligned => ("the address @ is no multiple of 8", [base, 0]),
+        AreaError::TooLong => ("# bytes, at most 8192 are wanted", [len, 0]),
+        AreaError::PastTop => ("# bytes from @ end past FFFFFF", [len, base]),
+    };
+    Refusal::Caused(Cause::new(FaultName::Area, text, &numbers))
 }

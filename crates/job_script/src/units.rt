@@ -88,19 +88,6 @@ impl UnitSetup {
         }
     }
 
-    /// Its device with nothing on its medium, and no fault to meet.
-    pub(crate) fn bare(&self, alloc: Global) -> Result<UnitDevice, MountError> {
-        match &self.medium {
-            Medium::Disk(geometry, _) => {
-                Disk::mount(alloc, *geometry, &[], &[]).map(UnitDevice::Disk)
-            }
-            Medium::Tape(bytes, _) => Tape::mount(alloc, &[], *bytes, &[]).map(UnitDevice::Tape),
-            Medium::Printer { lines, pages } => {
-                Printer::mount(alloc, *lines, *pages, &[]).map(UnitDevice::Printer)
-            }
-        }
-    }
-
     /// Opens its DCBs, up to the first fault, which is told with its line.
     fn open_dcbs(&self, book: &mut UnitBook<UnitDevice>) -> Result<(), (usize, LineFault)>
         requires { IsFresh book.old }

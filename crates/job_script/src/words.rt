@@ -1,14 +1,19 @@
 //! The words of a script's line, and the forms that they take.
 
-ghost use Rattle.std.specs.Prelude.{◌<◌, ◌≤◌, IfOk, IfSome};
+ghost use Rattle.std.specs.Prelude.{◌<◌, ◌≤◌, IfSome};
 
-use crate::cause::{NumberCause, Refusal, Wanted};
+use crate::cause::Cause;
+use crate::fault::FaultName;
+use memchr::memchr;
+use std::alloc::AllocError;
 
-/// The words of a line that were not taken yet, and how many were.
+/// The words of a line that were not taken yet, how many were, and why the first of these is refused that was not what
+/// it should be: it was then read as some word of that form.
 #[derive(Drop)]
 pub struct Words<'a> {
     rest: &'a [u8],
     taken: usize,
+    refused: Option<Cause>,
 }
 
 impl<'a> Words<'a> {
@@ -16,30 +21,33 @@ impl<'a> Words<'a> {
         Words {
             rest: line,
             taken: 0,
+            refused: None,
         }
     }
 
     /// How many words are left.
     pub fn count(&self) -> usize {
-        self.rest
-            .split(|byte| *byte == b' ')
-            .filter(|word| !word.is_empty())
-            .count()
+        let mut count: usize = 0;
+        let mut before = b' ';
+        for byte in self.rest {
+            if before == b' ' && *byte != b' ' {
+                count = count.saturating_add(1);
+            }
+            before = *byte;
+        }
+        count
     }
 
     /// Whether no word is left.
     pub fn is_empty(&self) -> bool {
-        self.rest.iter().all(|byte| *byte == b' ')
+        self.count() == 0
     }
 
     /// The next word.
     pub fn next_word(&mut self) -> Option<&'a [u8]> {
         let start = self.rest.iter().position(|byte| *byte != b' ')?;
         let (_, line) = self.rest.split_at(start);
-        let end = line
-            .iter()
-            .position(|byte| *byte == b' ')
-            .unwrap_or(line.len());
+        let end = memchr(b' ', line).unwrap_or(line.len());
         let (word, rest) = line.split_at(end);
         self.rest = rest;
         self.taken = self.taken.saturating_add(1);
@@ -51,96 +59,129 @@ impl<'a> Words<'a> {
         self.next_word().unwrap_or(&[])
     }
 
-    /// That the word taken last is not what it should be.
-    pub fn refused(&self, wanted: Wanted) -> NumberCause {
-        NumberCause {
-            word: self.taken,
-            wanted,
+    /// Why the first word is refused that was not what it should be, if there is one.
+    pub fn refused(&self) -> Option<Cause> {
+        self.refused
+    }
+
+    /// That the word taken last is not what it should be, as this text tells of it with its place and these numbers.
+    fn refuse_with(&mut self, text: &'static str, first: u64, second: u64) {
+        if self.refused.is_none() {
+            let numbers = [self.taken as u64, first, second];
+            self.refused = Some(Cause::new(FaultName::Number, text, &numbers));
         }
     }
 
+    /// The same, where no number but the place is told.
+    pub fn refuse(&mut self, text: &'static str) {
+        self.refuse_with(text, 0, 0);
+    }
+
     /// A decimal number of 1 to 10 digits.
-    pub fn number(&mut self) -> Result<u64, NumberCause> {
+    pub fn number(&mut self) -> u64 {
         match decimal(self.word()) {
-            Some(number) => Ok(number),
-            None => Err(self.refused(Wanted::Decimal)),
+            Some(number) => number,
+            None => {
+                self.refuse("word #: a decimal number of 1 to 10 digits is wanted");
+                0
+            }
         }
     }
 
     /// A decimal number from `least` to `most`.
-    pub fn number_in(&mut self, least: u16, most: u16) -> Result<u16, NumberCause>
-        ensures { IfOk result (λ number. (least ≤ number) × (number ≤ most)) }
+    pub fn number_in(&mut self, least: u16, most: u16) -> u16
+        requires { least ≤ most }
+        ensures { (least ≤ result) × (result ≤ most) }
     {
-        let number = decimal(self.word()).and_then(|number| u16::try_from(number).ok());
-        match number {
-            Some(number) if least <= number && number <= most => Ok(number),
-            _ => Err(self.refused(Wanted::Range(least, most))),
+        match decimal(self.word()) {
+            Some(number) if u64::from(least) <= number && number <= u64::from(most) => {
+                number as u16
+            }
+            _ => {
+                let text = "word #: a number from # to # is wanted";
+                self.refuse_with(text, u64::from(least), u64::from(most));
+                least
+            }
         }
     }
 
     /// A decimal number that is at most this.
-    pub fn number_to(&mut self, most: u8) -> Result<u8, NumberCause>
-        ensures { IfOk result (λ number. number ≤ most) }
+    pub fn number_to(&mut self, most: u8) -> u8
+        ensures { result ≤ most }
     {
-        let number = self.number_in(0, u16::from(most))?;
-        Ok(number as u8)
+        self.number_in(0, u16::from(most)) as u8
     }
 
     /// A decimal number of 16 bits.
-    pub fn halfword(&mut self) -> Result<u16, NumberCause> {
+    pub fn halfword(&mut self) -> u16 {
         self.number_in(0, u16::MAX)
     }
 
     /// The number of a task or a unit, below 64.
-    pub fn index(&mut self) -> Result<u16, NumberCause>
-        ensures { IfOk result (λ number. number < 64) }
+    pub fn index(&mut self) -> u16
+        ensures { result < 64 }
     {
         self.number_in(0, 63)
     }
 
-    /// A number of so many hexadecimal digits.
-    fn digits(&mut self, count: u8) -> Result<u32, NumberCause> {
-        match hexadecimal(self.word(), usize::from(count)) {
-            Some(number) => Ok(number),
-            None => Err(self.refused(Wanted::Digits(count))),
+    /// A number of so many hexadecimal digits, at most 8.
+    fn digits(&mut self, count: usize) -> u32 {
+        match hexadecimal(self.word(), count) {
+            Some(number) => number,
+            None => {
+                self.refuse_digits(count);
+                0
+            }
         }
     }
 
+    /// That the word taken last is not of so many hexadecimal digits.
+    fn refuse_digits(&mut self, count: usize) {
+        let text = "word #: a word of # hexadecimal digits is wanted";
+        self.refuse_with(text, count as u64, 0);
+    }
+
     /// An address of 6 hexadecimal digits.
-    pub fn address(&mut self) -> Result<u32, NumberCause> {
+    pub fn address(&mut self) -> u32 {
         self.digits(6)
     }
 
     /// A byte of 2 hexadecimal digits.
-    pub fn byte(&mut self) -> Result<u8, NumberCause> {
-        let number = self.digits(2)?;
-        u8::try_from(number).or(Err(self.refused(Wanted::Digits(2))))
+    pub fn byte(&mut self) -> u8 {
+        self.digits(2).to_be_bytes()[3]
     }
 
     /// Two bytes of 4 hexadecimal digits.
-    pub fn two_bytes(&mut self) -> Result<u16, NumberCause> {
-        let number = self.digits(4)?;
-        u16::try_from(number).or(Err(self.refused(Wanted::Digits(4))))
+    pub fn two_bytes(&mut self) -> u16 {
+        let [_, _, high, low] = self.digits(4).to_be_bytes();
+        u16::from_be_bytes([high, low])
     }
 
     /// Sixteen bytes of 32 hexadecimal digits.
-    pub fn sixteen_bytes(&mut self) -> Result<[u8; 16], NumberCause> {
-        let word = self.word();
-        sixteen_bytes(word).ok_or(self.refused(Wanted::Digits(32)))
+    pub fn sixteen_bytes(&mut self) -> [u8; 16] {
+        match sixteen_bytes(self.word()) {
+            Some(bytes) => bytes,
+            None => {
+                self.refuse_digits(32);
+                [0; 16]
+            }
+        }
     }
 
     /// Bytes as an even number of hexadecimal digits, or `-` for none, put behind those that are there.
-    pub fn bytes(&mut self, into: &mut Vec<u8>) -> Result<(), Refusal> {
+    pub fn bytes(&mut self, into: &mut Vec<u8>) -> Result<(), AllocError> {
         let word = self.word();
         if let b"-" = word {
             return Ok(());
         }
         for pair in word.chunks(2) {
-            let [high, low] = pair else {
-                return Err(Refusal::from(self.refused(Wanted::Bytes)));
+            let byte = match pair {
+                [high, low] => pair_value(*high, *low),
+                _ => None,
             };
-            let Some(byte) = pair_value(*high, *low) else {
-                return Err(Refusal::from(self.refused(Wanted::Bytes)));
+            let Some(byte) = byte else {
+                self.refuse("word #: an even number of hexadecimal digits, or -, is wanted");
+                return Ok(());
             };
             into.push(byte)?;
         }

@@ -17,6 +17,7 @@ use std::thread::Threads;
 mod at_random;
 mod holds;
 mod reports;
+mod runs;
 mod steps;
 mod threads;
 mod unreadable;

@@ -1,1 +1,2 @@
+-- The lemmas of line_printer.
 mod Worked

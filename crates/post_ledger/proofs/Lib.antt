@@ -1,3 +1,4 @@
+-- The lemmas of post_ledger.
 pub mod Pairs
 pub mod Joins
 pub mod Parts

@@ -1,1 +1,2 @@
+-- The lemmas of request_piece.
 pub mod PlaceLaws

@@ -28,13 +28,14 @@ mod log;
 mod requests;
 mod tasks;
 
-/// What the runs met: posts that the reports listed, requests that a purge met while they waited and while they were
-/// active, further starts, and halts.
+/// What the runs met: posts that the reports listed, requests that a purge met while they waited, while they were active
+/// and while they awaited their restart, further starts, and halts.
 #[derive(Clone, Copy)]
 struct Met {
     listed: usize,
     waiting: usize,
     active: usize,
+    awaited: usize,
     retried: usize,
     halted: usize,
 }
@@ -45,6 +46,7 @@ impl Met {
             listed: 0,
             waiting: 0,
             active: 0,
+            awaited: 0,
             retried: 0,
             halted: 0,
         }
@@ -54,6 +56,7 @@ impl Met {
         self.listed = self.listed.saturating_add(more.listed);
         self.waiting = self.waiting.saturating_add(more.waiting);
         self.active = self.active.saturating_add(more.active);
+        self.awaited = self.awaited.saturating_add(more.awaited);
         self.retried = self.retried.saturating_add(more.retried);
         self.halted = self.halted.saturating_add(more.halted);
     }
@@ -223,6 +226,7 @@ fn runs<R: Threads + Wait + Sync + AllocGlobal>(rt: &R, room: usize) -> Result<M
 /// Asserts that runs met enough of each.
 fn expect_enough(rt: &impl Abort, all: &Met) {
     assert!(rt; all.listed > 100, "{}", all.listed);
+    assert!(rt; all.awaited > 5, "{}", all.awaited);
     assert!(rt;
         all.waiting > 50 && all.active > 20,
         "{} {}",

@@ -1,3 +1,4 @@
+-- The lemmas of tape_unit.
 pub mod Spelled
 pub mod Reels
 pub mod Marks

@@ -1,3 +1,5 @@
+-- The definitions of tape_unit: items and reels, the commands of a tape, what it means as a device, and when it is
+-- mounted.
 pub mod Item
 pub mod Reel
 pub mod Command

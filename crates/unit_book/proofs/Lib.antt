@@ -1,3 +1,4 @@
+-- The lemmas of unit_book.
 pub mod Lists
 pub mod Facts
 pub mod LegalFacts

@@ -1,3 +1,5 @@
+-- The definitions of unit_book: the trace of a unit and what it says, which traces are legal, what each call of its
+-- book adds and answers, and the laws.
 pub mod Trace
 pub mod Extents
 pub mod Dcbs

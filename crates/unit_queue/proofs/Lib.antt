@@ -1,1 +1,2 @@
+-- The lemmas of unit_queue.
 pub mod Sweeps

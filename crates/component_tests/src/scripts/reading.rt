@@ -58,6 +58,22 @@ fn every_kind_of_line(rt: HostRuntime) -> Result<(), Fail> {
     Ok(())
 }
 
+/// Two tasks, and two tapes with a DCB each; four requests, of which three go to unit 0, and three are of task 0.
+const FOUR_EXCPS: [&str; 3] = [
+    "tasks 2\ntape 0 0 12\ntape 1 0 12\nopen 0 in\nopen 1 in\n",
+    AREA,
+    "excp 0 0 1 001000 0 001060 4\nexcp 0 0 1 001000 0 001060 4\nexcp 0 1 1 001000 0 001060 4\nexcp 1 0 1 001000 0 001060 4\n",
+];
+
+/// It refuses that a unit is left out, and that a task has the requests of another.
+#[test]
+fn most_requests(rt: HostRuntime) -> Result<(), Fail> {
+    let text = joined(rt.alloc(), &FOUR_EXCPS)?;
+    let script = Script::parse(rt.alloc(), &text)?;
+    assert_eq!(rt; (script.most_to_a_unit(), script.most_of_a_task()), (3, 3));
+    Ok(())
+}
+
 /// Asserts that a script is taken or has a fault of its lines, and that a check refuses it where a run does.
 fn expect_judged<R: Abort + AllocGlobal>(rt: &R, text: &[u8]) -> Result<(), Fail> {
     let refused = match checked(rt.alloc(), text) {

@@ -2,8 +2,7 @@
 
 use super::Check;
 use super::notes::AreaUse;
-use crate::cause::{Cause, KindCause};
-use crate::line::{SetUpVerb, Verb};
+use crate::line::{SetUpLine, SetUpVerb, Verb};
 use crate::words::Words;
 use std::alloc::{AllocError, Global};
 
@@ -33,17 +32,20 @@ impl Check {
         match verb {
             SetUpVerb::Tasks => set_up.assume_tasks(),
             SetUpVerb::Disk | SetUpVerb::Tape | SetUpVerb::Printer => {
-                if let Ok(number) = words.index() {
+                let number = words.index();
+                if words.refused().is_none() {
                     set_up.assume_units(alloc, line, number)?;
                 }
             }
             SetUpVerb::Open => {
-                if let Ok(number) = words.index() {
+                let number = words.index();
+                if words.refused().is_none() {
                     set_up.assume_dcb(alloc, line, number)?;
                 }
             }
             SetUpVerb::Area => {
-                if let Ok(number) = words.number() {
+                let number = words.number();
+                if words.refused().is_none() {
                     set_up.assume_areas(alloc, number)?;
                 }
             }
@@ -58,17 +60,19 @@ impl Check {
         for _ in 0..4 {
             words.word();
         }
-        if let Ok(area) = words.number() {
+        let area = words.number();
+        if words.refused().is_none() {
             self.use_area(area);
         }
     }
 
-    /// Whether a cause comes from what is only assumed: the kind of a unit.
-    pub(super) fn follows_from_assumed(&self, cause: Cause) -> bool {
-        let Cause::Kind(KindCause::NoDisk { unit } | KindCause::NoTape { unit }) = cause else {
-            return false;
+    /// Whether a line says what lies on the medium of a unit that is only assumed, whose kind is not known.
+    pub(super) fn lies_on_assumed(&self, line: &SetUpLine) -> bool {
+        let unit = match line {
+            SetUpLine::Record(unit, _) | SetUpLine::Item(unit, _) => usize::from(*unit),
+            _ => return false,
         };
-        match self.set_up.units.get(usize::from(unit)) {
+        match self.set_up.units.get(unit) {
             Some(unit) => is_assumed(&self.assumed, unit.line),
             None => false,
         }

@@ -1,51 +1,52 @@
 //! What is told of a line, and how it is written.
 
-use super::notes::Note;
 use crate::cause::Cause;
-use crate::fault::Fault;
-use std::alloc::Global;
+use crate::fault::{Fault, FaultName};
+use crate::message::Message;
+use std::alloc::{AllocError, Global};
 use std::io::{BufWriter, Write};
 use std::{fmt, io};
 
-/// What is told of a line.
+/// What is told of a line: a fault, which has a name, or a note.
 #[derive(Clone, Copy)]
 pub struct Finding {
     pub line: usize,
-    told: Told,
-}
-
-#[derive(Clone, Copy)]
-enum Told {
-    Fault(Cause),
-    Note(Note),
+    fault: Option<FaultName>,
+    message: Message,
 }
 
 impl Finding {
-    pub fn fault(line: usize, cause: Cause) -> Self {
-        let told = Told::Fault(cause);
-        Finding { line, told }
-    }
-
-    pub fn note(line: usize, note: Note) -> Self {
-        let told = Told::Note(note);
-        Finding { line, told }
+    pub fn note(line: usize, message: Message) -> Self {
+        Finding {
+            line,
+            fault: None,
+            message,
+        }
     }
 
     /// Whether a run refuses the script for it.
     pub fn is_fault(&self) -> bool {
-        matches!(&self.told, Told::Fault(_))
+        self.fault.is_some()
     }
+}
+
+/// Tells why a line is refused.
+pub fn tell(findings: &mut Vec<Finding>, line: usize, cause: Cause) -> Result<(), AllocError> {
+    findings.push(Finding {
+        line,
+        fault: Some(cause.name),
+        message: cause.message,
+    })?;
+    Ok(())
 }
 
 impl fmt::Display for Finding {
     fn fmt<W: fmt::Write>(&self, f: &mut fmt::Formatter<W>) -> fmt::Result {
         let line = self.line;
-        match self.told {
-            Told::Fault(cause) => {
-                let name = cause.name();
-                write!(f, "line {line}: {name}: {cause}")
-            }
-            Told::Note(note) => write!(f, "line {line}: note: {note}"),
+        let message = self.message;
+        match self.fault {
+            Some(name) => write!(f, "line {line}: {name}: {message}"),
+            None => write!(f, "line {line}: note: {message}"),
         }
     }
 }

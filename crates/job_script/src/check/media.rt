@@ -1,17 +1,20 @@
 //! Why a unit cannot be mounted, and its DCBs not opened.
 
 use super::assumed::is_assumed;
-use super::finding::Finding;
-use crate::cause::{Cause, ExtentCause, MediumCause};
+use super::finding::{Finding, tell};
+use crate::cause::Cause;
+use crate::fault::FaultName;
 use crate::set_up::{Medium, UnitSetup};
-use ckd_disk::{Geometry, InitialRecord, first_overfull};
-use device_port::{Device, Fault, MountError, is_script};
-use io_images::Extent;
+use ckd_disk::{Geometry, GeometryRefusal, InitialRecord, RecordRefusal, first_overfull};
+use device_port::{Fault, Kind, MountError, is_script};
 use line_printer::{PaperRefusal, paper_refusal};
 use std::alloc::{AllocError, Global};
 use tape_unit::{InitialItem, overrun_of};
-use unit_book::{ExtentRefusal, ExtentsRefusal, OpenError, UnitBook, extents_refusal};
-use unit_device::UnitDevice;
+use unit_book::{ExtentRefusal, ExtentsRefusal, extents_refusal};
+
+/// What a device shows.
+const STATUS: &str =
+    "a device shows 0E 00 with any sense bytes, or 00 with 02, 04 or 08 and sense bytes 0000";
 
 /// Tells why a unit cannot be mounted, and of each of its DCBs why it cannot be opened. Of what is only assumed nothing is
 /// told, nor of the DCBs of a unit that has no geometry.
@@ -24,70 +27,102 @@ pub fn check_unit(
     if is_assumed(assumed, unit.line) {
         return Ok(());
     }
-    let device = match unit.mounted(alloc) {
-        Ok(device) => device,
-        Err(MountError::NoMemory) => return Err(AllocError),
+    match unit.mounted(alloc) {
+        Ok(_) => tell_openings(unit, assumed, findings),
+        Err(MountError::NoMemory) => Err(AllocError),
         Err(error) => {
             tell_medium(alloc, unit, error, findings)?;
-            match unit.bare(alloc) {
-                Ok(device) => device,
-                Err(MountError::NoMemory) => return Err(AllocError),
-                Err(_) => return Ok(()),
+            if error == MountError::BadGeometry {
+                return Ok(());
             }
+            tell_openings(unit, assumed, findings)
         }
-    };
-    let mut book = UnitBook::new(alloc, device, unit.isc, 1)?;
+    }
+}
+
+/// Tells of each DCB of a unit why it cannot be opened: a unit has at most 65,535.
+fn tell_openings(
+    unit: &UnitSetup,
+    assumed: &[usize],
+    findings: &mut Vec<Finding>,
+) -> Result<(), AllocError> {
+    let (kind, cylinders, heads) = shape(&unit.medium);
+    let mut opened: u16 = 0;
     for opening in &unit.openings {
         if is_assumed(assumed, opening.line) {
             continue;
         }
-        if let Some(cause) = refused_opening(&mut book, opening.input, &opening.extents)? {
-            findings.push(Finding::fault(opening.line, Cause::Extent(cause)))?;
+        let refusal = extents_refusal(kind, cylinders, heads, &opening.extents);
+        if opened == u16::MAX {
+            let cause = extent("a unit has at most 65535 DCBs", &[]);
+            tell(findings, opening.line, cause)?;
+        } else if let Some(refusal) = refusal {
+            let cause = extents_cause(refusal, opening.extents.len(), cylinders, heads);
+            tell(findings, opening.line, cause)?;
+        } else {
+            opened += 1;
         }
     }
     Ok(())
 }
 
-/// Opens a DCB, or gives why it cannot be opened.
-fn refused_opening(
-    book: &mut UnitBook<UnitDevice>,
-    input: bool,
-    extents: &[Extent],
-) -> Result<Option<ExtentCause>, AllocError> {
-    match book.open(input, extents) {
-        Ok(_) => Ok(None),
-        Err(OpenError::NoMemory) => Err(AllocError),
-        Err(OpenError::TooManyDcbs) => Ok(Some(ExtentCause::TooMany)),
-        Err(OpenError::BadExtent) => Ok(Some(extent_cause(book.device(), extents))),
+/// The kind of a unit, and the cylinders and heads of a disk, which are at most 65,535 where it can be mounted.
+fn shape(medium: &Medium) -> (Kind, u16, u16) {
+    match medium {
+        Medium::Disk(geometry, _) => (
+            Kind::Disk,
+            geometry.cylinders.min(65_535) as u16,
+            geometry.heads.min(65_535) as u16,
+        ),
+        Medium::Tape(..) => (Kind::Tape, 0, 0),
+        Medium::Printer { .. } => (Kind::Printer, 0, 0),
     }
 }
 
-/// Why a device does not take the extents of a DCB.
-fn extent_cause(device: &UnitDevice, extents: &[Extent]) -> ExtentCause {
-    let cylinders = device.cylinders();
-    let heads = device.heads();
-    match extents_refusal(device.kind(), cylinders, heads, extents) {
-        Some(ExtentsRefusal::NotOfDisk) => ExtentCause::NotOfDisk,
-        Some(ExtentsRefusal::Extent(place, extent, refusal)) => {
-            let number = place.saturating_add(1);
-            match refusal {
-                ExtentRefusal::Outside => ExtentCause::Outside {
-                    number,
-                    cylinders,
-                    heads,
-                },
-                ExtentRefusal::Reversed => ExtentCause::Reversed { number },
-                ExtentRefusal::Tracks(tracks) => ExtentCause::Tracks {
-                    number,
-                    tracks,
-                    told: extent.tracks,
-                },
-            }
+/// Why a device with so many cylinders and heads does not take the extents of a DCB, which are so many.
+fn extents_cause(refusal: ExtentsRefusal, count: usize, cylinders: u16, heads: u16) -> Cause {
+    match refusal {
+        ExtentsRefusal::NotOfDisk => extent("a DCB of a tape or a printer has no extent", &[]),
+        ExtentsRefusal::Extent(place, told, refusal) => {
+            let number = place as u64;
+            extent_cause(
+                number.saturating_add(1),
+                told.tracks,
+                refusal,
+                cylinders,
+                heads,
+            )
         }
-        Some(ExtentsRefusal::Count) | None => ExtentCause::Count {
-            count: extents.len(),
-        },
+        ExtentsRefusal::Count => {
+            let text = "# extents, 1 to 16 are wanted for a disk";
+            extent(text, &[count as u64])
+        }
     }
+}
+
+/// Why an extent that says so many tracks is none of a disk of so many cylinders and heads. Extents have numbers from 1.
+fn extent_cause(
+    number: u64,
+    told: u16,
+    refusal: ExtentRefusal,
+    cylinders: u16,
+    heads: u16,
+) -> Cause {
+    match refusal {
+        ExtentRefusal::Outside => extent(
+            "extent # begins or ends outside the disk of # cylinders of # heads",
+            &[number, u64::from(cylinders), u64::from(heads)],
+        ),
+        ExtentRefusal::Reversed => extent("the end of extent # lies before its start", &[number]),
+        ExtentRefusal::Tracks(tracks) => extent(
+            "extent # has # tracks, and says #",
+            &[number, tracks, u64::from(told)],
+        ),
+    }
+}
+
+fn extent(text: &'static str, numbers: &[u64]) -> Cause {
+    Cause::new(FaultName::Extent, text, numbers)
 }
 
 /// Tells why a unit cannot be mounted, which is refused by `error`: each cause with the line that does it.
@@ -104,54 +139,62 @@ fn tell_medium(
             tell_disk(alloc, unit, *geometry, records, findings)?;
         }
         Medium::Tape(bytes, _) if error == MountError::BadGeometry => {
-            let cause = MediumCause::Tape { bytes: *bytes };
-            findings.push(Finding::fault(unit.line, Cause::Medium(cause)))?;
+            let text = "a tape of # bytes, 4 to 16777216 are wanted";
+            tell(findings, unit.line, medium(text, &[*bytes]))?;
         }
         Medium::Tape(bytes, items) => tell_tape(unit, *bytes, items, findings)?,
         Medium::Printer { lines, pages } => tell_printer(unit, *lines, *pages, findings)?,
     }
     if findings.len() == before {
-        findings.push(Finding::fault(unit.line, Cause::Medium(MediumCause::Other)))?;
+        tell(
+            findings,
+            unit.line,
+            medium("the unit cannot be mounted", &[]),
+        )?;
     }
     Ok(())
+}
+
+fn medium(text: &'static str, numbers: &[u64]) -> Cause {
+    Cause::new(FaultName::Medium, text, numbers)
 }
 
 /// Tells what is wrong with the faults that a unit is to meet.
 fn tell_faults(unit: &UnitSetup, findings: &mut Vec<Finding>) -> Result<(), AllocError> {
     for (fault, line) in unit.faults.chunks(1).zip(unit.fault_lines.iter()) {
         if !is_script(fault) {
-            findings.push(Finding::fault(*line, Cause::Medium(fault_cause(fault))))?;
+            tell(findings, *line, fault_cause(fault))?;
         }
     }
     let behind = unit.fault_lines.iter().skip(1);
     for (pair, line) in unit.faults.windows(2).zip(behind) {
         if let Some(cause) = order_cause(pair) {
-            findings.push(Finding::fault(*line, Cause::Medium(cause)))?;
+            tell(findings, *line, cause)?;
         }
     }
     Ok(())
 }
 
 /// Why a fault by itself is no fault script.
-fn fault_cause(fault: &[Fault]) -> MediumCause {
+fn fault_cause(fault: &[Fault]) -> Cause {
     match fault {
-        [fault] if fault.ordinal == 0 => MediumCause::NoCommand,
-        _ => MediumCause::Status,
+        [fault] if fault.ordinal == 0 => medium("commands count from 1", &[]),
+        _ => medium(STATUS, &[]),
     }
 }
 
 /// Why two faults one behind another are no fault script, where each by itself is one.
-fn order_cause(pair: &[Fault]) -> Option<MediumCause> {
+fn order_cause(pair: &[Fault]) -> Option<Cause> {
     let [first, second] = pair else {
         return None;
     };
     if is_script(pair) || !is_script(&[*first]) || !is_script(&[*second]) {
         return None;
     }
-    Some(MediumCause::Ordinal {
-        number: second.ordinal,
-        before: first.ordinal,
-    })
+    Some(medium(
+        "the fault of command # stands behind that of #, numbers rise",
+        &[second.ordinal, first.ordinal],
+    ))
 }
 
 /// Tells what is wrong with the geometry of a disk, or with its records.
@@ -163,17 +206,50 @@ fn tell_disk(
     findings: &mut Vec<Finding>,
 ) -> Result<(), AllocError> {
     if let Some(refusal) = geometry.refusal() {
-        let cause = MediumCause::Geometry(geometry, refusal);
-        findings.push(Finding::fault(unit.line, Cause::Medium(cause)))?;
-        return Ok(());
+        return tell(findings, unit.line, geometry_cause(geometry, refusal));
     }
     for (record, line) in records.iter().zip(unit.content_lines.iter()) {
         if let Some(refusal) = record.refusal(geometry) {
-            let cause = MediumCause::Record(geometry, refusal);
-            findings.push(Finding::fault(*line, Cause::Medium(cause)))?;
+            tell(findings, *line, record_cause(geometry, refusal))?;
         }
     }
     tell_track(alloc, unit, geometry, records, findings)
+}
+
+/// Which number of a geometry is outside its range.
+fn geometry_cause(geometry: Geometry, refusal: GeometryRefusal) -> Cause {
+    let cylinders = geometry.cylinders;
+    let heads = geometry.heads;
+    let bytes = geometry.track_bytes;
+    let (text, numbers) = match refusal {
+        GeometryRefusal::Cylinders => ("a disk has at least 1 cylinder", [0; 3]),
+        GeometryRefusal::Heads => ("a cylinder has at least 1 head", [0; 3]),
+        GeometryRefusal::Tracks => (
+            "# cylinders of # heads, at most 65535 tracks are wanted",
+            [cylinders, heads, 0],
+        ),
+        GeometryRefusal::TrackBytes => ("tracks of # bytes, 16 to 65535 are wanted", [bytes, 0, 0]),
+        GeometryRefusal::Bytes => (
+            "# cylinders of # tracks of # bytes, at most 16777216 bytes are wanted",
+            [cylinders, heads, bytes],
+        ),
+    };
+    medium(text, &numbers)
+}
+
+/// What is wrong with a record of a disk.
+fn record_cause(geometry: Geometry, refusal: RecordRefusal) -> Cause {
+    let (text, number) = match refusal {
+        RecordRefusal::Cylinder => (
+            "the disk has # cylinders, which count from 0",
+            geometry.cylinders,
+        ),
+        RecordRefusal::Head => ("a cylinder has # heads, which count from 0", geometry.heads),
+        RecordRefusal::Number => ("records count from 1", 0),
+        RecordRefusal::Key => ("a key has at most 255 bytes", 0),
+        RecordRefusal::Content => ("a record has at most 65535 bytes of data", 0),
+    };
+    medium(text, &[number])
 }
 
 /// Tells the track that is first too small for its records.
@@ -190,15 +266,14 @@ fn tell_track(
     let Some(record) = records.get(full.record) else {
         return Ok(());
     };
-    let cause = MediumCause::Track {
-        cylinder: record.cylinder,
-        head: record.head,
-        held: geometry.track_bytes,
-        needed: full.needed,
-    };
-    let line = unit.content_line(full.record);
-    findings.push(Finding::fault(line, Cause::Medium(cause)))?;
-    Ok(())
+    let numbers = [
+        u64::from(record.cylinder),
+        u64::from(record.head),
+        geometry.track_bytes,
+        full.needed,
+    ];
+    let cause = medium("track # # holds # bytes, its records need #", &numbers);
+    tell(findings, unit.content_line(full.record), cause)
 }
 
 /// Tells what is wrong with the items of a tape of so many bytes.
@@ -210,19 +285,16 @@ fn tell_tape(
 ) -> Result<(), AllocError> {
     for (item, line) in items.iter().zip(unit.content_lines.iter()) {
         if let Some(len) = item.refused_len() {
-            let cause = MediumCause::Block { len };
-            findings.push(Finding::fault(*line, Cause::Medium(cause)))?;
+            let text = "a block of # bytes, 1 to 65535 are wanted";
+            tell(findings, *line, medium(text, &[len as u64]))?;
         }
     }
-    if let Some(overrun) = overrun_of(items, bytes) {
-        let cause = MediumCause::Reel {
-            held: bytes,
-            needed: overrun.needed,
-        };
-        let line = unit.content_line(overrun.item);
-        findings.push(Finding::fault(line, Cause::Medium(cause)))?;
-    }
-    Ok(())
+    let Some(overrun) = overrun_of(items, bytes) else {
+        return Ok(());
+    };
+    let text = "the tape holds # bytes, its items need #";
+    let cause = medium(text, &[bytes, overrun.needed]);
+    tell(findings, unit.content_line(overrun.item), cause)
 }
 
 /// Tells which number of a printer is outside its range.
@@ -232,20 +304,20 @@ fn tell_printer(
     pages: u64,
     findings: &mut Vec<Finding>,
 ) -> Result<(), AllocError> {
-    if let Some(refusal) = paper_refusal(lines, pages) {
-        let number = match refusal {
-            PaperRefusal::Lines => lines,
-            PaperRefusal::Pages => pages,
-        };
-        let cause = MediumCause::Paper { refusal, number };
-        findings.push(Finding::fault(unit.line, Cause::Medium(cause)))?;
-    }
-    Ok(())
+    let cause = match paper_refusal(lines, pages) {
+        Some(PaperRefusal::Lines) => medium("# lines, 1 to 100000 are wanted", &[lines]),
+        Some(PaperRefusal::Pages) => medium("# pages, 1 to 10000 are wanted", &[pages]),
+        None => return Ok(()),
+    };
+    tell(findings, unit.line, cause)
 }
 
 impl UnitSetup {
     /// The line of the record or item at this place.
     fn content_line(&self, place: usize) -> usize {
-        self.content_lines.get(place).copied().unwrap_or(self.line)
+        match self.content_lines.get(place) {
+            Some(line) => *line,
+            None => self.line,
+        }
     }
 }

@@ -3,11 +3,11 @@
 use super::assumed::is_assumed;
 use super::finding::Finding;
 use crate::command::Excp;
+use crate::message::Message;
 use crate::set_up::{Medium, SetUp};
 use io_area::Area;
 use io_images::{Ccw, FileMask, Iob};
 use std::alloc::AllocError;
-use std::fmt;
 
 /// The most CCWs of a program that are looked at.
 const MOST_CCWS: usize = 64;
@@ -16,42 +16,11 @@ const SEEK: u8 = 0x07;
 
 const SET_FILE_MASK: u8 = 0x1F;
 
-/// What runs but is hardly meant.
-#[derive(Clone, Copy)]
-pub enum Note {
-    /// The CCW at this address is a seek, which the supervisor's file mask forbids.
-    Seek { at: u32 },
-    /// The CCW at this address sets the file mask, which the supervisor has set.
-    SetFileMask { at: u32 },
-    /// A task resets a DCB before it has waited for its requests.
-    Reset { task: u16 },
-    /// No EXCP uses the area with this number.
-    Unused { area: usize },
-}
+/// The file mask of the supervisor forbids a seek.
+const SOUGHT: &str = "the seek at @ ends file protected, the supervisor has sought";
 
-impl fmt::Display for Note {
-    fn fmt<W: fmt::Write>(&self, f: &mut fmt::Formatter<W>) -> fmt::Result {
-        match *self {
-            Note::Seek { at } => {
-                write!(
-                    f,
-                    "the seek at {at:06X} ends file protected, the supervisor has sought"
-                )
-            }
-            Note::SetFileMask { at } => {
-                write!(
-                    f,
-                    "the set file mask at {at:06X} is rejected, the supervisor has set it"
-                )
-            }
-            Note::Reset { task } => write!(
-                f,
-                "task {task} has not waited since its last excp, the error may come behind this reset"
-            ),
-            Note::Unused { area } => write!(f, "no excp uses area {area}"),
-        }
-    }
-}
+/// The file mask is set once.
+const MASK_SET: &str = "the set file mask at @ is rejected, the supervisor has set it";
 
 /// The line that declares an area, and whether an EXCP uses it.
 #[derive(Clone, Copy)]
@@ -68,7 +37,7 @@ pub fn note_unused(
 ) -> Result<(), AllocError> {
     for (number, area) in areas.iter().enumerate() {
         if !area.used && !is_assumed(assumed, area.line) {
-            let note = Note::Unused { area: number };
+            let note = Message::new("no excp uses area #", &[number as u64]);
             findings.push(Finding::note(area.line, note))?;
         }
     }
@@ -77,7 +46,7 @@ pub fn note_unused(
 
 impl SetUp {
     /// The first CCW of an EXCP to a disk, in the order of storage, that the file mask of its DCB forbids.
-    pub(super) fn forbidden(&self, excp: &Excp) -> Option<Note> {
+    pub(super) fn forbidden(&self, excp: &Excp) -> Option<Message> {
         let unit = self.units.get(usize::from(excp.dcb.unit))?;
         let Medium::Disk(..) = &unit.medium else {
             return None;
@@ -88,16 +57,19 @@ impl SetUp {
         } else {
             FileMask::OUTPUT
         };
+        if !mask.inhibits_seeks() {
+            return None;
+        }
         let mut image = [0; 40];
         image.copy_from_slice(excp.area.get(excp.iob, 40)?);
         let start = Iob::read(&image).start.get();
-        first_forbidden(&excp.area, start).filter(|_| mask.inhibits_seeks())
+        first_forbidden(&excp.area, start)
     }
 }
 
 /// The first seek or set file mask of a channel program, whose CCWs are taken as they stand one behind another while they
 /// chain.
-fn first_forbidden(area: &Area, start: u32) -> Option<Note> {
+fn first_forbidden(area: &Area, start: u32) -> Option<Message> {
     let mut at = start;
     let mut begins = true;
     for _ in 0..MOST_CCWS {
@@ -105,8 +77,8 @@ fn first_forbidden(area: &Area, start: u32) -> Option<Note> {
         image.copy_from_slice(area.get(at, 8)?);
         let ccw = Ccw::read(&image);
         match ccw.command {
-            SEEK if begins => return Some(Note::Seek { at }),
-            SET_FILE_MASK if begins => return Some(Note::SetFileMask { at }),
+            SEEK if begins => return Some(Message::new(SOUGHT, &[u64::from(at)])),
+            SET_FILE_MASK if begins => return Some(Message::new(MASK_SET, &[u64::from(at)])),
             // a transfer in channel, whose flags say nothing
             command if command & 0x0F == 8 => {}
             _ => {

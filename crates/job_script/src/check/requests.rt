@@ -1,41 +1,75 @@
 //! Why a request cannot be made.
 
-use crate::cause::{Place, RequestCause};
+use crate::cause::Cause;
 use crate::command::Excp;
-use request_piece::{Request, RequestRefusal};
+use crate::fault::FaultName;
+use request_piece::{Misplaced, Request, RequestRefusal};
+
+/// What is told of a control block or a channel program at an address: that it is not on its boundary, that it does not
+/// lie in its area, and that it overlaps the IOB.
+type Texts = [&'static str; 3];
+
+const IOB: Texts = [
+    "the IOB at @ is not on a fullword",
+    "the IOB at @ does not lie in the area of # bytes at @",
+    "the IOB at @ overlaps the IOB",
+];
+
+const ECB: Texts = [
+    "the ECB at @ is not on a fullword",
+    "the ECB at @ does not lie in the area of # bytes at @",
+    "the ECB at @ overlaps the IOB",
+];
+
+const PROGRAM: Texts = [
+    "the channel program at @ is not on a doubleword",
+    "the channel program at @ does not lie in the area of # bytes at @",
+    "the channel program at @ overlaps the IOB",
+];
+
+const SHOWN: &str = "# bytes at @ do not lie in the area of # bytes at @";
 
 impl Excp {
-    /// Why its request is refused, if it is.
-    pub(super) fn refused(&self) -> Option<RequestCause> {
+    /// Why its request is refused, if it is: the bytes that are shown do not lie in its area, if it is nothing else.
+    pub(super) fn refused(&self) -> Option<Cause> {
         if self.check().is_ok() {
-            None
-        } else {
-            Some(self.cause())
+            return None;
         }
+        let dcb = self.dcb.number;
+        let cause = match Request::refusal(dcb, self.iob, &self.area) {
+            Some(RequestRefusal::Iob(wrong)) => self.misplaced(IOB, self.iob, wrong),
+            Some(RequestRefusal::Ecb(ecb, wrong)) => self.misplaced(ECB, ecb, wrong),
+            Some(RequestRefusal::Program(start, wrong)) => self.misplaced(PROGRAM, start, wrong),
+            Some(RequestRefusal::OtherDcb(named)) => cause(
+                "the IOB names DCB #, the line DCB #",
+                &[u64::from(named), u64::from(dcb)],
+            ),
+            None => {
+                let [len, base] = self.area_place();
+                cause(SHOWN, &[self.len, u64::from(self.show), len, base])
+            }
+        };
+        Some(cause)
     }
 
-    /// Why no request is made of its area: the bytes that are shown do not lie in it, if it is nothing else.
-    fn cause(&self) -> RequestCause {
-        let iob = self.iob;
-        let dcb = self.dcb.number;
-        let area = Place {
-            at: self.area.base(),
-            len: self.area.len() as u64,
+    /// What is wrong with what stands at this address.
+    fn misplaced(&self, texts: Texts, at: u32, wrong: Misplaced) -> Cause {
+        let [unaligned, outside, over] = texts;
+        let text = match wrong {
+            Misplaced::Unaligned => unaligned,
+            Misplaced::Outside => outside,
+            Misplaced::OverIob => over,
         };
-        match Request::refusal(dcb, iob, &self.area) {
-            Some(RequestRefusal::Iob(wrong)) => RequestCause::Iob { iob, wrong, area },
-            Some(RequestRefusal::Ecb(ecb, wrong)) => RequestCause::Ecb { ecb, wrong, area },
-            Some(RequestRefusal::Program(start, wrong)) => {
-                RequestCause::Program { start, wrong, area }
-            }
-            Some(RequestRefusal::OtherDcb(named)) => RequestCause::OtherDcb { named, dcb },
-            None => RequestCause::Shown {
-                shown: Place {
-                    at: self.show,
-                    len: self.len,
-                },
-                area,
-            },
-        }
+        let [len, base] = self.area_place();
+        cause(text, &[u64::from(at), len, base])
     }
+
+    /// How many bytes its area has, and the address of the first.
+    fn area_place(&self) -> [u64; 2] {
+        [self.area.len() as u64, u64::from(self.area.base())]
+    }
+}
+
+fn cause(text: &'static str, numbers: &[u64]) -> Cause {
+    Cause::new(FaultName::Request, text, numbers)
 }

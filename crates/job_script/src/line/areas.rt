@@ -1,16 +1,15 @@
 //! Lines on tasks, DCBs and areas.
 
 use super::{AreaLine, SetUpLine, TasksLine};
-use crate::cause::{NumberCause, Refusal, Wanted};
 use crate::set_up::Opening;
 use crate::words::Words;
 use io_images::Extent;
-use std::alloc::Global;
+use std::alloc::{AllocError, Global};
 
 /// `tasks N`
-pub fn tasks(words: &mut Words<'_>) -> Result<SetUpLine, NumberCause> {
-    let tasks = words.number_in(1, 64)?;
-    Ok(SetUpLine::Tasks(TasksLine { tasks }))
+pub fn tasks(words: &mut Words<'_>) -> SetUpLine {
+    let tasks = words.number_in(1, 64);
+    SetUpLine::Tasks(TasksLine { tasks })
 }
 
 /// `open U in EXTENT ...` or `open U out EXTENT ...`
@@ -19,16 +18,19 @@ pub fn opening(
     line: usize,
     words: &mut Words<'_>,
     count: usize,
-) -> Result<SetUpLine, Refusal> {
-    let unit = words.index()?;
+) -> Result<SetUpLine, AllocError> {
+    let unit = words.index();
     let input = match words.word() {
         b"in" => true,
         b"out" => false,
-        _ => return Err(Refusal::from(words.refused(Wanted::Direction))),
+        _ => {
+            words.refuse("word #: in or out is wanted");
+            false
+        }
     };
     let mut extents = Vec::new(alloc);
     for _ in 0..count {
-        let image = words.sixteen_bytes()?;
+        let image = words.sixteen_bytes();
         extents.push(Extent::read(&image))?;
     }
     let opening = Opening {
@@ -40,9 +42,9 @@ pub fn opening(
 }
 
 /// `area A ADDR HEX ...`
-pub fn area(alloc: Global, words: &mut Words<'_>, count: usize) -> Result<SetUpLine, Refusal> {
-    let number = words.number()?;
-    let base = words.address()?;
+pub fn area(alloc: Global, words: &mut Words<'_>, count: usize) -> Result<SetUpLine, AllocError> {
+    let number = words.number();
+    let base = words.address();
     let mut bytes = Vec::new(alloc);
     for _ in 0..count {
         words.bytes(&mut bytes)?;

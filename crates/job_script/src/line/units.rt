@@ -3,52 +3,47 @@
 ghost use Rattle.std.specs.Prelude.{◌≤◌};
 
 use super::{SetUpLine, UnitLine};
-use crate::cause::{NumberCause, Refusal};
 use crate::set_up::{Medium, UnitSetup};
 use crate::words::Words;
 use ckd_disk::{Geometry, InitialRecord};
 use device_port::Fault;
 use io_images::{SubStatus, UnitStatus};
-use std::alloc::Global;
+use std::alloc::{AllocError, Global};
 use tape_unit::InitialItem;
 
 /// `disk U ISC CYLS HEADS BYTES`
-pub fn disk(alloc: Global, line: usize, words: &mut Words<'_>) -> Result<SetUpLine, NumberCause> {
-    let number = words.index()?;
-    let isc = words.number_to(7)?;
+pub fn disk(alloc: Global, line: usize, words: &mut Words<'_>) -> SetUpLine {
+    let number = words.index();
+    let isc = words.number_to(7);
     let geometry = Geometry {
-        cylinders: words.number()?,
-        heads: words.number()?,
-        track_bytes: words.number()?,
+        cylinders: words.number(),
+        heads: words.number(),
+        track_bytes: words.number(),
     };
     let medium = Medium::Disk(geometry, Vec::new(alloc));
     let unit = unit(alloc, line, isc, medium);
-    Ok(SetUpLine::Unit(UnitLine { number, unit }))
+    SetUpLine::Unit(UnitLine { number, unit })
 }
 
 /// `tape U ISC BYTES`
-pub fn tape(alloc: Global, line: usize, words: &mut Words<'_>) -> Result<SetUpLine, NumberCause> {
-    let number = words.index()?;
-    let isc = words.number_to(7)?;
-    let medium = Medium::Tape(words.number()?, Vec::new(alloc));
+pub fn tape(alloc: Global, line: usize, words: &mut Words<'_>) -> SetUpLine {
+    let number = words.index();
+    let isc = words.number_to(7);
+    let medium = Medium::Tape(words.number(), Vec::new(alloc));
     let unit = unit(alloc, line, isc, medium);
-    Ok(SetUpLine::Unit(UnitLine { number, unit }))
+    SetUpLine::Unit(UnitLine { number, unit })
 }
 
 /// `printer U ISC LINES PAGES`
-pub fn printer(
-    alloc: Global,
-    line: usize,
-    words: &mut Words<'_>,
-) -> Result<SetUpLine, NumberCause> {
-    let number = words.index()?;
-    let isc = words.number_to(7)?;
+pub fn printer(alloc: Global, line: usize, words: &mut Words<'_>) -> SetUpLine {
+    let number = words.index();
+    let isc = words.number_to(7);
     let medium = Medium::Printer {
-        lines: words.number()?,
-        pages: words.number()?,
+        lines: words.number(),
+        pages: words.number(),
     };
     let unit = unit(alloc, line, isc, medium);
-    Ok(SetUpLine::Unit(UnitLine { number, unit }))
+    SetUpLine::Unit(UnitLine { number, unit })
 }
 
 /// A unit with this medium, which is to meet no fault and has no DCB.
@@ -67,12 +62,12 @@ fn unit(alloc: Global, line: usize, isc: u8, medium: Medium) -> UnitSetup
 }
 
 /// `rec U CC HH R KEY HEX`
-pub fn record(alloc: Global, words: &mut Words<'_>) -> Result<SetUpLine, Refusal> {
-    let unit = words.index()?;
+pub fn record(alloc: Global, words: &mut Words<'_>) -> Result<SetUpLine, AllocError> {
+    let unit = words.index();
     let mut record = InitialRecord {
-        cylinder: words.halfword()?,
-        head: words.halfword()?,
-        number: words.number_to(255)?,
+        cylinder: words.halfword(),
+        head: words.halfword(),
+        number: words.number_to(255),
         key: Vec::new(alloc),
         content: Vec::new(alloc),
     };
@@ -82,26 +77,26 @@ pub fn record(alloc: Global, words: &mut Words<'_>) -> Result<SetUpLine, Refusal
 }
 
 /// `block U HEX`
-pub fn block(alloc: Global, words: &mut Words<'_>) -> Result<SetUpLine, Refusal> {
-    let unit = words.index()?;
+pub fn block(alloc: Global, words: &mut Words<'_>) -> Result<SetUpLine, AllocError> {
+    let unit = words.index();
     let mut bytes = Vec::new(alloc);
     words.bytes(&mut bytes)?;
     Ok(SetUpLine::Item(unit, InitialItem::Block(bytes)))
 }
 
 /// `mark U`
-pub fn mark(words: &mut Words<'_>) -> Result<SetUpLine, NumberCause> {
-    Ok(SetUpLine::Item(words.index()?, InitialItem::Mark))
+pub fn mark(words: &mut Words<'_>) -> SetUpLine {
+    SetUpLine::Item(words.index(), InitialItem::Mark)
 }
 
 /// `fault U ORDINAL UU SS XXXX`
-pub fn fault(words: &mut Words<'_>) -> Result<SetUpLine, NumberCause> {
-    let unit = words.index()?;
+pub fn fault(words: &mut Words<'_>) -> SetUpLine {
+    let unit = words.index();
     let fault = Fault {
-        ordinal: words.number()?,
-        unit: UnitStatus::new(words.byte()?),
-        sub: SubStatus::new(words.byte()?),
-        sense: words.two_bytes()?,
+        ordinal: words.number(),
+        unit: UnitStatus::new(words.byte()),
+        sub: SubStatus::new(words.byte()),
+        sense: words.two_bytes(),
     };
-    Ok(SetUpLine::Fault(unit, fault))
+    SetUpLine::Fault(unit, fault)
 }

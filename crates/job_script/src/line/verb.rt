@@ -1,6 +1,7 @@
 //! The first word of a line, and how many words stand in the line.
 
-use crate::cause::WordsCause;
+use crate::cause::Cause;
+use crate::fault::FaultName;
 
 /// The first word of a line.
 #[derive(Clone, Copy)]
@@ -29,36 +30,50 @@ pub enum SetUpVerb {
     Area,
 }
 
+/// Each first word, and what it says.
+static VERBS: [(&str, Verb); 16] = [
+    ("excp", Verb::Excp),
+    ("purge", Verb::Purge),
+    ("purgetask", Verb::PurgeTask),
+    ("close", Verb::Close),
+    ("reset", Verb::Reset),
+    ("wait", Verb::Wait),
+    ("tasks", Verb::SetUp(SetUpVerb::Tasks)),
+    ("disk", Verb::SetUp(SetUpVerb::Disk)),
+    ("tape", Verb::SetUp(SetUpVerb::Tape)),
+    ("printer", Verb::SetUp(SetUpVerb::Printer)),
+    ("rec", Verb::SetUp(SetUpVerb::Record)),
+    ("block", Verb::SetUp(SetUpVerb::Block)),
+    ("mark", Verb::SetUp(SetUpVerb::Mark)),
+    ("fault", Verb::SetUp(SetUpVerb::Fault)),
+    ("open", Verb::SetUp(SetUpVerb::Open)),
+    ("area", Verb::SetUp(SetUpVerb::Area)),
+];
+
 impl Verb {
     /// What a first word says.
     pub fn of(word: &[u8]) -> Option<Verb> {
-        match word {
-            b"excp" => Some(Verb::Excp),
-            b"purge" => Some(Verb::Purge),
-            b"purgetask" => Some(Verb::PurgeTask),
-            b"close" => Some(Verb::Close),
-            b"reset" => Some(Verb::Reset),
-            b"wait" => Some(Verb::Wait),
-            _ => Some(Verb::SetUp(SetUpVerb::of(word)?)),
+        for (name, verb) in &VERBS {
+            if name.as_bytes() == word {
+                return Some(*verb);
+            }
         }
+        None
     }
 
     /// A line that begins with it may have so many words.
-    pub fn takes(self, count: usize) -> Result<(), WordsCause> {
+    pub fn takes(self, count: usize) -> Result<(), Cause> {
         let wanted = self.words();
-        match self {
-            Verb::SetUp(SetUpVerb::Open | SetUpVerb::Area) => {
-                if count < wanted {
-                    return Err(WordsCause::Few { count, wanted });
-                }
-            }
-            _ => {
-                if count != wanted {
-                    return Err(WordsCause::Count { count, wanted });
-                }
-            }
+        let is_open = matches!(self, Verb::SetUp(SetUpVerb::Open | SetUpVerb::Area));
+        if count == wanted || is_open && count > wanted {
+            return Ok(());
         }
-        Ok(())
+        let text = if is_open {
+            "the line has # words, # or more are wanted"
+        } else {
+            "the line has # words, # are wanted"
+        };
+        Err(Cause::new(FaultName::Words, text, &[count as u64, wanted as u64]))
     }
 
     /// How many words a line has that begins with it, or how many at least.
@@ -74,23 +89,6 @@ impl Verb {
 }
 
 impl SetUpVerb {
-    /// What a first word says.
-    fn of(word: &[u8]) -> Option<SetUpVerb> {
-        match word {
-            b"tasks" => Some(SetUpVerb::Tasks),
-            b"disk" => Some(SetUpVerb::Disk),
-            b"tape" => Some(SetUpVerb::Tape),
-            b"printer" => Some(SetUpVerb::Printer),
-            b"rec" => Some(SetUpVerb::Record),
-            b"block" => Some(SetUpVerb::Block),
-            b"mark" => Some(SetUpVerb::Mark),
-            b"fault" => Some(SetUpVerb::Fault),
-            b"open" => Some(SetUpVerb::Open),
-            b"area" => Some(SetUpVerb::Area),
-            _ => None,
-        }
-    }
-
     /// How many words a line has that begins with it, or how many at least.
     fn words(self) -> usize {
         match self {

@@ -77,7 +77,8 @@ fn reported<S: Site, R: Wait + Abort>(
     issue_some(rt, alloc, &mut tasks, 0, Kind::Tape, 2)?;
     issue_some(rt, alloc, &mut tasks, 1, Kind::Tape, 1)?;
     serve_both(rt, &system)?;
-    resumed(rt, alloc, system, tasks)
+    let (report, _) = resumed(rt, alloc, system, tasks)?;
+    Ok(report)
 }
 
 /// How many starts a trace tells of.

@@ -128,68 +128,46 @@ fn begun<'r, S: Site, R: Wait>(
     Ok((system, tasks))
 }
 
-/// The report of a run that ends at once.
-fn ended<S: Site, R: Wait>(
-    rt: &R,
-    alloc: Global,
-    rows: &mut Rows,
-    books: Vec<UnitBook<Disk>>,
-    run: Run,
-) -> Result<Report<Disk>, AllocError>
-    requires site { S.rows ≡ site_of rows.old }
-    requires fresh { AreFresh rows.old }
-    requires books { AreBooks S.rows.units books.items }
-    requires tasks { S.rows.tasks ≡ 1 }
-    requires units { S.rows.units ≡ 2 }
-    ensures { IfOk result (λ report. IsFor 2 1 report) }
-{
-    let (system, tasks) = begun::<S, _>(rt, alloc, rows, books, run)?;
-    match finish(rt, alloc, system, tasks) {
-        Ok(report) => Ok(report),
-        Err(_) => Err(AllocError),
-    }
-}
-
-/// The report of a run that is resumed where there is no memory for its end, at most three times.
+/// The report of a run that is resumed where there is no memory for its end, at most three times; and how often it was.
 pub fn resumed<'r, S: Site, D: Device, R: Wait + Abort>(
     rt: &R,
     alloc: Global,
     system: System<'r, S, D>,
     tasks: Vec<Task<'r, S>>,
-) -> Result<Report<D>, AllocError>
+) -> Result<(Report<D>, u32), AllocError>
     requires { ArePlaced (λ task. task.number) S.rows.tasks tasks.items }
-    ensures { IfOk result (λ report. IsFor S.rows.units S.rows.tasks report) }
+    ensures { IfOk result (λ ended. IsFor S.rows.units S.rows.tasks ended.0) }
 {
     let mut left = match finish(rt, alloc, system, tasks) {
-        Ok(report) => return Ok(report),
+        Ok(report) => return Ok((report, 0)),
         Err(left) => left,
     };
     // at most two growths are refused
-    for _ in 0..3 {
+    for times in 1..4 {
         assert_eq!(rt; left.cause(), Cause::NoMemory);
         left = match left.resume(rt) {
-            Ok(report) => return Ok(report),
+            Ok(report) => return Ok((report, times)),
             Err(left) => left,
         };
     }
-    assert!(rt; left.cause() != Cause::NoMemory, "not brought to its end");
+    assert!(rt; false, "not brought to its end");
     Err(AllocError)
 }
 
-/// The report of a run that ends, though there may be no memory for it at first.
-fn ended_at_last<S: Site, R: Wait + Abort>(
+/// The report of a run that ends, and how often it was resumed.
+fn ended<S: Site, R: Wait + Abort>(
     rt: &R,
     alloc: Global,
     rows: &mut Rows,
     books: Vec<UnitBook<Disk>>,
     run: Run,
-) -> Result<Report<Disk>, AllocError>
+) -> Result<(Report<Disk>, u32), AllocError>
     requires site { S.rows ≡ site_of rows.old }
     requires fresh { AreFresh rows.old }
     requires books { AreBooks S.rows.units books.items }
     requires tasks { S.rows.tasks ≡ 1 }
     requires units { S.rows.units ≡ 2 }
-    ensures { IfOk result (λ report. IsFor 2 1 report) }
+    ensures { IfOk result (λ ended. IsFor 2 1 ended.0) }
 {
     let (system, tasks) = begun::<S, _>(rt, alloc, rows, books, run)?;
     resumed(rt, alloc, system, tasks)
@@ -212,27 +190,49 @@ fn expect_report<R: Abort>(
     Ok(())
 }
 
+/// Brings a run to its end, and answers how often it was resumed. Its report is asserted to list these values.
+fn expect_ended<R: Wait + Abort + AllocGlobal>(
+    rt: &R,
+    run: Run,
+    wanted: Listed,
+) -> Result<u32, AllocError> {
+    let mut rows = Rows::new(rt.alloc(), 1, 2, 4, 4)?;
+    let books = disks(rt.alloc(), 4)?;
+    let (report, times) = ended::<Brand, _>(rt, rt.alloc(), &mut rows, books, run)?;
+    expect_report(rt, rt.alloc(), &report, wanted)?;
+    Ok(times)
+}
+
+/// Tells how often a run was resumed, where it was.
+fn tell(rt: &HostRuntime, times: u32) -> Result<(), Fail> {
+    if times > 0 {
+        println!(rt; "resumed {times}")?;
+    }
+    Ok(())
+}
+
 /// What is left at the end of a run is served and not purged, and each unit has the disk that was mounted on it: it
 /// refuses the wrong bodies of finish_does_not_purge and of books_keep_their_units.
 #[test]
 fn finish_after_excp(rt: HostRuntime) -> Result<(), Fail> {
     for (run, wanted) in RUNS {
-        let mut rows = Rows::new(rt.alloc(), 1, 2, 4, 4)?;
-        let books = disks(rt.alloc(), 4)?;
-        let report = ended::<Brand, _>(&rt, rt.alloc(), &mut rows, books, run)?;
-        expect_report(&rt, rt.alloc(), &report, wanted)?;
+        let times = expect_ended(&rt, run, wanted)?;
+        assert_eq!(rt; times, 0);
     }
     Ok(())
 }
 
-/// Where there is no memory for the end of a run, it goes on from where it stands, and nothing is lost: run it with each
-/// allocation refused in turn.
+/// A run that ends behind the calls of a task alone: run it with each growth of memory refused in turn, and with each
+/// two. Where it passes with some refused it is to tell that it was resumed, once for each at most.
+#[test]
+fn finish_after_excp_without_memory(rt: HostRuntime) -> Result<(), Fail> {
+    let (run, wanted) = RUNS[1];
+    tell(&rt, expect_ended(&rt, run, wanted)?)
+}
+
+/// The same of a run that ends with a request under way.
 #[test]
 fn finish_without_memory(rt: HostRuntime) -> Result<(), Fail> {
     let (run, wanted) = RUNS[2];
-    let mut rows = Rows::new(rt.alloc(), 1, 2, 4, 4)?;
-    let books = disks(rt.alloc(), 4)?;
-    let report = ended_at_last::<Brand, _>(&rt, rt.alloc(), &mut rows, books, run)?;
-    expect_report(&rt, rt.alloc(), &report, wanted)?;
-    Ok(())
+    tell(&rt, expect_ended(&rt, run, wanted)?)
 }

@@ -198,6 +198,25 @@ fn judge_controls(trace: &[Entry], logs: &[Log; 2], unit: u16) -> Result<(), Fai
     Ok(())
 }
 
+/// Whether an entry posts a request that was never started, as what is doomed.
+fn is_never_started(entry: &Entry) -> bool {
+    post_of(entry).is_some_and(|(_, end)| end == NEVER_STARTED)
+}
+
+/// What awaited its restart when it was purged with halt was posted in that call: behind the purge come the posts of what
+/// it dooms, and then its own. Answers how many there were.
+fn judge_awaiting(trace: &[Entry], log: &Log, unit: u16) -> Result<usize, Fail> {
+    let mut count: usize = 0;
+    for (_, place, name) in log.awaiting.iter().filter(|(of, _, _)| *of == unit) {
+        let mut behind = trace.iter().skip(place.saturating_add(1));
+        let next = behind.find(|entry| !is_never_started(entry));
+        let posted = next.and_then(post_of).is_some_and(|(of, _)| of == *name);
+        require(posted, "not posted by the purge")?;
+        count = count.saturating_add(1);
+    }
+    Ok(count)
+}
+
 /// Goes over the trace for the course of the unit.
 fn judge_course(alloc: Global, trace: &[Entry], issues: &[Issue]) -> Result<Course, Fail> {
     let mut course = Course::new(alloc);
@@ -221,6 +240,11 @@ pub fn judge(
     judge_controls(trace, logs, unit)?;
     let course = judge_course(alloc, trace, issues)?;
     let mut met = Met::new();
+    for log in logs {
+        met.awaited = met
+            .awaited
+            .saturating_add(judge_awaiting(trace, log, unit)?);
+    }
     met.retried = course.retried;
     met.halted = course.halted;
     for issue in issues {

@@ -1,7 +1,7 @@
 //! What a task did and got.
 
 use super::requests::{Got, Issue};
-use request_piece::Scope;
+use request_piece::{Name, Scope};
 use std::alloc::{AllocError, Global};
 use unit_book::{Entry, Mode};
 
@@ -26,12 +26,14 @@ impl Control {
 }
 
 /// What a task did and got: the requests that were accepted, what it collected, in this order, what it did to units,
-/// and whether it met want of memory.
+/// which requests it purged with halt that awaited their restart, and whether it met want of memory.
 #[derive(Drop)]
 pub struct Log {
     pub issued: Vec<Issue>,
     pub collected: Vec<Got>,
     pub controls: Vec<(u16, Control)>,
+    /// The unit, the place of the purge in its trace, and the request.
+    pub awaiting: Vec<(u16, usize, Name)>,
     pub short: bool,
 }
 
@@ -41,6 +43,7 @@ impl Log {
             issued: Vec::new(alloc),
             collected: Vec::new(alloc),
             controls: Vec::new(alloc),
+            awaiting: Vec::new(alloc),
             short: false,
         }
     }

@@ -6,12 +6,12 @@ use super::log::{Control, Log};
 use super::requests::{Got, Issue, Program};
 use crate::fixtures::issue_over;
 use ckd_disk::Disk;
-use excp_system::{Site, System, Task};
-use request_piece::Scope;
+use excp_system::{Site, System, Task, UnitState};
+use request_piece::{Name, Scope};
 use std::alloc::{AllocError, Global};
 use std::sync::Wait;
 use std::thread;
-use unit_book::Mode;
+use unit_book::{Interruption, Mode};
 
 /// How many things a task does beside a purge of a DCB, a purge of a task, a close and a reset.
 const STEPS: u32 = 32;
@@ -196,7 +196,8 @@ impl<'a, 'r, S: Site> Stage<'a, 'r, S> {
         Ok(())
     }
 
-    /// Lets requests arrive at a unit and the first begin, so that most times one is between two commands.
+    /// Lets requests arrive at a unit and the first begin, so that most times one is between two commands, and purges a
+    /// DCB; or the task of the request, now and then, where it awaits its restart.
     fn begin<R: Wait>(&self, rt: &R, log: &mut Log, random: &mut Random) -> Result<(), AllocError> {
         let unit = random.unit();
         let mut state = self.system.lock_of(unit).lock(rt);
@@ -204,6 +205,11 @@ impl<'a, 'r, S: Site> Stage<'a, 'r, S> {
         state.take(rt)?;
         state.start()?;
         state.run(rt, 1)?;
+        if random.is_below(32) {
+            if let Interruption::Again(name) = state.interrupt()? {
+                return purge_awaiting(rt, &mut state, log, name);
+            }
+        }
         let (dcb, mode) = (random.dcb(), random.mode());
         match state.purge(rt, dcb, mode) {
             Ok(_) => {
@@ -247,6 +253,20 @@ impl<'a, 'r, S: Site> Stage<'a, 'r, S> {
             Err(_) => Err(AllocError),
         }
     }
+}
+
+/// Purges the task of the request that awaits its restart at a locked unit.
+fn purge_awaiting<S: Site, R: Wait>(
+    rt: &R,
+    state: &mut UnitState<'_, S, Disk>,
+    log: &mut Log,
+    name: Name,
+) -> Result<(), AllocError> {
+    let unit = state.unit();
+    let place = state.book().trace().len();
+    log.awaiting.push((unit, place, name))?;
+    state.purge_task(rt, name.task, Mode::Halt)?;
+    log.did(unit, Control::Purge(Scope::Task(name.task), Mode::Halt))
 }
 
 /// Collects a post, if there is one.

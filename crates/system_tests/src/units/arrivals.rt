@@ -5,7 +5,7 @@ ghost use Rattle.std.specs.List.{list_all};
 ghost use Rattle.unit_book.specs.Trace.{arrived_of, is_opening};
 
 use super::*;
-use crate::fixtures::{READ_RECORD, TRACK, faulty_book};
+use crate::fixtures::{READ_RECORD, TRACK, TWICE, faulty_book};
 use io_area::Area;
 use io_images::Extent;
 use request_piece::Request;
@@ -65,7 +65,7 @@ fn arrives<R: Abort>(rt: &R, book: &mut UnitBook<Disk>, request: Request) -> Res
     };
     assert!(rt; error == ArriveError::NoMemory && look(book) == before);
     assert!(rt; is_as_made(&request));
-    book.arrive(request).map_err(|_| AllocError)?;
+    book.arrive(request).map_err(|_| TWICE)?;
     Ok(())
 }
 
@@ -89,4 +89,18 @@ fn arrive_without_memory(rt: HostRuntime) -> Result<(), Fail> {
     let request = first_request(rt.alloc())?;
     arrives(&rt, &mut book, request)?;
     expect_served(&rt, &mut book)
+}
+
+/// Where there is no memory to make room for an arrival the book is as before, and there is room when it is tried once
+/// more: run it with each allocation refused in turn.
+#[test]
+fn reserve_without_memory(rt: HostRuntime) -> Result<(), Fail> {
+    let mut book = full_book(rt.alloc())?;
+    let before = look(&book);
+    if let Err(AllocError) = book.reserve() {
+        assert!(rt; look(&book) == before);
+        book.reserve().map_err(|_| TWICE)?;
+    }
+    assert!(rt; before.0.1 == 0 && book.spare() >= 2);
+    Ok(())
 }

@@ -8,6 +8,7 @@ ghost use Rattle.excp_system.specs.Opening.{AreBooks, AreFresh, site_of};
 
 use super::calls::{Answer, Call, Hold, R1, expect_answers};
 use super::*;
+use crate::fixtures::TWICE;
 use device_port::Kind;
 use std::alloc::Global;
 
@@ -67,35 +68,35 @@ const TO_THEIR_ENDS: [(Call, Answer); 8] = [
 ];
 
 /// The rows for two tasks and two units; once more where there is no memory for them.
-fn rows_again(alloc: Global) -> Result<Rows, AllocError>
+fn rows_again(alloc: Global) -> Result<Rows, Fail>
     ensures units { IfOk result (λ rows. rows.units ≡ 2) }
     ensures fresh { IfOk result AreFresh }
 {
     match Rows::new(alloc, 2, 2, 1, 1) {
         Ok(rows) => Ok(rows),
-        Err(AllocError) => Rows::new(alloc, 2, 2, 1, 1),
+        Err(AllocError) => Rows::new(alloc, 2, 2, 1, 1).map_err(|_| Fail::from(TWICE)),
     }
 }
 
 /// The book of a tape of one block on this subclass, with a DCB; from the device that is handed back where there is no
 /// memory for it.
-fn book_again(alloc: Global, isc: u8) -> Result<UnitBook<ToyBlock>, AllocError>
+fn book_again(alloc: Global, isc: u8) -> Result<UnitBook<ToyBlock>, Fail>
     requires { isc ≤ 7 }
     ensures { IfOk result (λ book. list_all is_opening book.trace ≡ true) }
 {
     let device = ToyBlock::mount(alloc, Kind::Tape, BLOCK, &[])?;
     let mut book = match UnitBook::new(alloc, device, isc, 1) {
         Ok(book) => book,
-        Err(failed) => UnitBook::new(alloc, failed.value, isc, 1)?,
+        Err(failed) => UnitBook::new(alloc, failed.value, isc, 1).map_err(|_| TWICE)?,
     };
     match book.open(false, &[]) {
         Ok(_) => Ok(book),
-        Err(_) => Err(AllocError),
+        Err(_) => Err(Fail::from(AllocError)),
     }
 }
 
 /// The books of two units.
-fn books_again(alloc: Global) -> Result<Vec<UnitBook<ToyBlock>>, AllocError>
+fn books_again(alloc: Global) -> Result<Vec<UnitBook<ToyBlock>>, Fail>
     ensures { IfOk result (λ books. AreBooks 2 books.items) }
 {
     let mut books = Vec::with_capacity(alloc, 2)?;
@@ -106,13 +107,10 @@ fn books_again(alloc: Global) -> Result<Vec<UnitBook<ToyBlock>>, AllocError>
 
 /// Asserts that the list of a system's units can be had, once more where there is no memory for it, and what their traces
 /// tell of: an opening, an arrival, a start, a run and a post; and on unit 1 an opening and an arrival.
-fn expect_units<S: Site>(
-    rt: &impl Abort,
-    system: System<'_, S, ToyBlock>,
-) -> Result<(), AllocError> {
+fn expect_units<S: Site>(rt: &impl Abort, system: System<'_, S, ToyBlock>) -> Result<(), Fail> {
     let units = match system.into_units() {
         Ok(units) => units,
-        Err(failed) => failed.value.into_units()?,
+        Err(failed) => failed.value.into_units().map_err(|_| TWICE)?,
     };
     assert!(rt; units.len() == 2);
     for (unit, entries) in units.iter().zip([5, 2]) {
@@ -156,6 +154,6 @@ fn system_without_memory(rt: HostRuntime) -> Result<(), Fail> {
     let mut rows = rows_again(rt.alloc())?;
     match run_on::<Brand, _>(&rt, &mut rows, books)? {
         None => Ok(()),
-        Some(_) => Err(Fail::from(AllocError)),
+        Some(_) => Err(Fail::from(TWICE)),
     }
 }

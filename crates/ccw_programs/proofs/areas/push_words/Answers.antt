@@ -1,4 +1,4 @@
-use Rattle.std.proofs.Common.{arith, ap, ◌∙◌, nat_eq, ◌-◌, Some, refl, length, length-append, [], ◌∷◌}
+use Rattle.std.proofs.Common.{arith, ap, sym, ◌∙◌, nat_eq, ◌-◌, Ok, Err, refl, length, length-append, [], ◌∷◌}
 use Rattle.std.proofs.lemmas.List.{append-nil}
 use Rattle.ccw_programs.specs.Areas.{prefixed}
 use Rattle.ccw_programs.proofs.Parts.{no_part, part_more, parts_from-none}
@@ -7,6 +7,7 @@ use Rattle.ccw_programs.proofs.areas.push_words.Goals as goal
 pub returns-in-Err-clause-parts : goal.returns-in-Err-clause-parts
 returns-in-Err-clause-parts c =
     no_part c.args.area.now c.args.skip (nat_eq c.loop-place.place 0) c.loop-place.chain _ c.loop-place.at c.args.words c.loop-place.place c.loop-place.count (omega arith) c.loop-place.invariant.told c.in-Err.ensures.answer
+    ∙ ap Err (sym c.in-Err.ensures.rule)
 
 pub loop-place-preserved : goal.loop-place-preserved
 loop-place-preserved c = record {
@@ -19,4 +20,4 @@ pub returns-clause-parts : goal.returns-clause-parts
 returns-clause-parts c =
     c.loop-place.invariant.told
     ∙ ap (prefixed c.loop-place.chain) (parts_from-none _ _ _ _ (c.args.words - c.loop-place.place) _ (omega arith))
-    ∙ ap Some (append-nil _)
+    ∙ ap Ok (append-nil _)

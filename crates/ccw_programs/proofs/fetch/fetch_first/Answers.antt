@@ -4,7 +4,7 @@ use Rattle.ccw_programs.proofs.fetch.fetch_first.Goals as goal
 
 pub returns-in-Refused-clause-chain : goal.returns-in-Refused-clause-chain
 returns-in-Refused-clause-chain c =
-    refused _ _ [] c.loop-done.done c.loop-done.may_transfer _ 0 (omega arith) refl c.loop-done.invariant.told c.in-Refused.ensures.value
+    (_, refused _ _ [] c.loop-done.done c.loop-done.may_transfer _ 0 (omega arith) refl c.loop-done.invariant.told c.in-Refused.ensures.value)
 
 pub returns-in-More-clause-chain : goal.returns-in-More-clause-chain
 returns-in-More-clause-chain c =
@@ -20,4 +20,4 @@ loop-done-preserved c = record {
 }
 
 pub returns-clause-chain : goal.returns-clause-chain
-returns-clause-chain c = c.loop-done.invariant.told ∙ chain_within-none _ c.loop-done.done _ _ _ (omega arith)
+returns-clause-chain c = (_, c.loop-done.invariant.told ∙ chain_within-none _ c.loop-done.done _ _ _ (omega arith))

@@ -8,6 +8,7 @@ use Rattle.ccw_programs.proofs.fetch.fetch_on.Goals.{in-Transfer, in-More}
 pub returns-in-Refused-clause-chain : goal.returns-in-Refused-clause-chain
 returns-in-Refused-clause-chain c =
     refused _ _ c.loop-done.links c.loop-done.done c.loop-done.may_transfer _ c.len.result (omega arith) c.len.ensures.value c.loop-done.invariant.told c.in-Refused.ensures.value
+    ∙ rw (c.broken_rule-rule.ensures, c.len.ensures.value, c.len-in-Refused.ensures.value) refl
 
 pub returns-in-Last-clause-chain : goal.returns-in-Last-clause-chain
 returns-in-Last-clause-chain c =
@@ -36,4 +37,4 @@ returns-in-Last-clause-sound c =
     (All-push Sound _ _ c.loop-done.invariant.sound (record { in_storage = c.in-Last.ensures.tells.0; counted = c.in-Last.ensures.tells.2 }))
 
 pub returns-clause-chain : goal.returns-clause-chain
-returns-clause-chain c = c.loop-done.invariant.told ∙ ap (behind_all c.loop-done.links) (chain_within-none _ c.loop-done.done _ _ _ (omega arith)) ∙ behind_all-broken c.loop-done.links _
+returns-clause-chain c = c.loop-done.invariant.told ∙ ap (behind_all c.loop-done.links) (chain_within-none _ c.loop-done.done _ _ _ (omega arith)) ∙ behind_all-broken c.loop-done.links _ _

@@ -6,7 +6,7 @@ use Rattle.ccw_programs.proofs.run.command_on.Goals as goal
 
 pub returns-in-Err-clause-step : goal.returns-in-Err-clause-step
 returns-in-Err-clause-step g c =
-    let lies : areas (g.D.Device.meaning.flow c.args.device.now c.command_code-code.result) c.args.area.now c.args.links.now ≡ Bad c.in-Err.refusal.at =
+    let lies : areas (g.D.Device.meaning.flow c.args.device.now c.command_code-code.result) c.args.area.now c.args.links.now ≡ Bad c.in-Err.refusal =
     rw (← c.flow-flow.ensures) c.in-Err.ensures.value in
     rw c.check.ensures (sym (step-bad g.D.Device.meaning (program c.args.context.now c.args.device.now c.args.area.now) c.requires.running _ _ _ c.requires.fetched c.command_code-code.ensures _ lies))
 

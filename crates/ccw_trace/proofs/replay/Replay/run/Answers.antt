@@ -12,16 +12,16 @@ unreachable-requires g c =
     let t = subst (λ x. Ties m i.book.now.mounted (reverse i.book.now.trace) i.done i.ran i.device x) c.in_default.is c.self.invariant in
     nothing-runs m i.book.now.mounted (reverse i.book.now.trace) i.done i.ran c.args.commands i.device l (rw (← c.self.view_is) at c.requires.entry) t
 
-pub run-told-requires-clause-running : goal.run-told-requires-clause-running
-run-told-requires-clause-running g c =
+pub run-requires-clause-running : goal.run-requires-clause-running
+run-requires-clause-running g c =
     let m = g.D.Device.meaning in
     let i = c.self.inside in
     let l = legal-reversed m i.book.now.mounted i.book.now.trace (rw (← c.self.view_is) at c.requires.legal) in
     let t = subst (λ x. Ties m i.book.now.mounted (reverse i.book.now.trace) i.done i.ran i.device x) c.in-Some.is c.self.invariant in
     runs-here m i.book.now.mounted (reverse i.book.now.trace) i.done i.ran c.args.commands i.device l (rw (← c.self.view_is) at c.requires.entry) c.in-Some.attempt t
 
-pub run-told-requires-clause-left : goal.run-told-requires-clause-left
-run-told-requires-clause-left g c =
+pub run-requires-clause-left : goal.run-requires-clause-left
+run-requires-clause-left g c =
     let m = g.D.Device.meaning in
     let i = c.self.inside in
     let l = legal-reversed m i.book.now.mounted i.book.now.trace (rw (← c.self.view_is) at c.requires.legal) in
@@ -36,7 +36,7 @@ invariant_of-self g c =
     let t = subst (λ x. Ties m i.book.now.mounted (reverse i.book.now.trace) i.done i.ran i.device x) c.in-Some.is c.self.invariant in
     let e = rw (← c.self.view_is) at c.requires.next in
     rw e (ran-last m i.book.now.mounted (reverse i.book.now.trace) i.done i.ran c.args.commands i.device l (rw (← c.self.view_is) at c.requires.entry) c.in-Some.attempt t
-    c.run-told.new.device c.run-told.new.self c.run-told.ensures.issued c.run-told.ensures.step c.if-self-commands.true)
+    c.run.new.device c.run.new.self c.run.ensures.issued c.run.ensures.step c.if-self-commands.true)
 
 pub invariant_of-self-else-self-commands : goal.invariant_of-self-else-self-commands
 invariant_of-self-else-self-commands g c =
@@ -45,4 +45,4 @@ invariant_of-self-else-self-commands g c =
     let l = legal-reversed m i.book.now.mounted i.book.now.trace (rw (← c.self.view_is) at c.requires.legal) in
     let t = subst (λ x. Ties m i.book.now.mounted (reverse i.book.now.trace) i.done i.ran i.device x) c.in-Some.is c.self.invariant in
     ran-more m i.book.now.mounted (reverse i.book.now.trace) i.done i.ran c.args.commands i.device l (rw (← c.self.view_is) at c.requires.entry) c.in-Some.attempt t
-    c.run-told.new.device c.run-told.new.self c.run-told.ensures.issued c.run-told.ensures.step c.if-self-commands.false
+    c.run.new.device c.run.new.self c.run.ensures.issued c.run.ensures.step c.if-self-commands.false

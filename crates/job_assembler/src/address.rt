@@ -1,0 +1,78 @@
+//! Addresses and numbers as a statement writes them.
+
+ghost use Rattle.std.specs.Prelude.{◌≤◌, IfOk};
+
+use crate::digits::{TOP, hexadecimal, value_of};
+use crate::finding::Wrong;
+use crate::labels::{Labels, is_label};
+
+const NO_ADDRESS: &str =
+    "no address: a label, * or a number is wanted, with +N or -N behind it or without";
+
+const UNDEFINED: &str = "no label of this area, LABEL: in front of a statement defines one";
+
+const NO_PLACE: &str = "no statement whose address it could be, a label is wanted";
+
+const OUTSIDE: &str = "no address of storage, one from 0 to X'FFFFFF' is wanted";
+
+const NO_NUMBER: &str =
+    "no number: decimal digits, or hexadecimal ones as X'1F', are wanted, up to X'FFFFFF'";
+
+/// The address that an expression gives at a place, where there is one, which `*` stands for.
+pub fn address<'a>(
+    expression: &'a [u8],
+    place: Option<u32>,
+    labels: &Labels,
+) -> Result<u32, Wrong<'a>> {
+    let end = expression
+        .iter()
+        .position(|byte| *byte == b'+' || *byte == b'-')
+        .unwrap_or(expression.len());
+    let (term, offset) = expression.split_at(end);
+    let start = term_address(term, place, labels)?;
+    let moved = match offset.split_first() {
+        None => Some(start),
+        Some((b'+', number)) => start.checked_add(self::number(number)?),
+        Some((_, number)) => start.checked_sub(self::number(number)?),
+    };
+    match moved {
+        Some(address) if address <= TOP => Ok(address),
+        _ => Err(Wrong::of(expression, OUTSIDE)),
+    }
+}
+
+fn term_address<'a>(term: &'a [u8], place: Option<u32>, labels: &Labels) -> Result<u32, Wrong<'a>> {
+    if let b"*" = term {
+        return place.ok_or(Wrong::of(term, NO_PLACE));
+    }
+    if let Some(address) = labels.address(term) {
+        return Ok(address);
+    }
+    if is_label(term) {
+        return Err(Wrong::of(term, UNDEFINED));
+    }
+    value(term).ok_or(Wrong::of(term, NO_ADDRESS))
+}
+
+/// A number, up to X'FFFFFF'.
+pub fn number(word: &[u8]) -> Result<u32, Wrong<'_>> {
+    value(word).ok_or(Wrong::of(word, NO_NUMBER))
+}
+
+/// A number up to this one, or what is wanted in its place.
+pub fn number_to<'a>(word: &'a [u8], most: u32, wanted: &'static str) -> Result<u32, Wrong<'a>>
+    ensures { IfOk result (λ number. number ≤ most) }
+{
+    match value(word) {
+        Some(number) if number <= most => Ok(number),
+        _ => Err(Wrong::of(word, wanted)),
+    }
+}
+
+/// The value of decimal digits, or of hexadecimal ones between `X'` and `'`, where it is no more than X'FFFFFF'.
+fn value(word: &[u8]) -> Option<u32> {
+    match hexadecimal(word) {
+        Some(digits) => value_of(digits, 16),
+        None => value_of(word, 10),
+    }
+}

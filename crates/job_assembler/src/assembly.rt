@@ -1,0 +1,282 @@
+//! How a script with symbolic areas is assembled, line by line.
+
+ghost use Rattle.std.specs.Prelude.{◌+◌};
+ghost use Rattle.job_script.specs.Reading.{ReadsAtMost};
+
+use crate::area::Area;
+use crate::digits::{put_digits, value_of};
+use crate::excp::put_excp;
+use crate::finding::{Finding, Refusal, Wrong, note, write_findings};
+use crate::labels::Labels;
+use crate::line::{Operands, first_word, is_printable, without_comment};
+use crate::statement::put_statement;
+use job_script::{Fault, LIMIT, read_script};
+use std::alloc::{AllocError, Global};
+use std::io::{Read, Write};
+
+const NO_AREA: &str = "no area is open that this ends";
+
+const OPEN: &str = "the area that was opened before goes on, endarea is wanted first";
+
+const UNENDED: &str = "the area that this opens has no end, a line endarea is wanted";
+
+const ORDER: &str =
+    "not the number of the next area, they are 0, 1, 2, .. in the order of their lines";
+
+const BASE: &str = "no address of an area: six hexadecimal digits are wanted, a multiple of 8";
+
+const LONG: &str =
+    "the script that comes out has more than 1048576 bytes with this line, no more may be run";
+
+/// Reads a script with symbolic areas, at most 1,048,576 bytes and one more, and writes the plain script that it comes to, or, to
+/// the second writer, every fault of it. It answers whether there is a fault.
+pub fn assemble_script<R: Read, W: Write + Drop, E: Write + Drop>(
+    alloc: Global,
+    reader: &mut R,
+    writer: W,
+    faults: E,
+) -> Result<bool, Fault>
+    ensures { ReadsAtMost (LIMIT + 1) (R.remaining reader.old) (R.remaining reader.new) }
+{
+    let text = read_script(alloc, reader)?;
+    let Assembly {
+        script,
+        mut findings,
+        areas: _,
+        open: _,
+        is_long: _,
+    } = assemble(alloc, &text)?;
+    if findings.is_empty() {
+        write_script(&script, writer)?;
+        return Ok(false);
+    }
+    findings.sort_by_key(|finding| finding.line)?;
+    write_findings(alloc, &findings, faults)?;
+    Ok(true)
+}
+
+fn write_script<W: Write + Drop>(script: &[u8], writer: W) -> Result<(), Fault> {
+    let mut writer = writer;
+    match writer.write_all(script) {
+        Ok(()) => {}
+        Err(_) => return Err(Fault::NotWritten),
+    }
+    match writer.flush() {
+        Ok(()) => Ok(()),
+        Err(_) => Err(Fault::NotWritten),
+    }
+}
+
+/// Assembles a text.
+fn assemble(alloc: Global, text: &[u8]) -> Result<Assembly<'_>, AllocError> {
+    let mut assembly = Assembly {
+        script: Vec::new(alloc),
+        findings: Vec::new(alloc),
+        areas: Vec::new(alloc),
+        open: None,
+        is_long: false,
+    };
+    let ended = text.iter().filter(|byte| **byte == b'\n').count();
+    for (place, bytes) in text.split(|byte| *byte == b'\n').enumerate() {
+        let is_ended = place < ended;
+        if is_ended || !bytes.is_empty() {
+            assembly.line(alloc, place.saturating_add(1), bytes, is_ended)?;
+        }
+    }
+    if let Some(area) = assembly.open.take() {
+        let wrong = Wrong::line(UNENDED);
+        let line = area.line;
+        assembly.findings.push(Finding { line, wrong })?;
+        area.end(&mut assembly.findings)?;
+    }
+    Ok(assembly)
+}
+
+/// A script as far as it was assembled. Each line of it has the number of the line that it comes from.
+#[derive(Drop)]
+struct Assembly<'a> {
+    script: Vec<u8>,
+    findings: Vec<Finding<'a>>,
+    /// The labels of each area that has ended, in the order of their numbers; of a plain area none.
+    areas: Vec<Labels>,
+    /// The symbolic area that has not ended.
+    open: Option<Area<'a>>,
+    /// Whether the script has become too long; nothing is added to it then.
+    is_long: bool,
+}
+
+impl<'a> Assembly<'a> {
+    /// Assembles the line with this number. The last one of a text may be without a line feed at its end, and then stays
+    /// so.
+    fn line(
+        &mut self,
+        alloc: Global,
+        number: usize,
+        bytes: &'a [u8],
+        is_ended: bool,
+    ) -> Result<(), AllocError> {
+        let read = self.read_line(alloc, number, bytes);
+        note(&mut self.findings, number, read)?;
+        if self.is_long {
+            return Ok(());
+        }
+        if is_ended {
+            self.script.push(b'\n')?;
+        }
+        if self.script.len() > LIMIT {
+            self.is_long = true;
+            let long = Err(Refusal::Wrong(Wrong::line(LONG)));
+            note(&mut self.findings, number, long)?;
+        }
+        Ok(())
+    }
+
+    fn read_line(
+        &mut self,
+        alloc: Global,
+        number: usize,
+        bytes: &'a [u8],
+    ) -> Result<(), Refusal<'a>> {
+        let line = without_comment(bytes);
+        is_printable(line)?;
+        let (word, operands) = first_word(line);
+        match word {
+            b"" => self.comment(bytes),
+            b"area" => self.area(alloc, number, bytes, operands),
+            b"endarea" => self.end_area(operands),
+            b"excp" if self.open.is_none() => self.excp(line),
+            _ => self.other(alloc, number, bytes, line),
+        }
+    }
+
+    /// A statement of the open area, or a line that is passed on.
+    fn other(
+        &mut self,
+        alloc: Global,
+        number: usize,
+        bytes: &'a [u8],
+        line: &'a [u8],
+    ) -> Result<(), Refusal<'a>> {
+        if let Some(area) = &mut self.open {
+            put_statement(alloc, area, number, line)?;
+            return self.comment(bytes);
+        }
+        self.pass(line)
+    }
+
+    /// Adds a line that says nothing in a script.
+    fn comment(&mut self, bytes: &'a [u8]) -> Result<(), Refusal<'a>> {
+        let (word, _) = first_word(bytes);
+        match word.first() {
+            None | Some(b'#') => {}
+            Some(_) => self.pass(b"# ")?,
+        }
+        self.pass(bytes)
+    }
+
+    /// Adds bytes to the script.
+    fn pass(&mut self, bytes: &[u8]) -> Result<(), Refusal<'a>> {
+        if !self.is_long {
+            self.script.extend_from_slice(bytes)?;
+        }
+        Ok(())
+    }
+
+    /// `area A ADDR HEX ..`, a plain area, or `area A ADDR`, which opens a symbolic one.
+    fn area(
+        &mut self,
+        alloc: Global,
+        line: usize,
+        bytes: &'a [u8],
+        words: &'a [u8],
+    ) -> Result<(), Refusal<'a>> {
+        if let Some(area) = self.open.take() {
+            let wrong = Wrong::line(OPEN);
+            self.findings.push(Finding { line, wrong })?;
+            self.close(area)?;
+        }
+        let (number, rest) = first_word(words);
+        let (address, rest) = first_word(rest);
+        let (plain, _) = first_word(rest);
+        let is_next = is_number(number, self.areas.len());
+        if plain.is_empty() {
+            let base = base_of(address);
+            let place = base.unwrap_or(0);
+            self.open = Some(Area::new(alloc, line, number, address, place));
+            base.ok_or(Wrong::of(address, BASE))?;
+            self.comment(bytes)?;
+        } else {
+            self.areas.push(Labels::new(alloc))?;
+            self.pass(without_comment(bytes))?;
+        }
+        if is_next {
+            return Ok(());
+        }
+        Err(Refusal::Wrong(Wrong::of(number, ORDER)))
+    }
+
+    /// `endarea`
+    fn end_area(&mut self, words: &'a [u8]) -> Result<(), Refusal<'a>> {
+        match self.open.take() {
+            Some(area) => self.close(area)?,
+            None => return Err(Refusal::Wrong(Wrong::line(NO_AREA))),
+        }
+        Operands { rest: words }.end()?;
+        Ok(())
+    }
+
+    /// Adds the line of a symbolic area, which has ended.
+    fn close(&mut self, area: Area<'a>) -> Result<(), Refusal<'a>> {
+        let number = area.number;
+        let address = area.address;
+        let (bytes, labels) = area.end(&mut self.findings)?;
+        self.areas.push(labels)?;
+        if !self.is_long {
+            put_area(&mut self.script, number, address, &bytes)?;
+        }
+        Ok(())
+    }
+
+    /// `excp T U DCB IOB A SHOW LEN`
+    fn excp(&mut self, line: &'a [u8]) -> Result<(), Refusal<'a>> {
+        if self.is_long {
+            return Ok(());
+        }
+        put_excp(&mut self.script, &self.areas, line)
+    }
+}
+
+/// Whether a word is this number.
+fn is_number(word: &[u8], wanted: usize) -> bool {
+    match value_of(word, 10) {
+        Some(number) => number as usize == wanted,
+        None => false,
+    }
+}
+
+/// The address of an area.
+fn base_of(word: &[u8]) -> Option<u32> {
+    let base = value_of(word, 16)?;
+    (word.len() == 6 && base % 8 == 0).then_some(base)
+}
+
+/// Writes the line of an area, with a word for each eight bytes.
+fn put_area(
+    script: &mut Vec<u8>,
+    number: &[u8],
+    address: &[u8],
+    bytes: &[u8],
+) -> Result<(), AllocError> {
+    script.extend_from_slice(b"area ")?;
+    script.extend_from_slice(number)?;
+    script.push(b' ')?;
+    script.extend_from_slice(address)?;
+    if bytes.is_empty() {
+        script.extend_from_slice(b" -")?;
+    }
+    for word in bytes.chunks(8) {
+        script.push(b' ')?;
+        put_digits(script, word)?;
+    }
+    Ok(())
+}

@@ -1,0 +1,78 @@
+//! The labels of an area.
+
+use crate::finding::{Refusal, Wrong};
+use command_names::flag_bit;
+use std::alloc::Global;
+use std::collections::BTreeMap;
+
+/// The most characters of a label.
+const LONGEST: usize = 63;
+
+const NO_LABEL: &str =
+    "no label: 1 to 63 letters, digits, _, $, # or @ are wanted, the first one no digit";
+
+const TWICE: &str = "a label twice in its area, each one once is wanted";
+
+const FLAG: &str = "a flag has this name, another one is wanted for a label";
+
+/// The labels of an area, each with its address.
+#[derive(Drop)]
+pub struct Labels {
+    addresses: BTreeMap<Vec<u8>, u32>,
+}
+
+impl Labels {
+    /// No label.
+    pub fn new(alloc: Global) -> Self {
+        Labels {
+            addresses: BTreeMap::new(alloc),
+        }
+    }
+
+    /// Gives a label its address, where it is a label and has none yet.
+    pub fn define<'a>(
+        &mut self,
+        alloc: Global,
+        label: &'a [u8],
+        address: u32,
+    ) -> Result<(), Refusal<'a>> {
+        if !is_label(label) {
+            return Err(Refusal::Wrong(Wrong::of(label, NO_LABEL)));
+        }
+        if flag_bit(label).is_some() {
+            return Err(Refusal::Wrong(Wrong::of(label, FLAG)));
+        }
+        if self.address(label).is_some() {
+            return Err(Refusal::Wrong(Wrong::of(label, TWICE)));
+        }
+        let mut name = Vec::new(alloc);
+        name.extend_from_slice(label)?;
+        self.addresses.insert(name, address)?;
+        Ok(())
+    }
+
+    /// The address of a label, if it has one.
+    pub fn address(&self, label: &[u8]) -> Option<u32> {
+        self.addresses.get(label).copied()
+    }
+}
+
+/// Whether a word may be a label.
+pub fn is_label(word: &[u8]) -> bool {
+    match word.first() {
+        Some(first) => {
+            !first.is_ascii_digit()
+                && word.len() <= LONGEST
+                && word.iter().all(|byte| is_part(*byte))
+        }
+        None => false,
+    }
+}
+
+/// Whether a label may have this character.
+fn is_part(byte: u8) -> bool {
+    match byte {
+        b'A'..=b'Z' | b'a'..=b'z' | b'0'..=b'9' | b'_' | b'$' | b'#' | b'@' => true,
+        _ => false,
+    }
+}

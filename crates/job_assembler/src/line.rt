@@ -1,0 +1,100 @@
+//! The parts of a line.
+
+use crate::finding::Wrong;
+
+const UNPRINTABLE: &str =
+    "the line has a byte that is no printable ASCII character; lines end with a line feed, words are parted by blanks";
+
+/// What a line says: all that stands before a semicolon which is not between apostrophes, without the blanks at its end,
+/// and nothing of a line whose first word begins with `#`.
+pub fn without_comment(bytes: &[u8]) -> &[u8] {
+    let mut is_quoted = false;
+    let mut end = 0;
+    for (place, byte) in bytes.iter().enumerate() {
+        match *byte {
+            b' ' => continue,
+            b'#' if end == 0 => break,
+            b';' if !is_quoted => break,
+            b'\'' => is_quoted = !is_quoted,
+            _ => {}
+        }
+        end = place.saturating_add(1);
+    }
+    let end = end.min(bytes.len());
+    &bytes[..end]
+}
+
+/// That a line has printable characters alone.
+pub fn is_printable(line: &[u8]) -> Result<(), Wrong<'static>> {
+    if line.iter().all(|byte| *byte >= b' ' && *byte <= b'~') {
+        return Ok(());
+    }
+    Err(Wrong::line(UNPRINTABLE))
+}
+
+/// Whether a byte parts operands: a blank or a comma.
+pub fn parts_operands(byte: u8) -> bool {
+    byte == b' ' || byte == b','
+}
+
+/// The operands of a statement that were not taken yet, parted by blanks or commas.
+#[derive(Drop)]
+pub struct Operands<'a> {
+    pub rest: &'a [u8],
+}
+
+impl<'a> Operands<'a> {
+    /// The next operand; none has no bytes.
+    pub fn next_operand(&mut self) -> &'a [u8] {
+        let rest = self.rest;
+        let start = rest
+            .iter()
+            .position(|byte| !parts_operands(*byte))
+            .unwrap_or(rest.len());
+        let (_, operands) = rest.split_at(start);
+        let end = operands
+            .iter()
+            .position(|byte| parts_operands(*byte))
+            .unwrap_or(operands.len());
+        let (operand, rest) = operands.split_at(end);
+        self.rest = rest;
+        operand
+    }
+
+    /// That no operand is left.
+    pub fn end(&mut self) -> Result<(), Wrong<'a>> {
+        let operand = self.next_operand();
+        if operand.is_empty() {
+            return Ok(());
+        }
+        Err(Wrong::of(operand, "one operand too many"))
+    }
+}
+
+/// The first word of a line, parted by blanks, and what stands behind it.
+pub fn first_word(line: &[u8]) -> (&[u8], &[u8]) {
+    let start = line
+        .iter()
+        .position(|byte| *byte != b' ')
+        .unwrap_or(line.len());
+    let (_, words) = line.split_at(start);
+    let end = words
+        .iter()
+        .position(|byte| *byte == b' ')
+        .unwrap_or(words.len());
+    words.split_at(end)
+}
+
+/// The label that stands in front of a statement, without its colon, and the statement.
+pub fn labelled(line: &[u8]) -> (Option<&[u8]>, &[u8]) {
+    let (word, _) = first_word(line);
+    if !word.contains(&b':') {
+        return (None, line);
+    }
+    let Some(colon) = line.iter().position(|byte| *byte == b':') else {
+        return (None, line);
+    };
+    let (front, statement) = line.split_at(colon);
+    let (label, _) = first_word(front);
+    (Some(label), &statement[1..])
+}

@@ -1,0 +1,107 @@
+//! The CCWs of channel programs (Principles of Operation, chapter 15, "Channel-Command Word").
+
+use crate::address::number_to;
+use crate::area::Area;
+use crate::finding::{Refusal, Wrong};
+use crate::line::{Operands, parts_operands};
+use command_names::flag_bit;
+use io_images::{Address, Ccw, CcwFlags};
+
+/// The command code of a transfer in channel.
+const TRANSFER: u8 = 0x08;
+
+const NO_DATA: &str =
+    "ADDRESS,COUNT are wanted, and flags behind them or none; flags alone serve where no data are moved";
+
+const NO_TARGET: &str = "a transfer has one address";
+
+const NO_COUNT: &str = "no count: a number from 0 to 65535 is wanted";
+
+const NO_FLAG: &str = "no flag: CD, CC, SLI, SKIP, PCI or IDA is wanted";
+
+const NO_CODE: &str = "no command code: a number from 0 to 255 is wanted, as X'31'";
+
+/// `TIC ADDRESS`: its flags and count are zeros.
+pub fn put_transfer<'a>(
+    area: &mut Area<'a>,
+    line: usize,
+    operands: &'a [u8],
+) -> Result<(), Refusal<'a>> {
+    let mut operands = Operands { rest: operands };
+    let target = operands.next_operand();
+    if target.is_empty() {
+        return Err(Refusal::Wrong(Wrong::line(NO_TARGET)));
+    }
+    operands.end()?;
+    put_ccw(area, line, TRANSFER, target, 0, 0)
+}
+
+/// `CCW X'CODE',ADDRESS,COUNT,FLAGS`
+pub fn put_any_command<'a>(
+    area: &mut Area<'a>,
+    line: usize,
+    operands: &'a [u8],
+) -> Result<(), Refusal<'a>> {
+    let mut operands = Operands { rest: operands };
+    let code = number_to(operands.next_operand(), 255, NO_CODE)?;
+    put_command(area, line, code as u8, true, operands.rest)
+}
+
+/// The CCW of a command: `ADDRESS,COUNT,FLAGS`, where flags may be left out. One that moves no data may have flags alone, or
+/// nothing: its address is 0 then, and its count 1.
+pub fn put_command<'a>(
+    area: &mut Area<'a>,
+    line: usize,
+    code: u8,
+    moves_data: bool,
+    operands: &'a [u8],
+) -> Result<(), Refusal<'a>> {
+    if !moves_data {
+        if let Ok(bits) = flags(operands) {
+            return put_ccw(area, line, code, b"0", 1, bits);
+        }
+    }
+    let mut operands = Operands { rest: operands };
+    let data = operands.next_operand();
+    let count = operands.next_operand();
+    if count.is_empty() {
+        return Err(Refusal::Wrong(Wrong::line(NO_DATA)));
+    }
+    let count = number_to(count, 65535, NO_COUNT)?;
+    let bits = flags(operands.rest)?;
+    put_ccw(area, line, code, data, count as u16, bits)
+}
+
+/// The flags that words name, parted as operands are, or by `+`.
+fn flags(words: &[u8]) -> Result<u8, Wrong<'_>> {
+    let mut bits = 0;
+    for flag in words.split(|byte| parts_operands(*byte) || *byte == b'+') {
+        if !flag.is_empty() {
+            match flag_bit(flag) {
+                Some(bit) => bits |= bit,
+                None => return Err(Wrong::of(flag, NO_FLAG)),
+            }
+        }
+    }
+    Ok(bits)
+}
+
+fn put_ccw<'a>(
+    area: &mut Area<'a>,
+    line: usize,
+    code: u8,
+    data: &'a [u8],
+    count: u16,
+    bits: u8,
+) -> Result<(), Refusal<'a>> {
+    let ccw = Ccw {
+        command: code,
+        address: Address::new(0),
+        flags: CcwFlags::new(bits),
+        count,
+    };
+    let mut image = [0; 8];
+    ccw.write(&mut image);
+    area.refer(line, 1, data)?;
+    area.put(&image)
+}
