@@ -18,6 +18,10 @@ pub record Place : Type 0 where
 abbrev pub start_place : ℕ → Place
 start_place start = record { next = start; fetched = 0; address = start; residual = 0; state = Running }
 
+-- a program that goes on at an address, of which one CCW was fetched, and nothing else is known
+abbrev pub later_place : ℕ → Place
+later_place next = record { next = next; fetched = 1; address = 0; residual = 0; state = Running }
+
 -- the program has ended with this status
 abbrev pub ended_place : Place → Csw → ℕ → Place
 ended_place place csw sense = record { next = place.next; fetched = place.fetched; address = csw.address; residual = csw.residual; state = Ended csw sense }

@@ -3,7 +3,7 @@
 
 ghost use Rattle.std.specs.Prelude.{◌≡◌, ◌≤◌, ◌<◌, ◌^◌, ◌+◌, [], ◌∷◌, length, All};
 ghost use Rattle.ccw_programs.specs.Links.{Sound};
-ghost use Rattle.ccw_programs.specs.Place.{Place, start_place, ended_place, checked_place, halted};
+ghost use Rattle.ccw_programs.specs.Place.{Place, start_place, later_place, ended_place, checked_place, halted};
 ghost use Rattle.ccw_programs.specs.Step.{acted_place, placed};
 
 use crate::ending::{Ending, ended_in, ending_of, last_of, total_count};
@@ -58,6 +58,19 @@ impl Context {
             next: start.get(),
             fetched: 0,
             address: start,
+            residual: 0,
+            state: State::Running,
+        }
+    }
+
+    /// A program that goes on at an address, of which one CCW was fetched: what it would do there can be told ahead.
+    pub fn going_on(next: u32) -> Context
+        ensures { result ≡ later_place next }
+    {
+        Context {
+            next,
+            fetched: 1,
+            address: Address::new(0),
             residual: 0,
             state: State::Running,
         }

@@ -12,7 +12,7 @@ pub enum Rule {
     CcwMisaligned,
     #[error("the CCW does not lie in the area")]
     CcwOutside,
-    #[error("the address of a transfer in channel is no doubleword")]
+    #[error("the address of a transfer in channel is no multiple of 8")]
     TransferMisaligned,
     #[error("a transfer in channel is the first CCW or follows another one")]
     TransferMisplaced,

@@ -243,7 +243,3 @@ module _ {D : Type 0} (meaning : Meaning D) (mounted : D) where
             place = ap (λ (p : Program D). p.place) c;
           },
         )
-
-    -- the request is active
-    pub run-active : active here ≡ None → ⊥
-    run-active e = let h = sym e ∙ s.1.is in cc

@@ -1,7 +1,7 @@
 -- The next entry of a replay, and the place behind it.
-use Rattle.std.proofs.Common.{◌≡◌, ℕ, ◌+◌, ◌<◌, ◌≤◌, Some, None, List, length, refl, sym, ap, ◌∙◌, reverse}
+use Rattle.std.proofs.Common.{◌≡◌, ℕ, ◌+◌, ◌<◌, Some, List, length, refl, sym, ap, ◌∙◌, reverse}
 use Rattle.std.proofs.lemmas.List.{reverse-reverse}
-use Rattle.std.proofs.lemmas.Option.{slice_get_past, slice_get_read}
+use Rattle.std.proofs.lemmas.Option.{slice_get_read}
 use Rattle.std.specs.Prelude.{slice_get, slice_index_or}
 use Rattle.device_port.specs.Meaning.{Meaning}
 use Rattle.io_images.specs.declared.code.Code.{Code}
@@ -19,12 +19,6 @@ pub entry-at : (entries trace : List Entry) (done : ℕ) (e : Entry) → reverse
 entry-at entries trace done e r few is =
     let k : reverse trace ≡ entries = ap reverse (sym r) ∙ reverse-reverse entries in
     rw k (slice_get_read entries (length entries) done e refl few is)
-
--- there is none at the end
-pub no-entry : (entries trace : List Entry) (done : ℕ) → reverse entries ≡ trace → length entries ≤ done → slice_get (reverse trace) done ≡ None
-no-entry entries trace done r past =
-    let k : reverse trace ≡ entries = ap reverse (sym r) ∙ reverse-reverse entries in
-    rw k (slice_get_past entries done past)
 
 -- what is none of these is silent
 pub silent-is : {D : Type 0} (meaning : Meaning D) (mounted : D) (e : Entry) → ((n : Name) → e ≡ Start n → ⊥) → ((n : Name) (j : ℕ) → e ≡ Ran n j → ⊥) →

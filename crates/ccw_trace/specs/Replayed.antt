@@ -82,10 +82,10 @@ ListsNext meaning p =
     let now = current meaning p.book.mounted (so_far p) in
     Lists meaning (device meaning p.book.mounted (so_far p)) now.area now.place
 
--- a start
-abbrev pub IsStart : Option Entry → Type 0
-IsStart (Some (Start n)) = Unit {0}
-IsStart _ = ⊥
+-- a start, behind a trace in which nothing is active: the first one of its request
+abbrev pub IsFirstStart : List Entry → Option Entry → Type 0
+IsFirstStart H (Some (Start n)) = active H ≡ None
+IsFirstStart H _ = ⊥
 
 -- what a step is that goes on to this entry
 abbrev pub step_to : Option Entry → Step

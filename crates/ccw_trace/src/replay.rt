@@ -4,7 +4,8 @@ ghost use Rattle.std.specs.Prelude.{◌≡◌, ◌<◌, ◌+◌, IfOk, MatchOpti
 ghost use Rattle.std.specs.Option.{option_copied};
 ghost use Rattle.unit_book.specs.Legal.{Legal};
 ghost use Rattle.unit_book.specs.Media.{device};
-ghost use Rattle.ccw_trace.specs.Replayed.{IsIdle, IsPost, IsRan, IsStart, ListsNext, ShowsArea, ShowsContext, behind_command, next_place, so_far, step_to};
+ghost use Rattle.unit_book.specs.Trace.{active};
+ghost use Rattle.ccw_trace.specs.Replayed.{IsFirstStart, IsIdle, IsPost, IsRan, ListsNext, ShowsArea, ShowsContext, behind_command, next_place, so_far, step_to};
 
 use crate::arrivals::arrival_of;
 use crate::attempt::Attempt;
@@ -117,12 +118,12 @@ impl<'t, D: Device> Replay<'t, D> {
     }
 
     /// Goes on behind the next entry, or behind its next command where it is of commands that ran, and answers which of
-    /// these it was. Where all entries were replayed it stays.
+    /// these it was. Where all entries were replayed it stays. It takes memory at the first start of a request alone.
     pub fn step(&mut self) -> Result<Step, AllocError>
         ensures ok { OnOk result (self.new ≡ next_place self.old) }
         ensures kind { IfOk result (λ step. step ≡ step_to (slice_get (reverse self.old.book.trace) self.old.done)) }
         ensures err { OnErr result (self.new ≡ self.old) }
-        ensures full { OnErr result (IsStart (slice_get (reverse self.old.book.trace) self.old.done)) }
+        ensures full { OnErr result (IsFirstStart (so_far self.old) (slice_get (reverse self.old.book.trace) self.old.done)) }
     {
         let book = self.book;
         book.holds();
@@ -168,6 +169,7 @@ impl<'t, D: Device> Replay<'t, D> {
         requires entry { slice_get (reverse self.old.book.trace) self.old.done ≡ Some (Entry.Start name) }
         ensures ok { OnOk result (self.new ≡ record self.old { done = self.old.done + 1; ran = 0 }) }
         ensures err { OnErr result (self.new ≡ self.old) }
+        ensures full { OnErr result (active (so_far self.old) ≡ None) }
     {
         let attempt = match self.attempt.take() {
             Some(attempt) => attempt.again(),

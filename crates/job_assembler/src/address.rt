@@ -15,6 +15,8 @@ const NO_PLACE: &str = "no statement whose address it could be, a label is wante
 
 const OUTSIDE: &str = "no address of storage, one from 0 to X'FFFFFF' is wanted";
 
+const TOO_LARGE: &str = "too large, X'FFFFFF' is the most";
+
 const NO_NUMBER: &str =
     "no number: decimal digits, or hexadecimal ones as X'1F', are wanted, up to X'FFFFFF'";
 
@@ -51,12 +53,21 @@ fn term_address<'a>(term: &'a [u8], place: Option<u32>, labels: &Labels) -> Resu
     if is_label(term) {
         return Err(Wrong::of(term, UNDEFINED));
     }
-    value(term).ok_or(Wrong::of(term, NO_ADDRESS))
+    value_to_top(term, NO_ADDRESS)
 }
 
 /// A number, up to X'FFFFFF'.
-pub fn number(word: &[u8]) -> Result<u32, Wrong<'_>> {
-    value(word).ok_or(Wrong::of(word, NO_NUMBER))
+fn number(word: &[u8]) -> Result<u32, Wrong<'_>> {
+    value_to_top(word, NO_NUMBER)
+}
+
+/// The value of a word up to X'FFFFFF', or what is wanted in its place.
+fn value_to_top<'a>(word: &'a [u8], wanted: &'static str) -> Result<u32, Wrong<'a>> {
+    match value(word) {
+        Some(value) if value <= TOP => Ok(value),
+        Some(_) => Err(Wrong::of(word, TOO_LARGE)),
+        None => Err(Wrong::of(word, wanted)),
+    }
 }
 
 /// A number up to this one, or what is wanted in its place.
@@ -69,7 +80,7 @@ pub fn number_to<'a>(word: &'a [u8], most: u32, wanted: &'static str) -> Result<
     }
 }
 
-/// The value of decimal digits, or of hexadecimal ones between `X'` and `'`, where it is no more than X'FFFFFF'.
+/// The value of decimal digits, or of hexadecimal ones between `X'` and `'`; of more than 32 bits the highest one.
 fn value(word: &[u8]) -> Option<u32> {
     match hexadecimal(word) {
         Some(digits) => value_of(digits, 16),

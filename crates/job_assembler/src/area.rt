@@ -37,6 +37,8 @@ pub struct Area<'a> {
     bytes: Vec<u8>,
     /// Where the next statement begins: so many bytes behind the base.
     next: u32,
+    /// Whether there was no room for a statement: nothing is added then, but the further lines are looked at.
+    is_full: bool,
     pub labels: Labels,
     references: Vec<Reference<'a>>,
 }
@@ -51,6 +53,7 @@ impl<'a> Area<'a> {
             base,
             bytes: Vec::new(alloc),
             next: 0,
+            is_full: false,
             labels: Labels::new(alloc),
             references: Vec::new(alloc),
         }
@@ -71,19 +74,21 @@ impl<'a> Area<'a> {
 
     /// Leaves out so many bytes: those that no statement has set are zeros.
     pub fn leave(&mut self, count: u32) -> Result<(), Refusal<'a>> {
+        if self.is_full {
+            return Ok(());
+        }
         let end = self.next.saturating_add(count);
         self.reach(end)?;
         self.next = end;
         Ok(())
     }
 
-    /// Makes room for bytes up to this one. Where the area may not have so many it begins anew at its base: its lines are
-    /// still looked at, and no script is printed.
+    /// Makes room for bytes up to this one. Where the area may not have so many it is full.
     fn reach(&mut self, end: u32) -> Result<(), Refusal<'a>>
         ensures { OnOk result ((end ≤ vec_len self.new.bytes) × (self.new.next ≡ self.old.next)) }
     {
         if end > LONGEST || self.base.saturating_add(end) > TOP + 1 {
-            self.next = 0;
+            self.is_full = true;
             return Err(Refusal::Wrong(Wrong::line(NO_ROOM)));
         }
         let len = end as usize;
@@ -95,6 +100,9 @@ impl<'a> Area<'a> {
 
     /// Puts bytes at the place of the next statement.
     pub fn put(&mut self, image: &[u8]) -> Result<(), Refusal<'a>> {
+        if self.is_full {
+            return Ok(());
+        }
         let start = self.next;
         let Ok(count) = u32::try_from(image.len()) else {
             return Err(Refusal::Wrong(Wrong::line(NO_ROOM)));
@@ -117,6 +125,9 @@ impl<'a> Area<'a> {
         } else {
             address(expression, Some(self.place()), &self.labels)?
         };
+        if self.is_full {
+            return Ok(());
+        }
         let Some(next) = target.checked_sub(self.base) else {
             return Err(Refusal::Wrong(Wrong::of(expression, OUTSIDE)));
         };
@@ -154,6 +165,7 @@ impl<'a> Area<'a> {
             base: _,
             mut bytes,
             next: _,
+            is_full: _,
             labels,
             references,
         } = self;

@@ -6,17 +6,17 @@ ghost use Rattle.job_script.specs.Reading.{ReadsAtMost};
 use crate::area::Area;
 use crate::digits::{put_digits, value_of};
 use crate::excp::put_excp;
-use crate::finding::{Finding, Refusal, Wrong, note, write_findings};
+use crate::finding::{Finding, Refusal, Wrong, note};
 use crate::labels::Labels;
 use crate::line::{Operands, first_word, is_printable, without_comment};
 use crate::statement::put_statement;
-use job_script::{Fault, LIMIT, read_script};
+use job_script::{Fault, LIMIT, Message, begins_line, read_script, write_findings};
 use std::alloc::{AllocError, Global};
 use std::io::{Read, Write};
 
 const NO_AREA: &str = "no area is open that this ends";
 
-const OPEN: &str = "the area that was opened before goes on, endarea is wanted first";
+const OPEN: &str = "the area that line {n} opens goes on, endarea is wanted before this line";
 
 const UNENDED: &str = "the area that this opens has no end, a line endarea is wanted";
 
@@ -44,6 +44,7 @@ pub fn assemble_script<R: Read, W: Write + Drop, E: Write + Drop>(
         mut findings,
         areas: _,
         open: _,
+        lacks_end: _,
         is_long: _,
     } = assemble(alloc, &text)?;
     if findings.is_empty() {
@@ -74,6 +75,7 @@ fn assemble(alloc: Global, text: &[u8]) -> Result<Assembly<'_>, AllocError> {
         findings: Vec::new(alloc),
         areas: Vec::new(alloc),
         open: None,
+        lacks_end: false,
         is_long: false,
     };
     let ended = text.iter().filter(|byte| **byte == b'\n').count();
@@ -101,6 +103,8 @@ struct Assembly<'a> {
     areas: Vec<Labels>,
     /// The symbolic area that has not ended.
     open: Option<Area<'a>>,
+    /// Whether a line of a script has ended the last area in place of its `endarea`.
+    lacks_end: bool,
     /// Whether the script has become too long; nothing is added to it then.
     is_long: bool,
 }
@@ -140,13 +144,28 @@ impl<'a> Assembly<'a> {
         let line = without_comment(bytes);
         is_printable(line)?;
         let (word, operands) = first_word(line);
+        if begins_line(word) {
+            self.leave_area(number)?;
+        }
         match word {
             b"" => self.comment(bytes),
             b"area" => self.area(alloc, number, bytes, operands),
             b"endarea" => self.end_area(operands),
-            b"excp" if self.open.is_none() => self.excp(line),
+            b"excp" => self.excp(line),
             _ => self.other(alloc, number, bytes, line),
         }
+    }
+
+    /// Ends the open area, if there is one, at a line of a script, where its `endarea` is wanting.
+    fn leave_area(&mut self, line: usize) -> Result<(), Refusal<'a>> {
+        let Some(area) = self.open.take() else {
+            return Ok(());
+        };
+        let message = Message::new(OPEN, &[area.line as u64]);
+        let wrong = Wrong { word: &[], message };
+        self.findings.push(Finding { line, wrong })?;
+        self.lacks_end = true;
+        self.close(area)
     }
 
     /// A statement of the open area, or a line that is passed on.
@@ -164,14 +183,21 @@ impl<'a> Assembly<'a> {
         self.pass(line)
     }
 
-    /// Adds a line that says nothing in a script.
+    /// Adds a line that says nothing in a script; a semicolon that begins it becomes the sign of a comment there.
     fn comment(&mut self, bytes: &'a [u8]) -> Result<(), Refusal<'a>> {
-        let (word, _) = first_word(bytes);
-        match word.first() {
-            None | Some(b'#') => {}
-            Some(_) => self.pass(b"# ")?,
+        let (word, rest) = first_word(bytes);
+        match word.split_first() {
+            None | Some((b'#', _)) => self.pass(bytes),
+            Some((b';', word)) => {
+                self.pass(b"#")?;
+                self.pass(word)?;
+                self.pass(rest)
+            }
+            Some(_) => {
+                self.pass(b"# ")?;
+                self.pass(bytes)
+            }
         }
-        self.pass(bytes)
     }
 
     /// Adds bytes to the script.
@@ -190,11 +216,6 @@ impl<'a> Assembly<'a> {
         bytes: &'a [u8],
         words: &'a [u8],
     ) -> Result<(), Refusal<'a>> {
-        if let Some(area) = self.open.take() {
-            let wrong = Wrong::line(OPEN);
-            self.findings.push(Finding { line, wrong })?;
-            self.close(area)?;
-        }
         let (number, rest) = first_word(words);
         let (address, rest) = first_word(rest);
         let (plain, _) = first_word(rest);
@@ -202,6 +223,7 @@ impl<'a> Assembly<'a> {
         if plain.is_empty() {
             let base = base_of(address);
             let place = base.unwrap_or(0);
+            self.lacks_end = false;
             self.open = Some(Area::new(alloc, line, number, address, place));
             base.ok_or(Wrong::of(address, BASE))?;
             self.comment(bytes)?;
@@ -219,6 +241,7 @@ impl<'a> Assembly<'a> {
     fn end_area(&mut self, words: &'a [u8]) -> Result<(), Refusal<'a>> {
         match self.open.take() {
             Some(area) => self.close(area)?,
+            None if self.lacks_end => self.lacks_end = false,
             None => return Err(Refusal::Wrong(Wrong::line(NO_AREA))),
         }
         Operands { rest: words }.end()?;

@@ -1,8 +1,10 @@
 //! Constants.
 
 use crate::area::Area;
-use crate::digits::{digit, hexadecimal};
+use crate::digits::hexadecimal;
 use crate::finding::{Refusal, Wrong};
+use crate::line::parts_operands;
+use job_script::byte_of;
 
 const NO_CONSTANT: &str =
     "no constant: X'DIGITS' or C'TEXT' is wanted, an apostrophe in a text twice";
@@ -25,13 +27,27 @@ static EBCDIC: [u8; 95] = [
     0x97, 0x98, 0x99, 0xA2, 0xA3, 0xA4, 0xA5, 0xA6, 0xA7, 0xA8, 0xA9, 0xC0, 0x4F, 0xD0, 0xA1,
 ];
 
-/// `DC X'DIGITS'` or `DC C'TEXT'`
-pub fn put_constant<'a>(area: &mut Area<'a>, operands: &'a [u8]) -> Result<(), Refusal<'a>> {
-    let start = operands
-        .iter()
-        .position(|byte| *byte != b' ')
-        .unwrap_or(operands.len());
-    let (_, constant) = operands.split_at(start);
+/// `DC CONSTANT,..`, where each constant is `X'DIGITS'` or `C'TEXT'`.
+pub fn put_constants<'a>(area: &mut Area<'a>, operands: &'a [u8]) -> Result<(), Refusal<'a>> {
+    let mut is_quoted = false;
+    let mut has_one = false;
+    let parts = operands.split(|byte| {
+        is_quoted = is_quoted != (*byte == b'\'');
+        !is_quoted && parts_operands(*byte)
+    });
+    for constant in parts {
+        if !constant.is_empty() {
+            has_one = true;
+            put_constant(area, constant)?;
+        }
+    }
+    if has_one {
+        return Ok(());
+    }
+    Err(Refusal::Wrong(Wrong::line(NO_CONSTANT)))
+}
+
+fn put_constant<'a>(area: &mut Area<'a>, constant: &'a [u8]) -> Result<(), Refusal<'a>> {
     if let Some(digits) = hexadecimal(constant) {
         return put_digits(area, constant, digits);
     }
@@ -55,21 +71,16 @@ fn put_digits<'a>(
         return Err(Refusal::Wrong(Wrong::of(constant, NO_DIGITS)));
     }
     for pair in digits.chunks(2) {
-        match byte_of(pair) {
+        let byte = match pair {
+            [high, low] => byte_of(*high, *low),
+            _ => None,
+        };
+        match byte {
             Some(byte) => area.put(&[byte])?,
             None => return Err(Refusal::Wrong(Wrong::of(constant, NO_DIGITS))),
         }
     }
     Ok(())
-}
-
-/// The byte of two hexadecimal digits.
-fn byte_of(pair: &[u8]) -> Option<u8> {
-    let [high, low] = pair else {
-        return None;
-    };
-    let (high, low) = (digit(*high)?, digit(*low)?);
-    high.checked_mul(16)?.checked_add(low)
 }
 
 fn put_text<'a>(

@@ -66,11 +66,14 @@ pub fn put_block<'a>(
         given: 0,
         seek: 0,
     };
-    for operand in operands.split(|byte| parts_operands(*byte)) {
-        if !operand.is_empty() {
-            fields.read(operand)?;
-        }
+    let read = fields.read_all(operands);
+    if fields.given & ECB != 0 {
+        area.refer(line, 5, fields.ecb)?;
     }
+    if fields.given & START != 0 {
+        area.refer(line, 17, fields.start)?;
+    }
+    read?;
     if fields.given & (ECB | START | DCB) != ECB | START | DCB {
         return Err(Refusal::Wrong(Wrong::line(LACKS)));
     }
@@ -78,12 +81,20 @@ pub fn put_block<'a>(
         return Err(Refusal::Wrong(Wrong::line(NO_SEEK)));
     }
     fields.iob.write(&mut image);
-    area.refer(line, 5, fields.ecb)?;
-    area.refer(line, 17, fields.start)?;
     area.put(&image)
 }
 
 impl<'a> Fields<'a> {
+    /// Reads the operands, up to the first that is none.
+    fn read_all(&mut self, operands: &'a [u8]) -> Result<(), Wrong<'a>> {
+        for operand in operands.split(|byte| parts_operands(*byte)) {
+            if !operand.is_empty() {
+                self.read(operand)?;
+            }
+        }
+        Ok(())
+    }
+
     /// Reads an operand, or one more number of a seek address.
     fn read(&mut self, operand: &'a [u8]) -> Result<(), Wrong<'a>> {
         let end = operand
@@ -113,12 +124,14 @@ impl<'a> Fields<'a> {
     ) -> Result<(), Wrong<'a>> {
         match name {
             b"ecb" => {
+                self.once(ECB, operand)?;
                 self.ecb = value;
-                self.once(ECB, operand)
+                Ok(())
             }
             b"start" => {
+                self.once(START, operand)?;
                 self.start = value;
-                self.once(START, operand)
+                Ok(())
             }
             b"dcb" => {
                 self.once(DCB, operand)?;

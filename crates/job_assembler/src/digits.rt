@@ -1,39 +1,25 @@
 //! Digits: the values of those that a line has, and bytes as digits.
 
+use job_script::{digit_value, digits_of};
 use std::alloc::AllocError;
 
 /// The highest number of a statement: the highest address of storage.
 pub const TOP: u32 = 0xFF_FFFF;
 
-/// The hexadecimal digits.
-const DIGITS: [u8; 16] = *b"0123456789ABCDEF";
-
-/// The value of a hexadecimal digit of either case.
-pub fn digit(byte: u8) -> Option<u8> {
-    match byte {
-        b'0'..=b'9' => Some(byte - b'0'),
-        b'A'..=b'F' => Some(byte - b'A' + 10),
-        b'a'..=b'f' => Some(byte - b'a' + 10),
-        _ => None,
-    }
-}
-
-/// The value of digits to this base, where it is no more than X'FFFFFF'.
+/// The value of digits to this base; of more than 32 bits the highest one.
 pub fn value_of(digits: &[u8], base: u8) -> Option<u32> {
     if digits.is_empty() {
         return None;
     }
     let mut value: u32 = 0;
     for byte in digits {
-        let digit = digit(*byte)?;
-        if digit >= base {
-            return None;
-        }
-        value = value
-            .checked_mul(u32::from(base))?
-            .checked_add(u32::from(digit))?;
-        if value > TOP {
-            return None;
+        match digit_value(*byte) {
+            Some(digit) if digit < base => {
+                value = value
+                    .saturating_mul(u32::from(base))
+                    .saturating_add(u32::from(digit));
+            }
+            _ => return None,
         }
     }
     Some(value)
@@ -47,8 +33,7 @@ pub fn hexadecimal(word: &[u8]) -> Option<&[u8]> {
 /// Writes bytes in hexadecimal.
 pub fn put_digits(text: &mut Vec<u8>, bytes: &[u8]) -> Result<(), AllocError> {
     for byte in bytes {
-        text.push(DIGITS[usize::from(*byte / 16)])?;
-        text.push(DIGITS[usize::from(*byte % 16)])?;
+        text.extend_from_slice(&digits_of(*byte))?;
     }
     Ok(())
 }

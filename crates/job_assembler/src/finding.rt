@@ -1,25 +1,25 @@
 //! What is wrong with a line, and how it is told.
 
-use job_script::Fault;
-use std::alloc::{AllocError, AllocFailed, Global};
-use std::io;
-use std::io::{BufWriter, Write};
+use job_script::{Message, write_word};
+use std::alloc::{AllocError, AllocFailed};
+use std::fmt;
 
-/// What is wrong: a word of the line, where one is, and a text that says what is wrong and what would be right.
+/// What is wrong: a word of the line, where one is, and what is told of it: what is wrong and what would be right.
 #[derive(Clone, Copy)]
 pub struct Wrong<'a> {
     pub word: &'a [u8],
-    pub text: &'static str,
+    pub message: Message,
 }
 
 impl<'a> Wrong<'a> {
     pub fn of(word: &'a [u8], text: &'static str) -> Self {
-        Wrong { word, text }
+        let message = Message::new(text, &[]);
+        Wrong { word, message }
     }
 
     /// What is wrong with a line as a whole.
     pub fn line(text: &'static str) -> Self {
-        Wrong { word: &[], text }
+        Wrong::of(&[], text)
     }
 }
 
@@ -55,6 +55,18 @@ pub struct Finding<'a> {
     pub wrong: Wrong<'a>,
 }
 
+impl<'a> fmt::Display for Finding<'a> {
+    fn fmt<W: fmt::Write>(&self, f: &mut fmt::Formatter<W>) -> fmt::Result {
+        let Finding { line, wrong } = *self;
+        write!(f, "line {line}: ")?;
+        if !wrong.word.is_empty() {
+            write_word(f, wrong.word)?;
+            f.write_str(": ")?;
+        }
+        wrong.message.write(f, &[])
+    }
+}
+
 /// Adds what is wrong with a line, if anything is.
 pub fn note<'a>(
     findings: &mut Vec<Finding<'a>>,
@@ -69,37 +81,4 @@ pub fn note<'a>(
             Ok(())
         }
     }
-}
-
-/// Writes each finding on a line of its own.
-pub fn write_findings<W: Write + Drop>(
-    alloc: Global,
-    findings: &[Finding<'_>],
-    writer: W,
-) -> Result<(), Fault> {
-    let Ok(mut out) = BufWriter::new(alloc, writer) else {
-        return Err(Fault::NoMemory);
-    };
-    match write_all(&mut out, findings) {
-        Ok(()) => Ok(()),
-        Err(_) => Err(Fault::NotWritten),
-    }
-}
-
-fn write_all<W: Write>(out: &mut W, findings: &[Finding<'_>]) -> io::Result<()> {
-    for finding in findings {
-        write_finding(out, finding)?;
-    }
-    out.flush()
-}
-
-fn write_finding<W: Write>(out: &mut W, finding: &Finding<'_>) -> io::Result<()> {
-    let Finding { line, wrong } = *finding;
-    write!(out, "line {line}: ")?;
-    if !wrong.word.is_empty() {
-        out.write_all(wrong.word)?;
-        out.write_all(b": ")?;
-    }
-    out.write_all(wrong.text.as_bytes())?;
-    out.write_all(b"\n")
 }

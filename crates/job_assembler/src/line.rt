@@ -1,9 +1,7 @@
 //! The parts of a line.
 
 use crate::finding::Wrong;
-
-const UNPRINTABLE: &str =
-    "the line has a byte that is no printable ASCII character; lines end with a line feed, words are parted by blanks";
+use job_script::unprintable;
 
 /// What a line says: all that stands before a semicolon which is not between apostrophes, without the blanks at its end,
 /// and nothing of a line whose first word begins with `#`.
@@ -26,15 +24,39 @@ pub fn without_comment(bytes: &[u8]) -> &[u8] {
 
 /// That a line has printable characters alone.
 pub fn is_printable(line: &[u8]) -> Result<(), Wrong<'static>> {
-    if line.iter().all(|byte| *byte >= b' ' && *byte <= b'~') {
-        return Ok(());
+    match unprintable(line) {
+        None => Ok(()),
+        Some(message) => Err(Wrong { word: &[], message }),
     }
-    Err(Wrong::line(UNPRINTABLE))
 }
 
 /// Whether a byte parts operands: a blank or a comma.
 pub fn parts_operands(byte: u8) -> bool {
     byte == b' ' || byte == b','
+}
+
+/// Whether a comma that is not between apostrophes has no operand in front of it, or none behind it.
+pub fn lacks_operand(operands: &[u8]) -> bool {
+    let mut is_quoted = false;
+    let mut has_comma = false;
+    let mut has_operand = false;
+    for byte in operands {
+        match *byte {
+            b' ' => {}
+            b',' if !is_quoted && !has_operand => return true,
+            b',' if !is_quoted => {
+                has_comma = true;
+                has_operand = false;
+            }
+            byte => {
+                has_operand = true;
+                if byte == b'\'' {
+                    is_quoted = !is_quoted;
+                }
+            }
+        }
+    }
+    has_comma && !has_operand
 }
 
 /// The operands of a statement that were not taken yet, parted by blanks or commas.

@@ -32,8 +32,9 @@ pub fn put_transfer<'a>(
     if target.is_empty() {
         return Err(Refusal::Wrong(Wrong::line(NO_TARGET)));
     }
+    area.refer(line, 1, target)?;
     operands.end()?;
-    put_ccw(area, line, TRANSFER, target, 0, 0)
+    put_ccw(area, TRANSFER, 0, 0)
 }
 
 /// `CCW X'CODE',ADDRESS,COUNT,FLAGS`
@@ -43,8 +44,11 @@ pub fn put_any_command<'a>(
     operands: &'a [u8],
 ) -> Result<(), Refusal<'a>> {
     let mut operands = Operands { rest: operands };
-    let code = number_to(operands.next_operand(), 255, NO_CODE)?;
-    put_command(area, line, code as u8, true, operands.rest)
+    let code = match number_to(operands.next_operand(), 255, NO_CODE) {
+        Ok(code) => Ok(code as u8),
+        Err(wrong) => Err(wrong),
+    };
+    put_with_data(area, line, code, operands)
 }
 
 /// The CCW of a command: `ADDRESS,COUNT,FLAGS`, where flags may be left out. One that moves no data may have flags alone, or
@@ -58,18 +62,32 @@ pub fn put_command<'a>(
 ) -> Result<(), Refusal<'a>> {
     if !moves_data {
         if let Ok(bits) = flags(operands) {
-            return put_ccw(area, line, code, b"0", 1, bits);
+            return put_ccw(area, code, 1, bits);
         }
     }
-    let mut operands = Operands { rest: operands };
+    put_with_data(area, line, Ok(code), Operands { rest: operands })
+}
+
+/// The CCW of a command with this code, where it is one: `ADDRESS,COUNT,FLAGS`.
+fn put_with_data<'a>(
+    area: &mut Area<'a>,
+    line: usize,
+    code: Result<u8, Wrong<'a>>,
+    operands: Operands<'a>,
+) -> Result<(), Refusal<'a>> {
+    let mut operands = operands;
     let data = operands.next_operand();
+    if !data.is_empty() {
+        area.refer(line, 1, data)?;
+    }
+    let code = code?;
     let count = operands.next_operand();
     if count.is_empty() {
         return Err(Refusal::Wrong(Wrong::line(NO_DATA)));
     }
     let count = number_to(count, 65535, NO_COUNT)?;
     let bits = flags(operands.rest)?;
-    put_ccw(area, line, code, data, count as u16, bits)
+    put_ccw(area, code, count as u16, bits)
 }
 
 /// The flags that words name, parted as operands are, or by `+`.
@@ -86,14 +104,8 @@ fn flags(words: &[u8]) -> Result<u8, Wrong<'_>> {
     Ok(bits)
 }
 
-fn put_ccw<'a>(
-    area: &mut Area<'a>,
-    line: usize,
-    code: u8,
-    data: &'a [u8],
-    count: u16,
-    bits: u8,
-) -> Result<(), Refusal<'a>> {
+/// Puts a CCW whose address is 0, or is put in later.
+fn put_ccw<'a>(area: &mut Area<'a>, code: u8, count: u16, bits: u8) -> Result<(), Refusal<'a>> {
     let ccw = Ccw {
         command: code,
         address: Address::new(0),
@@ -102,6 +114,5 @@ fn put_ccw<'a>(
     };
     let mut image = [0; 8];
     ccw.write(&mut image);
-    area.refer(line, 1, data)?;
     area.put(&image)
 }

@@ -2,16 +2,22 @@
 
 use crate::address::number_to;
 use crate::area::Area;
-use crate::constant::put_constant;
+use crate::constant::put_constants;
 use crate::control_block::put_block;
 use crate::finding::{Refusal, Wrong};
-use crate::line::{Operands, first_word, labelled, parts_operands};
+use crate::line::{Operands, first_word, labelled, lacks_operand, parts_operands};
 use crate::operation::Operation;
 use crate::program::{put_any_command, put_command, put_transfer};
 use std::alloc::Global;
 
 const UNKNOWN: &str =
     "no statement has this name; a mnemonic, IOB, ECB, DC, DS, IDAW, ORG, TIC, CCW or endarea is wanted";
+
+const NO_COLON: &str =
+    "no statement has this name; behind a label in front of a statement a colon is wanted";
+
+const NO_OPERAND: &str =
+    "a comma has no operand in front of it, or none behind it; one is wanted there";
 
 const NO_COUNT: &str =
     "no number of bytes: one from 0 to 8192 is wanted, or 0D, 0F or 0H for a boundary";
@@ -38,9 +44,21 @@ pub fn put_statement<'a>(
         area.labels.define(alloc, label, place)?;
     }
     match operation {
-        Some(operation) => put_operation(area, line, operation, operands),
-        None if word.is_empty() => Ok(()),
-        None => Err(Refusal::Wrong(Wrong::of(word, UNKNOWN))),
+        Some(operation) => put_operation(area, line, operation, operands)?,
+        None if word.is_empty() => {}
+        None => return Err(Refusal::Wrong(Wrong::of(word, unknown(operands)))),
+    }
+    if lacks_operand(operands) {
+        return Err(Refusal::Wrong(Wrong::line(NO_OPERAND)));
+    }
+    Ok(())
+}
+
+/// What is told of a word that is no statement, behind which this stands.
+fn unknown(rest: &[u8]) -> &'static str {
+    match Operation::of(first_word(rest).0) {
+        Some(_) => NO_COLON,
+        None => UNKNOWN,
     }
 }
 
@@ -53,7 +71,7 @@ fn put_operation<'a>(
     match operation {
         Operation::Block => put_block(area, line, operands),
         Operation::Event => put_event(area, operands),
-        Operation::Constant => put_constant(area, operands),
+        Operation::Constant => put_constants(area, operands),
         Operation::Storage => leave_storage(area, operands),
         Operation::AddressWords => put_address_words(area, line, operands),
         Operation::Origin => set_origin(area, operands),

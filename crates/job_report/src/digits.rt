@@ -3,11 +3,9 @@
 ghost use Rattle.std.specs.Prelude.{◌+◌, ◌*◌, ◌≤◌, length};
 
 use itoa::write_digits;
+use job_script::digits_of;
 use std::io;
 use std::io::Write;
-
-/// The hexadecimal digits.
-const DIGITS: [u8; 16] = *b"0123456789ABCDEF";
 
 /// Puts a number in decimal into a text, up to this place, and gives the place of its first digit.
 pub fn put_decimal(text: &mut [u8], end: usize, number: usize) -> usize
@@ -22,9 +20,9 @@ pub fn put_digits(text: &mut [u8], place: usize, bytes: &[u8])
     requires { place + 2 * length bytes.now ≤ length text.old }
 {
     for number in 0..bytes.len() {
-        let byte = bytes[number];
-        text[place + 2 * number] = DIGITS[usize::from(byte / 16)];
-        text[place + 2 * number + 1] = DIGITS[usize::from(byte % 16)];
+        let [high, low] = digits_of(bytes[number]);
+        text[place + 2 * number] = high;
+        text[place + 2 * number + 1] = low;
     }
 }
 

@@ -4,28 +4,31 @@ mod assumed;
 mod finding;
 mod media;
 mod notes;
+mod programs;
 mod requests;
 
 ghost use Rattle.std.specs.Prelude.{◌+◌};
 ghost use Rattle.job_script.specs.Reading.{ReadsAtMost};
 
 use crate::cause::{Cause, Refusal};
-use crate::command::{Action, Command};
+use crate::command::{Action, Command, DcbName};
 use crate::fault::{Fault, FaultName};
 use crate::line::{ExcpLine, Line};
-use crate::message::Message;
 use crate::reading::{LIMIT, read_script};
 use crate::script::late;
 use crate::set_up::SetUp;
-use finding::{Finding, tell, write_findings};
+use crate::telling::write_findings;
+use crate::words::Words;
+use finding::{Finding, SCRIPT, Told, add, tell};
 use media::check_unit;
-use notes::{AreaUse, note_unused};
+use notes::{AreaUse, early, note_doubles, note_unused};
+use programs::{Issued, note_requests};
 use std::alloc::{AllocError, Global};
 use std::io::{Read, Write};
 
-/// A task resets a DCB before it has waited for its requests.
-const EARLY_RESET: &str =
-    "task # has not waited since its last excp, the error may come behind this reset";
+/// A line ends a symbolic area, which no run takes.
+const SYMBOLIC: &str =
+    "a symbolic area ends here, assemble the script first and check what comes out";
 
 /// Reads a script, at most 1,048,576 bytes and one more, and writes every fault and note that is found, in the order of
 /// lines. It answers whether a run would refuse the script.
@@ -42,31 +45,39 @@ pub fn check_script<R: Read, W: Write + Drop>(
     Ok(refuses(&findings))
 }
 
-/// What is found in the text of a script, in the order of lines.
-fn findings(alloc: Global, text: &[u8]) -> Result<Vec<Finding>, AllocError> {
+/// What is found in the text of a script, in the order of lines. Of one with symbolic areas that alone is told.
+fn findings(alloc: Global, text: &[u8]) -> Result<Vec<Finding<'_>>, AllocError> {
+    if let Some(line) = end_of_symbolic(text) {
+        let mut findings = Vec::new(alloc);
+        tell(
+            &mut findings,
+            line,
+            Cause::new(FaultName::Words, SYMBOLIC, &[]),
+        )?;
+        return Ok(findings);
+    }
     let mut check = Check::new(alloc);
     for (place, bytes) in text.split(|byte| *byte == b'\n').enumerate() {
         check.line(alloc, place.saturating_add(1), bytes)?;
     }
-    let Check {
-        set_up,
-        first_command: _,
-        mut findings,
-        assumed,
-        areas,
-        unwaited: _,
-    } = check;
-    tell_lacks(&set_up, &mut findings)?;
-    for unit in &set_up.units {
-        check_unit(alloc, unit, &assumed, &mut findings)?;
-    }
-    note_unused(&areas, &assumed, &mut findings)?;
+    let mut findings = check.end(alloc)?;
     findings.sort_by_key(|finding| finding.line)?;
     Ok(findings)
 }
 
+/// The first line that ends a symbolic area, if there is one: it begins with `endarea`, as no line of a plain script
+/// does.
+fn end_of_symbolic(text: &[u8]) -> Option<usize> {
+    for (place, bytes) in text.split(|byte| *byte == b'\n').enumerate() {
+        if Words::of(bytes).word().starts_with(b"endarea") {
+            return Some(place.saturating_add(1));
+        }
+    }
+    None
+}
+
 /// Whether a run refuses the script for what was found.
-fn refuses(findings: &[Finding]) -> bool {
+fn refuses(findings: &[Finding<'_>]) -> bool {
     for finding in findings {
         if finding.is_fault() {
             return true;
@@ -76,12 +87,12 @@ fn refuses(findings: &[Finding]) -> bool {
 }
 
 /// Tells what no line declares.
-fn tell_lacks(set_up: &SetUp, findings: &mut Vec<Finding>) -> Result<(), AllocError> {
+fn tell_lacks(set_up: &SetUp, findings: &mut Vec<Finding<'_>>) -> Result<(), AllocError> {
     if set_up.tasks == 0 {
-        tell(findings, 0, lack("no line declares the tasks"))?;
+        tell(findings, SCRIPT, lack("no line declares the tasks"))?;
     }
     if set_up.units.is_empty() {
-        tell(findings, 0, lack("no line declares a unit"))?;
+        tell(findings, SCRIPT, lack("no line declares a unit"))?;
     }
     Ok(())
 }
@@ -91,46 +102,50 @@ fn lack(text: &'static str) -> Cause {
     Cause::new(FaultName::Order, text, &[])
 }
 
-/// What a script declares as far as it was read, and what was found in it. A line with a fault says nothing, but what it was to declare
-/// counts as declared, so that no other line has a fault for that.
+/// What a script declares as far as it was read, and what was found in it. A line with a fault says nothing, but what it
+/// was to declare counts as declared, so that no other line has a fault for that.
 #[derive(Drop)]
-struct Check {
+struct Check<'a> {
     set_up: SetUp,
     /// The line of the first command.
     first_command: Option<usize>,
-    findings: Vec<Finding>,
+    findings: Vec<Finding<'a>>,
+    /// The requests that can be made.
+    requests: Vec<Issued>,
     /// The lines whose units, DCBs and areas are only assumed, in order.
     assumed: Vec<usize>,
     /// Where each area of the script is declared, and whether it is used.
     areas: Vec<AreaUse>,
-    /// Whether each task has issued a request since it last waited.
-    unwaited: [bool; 64],
+    /// The DCB of the last request that each task has issued since it last waited.
+    unwaited: [Option<DcbName>; 64],
 }
 
-impl Check {
+impl<'a> Check<'a> {
     fn new(alloc: Global) -> Self {
         Check {
             set_up: SetUp::new(alloc),
             first_command: None,
             findings: Vec::new(alloc),
+            requests: Vec::new(alloc),
             assumed: Vec::new(alloc),
             areas: Vec::new(alloc),
-            unwaited: [false; 64],
+            unwaited: [None; 64],
         }
     }
 
     /// Reads the line with this number.
-    fn line(&mut self, alloc: Global, number: usize, bytes: &[u8]) -> Result<(), AllocError> {
-        let added = match Line::read(alloc, number, bytes) {
-            Ok(line) => self.add(alloc, number, line),
+    fn line(&mut self, alloc: Global, line: usize, bytes: &'a [u8]) -> Result<(), AllocError> {
+        let added = match Line::read(alloc, line, bytes) {
+            Ok(read) => self.add(alloc, line, read),
             Err(refusal) => Err(refusal),
         };
         match added {
             Ok(()) => Ok(()),
             Err(Refusal::NoMemory) => Err(AllocError),
             Err(Refusal::Caused(cause)) => {
-                tell(&mut self.findings, number, cause)?;
-                self.assume(alloc, number, bytes)
+                let told = Told::Fault(cause.name, cause.message);
+                self.findings.push(Finding { line, bytes, told })?;
+                self.assume(alloc, line, bytes)
             }
         }
     }
@@ -157,22 +172,20 @@ impl Check {
 
     /// Adds an EXCP, and tries its request where its area is not only assumed.
     fn add_excp(&mut self, excp: ExcpLine) -> Result<(), Refusal> {
-        let line = excp.line;
         let is_assumed = self.use_area(excp.area);
         let command = self.set_up.excp(excp)?;
         self.add_command(&command)?;
-        let Action::Excp(made) = &command.action else {
+        let Command { line, action, .. } = command;
+        let Action::Excp(excp) = action else {
             return Ok(());
         };
         if is_assumed {
             return Ok(());
         }
-        if let Some(cause) = made.refused() {
+        if let Some(cause) = excp.refused() {
             return Err(Refusal::Caused(cause));
         }
-        if let Some(note) = self.set_up.forbidden(made) {
-            self.findings.push(Finding::note(line, note))?;
-        }
+        self.requests.push(Issued { line, excp })?;
         Ok(())
     }
 
@@ -182,19 +195,41 @@ impl Check {
         if self.first_command.is_none() {
             self.first_command = Some(command.line);
         }
-        let task = command.task;
-        let Some(unwaited) = self.unwaited.get_mut(usize::from(task)) else {
+        let Some(unwaited) = self.unwaited.get_mut(usize::from(command.task)) else {
             return Ok(());
         };
-        match &command.action {
-            Action::Excp(_) => *unwaited = true,
-            Action::Wait => *unwaited = false,
-            Action::Reset(_) if *unwaited => {
-                let note = Message::new(EARLY_RESET, &[u64::from(task)]);
-                self.findings.push(Finding::note(command.line, note))?;
+        if let Some(issued) = *unwaited {
+            if let Some(note) = early(command, issued) {
+                add(&mut self.findings, command.line, Told::Note(note))?;
             }
+        }
+        match &command.action {
+            Action::Excp(excp) => *unwaited = Some(excp.dcb),
+            Action::Wait => *unwaited = None,
             _ => {}
         }
         Ok(())
+    }
+
+    /// Tells what only the whole script shows, and gives all that was found.
+    fn end(self, alloc: Global) -> Result<Vec<Finding<'a>>, AllocError> {
+        let Check {
+            set_up,
+            first_command: _,
+            mut findings,
+            requests,
+            assumed,
+            areas,
+            unwaited: _,
+        } = self;
+        tell_lacks(&set_up, &mut findings)?;
+        for (number, unit) in set_up.units.iter().enumerate() {
+            if let Some(device) = check_unit(alloc, unit, &assumed, &mut findings)? {
+                note_doubles(alloc, unit, &mut findings)?;
+                note_requests(number, unit, &device, &requests, &assumed, &mut findings)?;
+            }
+        }
+        note_unused(&areas, &assumed, &mut findings)?;
+        Ok(findings)
     }
 }

@@ -12,7 +12,7 @@ use std::sync::Arc;
 use unit_book::Mode;
 
 /// A DCB of a unit, by the numbers of both.
-#[derive(Clone, Copy)]
+#[derive(Clone, Copy, PartialEq, Eq)]
 pub struct DcbName {
     pub unit: u16,
     pub number: u16,

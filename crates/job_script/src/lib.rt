@@ -8,18 +8,24 @@
 mod cause;
 mod check;
 mod command;
+mod digits;
 mod fault;
 mod line;
 mod message;
 mod reading;
 mod script;
 mod set_up;
+mod telling;
 mod units;
 mod words;
 
 pub use check::check_script;
 pub use command::{Action, Command, DcbName, Excp};
+pub use digits::{byte_of, digit_value, digits_of};
 pub use fault::{Fault, FaultName, LineFault};
+pub use line::{begins_line, unprintable};
+pub use message::{Message, write_word};
 pub use reading::{LIMIT, read_script};
 pub use script::Script;
 pub use set_up::{Medium, Opening, SetUp, UnitSetup};
+pub use telling::write_findings;

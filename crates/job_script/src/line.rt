@@ -11,6 +11,7 @@ ghost use Rattle.std.specs.Prelude.{◌≤◌, ◌<◌};
 use crate::cause::{Cause, Refusal};
 use crate::command::{Command, DcbName, Excp};
 use crate::fault::FaultName;
+use crate::message::Message;
 use crate::set_up::{Opening, UnitSetup};
 use crate::words::Words;
 use areas::{area, opening, tasks};
@@ -22,7 +23,12 @@ use std::alloc::{AllocError, Global};
 use std::sync::Arc;
 use tape_unit::InitialItem;
 use units::{block, disk, fault, mark, printer, record, tape};
-pub use verb::{SetUpVerb, Verb};
+pub use verb::{SetUpVerb, Verb, begins_line};
+
+/// That no line begins with its first word.
+const UNKNOWN: &str =
+    "no line begins with '{w}'; tasks, disk, tape, printer, rec, block, mark, fault, open, area, excp, \
+    purge, purgetask, close, reset or wait is wanted";
 
 /// A line that declares something; the number in front is that of the unit.
 #[derive(Drop)]
@@ -167,30 +173,26 @@ impl SetUpLine {
 
 /// What the first word of a line says, where its bytes and the number of its words may be so.
 fn first_word(bytes: &[u8], kind: &[u8], count: usize) -> Result<Verb, Cause> {
-    for (place, byte) in bytes.iter().enumerate() {
-        if *byte < b' ' || *byte > b'~' {
-            return Err(unprintable(place, *byte));
-        }
+    if let Some(message) = unprintable(bytes) {
+        let name = FaultName::Words;
+        return Err(Cause { name, message });
     }
     let Some(verb) = Verb::of(kind) else {
-        let text = "no line begins with word 1";
-        return Err(Cause::new(FaultName::Words, text, &[]));
+        return Err(Cause::new(FaultName::Words, UNKNOWN, &[1]));
     };
     verb.takes(count)?;
     Ok(verb)
 }
 
-/// That the byte at this place, which counts from 0, is no printable ASCII character.
-fn unprintable(place: usize, byte: u8) -> Cause {
+/// Which byte of a line is first no printable ASCII character, if one is, and what would be right.
+pub fn unprintable(bytes: &[u8]) -> Option<Message> {
+    let place = bytes.iter().position(|byte| *byte < b' ' || *byte > b'~')?;
+    let byte = *bytes.get(place)?;
     let text = match byte {
-        b'\r' => "byte # is X'%', lines end with a line feed",
-        b'\t' => "byte # is X'%', words are parted by blanks",
-        _ => "byte # is X'%', which is no printable ASCII character",
+        b'\r' => "byte {n} is X'{b}', lines end with a line feed",
+        b'\t' => "byte {n} is X'{b}', words are parted by blanks",
+        _ => "byte {n} is X'{b}', which is no printable ASCII character",
     };
     let place = place as u64;
-    Cause::new(
-        FaultName::Words,
-        text,
-        &[place.saturating_add(1), u64::from(byte)],
-    )
+    Some(Message::new(text, &[place.saturating_add(1), u64::from(byte)]))
 }

@@ -1,9 +1,14 @@
-//! What is told of a line: a text, and the numbers that stand in it.
+//! What is told of a line: a text, and the numbers and words that stand in it.
 
+use crate::words::Words;
 use std::fmt;
 
-/// A text in which `#` stands for a number in decimal, `@` for an address in 6 hexadecimal digits and `%` for a byte in
-/// 2; and at most four numbers, which stand there one behind another.
+/// The most bytes of a word that are told.
+const MOST_BYTES: usize = 64;
+
+/// A text with at most four numbers, which stand in it one behind another: `{n}` stands for one in decimal, `{a}` for
+/// an address in 6 hexadecimal digits, `{b}` for a byte in 2, `{w}` for the word of the line with this number, from 1;
+/// and `{s}` for an s, which is left out where the number before it is 1.
 #[derive(Clone, Copy)]
 pub struct Message {
     text: &'static str,
@@ -22,33 +27,69 @@ impl Message {
         }
         message
     }
-}
 
-impl fmt::Display for Message {
-    fn fmt<W: fmt::Write>(&self, f: &mut fmt::Formatter<W>) -> fmt::Result {
+    /// Writes it of this line.
+    pub fn write<W: fmt::Write>(&self, f: &mut fmt::Formatter<W>, line: &[u8]) -> fmt::Result {
         let mut place = 0;
+        let mut number = 0;
+        let mut is_sign = false;
         for character in self.text.chars() {
-            let number = self.numbers.get(place).copied().unwrap_or(0);
-            let is_number = matches!(character, '#' | '@' | '%');
-            if is_number {
-                place = place.saturating_add(1);
+            match character {
+                '{' => is_sign = true,
+                '}' => is_sign = false,
+                's' if is_sign => write_plural(f, number)?,
+                sign if is_sign => {
+                    number = self.numbers.get(place).copied().unwrap_or(0);
+                    place = place.saturating_add(1);
+                    write_number(f, sign, number, line)?;
+                }
+                _ => f.write_char(character)?,
             }
-            write_character(f, character, number)?;
         }
         Ok(())
     }
 }
 
-/// Writes a character, or the number that it stands for.
-fn write_character<W: fmt::Write>(
-    f: &mut fmt::Formatter<W>,
-    character: char,
-    number: u64,
-) -> fmt::Result {
-    match character {
-        '#' => write!(f, "{number}"),
-        '@' => write!(f, "{number:06X}"),
-        '%' => write!(f, "{number:02X}"),
-        _ => f.write_char(character),
+/// Writes an s where the number is not 1.
+fn write_plural<W: fmt::Write>(f: &mut fmt::Formatter<W>, number: u64) -> fmt::Result {
+    if number == 1 {
+        return Ok(());
     }
+    f.write_char('s')
+}
+
+/// Writes what a sign and a number stand for.
+fn write_number<W: fmt::Write>(
+    f: &mut fmt::Formatter<W>,
+    sign: char,
+    number: u64,
+    line: &[u8],
+) -> fmt::Result {
+    match sign {
+        'a' => write!(f, "{number:06X}"),
+        'b' => write!(f, "{number:02X}"),
+        'w' => write_word(f, word_at(line, number)),
+        _ => write!(f, "{number}"),
+    }
+}
+
+/// The word of a line with this number, from 1; none has no bytes.
+fn word_at(line: &[u8], number: u64) -> &[u8] {
+    let mut words = Words::of(line);
+    let mut word: &[u8] = &[];
+    for _ in 0..number {
+        word = words.word();
+    }
+    word
+}
+
+/// Writes a word of printable ASCII characters, or how a long one begins.
+pub fn write_word<W: fmt::Write>(f: &mut fmt::Formatter<W>, word: &[u8]) -> fmt::Result {
+    for byte in word.iter().take(MOST_BYTES) {
+        f.write_char(char::from(*byte))?;
+    }
+    if word.len() > MOST_BYTES {
+        f.write_str("..")?;
+    }
+    Ok(())
 }

@@ -141,6 +141,6 @@ impl Script {
 
 /// That a set-up line stands behind the first command, which has this line.
 pub(crate) fn late(command: usize) -> Refusal {
-    let text = "a set-up line stands before the first command, which is line #";
+    let text = "a set-up line stands before the first command, which is line {n}";
     Refusal::Caused(Cause::new(FaultName::Order, text, &[command as u64]))
 }

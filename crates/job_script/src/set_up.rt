@@ -84,7 +84,7 @@ impl SetUp {
         };
         let count = declared.openings.len();
         if usize::from(number) > count {
-            let text = "DCB # of # of unit #, which count from 1";
+            let text = "DCB {n} of {n} of unit {n}, which count from 1";
             let numbers = [u64::from(number), count as u64, u64::from(unit)];
             return Err(Cause::new(FaultName::Name, text, &numbers));
         }
@@ -97,7 +97,7 @@ impl SetUp {
         if number < count {
             Ok(())
         } else {
-            let text = "task # of #, which count from 0";
+            let text = "task {n} of {n}, which count from 0";
             let numbers = [u64::from(number), u64::from(count)];
             Err(Cause::new(FaultName::Name, text, &numbers))
         }
@@ -121,7 +121,7 @@ impl SetUp {
         match self.areas.get(number as usize) {
             Some(area) => Ok(Arc::try_clone(area)?),
             None => {
-                let text = "area # of #, which count from 0";
+                let text = "area {n} of {n}, which count from 0";
                 let numbers = [number, self.areas.len() as u64];
                 Err(Refusal::Caused(Cause::new(FaultName::Name, text, &numbers)))
             }
@@ -170,7 +170,7 @@ impl SetUp {
         let UnitLine { number, unit } = line;
         if usize::from(number) != self.units.len() {
             let numbers = [u64::from(number), self.units.len() as u64];
-            return Err(order("unit #, expected #", &numbers));
+            return Err(order("unit {n}, expected {n}", &numbers));
         }
         self.units.push(unit)?;
         Ok(())
@@ -186,7 +186,7 @@ impl SetUp {
         let unit = self.unit(number)?;
         match &mut unit.medium {
             Medium::Disk(_, records) => records.push(record)?,
-            _ => return Err(kind("unit # is no disk", number)),
+            _ => return Err(kind("unit {n} is no disk", number)),
         }
         unit.content_lines.push(line)?;
         Ok(())
@@ -197,7 +197,7 @@ impl SetUp {
         let unit = self.unit(number)?;
         match &mut unit.medium {
             Medium::Tape(_, items) => items.push(item)?,
-            _ => return Err(kind("unit # is no tape", number)),
+            _ => return Err(kind("unit {n} is no tape", number)),
         }
         unit.content_lines.push(line)?;
         Ok(())
@@ -221,7 +221,7 @@ impl SetUp {
     fn add_area(&mut self, alloc: Global, line: AreaLine) -> Result<(), Refusal> {
         let expected = self.areas.len() as u64;
         if line.number != expected {
-            return Err(order("area #, expected #", &[line.number, expected]));
+            return Err(order("area {n}, expected {n}", &[line.number, expected]));
         }
         match Area::new(alloc, line.base, &line.bytes) {
             Ok(area) => {
@@ -243,7 +243,7 @@ impl SetUp {
 
     /// That a unit with this number is not declared.
     fn no_unit(&self, number: u16) -> Cause {
-        let text = "unit # of #, which count from 0";
+        let text = "unit {n} of {n}, which count from 0";
         let numbers = [u64::from(number), self.units.len() as u64];
         Cause::new(FaultName::Name, text, &numbers)
     }
@@ -265,9 +265,9 @@ fn no_area(error: AreaError, base: u32, len: usize) -> Refusal {
     let len = len as u64;
     let (text, numbers) = match error {
         AreaError::NoMemory => return Refusal::NoMemory,
-        AreaError::Misaligned => ("the address @ is no multiple of 8", [base, 0]),
-        AreaError::TooLong => ("# bytes, at most 8192 are wanted", [len, 0]),
-        AreaError::PastTop => ("# bytes from @ end past FFFFFF", [len, base]),
+        AreaError::Misaligned => ("the address {a} is no multiple of 8", [base, 0]),
+        AreaError::TooLong => ("{n} byte{s}, at most 8192 are wanted", [len, 0]),
+        AreaError::PastTop => ("{n} byte{s} from {a} end past FFFFFF", [len, base]),
     };
     Refusal::Caused(Cause::new(FaultName::Area, text, &numbers))
 }

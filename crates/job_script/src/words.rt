@@ -3,6 +3,7 @@
 ghost use Rattle.std.specs.Prelude.{◌<◌, ◌≤◌, IfSome};
 
 use crate::cause::Cause;
+use crate::digits::{byte_of, digit_value};
 use crate::fault::FaultName;
 use memchr::memchr;
 use std::alloc::AllocError;
@@ -64,15 +65,17 @@ impl<'a> Words<'a> {
         self.refused
     }
 
-    /// That the word taken last is not what it should be, as this text tells of it with its place and these numbers.
+    /// That the word taken last is not what it should be, as this text tells of it with its place, itself, and these
+    /// numbers.
     fn refuse_with(&mut self, text: &'static str, first: u64, second: u64) {
         if self.refused.is_none() {
-            let numbers = [self.taken as u64, first, second];
+            let place = self.taken as u64;
+            let numbers = [place, place, first, second];
             self.refused = Some(Cause::new(FaultName::Number, text, &numbers));
         }
     }
 
-    /// The same, where no number but the place is told.
+    /// The same, where its place and itself alone are told.
     pub fn refuse(&mut self, text: &'static str) {
         self.refuse_with(text, 0, 0);
     }
@@ -82,7 +85,7 @@ impl<'a> Words<'a> {
         match decimal(self.word()) {
             Some(number) => number,
             None => {
-                self.refuse("word #: a decimal number of 1 to 10 digits is wanted");
+                self.refuse("word {n}, '{w}': a decimal number of 1 to 10 digits is wanted");
                 0
             }
         }
@@ -98,7 +101,7 @@ impl<'a> Words<'a> {
                 number as u16
             }
             _ => {
-                let text = "word #: a number from # to # is wanted";
+                let text = "word {n}, '{w}': a number from {n} to {n} is wanted";
                 self.refuse_with(text, u64::from(least), u64::from(most));
                 least
             }
@@ -137,7 +140,7 @@ impl<'a> Words<'a> {
 
     /// That the word taken last is not of so many hexadecimal digits.
     fn refuse_digits(&mut self, count: usize) {
-        let text = "word #: a word of # hexadecimal digits is wanted";
+        let text = "word {n}, '{w}': a word of {n} hexadecimal digits is wanted";
         self.refuse_with(text, count as u64, 0);
     }
 
@@ -176,11 +179,13 @@ impl<'a> Words<'a> {
         }
         for pair in word.chunks(2) {
             let byte = match pair {
-                [high, low] => pair_value(*high, *low),
+                [high, low] => byte_of(*high, *low),
                 _ => None,
             };
             let Some(byte) = byte else {
-                self.refuse("word #: an even number of hexadecimal digits, or -, is wanted");
+                self.refuse(
+                    "word {n}, '{w}': an even number of hexadecimal digits, or -, is wanted",
+                );
                 return Ok(());
             };
             into.push(byte)?;
@@ -196,7 +201,7 @@ fn sixteen_bytes(word: &[u8]) -> Option<[u8; 16]> {
     }
     let mut bytes = [0; 16];
     for (place, byte) in bytes.iter_mut().enumerate() {
-        *byte = pair_value(word[2 * place], word[2 * place + 1])?;
+        *byte = byte_of(word[2 * place], word[2 * place + 1])?;
     }
     Some(bytes)
 }
@@ -222,7 +227,7 @@ fn hexadecimal(word: &[u8], digits: usize) -> Option<u32> {
     for byte in word {
         value = value
             .checked_mul(16)?
-            .checked_add(u32::from(hexadecimal_digit(*byte)?))?;
+            .checked_add(u32::from(digit_value(*byte)?))?;
     }
     Some(value)
 }
@@ -235,20 +240,4 @@ fn decimal_digit(byte: u8) -> Option<u8>
         b'0'..=b'9' => Some(byte - b'0'),
         _ => None,
     }
-}
-
-/// The value of a hexadecimal digit of either case.
-fn hexadecimal_digit(byte: u8) -> Option<u8>
-    ensures { IfSome result (λ value. value < 16) }
-{
-    match byte {
-        b'A'..=b'F' => Some(byte - b'A' + 10),
-        b'a'..=b'f' => Some(byte - b'a' + 10),
-        _ => decimal_digit(byte),
-    }
-}
-
-/// The byte of two hexadecimal digits.
-fn pair_value(high: u8, low: u8) -> Option<u8> {
-    Some(hexadecimal_digit(high)? * 16 + hexadecimal_digit(low)?)
 }

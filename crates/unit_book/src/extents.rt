@@ -112,8 +112,9 @@ fn lies_within(heads: u16, seek: &Seek, extent: &Extent) -> bool
         && track_sought <= track(heads, extent.end_cylinder, extent.end_head)
 }
 
-/// Whether a seek address passes the extent check of a first start.
-pub(crate) fn passes_check(kind: Kind, heads: u16, extents: &[Extent], seek: &Seek) -> bool
+/// Whether a seek address passes the extent check of a first start (DFSMSdfp Advanced Services, "Data Extent Block
+/// Fields"; what is done with one that does not is the profile's).
+pub fn passes_check(kind: Kind, heads: u16, extents: &[Extent], seek: &Seek) -> bool
     ensures { result ≡ passes_check kind heads extents.now seek.now }
 {
     match kind {

@@ -22,5 +22,5 @@ pub use answer::{
 pub use book::UnitBook;
 pub use dcb::DcbState;
 pub use entry::{Entry, Mode};
-pub use extents::{ExtentRefusal, Extents, ExtentsRefusal, extents_refusal};
+pub use extents::{ExtentRefusal, Extents, ExtentsRefusal, extents_refusal, passes_check};
 pub use request_piece::Issued;

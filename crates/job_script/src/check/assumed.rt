@@ -11,7 +11,7 @@ pub fn is_assumed(assumed: &[usize], line: usize) -> bool {
     assumed.binary_search(&line).is_ok()
 }
 
-impl Check {
+impl<'a> Check<'a> {
     /// Declares what a line with a fault was to declare, where its number can be read.
     pub(super) fn assume(
         &mut self,

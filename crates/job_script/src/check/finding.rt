@@ -1,74 +1,72 @@
-//! What is told of a line, and how it is written.
+//! What is told of a line.
 
 use crate::cause::Cause;
-use crate::fault::{Fault, FaultName};
+use crate::fault::FaultName;
 use crate::message::Message;
-use std::alloc::{AllocError, Global};
-use std::io::{BufWriter, Write};
-use std::{fmt, io};
+use ccw_programs::Refusal as BrokenRule;
+use std::alloc::AllocError;
+use std::fmt;
 
-/// What is told of a line: a fault, which has a name, or a note.
+/// The number that stands for the script as a whole in the place of a line: it is behind all of them.
+pub const SCRIPT: usize = usize::MAX;
+
+/// What is told: a fault, which has a name, or a note.
 #[derive(Clone, Copy)]
-pub struct Finding {
-    pub line: usize,
-    fault: Option<FaultName>,
-    message: Message,
+pub enum Told {
+    Fault(FaultName, Message),
+    Note(Message),
+    /// A note that a CCW breaks a rule.
+    Broken(BrokenRule),
 }
 
-impl Finding {
-    pub fn note(line: usize, message: Message) -> Self {
-        Finding {
-            line,
-            fault: None,
-            message,
-        }
-    }
+/// What is told of the line with this number, whose bytes are here where words of it are told.
+#[derive(Clone, Copy)]
+pub struct Finding<'a> {
+    pub line: usize,
+    pub bytes: &'a [u8],
+    pub told: Told,
+}
 
+impl<'a> Finding<'a> {
     /// Whether a run refuses the script for it.
     pub fn is_fault(&self) -> bool {
-        self.fault.is_some()
+        matches!(self.told, Told::Fault(_, _))
     }
 }
 
-/// Tells why a line is refused.
-pub fn tell(findings: &mut Vec<Finding>, line: usize, cause: Cause) -> Result<(), AllocError> {
-    findings.push(Finding {
-        line,
-        fault: Some(cause.name),
-        message: cause.message,
-    })?;
+/// Tells why a line is refused; no word of it is told.
+pub fn tell(findings: &mut Vec<Finding<'_>>, line: usize, cause: Cause) -> Result<(), AllocError> {
+    let told = Told::Fault(cause.name, cause.message);
+    add(findings, line, told)
+}
+
+/// Adds what is told of a line, with no word of it.
+pub fn add(findings: &mut Vec<Finding<'_>>, line: usize, told: Told) -> Result<(), AllocError> {
+    let bytes = &[];
+    findings.push(Finding { line, bytes, told })?;
     Ok(())
 }
 
-impl fmt::Display for Finding {
+impl<'a> fmt::Display for Finding<'a> {
     fn fmt<W: fmt::Write>(&self, f: &mut fmt::Formatter<W>) -> fmt::Result {
-        let line = self.line;
-        let message = self.message;
-        match self.fault {
-            Some(name) => write!(f, "line {line}: {name}: {message}"),
-            None => write!(f, "line {line}: note: {message}"),
+        let Finding { line, bytes, told } = *self;
+        if line == SCRIPT {
+            f.write_str("script: ")?;
+        } else {
+            write!(f, "line {line}: ")?;
+        }
+        match told {
+            Told::Fault(name, message) => {
+                write!(f, "{name}: ")?;
+                message.write(f, bytes)
+            }
+            Told::Note(message) => {
+                f.write_str("note: ")?;
+                message.write(f, bytes)
+            }
+            Told::Broken(BrokenRule { at, rule }) => {
+                write!(f, "note: the CCW at {at:06X} is a program check: {rule}")
+            }
         }
     }
-}
-
-/// Writes each finding on a line of its own.
-pub fn write_findings<W: Write + Drop>(
-    alloc: Global,
-    findings: &[Finding],
-    writer: W,
-) -> Result<(), Fault> {
-    let Ok(mut out) = BufWriter::new(alloc, writer) else {
-        return Err(Fault::NoMemory);
-    };
-    match write_all(&mut out, findings) {
-        Ok(()) => Ok(()),
-        Err(_) => Err(Fault::NotWritten),
-    }
-}
-
-fn write_all<W: Write>(out: &mut W, findings: &[Finding]) -> io::Result<()> {
-    for finding in findings {
-        writeln!(out, "{finding}")?;
-    }
-    out.flush()
 }

@@ -11,31 +11,35 @@ use line_printer::{PaperRefusal, paper_refusal};
 use std::alloc::{AllocError, Global};
 use tape_unit::{InitialItem, overrun_of};
 use unit_book::{ExtentRefusal, ExtentsRefusal, extents_refusal};
+use unit_device::UnitDevice;
 
 /// What a device shows.
 const STATUS: &str =
     "a device shows 0E 00 with any sense bytes, or 00 with 02, 04 or 08 and sense bytes 0000";
 
-/// Tells why a unit cannot be mounted, and of each of its DCBs why it cannot be opened. Of what is only assumed nothing is
-/// told, nor of the DCBs of a unit that has no geometry.
+/// Tells why a unit cannot be mounted, and of each of its DCBs why it cannot be opened; and gives its device, where it
+/// can be mounted. Of what is only assumed nothing is told, nor of the DCBs of a unit that has no geometry.
 pub fn check_unit(
     alloc: Global,
     unit: &UnitSetup,
     assumed: &[usize],
-    findings: &mut Vec<Finding>,
-) -> Result<(), AllocError> {
+    findings: &mut Vec<Finding<'_>>,
+) -> Result<Option<UnitDevice>, AllocError> {
     if is_assumed(assumed, unit.line) {
-        return Ok(());
+        return Ok(None);
     }
     match unit.mounted(alloc) {
-        Ok(_) => tell_openings(unit, assumed, findings),
+        Ok(device) => {
+            tell_openings(unit, assumed, findings)?;
+            Ok(Some(device))
+        }
         Err(MountError::NoMemory) => Err(AllocError),
         Err(error) => {
             tell_medium(alloc, unit, error, findings)?;
-            if error == MountError::BadGeometry {
-                return Ok(());
+            if error != MountError::BadGeometry {
+                tell_openings(unit, assumed, findings)?;
             }
-            tell_openings(unit, assumed, findings)
+            Ok(None)
         }
     }
 }
@@ -44,7 +48,7 @@ pub fn check_unit(
 fn tell_openings(
     unit: &UnitSetup,
     assumed: &[usize],
-    findings: &mut Vec<Finding>,
+    findings: &mut Vec<Finding<'_>>,
 ) -> Result<(), AllocError> {
     let (kind, cylinders, heads) = shape(&unit.medium);
     let mut opened: u16 = 0;
@@ -94,13 +98,14 @@ fn extents_cause(refusal: ExtentsRefusal, count: usize, cylinders: u16, heads: u
             )
         }
         ExtentsRefusal::Count => {
-            let text = "# extents, 1 to 16 are wanted for a disk";
+            let text = "{n} extents, 1 to 16 are wanted for a disk";
             extent(text, &[count as u64])
         }
     }
 }
 
-/// Why an extent that says so many tracks is none of a disk of so many cylinders and heads. Extents have numbers from 1.
+/// Why an extent that says so many tracks is none of a disk of so many cylinders and heads. Extents have numbers from
+/// 1.
 fn extent_cause(
     number: u64,
     told: u16,
@@ -110,12 +115,12 @@ fn extent_cause(
 ) -> Cause {
     match refusal {
         ExtentRefusal::Outside => extent(
-            "extent # begins or ends outside the disk of # cylinders of # heads",
+            "extent {n} begins or ends outside the disk of {n} cylinder{s} of {n} head{s}",
             &[number, u64::from(cylinders), u64::from(heads)],
         ),
-        ExtentRefusal::Reversed => extent("the end of extent # lies before its start", &[number]),
+        ExtentRefusal::Reversed => extent("the end of extent {n} lies before its start", &[number]),
         ExtentRefusal::Tracks(tracks) => extent(
-            "extent # has # tracks, and says #",
+            "extent {n} has {n} track{s}, and says {n}",
             &[number, tracks, u64::from(told)],
         ),
     }
@@ -130,7 +135,7 @@ fn tell_medium(
     alloc: Global,
     unit: &UnitSetup,
     error: MountError,
-    findings: &mut Vec<Finding>,
+    findings: &mut Vec<Finding<'_>>,
 ) -> Result<(), AllocError> {
     let before = findings.len();
     tell_faults(unit, findings)?;
@@ -139,7 +144,7 @@ fn tell_medium(
             tell_disk(alloc, unit, *geometry, records, findings)?;
         }
         Medium::Tape(bytes, _) if error == MountError::BadGeometry => {
-            let text = "a tape of # bytes, 4 to 16777216 are wanted";
+            let text = "a tape of {n} byte{s}, 4 to 16777216 are wanted";
             tell(findings, unit.line, medium(text, &[*bytes]))?;
         }
         Medium::Tape(bytes, items) => tell_tape(unit, *bytes, items, findings)?,
@@ -160,7 +165,7 @@ fn medium(text: &'static str, numbers: &[u64]) -> Cause {
 }
 
 /// Tells what is wrong with the faults that a unit is to meet.
-fn tell_faults(unit: &UnitSetup, findings: &mut Vec<Finding>) -> Result<(), AllocError> {
+fn tell_faults(unit: &UnitSetup, findings: &mut Vec<Finding<'_>>) -> Result<(), AllocError> {
     for (fault, line) in unit.faults.chunks(1).zip(unit.fault_lines.iter()) {
         if !is_script(fault) {
             tell(findings, *line, fault_cause(fault))?;
@@ -192,7 +197,7 @@ fn order_cause(pair: &[Fault]) -> Option<Cause> {
         return None;
     }
     Some(medium(
-        "the fault of command # stands behind that of #, numbers rise",
+        "the fault of command {n} stands behind that of {n}, numbers rise",
         &[second.ordinal, first.ordinal],
     ))
 }
@@ -203,7 +208,7 @@ fn tell_disk(
     unit: &UnitSetup,
     geometry: Geometry,
     records: &[InitialRecord],
-    findings: &mut Vec<Finding>,
+    findings: &mut Vec<Finding<'_>>,
 ) -> Result<(), AllocError> {
     if let Some(refusal) = geometry.refusal() {
         return tell(findings, unit.line, geometry_cause(geometry, refusal));
@@ -225,12 +230,15 @@ fn geometry_cause(geometry: Geometry, refusal: GeometryRefusal) -> Cause {
         GeometryRefusal::Cylinders => ("a disk has at least 1 cylinder", [0; 3]),
         GeometryRefusal::Heads => ("a cylinder has at least 1 head", [0; 3]),
         GeometryRefusal::Tracks => (
-            "# cylinders of # heads, at most 65535 tracks are wanted",
+            "{n} cylinder{s} of {n} head{s}, at most 65535 tracks are wanted",
             [cylinders, heads, 0],
         ),
-        GeometryRefusal::TrackBytes => ("tracks of # bytes, 16 to 65535 are wanted", [bytes, 0, 0]),
+        GeometryRefusal::TrackBytes => (
+            "tracks of {n} byte{s}, 16 to 65535 are wanted",
+            [bytes, 0, 0],
+        ),
         GeometryRefusal::Bytes => (
-            "# cylinders of # tracks of # bytes, at most 16777216 bytes are wanted",
+            "{n} cylinder{s} of {n} track{s} of {n} byte{s}, at most 16777216 bytes are wanted",
             [cylinders, heads, bytes],
         ),
     };
@@ -241,10 +249,13 @@ fn geometry_cause(geometry: Geometry, refusal: GeometryRefusal) -> Cause {
 fn record_cause(geometry: Geometry, refusal: RecordRefusal) -> Cause {
     let (text, number) = match refusal {
         RecordRefusal::Cylinder => (
-            "the disk has # cylinders, which count from 0",
+            "the disk has {n} cylinder{s}, which count from 0",
             geometry.cylinders,
         ),
-        RecordRefusal::Head => ("a cylinder has # heads, which count from 0", geometry.heads),
+        RecordRefusal::Head => (
+            "a cylinder has {n} head{s}, which count from 0",
+            geometry.heads,
+        ),
         RecordRefusal::Number => ("records count from 1", 0),
         RecordRefusal::Key => ("a key has at most 255 bytes", 0),
         RecordRefusal::Content => ("a record has at most 65535 bytes of data", 0),
@@ -258,7 +269,7 @@ fn tell_track(
     unit: &UnitSetup,
     geometry: Geometry,
     records: &[InitialRecord],
-    findings: &mut Vec<Finding>,
+    findings: &mut Vec<Finding<'_>>,
 ) -> Result<(), AllocError> {
     let Some(full) = first_overfull(alloc, geometry, records)? else {
         return Ok(());
@@ -272,7 +283,10 @@ fn tell_track(
         geometry.track_bytes,
         full.needed,
     ];
-    let cause = medium("track # # holds # bytes, its records need #", &numbers);
+    let cause = medium(
+        "track {n} {n} holds {n} byte{s}, its records need {n}",
+        &numbers,
+    );
     tell(findings, unit.content_line(full.record), cause)
 }
 
@@ -281,18 +295,18 @@ fn tell_tape(
     unit: &UnitSetup,
     bytes: u64,
     items: &[InitialItem],
-    findings: &mut Vec<Finding>,
+    findings: &mut Vec<Finding<'_>>,
 ) -> Result<(), AllocError> {
     for (item, line) in items.iter().zip(unit.content_lines.iter()) {
         if let Some(len) = item.refused_len() {
-            let text = "a block of # bytes, 1 to 65535 are wanted";
+            let text = "a block of {n} byte{s}, 1 to 65535 are wanted";
             tell(findings, *line, medium(text, &[len as u64]))?;
         }
     }
     let Some(overrun) = overrun_of(items, bytes) else {
         return Ok(());
     };
-    let text = "the tape holds # bytes, its items need #";
+    let text = "the tape holds {n} byte{s}, its items need {n}";
     let cause = medium(text, &[bytes, overrun.needed]);
     tell(findings, unit.content_line(overrun.item), cause)
 }
@@ -302,11 +316,11 @@ fn tell_printer(
     unit: &UnitSetup,
     lines: u64,
     pages: u64,
-    findings: &mut Vec<Finding>,
+    findings: &mut Vec<Finding<'_>>,
 ) -> Result<(), AllocError> {
     let cause = match paper_refusal(lines, pages) {
-        Some(PaperRefusal::Lines) => medium("# lines, 1 to 100000 are wanted", &[lines]),
-        Some(PaperRefusal::Pages) => medium("# pages, 1 to 10000 are wanted", &[pages]),
+        Some(PaperRefusal::Lines) => medium("{n} lines, 1 to 100000 are wanted", &[lines]),
+        Some(PaperRefusal::Pages) => medium("{n} pages, 1 to 10000 are wanted", &[pages]),
         None => return Ok(()),
     };
     tell(findings, unit.line, cause)

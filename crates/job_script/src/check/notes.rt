@@ -1,26 +1,26 @@
-//! What runs but is hardly meant.
+//! Notes on what runs but is hardly meant: areas that no EXCP uses, records of one name, and commands that do not wait.
 
 use super::assumed::is_assumed;
-use super::finding::Finding;
-use crate::command::Excp;
+use super::finding::{Finding, Told, add};
+use crate::command::{Action, Command, DcbName};
 use crate::message::Message;
-use crate::set_up::{Medium, SetUp};
-use io_area::Area;
-use io_images::{Ccw, FileMask, Iob};
-use std::alloc::AllocError;
+use crate::set_up::{Medium, UnitSetup};
+use std::alloc::{AllocError, Global};
 
-/// The most CCWs of a program that are looked at.
-const MOST_CCWS: usize = 64;
+/// A task resets a DCB before it has waited for its request.
+const EARLY_RESET: &str =
+    "task {n} has not waited since its last excp, the error may come behind this reset";
 
-const SEEK: u8 = 0x07;
+/// A task purges its own request without a wait.
+const EARLY_PURGE: &str =
+    "task {n} has not waited since its last excp, this purge may come before that request or behind it";
 
-const SET_FILE_MASK: u8 = 0x1F;
+/// A task closes the DCB of its own request without a wait.
+const EARLY_CLOSE: &str =
+    "task {n} has not waited since its last excp, this close may come before that request or behind it";
 
-/// The file mask of the supervisor forbids a seek.
-const SOUGHT: &str = "the seek at @ ends file protected, the supervisor has sought";
-
-/// The file mask is set once.
-const MASK_SET: &str = "the set file mask at @ is rejected, the supervisor has set it";
+/// Two records of a track have one number.
+const DOUBLE: &str = "track {n} {n} has a record {n} already, by line {n}";
 
 /// The line that declares an area, and whether an EXCP uses it.
 #[derive(Clone, Copy)]
@@ -33,62 +33,61 @@ pub struct AreaUse {
 pub fn note_unused(
     areas: &[AreaUse],
     assumed: &[usize],
-    findings: &mut Vec<Finding>,
+    findings: &mut Vec<Finding<'_>>,
 ) -> Result<(), AllocError> {
     for (number, area) in areas.iter().enumerate() {
         if !area.used && !is_assumed(assumed, area.line) {
-            let note = Message::new("no excp uses area #", &[number as u64]);
-            findings.push(Finding::note(area.line, note))?;
+            let note = Message::new("no excp uses area {n}", &[number as u64]);
+            add(findings, area.line, Told::Note(note))?;
         }
     }
     Ok(())
 }
 
-impl SetUp {
-    /// The first CCW of an EXCP to a disk, in the order of storage, that the file mask of its DCB forbids.
-    pub(super) fn forbidden(&self, excp: &Excp) -> Option<Message> {
-        let unit = self.units.get(usize::from(excp.dcb.unit))?;
-        let Medium::Disk(..) = &unit.medium else {
-            return None;
-        };
-        let place = usize::from(excp.dcb.number).checked_sub(1)?;
-        let mask = if unit.openings.get(place)?.input {
-            FileMask::INPUT
-        } else {
-            FileMask::OUTPUT
-        };
-        if !mask.inhibits_seeks() {
-            return None;
-        }
-        let mut image = [0; 40];
-        image.copy_from_slice(excp.area.get(excp.iob, 40)?);
-        let start = Iob::read(&image).start.get();
-        first_forbidden(&excp.area, start)
+/// Notes the records of a disk whose track has a record of their number by an earlier line.
+pub fn note_doubles(
+    alloc: Global,
+    unit: &UnitSetup,
+    findings: &mut Vec<Finding<'_>>,
+) -> Result<(), AllocError> {
+    let Medium::Disk(_, records) = &unit.medium else {
+        return Ok(());
+    };
+    let mut places = Vec::new(alloc);
+    for (record, line) in records.iter().zip(unit.content_lines.iter()) {
+        places.push((record.cylinder, record.head, record.number, *line))?;
     }
+    places.sort()?;
+    for pair in places.windows(2) {
+        let [(cylinder, head, number, first), (_, _, _, second)] = pair else {
+            continue;
+        };
+        if (pair[0].0, pair[0].1, pair[0].2) == (pair[1].0, pair[1].1, pair[1].2) {
+            let numbers = [
+                u64::from(*cylinder),
+                u64::from(*head),
+                u64::from(*number),
+                *first as u64,
+            ];
+            add(
+                findings,
+                *second,
+                Told::Note(Message::new(DOUBLE, &numbers)),
+            )?;
+        }
+    }
+    Ok(())
 }
 
-/// The first seek or set file mask of a channel program, whose CCWs are taken as they stand one behind another while they
-/// chain.
-fn first_forbidden(area: &Area, start: u32) -> Option<Message> {
-    let mut at = start;
-    let mut begins = true;
-    for _ in 0..MOST_CCWS {
-        let mut image = [0; 8];
-        image.copy_from_slice(area.get(at, 8)?);
-        let ccw = Ccw::read(&image);
-        match ccw.command {
-            SEEK if begins => return Some(Message::new(SOUGHT, &[u64::from(at)])),
-            SET_FILE_MASK if begins => return Some(Message::new(MASK_SET, &[u64::from(at)])),
-            // a transfer in channel, whose flags say nothing
-            command if command & 0x0F == 8 => {}
-            _ => {
-                begins = !ccw.flags.chains_data();
-                if begins && !ccw.flags.chains_command() {
-                    return None;
-                }
-            }
-        }
-        at = at.saturating_add(8);
-    }
-    None
+/// The note on a command of a task that has not waited since it issued a request by this DCB: the request may come
+/// before the command or behind it.
+pub fn early(command: &Command, issued: DcbName) -> Option<Message> {
+    let text = match &command.action {
+        Action::Reset(dcb) if *dcb == issued => EARLY_RESET,
+        Action::Purge(dcb, _) if *dcb == issued => EARLY_PURGE,
+        Action::PurgeTask(task, _) if *task == command.task => EARLY_PURGE,
+        Action::Close(dcb) if *dcb == issued => EARLY_CLOSE,
+        _ => return None,
+    };
+    Some(Message::new(text, &[u64::from(command.task)]))
 }

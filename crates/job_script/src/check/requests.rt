@@ -10,24 +10,25 @@ use request_piece::{Misplaced, Request, RequestRefusal};
 type Texts = [&'static str; 3];
 
 const IOB: Texts = [
-    "the IOB at @ is not on a fullword",
-    "the IOB at @ does not lie in the area of # bytes at @",
-    "the IOB at @ overlaps the IOB",
+    "the IOB at {a} is not on a fullword",
+    "the IOB at {a} does not lie in the area of {n} byte{s} at {a}",
+    "the IOB at {a} overlaps the IOB",
 ];
 
 const ECB: Texts = [
-    "the ECB at @ is not on a fullword",
-    "the ECB at @ does not lie in the area of # bytes at @",
-    "the ECB at @ overlaps the IOB",
+    "the ECB at {a} is not on a fullword",
+    "the ECB at {a} does not lie in the area of {n} byte{s} at {a}",
+    "the ECB at {a} overlaps the IOB",
 ];
 
 const PROGRAM: Texts = [
-    "the channel program at @ is not on a doubleword",
-    "the channel program at @ does not lie in the area of # bytes at @",
-    "the channel program at @ overlaps the IOB",
+    "the channel program at {a} is not on a doubleword",
+    "the channel program at {a} does not lie in the area of {n} byte{s} at {a}",
+    "the channel program at {a} overlaps the IOB",
 ];
 
-const SHOWN: &str = "# bytes at @ do not lie in the area of # bytes at @";
+const SHOWN: &str =
+    "what is shown, {n} byte{s} at {a}, does not lie in the area of {n} byte{s} at {a}";
 
 impl Excp {
     /// Why its request is refused, if it is: the bytes that are shown do not lie in its area, if it is nothing else.
@@ -41,7 +42,7 @@ impl Excp {
             Some(RequestRefusal::Ecb(ecb, wrong)) => self.misplaced(ECB, ecb, wrong),
             Some(RequestRefusal::Program(start, wrong)) => self.misplaced(PROGRAM, start, wrong),
             Some(RequestRefusal::OtherDcb(named)) => cause(
-                "the IOB names DCB #, the line DCB #",
+                "the IOB names DCB {n}, the line DCB {n}",
                 &[u64::from(named), u64::from(dcb)],
             ),
             None => {

@@ -24,7 +24,7 @@ pub fn opening(
         b"in" => true,
         b"out" => false,
         _ => {
-            words.refuse("word #: in or out is wanted");
+            words.refuse("word {n}, '{w}': in or out is wanted");
             false
         }
     };

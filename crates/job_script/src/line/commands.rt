@@ -66,7 +66,7 @@ fn mode(words: &mut Words<'_>) -> Mode {
         b"quiesce" => Mode::Quiesce,
         b"halt" => Mode::Halt,
         _ => {
-            words.refuse("word #: quiesce or halt is wanted");
+            words.refuse("word {n}, '{w}': quiesce or halt is wanted");
             Mode::Quiesce
         }
     }

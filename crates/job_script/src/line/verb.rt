@@ -69,9 +69,9 @@ impl Verb {
             return Ok(());
         }
         let text = if is_open {
-            "the line has # words, # or more are wanted"
+            "the line has {n} word{s}, {n} or more are wanted"
         } else {
-            "the line has # words, # are wanted"
+            "the line has {n} word{s}, {n} are wanted"
         };
         Err(Cause::new(FaultName::Words, text, &[count as u64, wanted as u64]))
     }
@@ -100,4 +100,9 @@ impl SetUpVerb {
             SetUpVerb::Record => 7,
         }
     }
+}
+
+/// Whether a line of a script may begin with this word.
+pub fn begins_line(word: &[u8]) -> bool {
+    Verb::of(word).is_some()
 }

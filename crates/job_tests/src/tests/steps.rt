@@ -27,7 +27,7 @@ const RULES: [(u8, &str, &str); 15] = [
     (
         0,
         "0300000060000001 080017BC00000000",
-        "0017B8  080017BC00000000: the address of a transfer in channel is no doubleword",
+        "0017B8  080017BC00000000: the address of a transfer in channel is no multiple of 8",
     ),
     (
         0,
