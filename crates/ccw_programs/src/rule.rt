@@ -1,11 +1,11 @@
-//! The rules that a channel program may break: on its CCWs (Principles of Operation, chapter 15, "Channel-Command Word",
-//! "Transfer in Channel" and "Data Chaining"), and on their data areas ("Designation of Storage Area" and "CCW Indirect
-//! Data Addressing"). The limits are the profile's.
+//! The rules that a channel program may break: on its CCWs (Principles of Operation, chapter 15, "Channel-Command
+//! Word", "Transfer in Channel" and "Data Chaining"), and on their data areas ("Designation of Storage Area" and "CCW
+//! Indirect Data Addressing"). The limits are the profile's.
 
 use thiserror::Error;
 
-/// A rule that a CCW breaks (chapter 16, "Program Check"). Those on a word of a list of indirect addresses name where the
-/// word stands.
+/// A rule that a CCW breaks (chapter 16, "Program Check"). Those on a word of a list of indirect addresses name where
+/// the word stands.
 #[derive(Clone, Copy, PartialEq, Eq, Debug, Error)]
 pub enum Rule {
     #[error("the CCW does not lie on a doubleword")]

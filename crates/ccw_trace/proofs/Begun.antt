@@ -118,7 +118,8 @@ module _ {D : Type 0} (meaning : Meaning D) (mounted : D) (entries : List Entry)
     pub start-arrived : Ties meaning mounted entries done ran now None → list_any (arrives n) (take done entries) ≡ true
     start-arrived t = sym (any-reverse (arrives n) (take done entries)) ∙ (first-start meaning mounted n H legal (standing t).1).arrived
 
-    -- the attempt that begins: its request has this name, its storage is as it stands, and its program is before its first command
+    -- the attempt that begins: its request has this name, its storage is as it stands, and its program is before its
+    -- first command
     pub record Begins (a : Attempt) : Type 0 where
       pub issued : a.issued.now ≡ request_of n H
       pub named : a.issued.now.name ≡ n

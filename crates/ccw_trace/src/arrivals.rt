@@ -30,8 +30,8 @@ fn find(entries: &[Entry], name: Name) -> Option<(usize, &Issued)>
     None
 }
 
-/// The request of this name that arrived among entries, and the place where it did, which is looked for from a place on,
-/// and then before it.
+/// The request of this name that arrived among entries, and the place where it did, which is looked for from a place
+/// on, and then before it.
 pub(crate) fn arrival_of(entries: &[Entry], from: usize, name: Name) -> (usize, &Issued)
     requires { list_any (arrives name) entries.now ≡ true }
     ensures { (k : ℕ) × ArrivesAt entries.now name k result.1.now }

@@ -17,8 +17,8 @@ use std::alloc::AllocError;
 use std::marker::Model;
 use unit_book::{Entry, UnitBook};
 
-/// A replay of the trace of a book, and its place there: behind so many entries, oldest first, and so many commands of the
-/// next one.
+/// A replay of the trace of a book, and its place there: behind so many entries, oldest first, and so many commands of
+/// the next one.
 #[derive(Drop)]
 pub struct Replay<'t, D: Device> {
     book: &'t UnitBook<D>,
@@ -103,8 +103,8 @@ impl<'t, D: Device> Replay<'t, D> {
         }
     }
 
-    /// What the program of the active request is to do next, put together in a workspace, where it has not ended: a step
-    /// that goes on to a command does this.
+    /// What the program of the active request is to do next, put together in a workspace, where it has not ended: a
+    /// step that goes on to a command does this.
     pub fn next_command<'w>(&self, workspace: &'w mut Workspace) -> Option<Listing<'w>>
         ensures { MatchOption result (IsIdle D.meaning self.now) (λ l. ListsNext D.meaning self.now l.links.now l.flow l.parts.now l.refusal) }
     {

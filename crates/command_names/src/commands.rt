@@ -3,8 +3,8 @@
 
 use device_port::Kind;
 
-/// A command of a device: its mnemonic, which no other command of any kind has; its code; its name in words; and whether it
-/// moves data, so that its CCW needs an address and a count.
+/// A command of a device: its mnemonic, which no other command of any kind has; its code; its name in words; and
+/// whether it moves data, so that its CCW needs an address and a count.
 type Row = (&'static str, u8, &'static str, bool);
 
 const DATA: bool = true;

@@ -7,7 +7,8 @@ use std::alloc::AllocError;
 use std::process::Abort;
 use std::test::Fail;
 
-/// A command on so many bytes at an address, and how it is to end: unit status, sense bytes, and how many bytes it wants.
+/// A command on so many bytes at an address, and how it is to end: unit status, sense bytes, and how many bytes it
+/// wants.
 pub type Step = (u8, u32, u16, u8, u16, u32);
 
 /// Whether storage has these bytes at an address.
@@ -110,8 +111,8 @@ pub fn late_fault() -> Fault {
     }
 }
 
-/// Faults whose numbers are the first, the last that a command may have, and the last that there is are taken, but no two of
-/// the same number. The first command meets its fault; the next ones meet none, and those of a copy neither.
+/// Faults whose numbers are the first, the last that a command may have, and the last that there is are taken, but no
+/// two of the same number. The first command meets its fault; the next ones meet none, and those of a copy neither.
 #[test]
 fn faults_with_the_first_and_last_numbers(rt: HostRuntime) -> Result<(), Fail> {
     let last = unit_check(u64::MAX, 0x0800);

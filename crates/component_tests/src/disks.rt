@@ -15,9 +15,9 @@ const PASSES: Step = (0x31, 0x1050, 5, 0x0C, 0, 5);
 
 const FINDS: Step = (0x31, 0x1050, 5, 0x4C, 0, 5);
 
-/// A disk of one track, or of two cylinders with two tracks, of 40 bytes each, on whose last cylinder R1 stands; the command
-/// with this number, if any, meets a fault. A program under a file mask, with what stands in storage from X'1050' on
-/// before and behind it.
+/// A disk of one track, or of two cylinders with two tracks, of 40 bytes each, on whose last cylinder R1 stands; the
+/// command with this number, if any, meets a fault. A program under a file mask, with what stands in storage from
+/// X'1050' on before and behind it.
 struct Case {
     cylinder: u16,
     key: &'static [u8],
@@ -314,8 +314,8 @@ fn writes(rt: HostRuntime) -> Result<(), Fail> {
     Ok(())
 }
 
-/// Shapes that are too large or too small, and a record of four bytes that does not fit, on a cylinder or with a number that
-/// is not there, or beside a fault at no command: with the fault, and the first reason.
+/// Shapes that are too large or too small, and a record of four bytes that does not fit, on a cylinder or with a number
+/// that is not there, or beside a fault at no command: with the fault, and the first reason.
 const REFUSED: [((u64, u64, u64), u16, u8, bool, MountError); 6] = [
     (
         (9_999_999_999, 9_999_999_999, 9_999_999_999),
@@ -384,8 +384,8 @@ fn expect_as_made(rt: &impl Abort, records: &[InitialRecord]) {
     assert!(rt; records.len() == 1 && records.iter().all(is_as_made));
 }
 
-/// Where there is no memory for a mounting or a copy, no other reason is told, and the next one from the same records is
-/// had: run it with each growth refused in turn.
+/// Where there is no memory for a mounting or a copy, no other reason is told, and the next one from the same records
+/// is had: run it with each growth refused in turn.
 #[test]
 fn mount_without_memory(rt: HostRuntime) -> Result<(), Fail> {
     let records = record(rt.alloc(), 0, 1, &[0xD1], &[0xC1])?;

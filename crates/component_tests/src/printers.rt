@@ -11,8 +11,8 @@ use std::alloc::{AllocError, Global};
 use std::process::Abort;
 use std::test::Fail;
 
-/// A printer of so many lines and two pages, whose first command may meet a fault; a program over storage that begins at
-/// X'1060' with this line; and then the page and line of each line that was printed, and where the paper stands.
+/// A printer of so many lines and two pages, whose first command may meet a fault; a program over storage that begins
+/// at X'1060' with this line; and then the page and line of each line that was printed, and where the paper stands.
 struct Case {
     lines: u64,
     is_faulty: bool,
@@ -86,7 +86,8 @@ static CASES: [Case; 5] = [
     },
 ];
 
-/// moves_the_paper: each command from the top of the first page on, how many bytes it wants, and where the paper then is.
+/// moves_the_paper: each command from the top of the first page on, how many bytes it wants, and where the paper then
+/// is.
 const MOVES: [(u8, u32, (u16, u8)); 10] = [
     (0x01, 4, (1, 1)),
     (0x09, 4, (1, 2)),
@@ -222,8 +223,8 @@ fn every_command(rt: HostRuntime) -> Result<(), Fail> {
     Ok(())
 }
 
-/// Where there is no memory for a mounting or a copy, no other reason is told, and the next one is had: run it with each
-/// growth refused in turn.
+/// Where there is no memory for a mounting or a copy, no other reason is told, and the next one is had: run it with
+/// each growth refused in turn.
 #[test]
 fn mount_without_memory(rt: HostRuntime) -> Result<(), Fail> {
     let printer = match largest(rt.alloc()) {

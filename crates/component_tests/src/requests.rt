@@ -56,8 +56,8 @@ fn request_places(rt: HostRuntime) {
     }
 }
 
-/// Where there is no memory for a request, no other reason is told, the area comes back, and the next one is had: run it
-/// with each growth refused in turn.
+/// Where there is no memory for a request, no other reason is told, the area comes back, and the next one is had: run
+/// it with each growth refused in turn.
 #[test]
 fn requests_without_memory(rt: HostRuntime) -> Result<(), Fail> {
     let request = match issued(&rt, rt.alloc(), &fixture(), 0x1000) {

@@ -275,8 +275,8 @@ fn seats<R: Wait + Abort + AllocGlobal>(rt: &R) -> Result<usize, AllocError> {
     Ok(senders.len())
 }
 
-/// Where there is no memory for a row the next one is had, and where it is the ends that are refused, those of a new row:
-/// run it with each growth refused in turn.
+/// Where there is no memory for a row the next one is had, and where it is the ends that are refused, those of a new
+/// row: run it with each growth refused in turn.
 #[test]
 fn rows_without_memory(rt: HostRuntime) -> Result<(), Fail> {
     let senders = match seats(&rt) {

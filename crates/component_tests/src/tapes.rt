@@ -11,8 +11,8 @@ use std::process::Abort;
 use std::test::Fail;
 use tape_unit::{InitialItem, Tape};
 
-/// A tape of so many bytes with these items, the empty one being a tape mark; the first command may meet a fault. A program,
-/// the bytes at X'1060' before and behind it, and the items that then are there.
+/// A tape of so many bytes with these items, the empty one being a tape mark; the first command may meet a fault. A
+/// program, the bytes at X'1060' before and behind it, and the items that then are there.
 struct Case {
     bytes: u64,
     items: &'static [&'static [u8]],
@@ -258,7 +258,8 @@ fn is_a_device(rt: HostRuntime) -> Result<(), Fail> {
     Ok(())
 }
 
-/// How many bytes a block has, how many the tape, whether there is a fault of no command, and the first reason against it.
+/// How many bytes a block has, how many the tape, whether there is a fault of no command, and the first reason against
+/// it.
 const REFUSED: [(usize, u64, bool, MountError); 6] = [
     (0, 3, true, MountError::BadGeometry),
     (1, 16_777_217, false, MountError::BadGeometry),

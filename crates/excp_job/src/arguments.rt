@@ -1,4 +1,5 @@
-//! The command line: `excp_job run [--channels N] [--handlers N]`, `report` with the same options, `check` and `assemble`.
+//! The command line: `excp_job run [--channels N] [--handlers N]`, `report` with the same options, `check` and
+//! `assemble`.
 
 ghost use Rattle.std.specs.Prelude.{◌≤◌, IfSome};
 

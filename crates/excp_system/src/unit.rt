@@ -85,8 +85,8 @@ impl<'r, S: Site, D: Device> UnitState<'r, S, D> {
         &self.book
     }
 
-    /// What holds whenever the unit's lock is got: what a book keeps; and each of its requests is of one of the tasks and
-    /// for this unit. Of its ends `intake`, `back` and `notice` tell. It takes no memory.
+    /// What holds whenever the unit's lock is got: what a book keeps; and each of its requests is of one of the tasks
+    /// and for this unit. Of its ends `intake`, `back` and `notice` tell. It takes no memory.
     pub fn holds(&self)
         ensures legal { Legal D.meaning self.now.book.mounted self.now.book.trace }
         ensures settled { Settled D.meaning self.now.book.mounted self.now.book.trace }

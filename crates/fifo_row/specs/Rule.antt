@@ -1,16 +1,18 @@
 -- The rule of a row, which holds between any two steps of any threads. Profile.
 --
--- A row holds a list of items, the oldest in front. Each sender has one seat, which knows all that it sent. The taker's seat knows all that was
--- taken, and of each sender that it met all that this one had sent. Then, for each sender, what was taken of it and after that what the row holds of
--- it is what it sent; each item is of one of the senders; and each item has the fact that its type names, of its sender, its place among that
--- sender's items counted from 1, and the row's tag.
+-- A row holds a list of items, the oldest in front. Each sender has one seat, which knows all that it sent. The taker's
+-- seat knows all that was taken, and of each sender that it met all that this one had sent. Then, for each sender, what
+-- was taken of it and after that what the row holds of it is what it sent; each item is of one of the senders; and each
+-- item has the fact that its type names, of its sender, its place among that sender's items counted from 1, and the
+-- row's tag.
 use Rattle.std.specs.Prelude.{◌≡◌, ℕ, ◌≤◌, ◌<◌, ◌^◌, List, [], ◌++◌, length, true, Option, Some, None}
 use mathlib.Core.Option.{some}
 use lib.ListN.{get_elem?}
 use Rattle.fifo_row.specs.declared.view.View.{View}
 use Rattle.fifo_row.specs.Lists.{of, Lawful, Met}
 
--- In what follows `all` is what was taken, and then what the row holds; `seat k` is the pass of sender k, and none before it is made and once it was met; `reader` is the taker's pass.
+-- In what follows `all` is what was taken, and then what the row holds; `seat k` is the pass of sender k, and none
+-- before it is made and once it was met; `reader` is the taker's pass.
 
 -- a sender's pass is the one seat of its number, and what was taken and is held of it is what it sent
 pub record FitsSender {I : Type 0} (from : I → ℕ) (tag : ℕ) (seat : ℕ → Option ℕ) (all : List I) (pass : ℕ) (v : View I) : Type 0 where
@@ -18,7 +20,8 @@ pub record FitsSender {I : Type 0} (from : I → ℕ) (tag : ℕ) (seat : ℕ �
   pub tag_is : v.tag ≡ tag
   pub sent_is : of from v.number all ≡ v.sent
 
--- the taker's pass is the only one: it knows what was taken, and the row's tag once it has made a sender; senders that it has not made have sent nothing; and of each that it met, what was taken and is held is what it had sent
+-- the taker's pass is the only one: it knows what was taken, and the row's tag once it has made a sender; senders that
+-- it has not made have sent nothing; and of each that it met, what was taken and is held is what it had sent
 pub record FitsTaker {I : Type 0} (from : I → ℕ) (tag reader : ℕ) (seat : ℕ → Option ℕ) (all taken : List I) (pass : ℕ) (v : View I) : Type 0 where
   pub here : pass ≡ reader
   pub tag_is : 0 < v.made → v.tag ≡ tag

@@ -1,7 +1,8 @@
 -- What the steps of a row tell the thread that makes them. Profile.
 --
--- There are six kinds: a push that enters, which adds to what the sender sent; a push that finds the row full, and a pop that finds it empty, which
--- change nothing; a pop that takes, which adds to what was taken; the split that seats a sender; and the join that meets one that has ended.
+-- There are six kinds: a push that enters, which adds to what the sender sent; a push that finds the row full, and a
+-- pop that finds it empty, which change nothing; a pop that takes, which adds to what was taken; the split that seats a
+-- sender; and the join that meets one that has ended.
 use Rattle.std.specs.Prelude.{◌≡◌, ℕ, suc, ◌<◌, ◌^◌, List, [], ◌∷◌, ◌++◌, length}
 use mathlib.Core.Option.{some}
 use lib.ListN.{get_elem?}
@@ -28,7 +29,8 @@ module _ {I : Type 0} (from : I → ℕ) (fact : I → ℕ → ℕ → ℕ → T
   abbrev pub IsState : View I → List I → Type 0
   IsState v items = (views : List (View I)) × (pass : ℕ) × Kept from fact items views × (get_elem? views pass ≡ some v)
 
-  -- at one moment, in a state of the rule in which this sender had sent what it has, the row held as many items as it has places
+  -- at one moment, in a state of the rule in which this sender had sent what it has, the row held as many items as it
+  -- has places
   abbrev pub WasFull : Sending I → Type 0
   WasFull s = (items : List I) × (length items ≡ s.capacity) × IsState (sender_view s.tag s.number s.sent) items
 

@@ -43,8 +43,8 @@ impl<I: Item> Model for Row<I> {
 }
 
 impl<I: Item> Row<I> {
-    /// A row that holds nothing, of at least one sender and with room for at least one item. It takes memory for its capacity, and its ends
-    /// take some once more, at [`Row::seats`].
+    /// A row that holds nothing, of at least one sender and with room for at least one item. It takes memory for its
+    /// capacity, and its ends take some once more, at [`Row::seats`].
     pub fn new(alloc: Global, senders: u16, capacity: usize, tag: u16) -> Result<Row<I>, AllocError>
         requires senders { 0 < senders }
         requires capacity { 0 < capacity }
@@ -60,8 +60,8 @@ impl<I: Item> Row<I> {
         })
     }
 
-    /// The ends of the row: its senders, in order of number, and its one taker. They can be asked for once, and where there is no memory
-    /// the row is only dropped.
+    /// The ends of the row: its senders, in order of number, and its one taker. They can be asked for once, and where
+    /// there is no memory the row is only dropped.
     pub fn seats(&mut self) -> Result<(Vec<Sender<'_, I>>, Taker<'_, I>), AllocError>
         requires { self.old.seated ≡ false }
         ensures { IfOk result (λ ends. Seats ends.0.items ends.1 self.old) }

@@ -76,7 +76,8 @@ impl<'r, I: Item> Taker<'r, I> {
 
     /// Takes the oldest item of the row. It takes no memory, and may wait.
     ///
-    /// There is none only where the row was empty at one moment of the call. Of each sender that was met, all was then taken.
+    /// There is none only where the row was empty at one moment of the call. Of each sender that was met, all was then
+    /// taken.
     pub fn take<R: Wait>(&mut self, rt: &R) -> Option<I>
         ensures taken { IfSome result (λ item. self.new ≡ record self.old { taken = self.old.taken ++ item ∷ [] }) }
         ensures next { IfSome result (IsNext I.from I.fact self.old) }
@@ -96,7 +97,8 @@ impl<'r, I: Item> Taker<'r, I> {
         }
     }
 
-    /// Takes in a sender of this row that has ended, with all that it sent. What was taken of it so far begins that. It takes no memory.
+    /// Takes in a sender of this row that has ended, with all that it sent. What was taken of it so far begins that. It
+    /// takes no memory.
     pub fn meet(&mut self, sender: Sender<'r, I>)
         requires { sender.row ≡ self.old.row }
         ensures met { self.new ≡ record self.old { met = (sender.entry.number, sender.entry.sent) ∷ self.old.met } }

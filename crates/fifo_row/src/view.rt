@@ -2,8 +2,8 @@
 
 use std::collections::LinkedList;
 
-/// What a pass of a row knows: a sender's number and what it sent, or what the taker took, how many senders it made, and those that it met.
-/// It exists in proofs alone, and no value of it is made.
+/// What a pass of a row knows: a sender's number and what it sent, or what the taker took, how many senders it made,
+/// and those that it met. It exists in proofs alone, and no value of it is made.
 pub struct View<I> {
     pub takes: bool,
     pub sends: bool,

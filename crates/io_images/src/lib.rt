@@ -3,7 +3,8 @@
 //! Every block has `read`, which gives its named fields, and `write`, which writes the named fields
 //! and keeps each bit and byte of the image that it does not name; `read` after `write` gives the
 //! value back. All numbers are big-endian. What the bytes say stands in `specs/Images.antt`, what an
-//! image is after `write` in `specs/Written.antt`, and the named bits in `specs/Bits.antt`. Nothing here takes memory or is refused.
+//! image is after `write` in `specs/Written.antt`, and the named bits in `specs/Bits.antt`. Nothing here takes memory
+//! or is refused.
 #![tactic(auto)]
 
 mod address;

@@ -28,8 +28,8 @@ const BASE: &str = "no address of an area: six hexadecimal digits are wanted, a 
 const LONG: &str =
     "the script that comes out has more than 1048576 bytes with this line, no more may be run";
 
-/// Reads a script with symbolic areas, at most 1,048,576 bytes and one more, and writes the plain script that it comes to, or, to
-/// the second writer, every fault of it. It answers whether there is a fault.
+/// Reads a script with symbolic areas, at most 1,048,576 bytes and one more, and writes the plain script that it comes
+/// to, or, to the second writer, every fault of it. It answers whether there is a fault.
 pub fn assemble_script<R: Read, W: Write + Drop, E: Write + Drop>(
     alloc: Global,
     reader: &mut R,
@@ -110,8 +110,8 @@ struct Assembly<'a> {
 }
 
 impl<'a> Assembly<'a> {
-    /// Assembles the line with this number. The last one of a text may be without a line feed at its end, and then stays
-    /// so.
+    /// Assembles the line with this number. The last one of a text may be without a line feed at its end, and then
+    /// stays so.
     fn line(
         &mut self,
         alloc: Global,

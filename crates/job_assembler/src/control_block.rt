@@ -48,8 +48,8 @@ struct Fields<'a> {
     seek: u8,
 }
 
-/// `IOB ecb=ADDRESS start=ADDRESS dcb=NUMBER ..`: one of a request that chains commands, and is unrelated unless it says that it
-/// is related. The other bytes are zeros.
+/// `IOB ecb=ADDRESS start=ADDRESS dcb=NUMBER ..`: one of a request that chains commands, and is unrelated unless it
+/// says that it is related. The other bytes are zeros.
 pub fn put_block<'a>(
     area: &mut Area<'a>,
     line: usize,

@@ -1,9 +1,9 @@
-//! Symbolic areas of a script: labels, control blocks and CCWs by name, which are assembled to the words of a plain script
-//! (profile).
+//! Symbolic areas of a script: labels, control blocks and CCWs by name, which are assembled to the words of a plain
+//! script (profile).
 //!
-//! A line `area A ADDR` without words opens a symbolic area, which goes on to the line `endarea`. Each line between them is
-//! `LABEL: OPERATION OPERANDS ; COMMENT`. An `excp` line may name its IOB, and what it shows, by labels of its area. All
-//! other lines are those of a script, and are passed on.
+//! A line `area A ADDR` without words opens a symbolic area, which goes on to the line `endarea`. Each line between
+//! them is `LABEL: OPERATION OPERANDS ; COMMENT`. An `excp` line may name its IOB, and what it shows, by labels of its
+//! area. All other lines are those of a script, and are passed on.
 #![tactic(auto)]
 
 mod address;

@@ -3,8 +3,8 @@
 use crate::finding::Wrong;
 use job_script::unprintable;
 
-/// What a line says: all that stands before a semicolon which is not between apostrophes, without the blanks at its end,
-/// and nothing of a line whose first word begins with `#`.
+/// What a line says: all that stands before a semicolon which is not between apostrophes, without the blanks at its
+/// end, and nothing of a line whose first word begins with `#`.
 pub fn without_comment(bytes: &[u8]) -> &[u8] {
     let mut is_quoted = false;
     let mut end = 0;

@@ -45,8 +45,8 @@ impl Operation {
         }
     }
 
-    /// The boundary that a statement with these operands begins on, 1, 2, 4 or 8 (docs/SPECIFICATION.md, "Control blocks"
-    /// and "Channel programs"; of an IOB, too, a fullword).
+    /// The boundary that a statement with these operands begins on, 1, 2, 4 or 8 (docs/SPECIFICATION.md, "Control
+    /// blocks" and "Channel programs"; of an IOB, too, a fullword).
     pub fn boundary(self, operands: &[u8]) -> u32 {
         match self {
             Operation::Block | Operation::Event | Operation::AddressWords => 4,

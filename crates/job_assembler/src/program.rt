@@ -51,8 +51,8 @@ pub fn put_any_command<'a>(
     put_with_data(area, line, code, operands)
 }
 
-/// The CCW of a command: `ADDRESS,COUNT,FLAGS`, where flags may be left out. One that moves no data may have flags alone, or
-/// nothing: its address is 0 then, and its count 1.
+/// The CCW of a command: `ADDRESS,COUNT,FLAGS`, where flags may be left out. One that moves no data may have flags
+/// alone, or nothing: its address is 0 then, and its count 1.
 pub fn put_command<'a>(
     area: &mut Area<'a>,
     line: usize,

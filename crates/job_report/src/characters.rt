@@ -2,7 +2,8 @@
 
 use std::fmt;
 
-/// The characters from X'40' on, sixteen a row; a dot for the required space, the soft hyphen and the control character.
+/// The characters from X'40' on, sixteen a row; a dot for the required space, the soft hyphen and the control
+/// character.
 static GRAPHICS: [char; 192] = [
     // 40 to 4F
     ' ', '.', 'â', 'ä', 'à', 'á', 'ã', 'å', 'ç', 'ñ', '¢', '.', '<', '(', '+', '|',

@@ -62,8 +62,8 @@ impl Past {
     }
 }
 
-/// Writes what happened at a unit, oldest first, as comments of a script. Where the faults are given that the unit's device
-/// was to meet, every command is told too.
+/// Writes what happened at a unit, oldest first, as comments of a script. Where the faults are given that the unit's
+/// device was to meet, every command is told too.
 pub fn write_history<W: Write, D: Device>(
     out: &mut W,
     unit: usize,

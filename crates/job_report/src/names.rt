@@ -1,7 +1,7 @@
 //! The names of status and sense bits.
 
-/// What unit status (the high byte) and subchannel status may tell beside channel end and device end, each with its name
-/// (Principles of Operation, chapter 16, "Unit Status" and "Subchannel Status").
+/// What unit status (the high byte) and subchannel status may tell beside channel end and device end, each with its
+/// name (Principles of Operation, chapter 16, "Unit Status" and "Subchannel Status").
 pub(crate) const STATUS: [(u16, &str); 7] = [
     (0x4000, ", status modifier"),
     (0x0200, ", unit check"),

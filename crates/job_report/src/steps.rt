@@ -1,5 +1,5 @@
-//! The commands of a unit's programs, replayed from its trace: each with its CCWs, the first of the bytes that it moved, and
-//! how it ended.
+//! The commands of a unit's programs, replayed from its trace: each with its CCWs, the first of the bytes that it
+//! moved, and how it ended.
 
 use crate::digits::write_bytes;
 use crate::names::{SENSE, STATUS};
@@ -61,8 +61,8 @@ impl<'t, D: Device> Steps<'t, D> {
         Ok(())
     }
 
-    /// Replays the next command, and writes it: what is listed of it before, and where its program and its storage stand
-    /// behind it.
+    /// Replays the next command, and writes it: what is listed of it before, and where its program and its storage
+    /// stand behind it.
     fn write_command<W: Write>(&mut self, out: &mut W) -> Result<(), Fault> {
         let Some(listing) = self.replay.next_command(&mut self.listed) else {
             return Ok(());
@@ -204,8 +204,8 @@ fn lowest(part: &Segment, count: u32) -> u32 {
     part.address.saturating_sub(count.saturating_sub(1))
 }
 
-/// How many bytes a command moved: those that its CCWs count up to the one where it ended, which it stored, but for what
-/// was left of that.
+/// How many bytes a command moved: those that its CCWs count up to the one where it ended, which it stored, but for
+/// what was left of that.
 fn moved(links: &[Link], stored: &Csw) -> u32 {
     let mut moved: u32 = 0;
     for link in links {

@@ -7,8 +7,8 @@ use std::io::Write;
 use unit_book::UnitBook;
 use unit_device::UnitDevice;
 
-/// Writes of each unit of a script its history, with `steps` each command of it too, and its medium, as its book has them
-/// at the end of a run. The books are in the order of the units' numbers.
+/// Writes of each unit of a script its history, with `steps` each command of it too, and its medium, as its book has
+/// them at the end of a run. The books are in the order of the units' numbers.
 pub fn write_units<W: Write>(
     out: &mut W,
     set_up: &SetUp,

@@ -26,7 +26,8 @@ pub record AreRowsOf (script : Script) (rows : RowsState) : Type 0 where
   pub post : rows.post_capacity ≡ room_of_a_task script
   pub fresh : AreFresh rows
 
--- a book for each unit of a script, with room for the requests to a unit, in which nothing happened but openings of DCBs
+-- a book for each unit of a script, with room for the requests to a unit, in which nothing happened but openings of
+-- DCBs
 pub record AreBooksOf {D : Type 0} (script : Script) (books : List (Book D)) : Type 0 where
   pub opened : AreBooks (vec_len script.set_up.units) books
   pub room : All (λ book. book.capacity ≡ room_of_a_unit script) books

@@ -18,8 +18,8 @@ use unit_device::UnitDevice;
 pub enum Output<'a> {
     /// What the requests of each task were posted with.
     Posts,
-    /// And then of each unit of the script, as its book has it, what happened at it, with `steps` every command too, and
-    /// what lies on its medium.
+    /// And then of each unit of the script, as its book has it, what happened at it, with `steps` every command too,
+    /// and what lies on its medium.
     Report {
         set_up: &'a SetUp,
         books: &'a [UnitBook<UnitDevice>],

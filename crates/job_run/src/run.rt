@@ -52,8 +52,8 @@ pub fn run_script<R: Threads + Wait + Sync, I: Read, W: Write + Drop>(
     write(alloc, &run.lines, Output::Posts, writer)
 }
 
-/// Does so, and writes behind that, for each unit, its history, with `steps` every command of it too, and its medium: all
-/// of that is again text of a script, comments and set-up lines.
+/// Does so, and writes behind that, for each unit, its history, with `steps` every command of it too, and its medium:
+/// all of that is again text of a script, comments and set-up lines.
 pub fn report_script<R: Threads + Wait + Sync, I: Read, W: Write + Drop>(
     rt: &R,
     alloc: Global,
@@ -156,9 +156,9 @@ pub fn run_commands<'r, S: Site + Send + Sync, G: Gate + Sync, R: Threads + Wait
     parted(alloc, runners)
 }
 
-/// Brings a run to its end whose tasks have done their commands: what they had not collected is added to their lines. It
-/// is refused for want of memory, with all that is left of the run (a state under another unit's lock, which no worker
-/// leaves there, is told so too), and where a line has no post of its own.
+/// Brings a run to its end whose tasks have done their commands: what they had not collected is added to their lines.
+/// It is refused for want of memory, with all that is left of the run (a state under another unit's lock, which no
+/// worker leaves there, is told so too), and where a line has no post of its own.
 pub fn ended<'r, S: Site, R: Wait>(
     rt: &R,
     alloc: Global,

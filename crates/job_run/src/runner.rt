@@ -196,8 +196,8 @@ impl<'r, S: Site> Runner<'r, S> {
         unreachable!()
     }
 
-    /// Collects the next post. Where there is none it gives way to others, and sleeps where one is to come that wakes it;
-    /// or it ends, where a worker met want of memory.
+    /// Collects the next post. Where there is none it gives way to others, and sleeps where one is to come that wakes
+    /// it; or it ends, where a worker met want of memory.
     fn collect_next<R: Wait>(
         &mut self,
         rt: &R,

@@ -102,8 +102,8 @@ fn lack(text: &'static str) -> Cause {
     Cause::new(FaultName::Order, text, &[])
 }
 
-/// What a script declares as far as it was read, and what was found in it. A line with a fault says nothing, but what it
-/// was to declare counts as declared, so that no other line has a fault for that.
+/// What a script declares as far as it was read, and what was found in it. A line with a fault says nothing, but what
+/// it was to declare counts as declared, so that no other line has a fault for that.
 #[derive(Drop)]
 struct Check<'a> {
     set_up: SetUp,

@@ -78,8 +78,8 @@ fn run<S: Site + Send + Sync, R: Threads + Wait + Sync>(
     }
 }
 
-/// Runs the task beside a worker for the tape, which takes the notices of a pending status too, and one for the printer;
-/// then stops and joins them.
+/// Runs the task beside a worker for the tape, which takes the notices of a pending status too, and one for the
+/// printer; then stops and joins them.
 fn beside_workers<'r, S: Site + Send + Sync, R: Threads + Wait + Sync>(
     rt: &R,
     alloc: Global,

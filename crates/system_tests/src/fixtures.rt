@@ -17,8 +17,8 @@ use std::alloc::{AllocError, Global};
 use std::sync::Wait;
 use unit_book::{Entry, UnitBook};
 
-/// What a test ends with where a call is refused memory once more: a test has one growth refused, so that is a fault of the
-/// call.
+/// What a test ends with where a call is refused memory once more: a test has one growth refused, so that is a fault of
+/// the call.
 pub const TWICE: &str = "refused twice";
 
 /// An unrelated IOB at X'1000' for DCB 1, its ECB at X'1028', and at X'1030' a read of a block to X'1060'.
@@ -29,8 +29,8 @@ pub const READ_BLOCK: [u8; 104] = [
     0, 0, 0, 0, 0, 0, 0, 0, 0, 0, 0, 0, 0, 0, 0, 0,
 ];
 
-/// The same IOB and ECB, and from X'1030' on search, transfer back and read of the record whose ID stands at X'1050', to
-/// X'1060'.
+/// The same IOB and ECB, and from X'1030' on search, transfer back and read of the record whose ID stands at X'1050',
+/// to X'1060'.
 pub const READ_RECORD: [u8; 104] = [
     0x42, 0, 0, 0, 0, 0, 0x10, 0x28, 0, 0, 0, 0, 0, 0, 0, 0, 0, 0, 0x10, 0x30, 0, 0, 0, 1, 0, 0, 0,
     0, 0, 0, 0, 0, 0, 0, 0, 0, 0, 0, 0, 1, 0, 0, 0, 0, 0, 0, 0, 0, 0x31, 0, 0x10, 0x50, 0x40, 0, 0,

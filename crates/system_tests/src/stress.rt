@@ -28,8 +28,8 @@ mod log;
 mod requests;
 mod tasks;
 
-/// What the runs met: posts that the reports listed, requests that a purge met while they waited, while they were active
-/// and while they awaited their restart, further starts, and halts.
+/// What the runs met: posts that the reports listed, requests that a purge met while they waited, while they were
+/// active and while they awaited their restart, further starts, and halts.
 #[derive(Clone, Copy)]
 struct Met {
     listed: usize,

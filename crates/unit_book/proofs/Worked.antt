@@ -115,7 +115,8 @@ extents_taken : (takes_extents Disk 1 1 (one_track ∷ []) ≡ true) × (takes_e
 unfolding extent one_track across
 extents_taken = (refl, refl, refl, refl)
 
--- 9. THE EXTENT CHECK on two cylinders with two heads: in the second extent, behind its end, in no extent of that number, before
+-- 9. THE EXTENT CHECK on two cylinders with two heads: in the second extent, behind its end, in no extent of that
+--    number, before
 -- the first one's, past the heads, with a bin
 extent_check : (passes_check Disk 2 (one_track ∷ across ∷ []) (seek 1 0 1 0) ≡ true) × (passes_check Disk 2 (one_track ∷ across ∷ []) (seek 1 0 1 1) ≡ false)
     × (passes_check Disk 2 (one_track ∷ across ∷ []) (seek 2 0 0 0) ≡ false) × (passes_check Disk 2 (one_track ∷ across ∷ []) (seek 0 0 1 0) ≡ false)

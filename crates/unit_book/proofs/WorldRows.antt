@@ -205,7 +205,8 @@ purge_posts =
     let w3 : Reaches quiet began swept_world = Go w2 (Purge (Dcb 1) Quiesce Quiet refl (record { purges = refl; answer_is = refl }) refl) in
     (w3, record { flight = refl; waiting = refl; active = refl }, refl)
 
--- 4. A task's second request is not accepted before its first, nor one for another unit, nor a second one where the intake is full
+-- 4. A task's second request is not accepted before its first, nor one for another unit, nor a second one where the
+--    intake is full
 none_out_of_turn : (w : World (Unit {0})) → Accepts (world []) (r 2) w → ⊥
 none_out_of_turn w s = omega (arith, s.next)
 

@@ -1,4 +1,5 @@
--- What each step of a world keeps: what was sent arrived or is in flight, and what was posted is got, on its way back or out.
+-- What each step of a world keeps: what was sent arrived or is in flight, and what was posted is got, on its way back
+-- or out.
 use Rattle.std.proofs.Common.{◌≡◌, ◌⊎◌, ℕ, zero, suc, ◌+◌, ◌==◌, true, Some, List, [], ◌∷◌, ◌++◌, append_assoc, length, refl, sym, ap, ◌∙◌, arith, eqb, inl, inr, subst, if◌then◌else◌}
 use Rattle.std.proofs.lemmas.Bool.{cases_Bool, eqb-true, eq-eqb}
 use Rattle.std.proofs.lemmas.List.{append-nil}

@@ -82,8 +82,8 @@ module _ {D : Type 0} (meaning : Meaning D) (mounted : D) where
     pub some : 1 ≤ j
     pub left : j ≤ length_of meaning (current meaning mounted H)
 
-  -- WHAT BECAME of the active request n, by which it is posted with this CSW, sense and code: it has ended and the verdict
-  -- is final; it has ended and would be tried again, but is covered, or was halted, and so is purged
+  -- WHAT BECAME of the active request n, by which it is posted with this CSW, sense and code: it has ended and the
+  -- verdict is final; it has ended and would be tried again, but is covered, or was halted, and so is purged
   pub data PostsAs (n : Name) (csw : Csw) (sense : ℕ) (code : Code) (H : List Entry) : Type 0 where
     WithVerdict : active_phase meaning mounted n H ≡ HasEnded csw sense → verdict_of n csw sense H ≡ Final code → PostsAs n csw sense code H
     WhileCovered : active_phase meaning mounted n H ≡ HasEnded csw sense → verdict_of n csw sense H ≡ Retry → is_covered (request_of n H) H ≡ true →

@@ -1,5 +1,5 @@
--- WHEN A CALL OF A BOOK WANTS MEMORY: it adds entries, and the trace has not the room that is reserved for them, which is
--- that of the posts of all that they may doom too (profile).
+-- WHEN A CALL OF A BOOK WANTS MEMORY: it adds entries, and the trace has not the room that is reserved for them, which
+-- is that of the posts of all that they may doom too (profile).
 use Rattle.std.specs.Prelude.{◌≡◌, ◌<◌, ℕ, ◌+◌, true, IsSome, length}
 use Rattle.io_images.specs.declared.csw.Csw.{Csw}
 use Rattle.io_images.specs.declared.code.Code.{Code}

@@ -91,8 +91,8 @@ module _ {D : Type 0} (meaning : Meaning D) where
     pub arrives : Extends meaning old.book (after_dooms (Arrive request ∷ old.book.trace)) old.book.awaits new.book
     pub is : new ≡ record old { flight = drop 1 old.flight; book = new.book }
 
-  -- A STEP of the world: a request is accepted or taken, the book does a call, a posted value is delivered or collected.
-  -- What is refused is no step, nor is `reserve`: it changes nothing but the room for entries
+  -- A STEP of the world: a request is accepted or taken, the book does a call, a posted value is delivered or
+  -- collected. What is refused is no step, nor is `reserve`: it changes nothing but the room for entries
   pub data Step (old new : World D) : Type 0 where
     Accept : (r : Piece) → Accepts old r new → Step old new
     Take : Takes old new → Step old new

@@ -1,5 +1,5 @@
-//! Scripts with purges, closes and permanent errors at random places: each request has one post, in order of number, which
-//! is judged by the commands of its script.
+//! Scripts with purges, closes and permanent errors at random places: each request has one post, in order of number,
+//! which is judged by the commands of its script.
 
 ghost use Rattle.std.specs.Prelude.{◌<◌, ◌≤◌};
 
@@ -68,7 +68,8 @@ enum Command {
 use Command::{Close, Excp, Purge, PurgeTask, Reset};
 
 impl Command {
-    /// A command at random: mostly an EXCP of a read, now and then one of an error, a wait, a purge, a reset or a close.
+    /// A command at random: mostly an EXCP of a read, now and then one of an error, a wait, a purge, a reset or a
+    /// close.
     fn at_random(random: &mut Random) -> Command {
         let task = random.next() % 2;
         let unit = random.next() % 3;
@@ -137,8 +138,8 @@ const READ: &str = "7F 001048 0C00 0000 0000 C1C2C3C4";
 
 const FAILED: &str = "41 001048 0C40 0004 0000 C1C2C3C4";
 
-/// One that was posted without a start, one that was halted before its first command or behind another, and, on the disk
-/// that fails, one that was to be tried again.
+/// One that was posted without a start, one that was halted before its first command or behind another, and, on the
+/// disk that fails, one that was to be tried again.
 const NEVER_STARTED: &str = "48 000000 0000 0000 0000 00000000";
 
 const HALTED: [&str; 2] = [

@@ -371,8 +371,8 @@ fn rows_and_books_with_room_for_one(rt: HostRuntime) -> Result<(), Fail> {
 /// How much rows and books may hold.
 const MOST: u32 = 65_536;
 
-/// The intake row, the book and the post row take as much as they may hold, and no more; what is handed back, held or out
-/// goes on once there is room.
+/// The intake row, the book and the post row take as much as they may hold, and no more; what is handed back, held or
+/// out goes on once there is room.
 #[test]
 fn rows_and_books_with_most_room(rt: HostRuntime) -> Result<(), Fail> {
     let mut table = vec![in rt.alloc(); (Step::Open, ("opened", 1))]?;

@@ -79,7 +79,8 @@ fn expect_media_again<R: Threads + Wait + Sync + Abort + AllocGlobal>(
     Ok(())
 }
 
-/// Asserts that the report of each script of a table, of so many, is what the table says, and that its media are a set-up.
+/// Asserts that the report of each script of a table, of so many, is what the table says, and that its media are a
+/// set-up.
 fn expect_reports<R: Threads + Wait + Sync + Abort + AllocGlobal>(
     rt: &R,
     table: &str,

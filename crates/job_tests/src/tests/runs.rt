@@ -243,8 +243,8 @@ fn two_of_each() -> Workers {
     }
 }
 
-/// Whether each of two channel workers has units, and each of two handlers subclasses, whose number has the worker's for
-/// its remainder.
+/// Whether each of two channel workers has units, and each of two handlers subclasses, whose number has the worker's
+/// for its remainder.
 fn are_shares<S: Site>(crew: &Crew<'_, S>) -> bool {
     for (number, channel) in crew.channels.iter().enumerate() {
         for unit in &channel.units {
@@ -383,8 +383,8 @@ fn told<S: Site, R: Wait>(
     Ok(count)
 }
 
-/// What comes of a script of these parts, on the units that have the DCBs of its first part alone, with rows and books of
-/// this room.
+/// What comes of a script of these parts, on the units that have the DCBs of its first part alone, with rows and books
+/// of this room.
 fn run<R: Threads + Wait + Sync + AllocGlobal>(
     rt: &R,
     units: &str,
@@ -451,8 +451,8 @@ fn want_of_memory_ends_the_tasks(rt: HostRuntime) -> Result<(), Fail> {
     Ok(())
 }
 
-/// A purge, a close or a reset that a unit refuses for want of memory ends its task: run it with each allocation refused
-/// in turn. A unit's trace is full with four DCBs.
+/// A purge, a close or a reset that a unit refuses for want of memory ends its task: run it with each allocation
+/// refused in turn. A unit's trace is full with four DCBs.
 #[test]
 fn controls_without_memory(rt: HostRuntime) -> Result<(), Fail> {
     for (control, units) in CONTROLS {

@@ -106,8 +106,8 @@ fn expect_read<R: Abort + AllocGlobal>(rt: &R, report: &Report<ToyBlock>) -> Res
     Ok(())
 }
 
-/// Each request is read to its end, those whose program met the fault by a second start: run it with each growth refused
-/// in turn.
+/// Each request is read to its end, those whose program met the fault by a second start: run it with each growth
+/// refused in turn.
 #[test]
 fn restarts_without_memory(rt: HostRuntime) -> Result<(), Fail> {
     let mut rows = Rows::new(rt.alloc(), 1, 2, 4, 4)?;

@@ -173,8 +173,8 @@ fn ended<S: Site, R: Wait + Abort>(
     resumed(rt, alloc, system, tasks)
 }
 
-/// Asserts that a report lists these values for the task at unit 0 and none at unit 1, that the disks are those that were
-/// mounted, and that nobody purged, closed or reset a unit.
+/// Asserts that a report lists these values for the task at unit 0 and none at unit 1, that the disks are those that
+/// were mounted, and that nobody purged, closed or reset a unit.
 fn expect_report<R: Abort>(
     rt: &R,
     alloc: Global,

@@ -23,8 +23,8 @@ struct Attempt {
 }
 
 impl Attempt {
-    /// An attempt behind so many commands that the unit's device was given: it ends at the first fault that stands among
-    /// its own.
+    /// An attempt behind so many commands that the unit's device was given: it ends at the first fault that stands
+    /// among its own.
     fn new(issue: Issue, done: u32) -> Attempt {
         let last = done.saturating_add(issue.commands());
         let mut faults = issue.faults().iter();

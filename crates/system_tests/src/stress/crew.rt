@@ -126,7 +126,8 @@ fn play<S: Site, R: Wait>(
     }
 }
 
-/// The tasks play beside the workers, which then are stopped and joined. Where a worker cannot be started no task plays.
+/// The tasks play beside the workers, which then are stopped and joined. Where a worker cannot be started no task
+/// plays.
 pub fn played<'r, S: Site + Send + Sync, R: Threads + Wait + Sync>(
     rt: &R,
     alloc: Global,

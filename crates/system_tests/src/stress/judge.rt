@@ -1,5 +1,5 @@
-//! The judge of a run: it reads what the tasks issued, did and got, and the report, and goes over the trace of each unit
-//! once for its course, and once for each request.
+//! The judge of a run: it reads what the tasks issued, did and got, and the report, and goes over the trace of each
+//! unit once for its course, and once for each request.
 
 use super::course::Course;
 use super::log::{Control, Log};
@@ -203,8 +203,8 @@ fn is_never_started(entry: &Entry) -> bool {
     post_of(entry).is_some_and(|(_, end)| end == NEVER_STARTED)
 }
 
-/// What awaited its restart when it was purged with halt was posted in that call: behind the purge come the posts of what
-/// it dooms, and then its own. Answers how many there were.
+/// What awaited its restart when it was purged with halt was posted in that call: behind the purge come the posts of
+/// what it dooms, and then its own. Answers how many there were.
 fn judge_awaiting(trace: &[Entry], log: &Log, unit: u16) -> Result<usize, Fail> {
     let mut count: usize = 0;
     for (_, place, name) in log.awaiting.iter().filter(|(of, _, _)| *of == unit) {

@@ -1,5 +1,5 @@
-//! A system over rows that were just made: how many tasks, handlers and units it has, and what it is made from where there
-//! is no memory.
+//! A system over rows that were just made: how many tasks, handlers and units it has, and what it is made from where
+//! there is no memory.
 
 ghost use Rattle.std.specs.Prelude.{◌≡◌, ◌≤◌, [], true, IfOk, IfSome};
 ghost use Rattle.std.specs.List.{list_all};
@@ -105,8 +105,8 @@ fn books_again(alloc: Global) -> Result<Vec<UnitBook<ToyBlock>>, Fail>
     Ok(books)
 }
 
-/// Asserts that the list of a system's units can be had, once more where there is no memory for it, and what their traces
-/// tell of: an opening, an arrival, a start, a run and a post; and on unit 1 an opening and an arrival.
+/// Asserts that the list of a system's units can be had, once more where there is no memory for it, and what their
+/// traces tell of: an opening, an arrival, a start, a run and a post; and on unit 1 an opening and an arrival.
 fn expect_units<S: Site>(rt: &impl Abort, system: System<'_, S, ToyBlock>) -> Result<(), Fail> {
     let units = match system.into_units() {
         Ok(units) => units,
@@ -119,8 +119,8 @@ fn expect_units<S: Site>(rt: &impl Abort, system: System<'_, S, ToyBlock>) -> Re
     Ok(())
 }
 
-/// Runs a system of these rows and books to its end, from what is handed back where there is no memory for the list of its
-/// units. Hands the books back where there is none for the system.
+/// Runs a system of these rows and books to its end, from what is handed back where there is no memory for the list of
+/// its units. Hands the books back where there is none for the system.
 fn run_on<S: Site, R: Wait + Abort + AllocGlobal>(
     rt: &R,
     rows: &mut Rows,
@@ -142,8 +142,8 @@ fn run_on<S: Site, R: Wait + Abort + AllocGlobal>(
     Ok(None)
 }
 
-/// Where there is no memory for the rows, the books, the system or the list of its units it is made once more from what is
-/// handed back, and used: run it with each growth refused in turn.
+/// Where there is no memory for the rows, the books, the system or the list of its units it is made once more from what
+/// is handed back, and used: run it with each growth refused in turn.
 #[test]
 fn system_without_memory(rt: HostRuntime) -> Result<(), Fail> {
     let books = books_again(rt.alloc())?;

@@ -26,8 +26,8 @@ fn tells_of(trace: &[Entry], number: u16, extents: &[Extent]) -> bool {
     }
 }
 
-/// Opens a DCB of a locked unit for input on these extents. Asserts what that answers, that the trace tells of a DCB that
-/// was opened, and that it stays where none was.
+/// Opens a DCB of a locked unit for input on these extents. Asserts what that answers, that the trace tells of a DCB
+/// that was opened, and that it stays where none was.
 fn expect_opening<S: Site, D: Device>(
     rt: &impl Abort,
     unit: &mut UnitState<'_, S, D>,
@@ -158,8 +158,8 @@ fn most_dcbs(rt: HostRuntime) -> Result<(), Fail> {
     fill::<Brand, _>(&rt, &mut rows, books)
 }
 
-/// Where there is no memory nothing is opened, and the next opening gets the number: run it with each allocation refused
-/// in turn.
+/// Where there is no memory nothing is opened, and the next opening gets the number: run it with each allocation
+/// refused in turn.
 #[test]
 fn open_without_memory(rt: HostRuntime) -> Result<(), Fail> {
     let mut rows = Rows::new(rt.alloc(), 1, 2, 1, 1)?;

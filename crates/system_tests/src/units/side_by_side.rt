@@ -224,8 +224,8 @@ fn expect_report<R: Abort + AllocGlobal>(rt: &R, report: &Report<ToyBlock>) -> R
     Ok(())
 }
 
-/// The end of the run gives the post that the task has not collected. It refuses the wrong bodies of workers_serve and of
-/// workers_act_and_add_nothing, and one lock round all units.
+/// The end of the run gives the post that the task has not collected. It refuses the wrong bodies of workers_serve and
+/// of workers_act_and_add_nothing, and one lock round all units.
 #[test]
 fn units_run_side_by_side(rt: HostRuntime) -> Result<(), Fail> {
     let mut rows = Rows::new(rt.alloc(), 1, 2, 2, 2)?;

@@ -98,8 +98,8 @@ const SECOND_SERVED: [(Call, Answer); 6] = [
     (Call::Hold(1, Hold::Deliver), ("quiet", None)),
 ];
 
-/// What may come of a purge of task 0: its answer, which unit's trace does not tell of it, and what follows. Where unit 0
-/// was purged, what comes of its active request follows too.
+/// What may come of a purge of task 0: its answer, which unit's trace does not tell of it, and what follows. Where unit
+/// 0 was purged, what comes of its active request follows too.
 struct Outcome {
     answer: Answer,
     left_alone: [bool; 2],
@@ -197,7 +197,8 @@ fn expect_outcome<S: Site, R: Wait + Abort + AllocGlobal>(
     expect_one_of(rt, &system, tasks.as_mut_slice(), mode, active, outcomes)
 }
 
-/// It refuses the wrong bodies of workers_act_and_add_nothing for a purge of a task, which does nothing or purges another.
+/// It refuses the wrong bodies of workers_act_and_add_nothing for a purge of a task, which does nothing or purges
+/// another.
 #[test]
 fn purge_of_a_task(rt: HostRuntime) -> Result<(), Fail> {
     for (mode, active) in MODES {

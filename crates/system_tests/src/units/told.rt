@@ -11,7 +11,8 @@ use std::cell::Cell;
 /// The most calls that a worker makes before it is stopped.
 const MOST: u32 = 200;
 
-/// Has the task collect a post when it is told of one, and stops the worker behind the third, or where it was told wrongly.
+/// Has the task collect a post when it is told of one, and stops the worker behind the third, or where it was told
+/// wrongly.
 #[derive(Drop)]
 struct Told<'a, 't, 'r, S: Site, R: Wait> {
     rt: &'a R,

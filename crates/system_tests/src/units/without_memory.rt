@@ -46,8 +46,8 @@ impl Gate for OneTurn {
     }
 }
 
-/// A turn of a channel worker on unit 0, and one of a handler if a status is pending then. Answers of how many calls the
-/// gate was told that there was no memory.
+/// A turn of a channel worker on unit 0, and one of a handler if a status is pending then. Answers of how many calls
+/// the gate was told that there was no memory.
 fn serve_once<'r, S: Site, R: Wait>(
     rt: &R,
     system: &System<'r, S, Disk>,
@@ -111,12 +111,12 @@ enum Meets {
     Violation,
 }
 
-/// How many DCBs are opened more, and what the request meets, which say which call finds its trace full; how it ends, and
-/// in which turn where there is memory.
+/// How many DCBs are opened more, and what the request meets, which say which call finds its trace full; how it ends,
+/// and in which turn where there is memory.
 type Case = (u16, Meets, Code, u32);
 
-/// The trace is full at an interruption, at a run and at a take; at a start once more, since the active request takes the
-/// one place of its book; and at a start that posts.
+/// The trace is full at an interruption, at a run and at a take; at a start once more, since the active request takes
+/// the one place of its book; and at a start that posts.
 const CASES: [Case; 5] = [
     (0, Meets::Nothing, Code::Ended, 0),
     (1, Meets::Nothing, Code::Ended, 0),

@@ -49,9 +49,9 @@ impl Look {
         Look::at(book, self.entries)
     }
 
-    /// What is to be told behind this step, for which there was no memory, where there is room for so many entries then:
-    /// the same. A settling has made so many entries, which are a start and a run to the end of the program; behind an
-    /// opening there may be more room.
+    /// What is to be told behind this step, for which there was no memory, where there is room for so many entries
+    /// then: the same. A settling has made so many entries, which are a start and a run to the end of the program;
+    /// behind an opening there may be more room.
     pub fn kept(&self, step: Step, spare: usize) -> Look {
         let mut kept = *self;
         match step {

@@ -347,7 +347,8 @@ pub const SETTLED: &[(Step, Told)] = &[
     (Start, ("idle", 0)),
 ];
 
-/// Behind as many requests as a book holds: the next one is held in its row until there is room, and what waits is purged.
+/// Behind as many requests as a book holds: the next one is held in its row until there is room, and what waits is
+/// purged.
 pub const BEHIND_MOST: &[(Step, Told)] = &[
     (Excp(1), ("sent", 65_537)),
     (Take, ("held", 0)),

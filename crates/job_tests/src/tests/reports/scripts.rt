@@ -201,8 +201,8 @@ printer 0 0 2 2
 # the paper stands at page 2, line 1
 ";
 
-/// Two tasks, each with a unit of its own and three requests to it that it does not wait for; and what is told of it, but
-/// for what happened at the units.
+/// Two tasks, each with a unit of its own and three requests to it that it does not wait for; and what is told of it,
+/// but for what happened at the units.
 pub const TAPE_AND_PRINTER: &str = "\
 tasks 2
 tape 0 3 40

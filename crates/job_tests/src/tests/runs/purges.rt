@@ -53,7 +53,8 @@ const PURGES: [(&str, [&str; 5]); 4] = [
     ),
 ];
 
-/// What stands in the intake rows of units 0 and 1 arrives; the first request to unit 0 is started, and does one command.
+/// What stands in the intake rows of units 0 and 1 arrives; the first request to unit 0 is started, and does one
+/// command.
 pub fn begin<S: Site, R: Wait>(rt: &R, job: &Job<'_, '_, S>) {
     for unit in [0, 1] {
         if usize::from(unit) < job.script.set_up.units.len() {
