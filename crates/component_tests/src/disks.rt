@@ -117,7 +117,7 @@ static READS: [Case; 7] = [
     },
 ];
 
-static CONTROLS: [Case; 5] = [
+static CONTROLS: [Case; 7] = [
     // rejected_writes: behind the input mask, and without a search
     Case {
         cylinder: 0,
@@ -179,6 +179,40 @@ static CONTROLS: [Case; 5] = [
             FINDS,
         ],
         left: &[0, 0, 0, 0, 1],
+    },
+    // and one behind a command that meets none, where the search goes on from R0
+    Case {
+        cylinder: 0,
+        key: &[],
+        content: &[0xC1],
+        fault: Some(3),
+        mask: 0x18,
+        storage: &[0, 0, 0, 0, 1],
+        steps: &[
+            (0x03, 0x1050, 1, 0x0C, 0, 0),
+            PASSES,
+            (0x31, 0x1050, 5, 0x0E, EQUIPMENT_CHECK, 0),
+            FINDS,
+        ],
+        left: &[0, 0, 0, 0, 1],
+    },
+    // what a write of data wrote is read: two bytes, and a zero byte
+    Case {
+        cylinder: 0,
+        key: &[0xD1],
+        content: &[0xC1, 0xC2, 0xC3],
+        fault: None,
+        mask: 0x18,
+        storage: &[0, 0, 0, 0, 1, 0xE1, 0xE2, 0xFF],
+        steps: &[
+            PASSES,
+            FINDS,
+            (0x05, 0x1055, 2, 0x0C, 0, 3),
+            PASSES,
+            FINDS,
+            (0x06, 0x1055, 3, 0x0C, 0, 3),
+        ],
+        left: &[0, 0, 0, 0, 1, 0xE1, 0xE2, 0],
     },
 ];
 

@@ -105,13 +105,25 @@ fn inhibits(mask: FileMask) -> [bool; 3] {
     ]
 }
 
+/// Each value of bits 0 and 1, and a 1 in bit 3 and in bit 4 alone, with what that mask inhibits.
+const MASKS: [(FileMask, [bool; 3]); 6] = [
+    (FileMask(0x00), [false, false, false]),
+    (FileMask(0x40), [true, true, false]),
+    (FileMask(0x80), [false, true, false]),
+    (FileMask(0xC0), [false, false, false]),
+    (FileMask(0x10), [false, false, true]),
+    (FileMask(0x08), [false, false, true]),
+];
+
 #[test]
 fn file_masks(rt: HostRuntime) {
     let (input, output) = (FileMask::INPUT, FileMask::OUTPUT);
     assert_eq!(rt; (input.0, output.0), (0x58, 0x18));
     assert_eq!(rt; inhibits(input), [true, true, true]);
     assert_eq!(rt; inhibits(output), [false, false, true]);
-    assert!(rt; !FileMask(0xC0).inhibits_seeks());
+    for (mask, inhibited) in MASKS {
+        assert_eq!(rt; inhibits(mask), inhibited);
+    }
 }
 
 #[test]

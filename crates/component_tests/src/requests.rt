@@ -47,6 +47,7 @@ fn request_places(rt: HostRuntime) {
         (0x1000, 19, 0x68, RequestError::ProgramPlace),
         (0x1000, 19, 0x34, RequestError::ProgramPlace),
         (0x1000, 23, 2, RequestError::DcbMismatch),
+        (0x1000, 21, 1, RequestError::DcbMismatch),
     ];
     for (iob, place, byte, error) in cases {
         let mut bytes = fixture();

@@ -251,10 +251,14 @@ fn reads_and_writes(rt: HostRuntime) -> Result<(), Fail> {
     expect(&rt, rt.alloc(), &SPACES)
 }
 
+/// What comes in front of a program leaves the tape where it stands: behind its first mark.
 #[test]
 fn is_a_device(rt: HostRuntime) -> Result<(), Fail> {
     let mut tape = done(&rt, rt.alloc(), &SPACES)?;
+    let mut area = storage(&rt, rt.alloc(), &[])?;
+    expect_steps(&rt, &mut tape, &mut area, &[(0x3F, 0x1060, 1, 0x0C, 0, 0)]);
     expect_no_tracks(&rt, &mut tape, Kind::Tape, &FLOWS);
+    expect_steps(&rt, &mut tape, &mut area, &[(0x27, 0x1060, 1, 0x0D, 0, 0)]);
     Ok(())
 }
 
