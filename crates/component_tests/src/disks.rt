@@ -419,9 +419,11 @@ fn expect_as_made(rt: &impl Abort, records: &[InitialRecord]) {
 }
 
 /// Where there is no memory for a mounting or a copy, no other reason is told, and the next one from the same records
-/// is had: run it with each growth refused in turn.
+/// is had; but that its track has no room for a record is told first: run it with each growth refused in turn.
 #[test]
 fn mount_without_memory(rt: HostRuntime) -> Result<(), Fail> {
+    let overfull = refusal(rt.alloc(), (1, 1, 27), 0, 1, false)?;
+    assert_eq!(rt; overfull, Some(MountError::BadMedium));
     let records = record(rt.alloc(), 0, 1, &[0xD1], &[0xC1])?;
     let disk = match two_tracks(rt.alloc(), &records) {
         Err(MountError::NoMemory) => {
