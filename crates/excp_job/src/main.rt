@@ -49,12 +49,9 @@ fn run<R: Threads + Wait + Sync, I: Read, W: Write + Drop>(
     output: Output,
     workers: Workers,
 ) -> Result<u8, Fault> {
-    let Workers { channels, handlers } = workers;
     match output {
-        Output::Posts => run_script(rt, alloc, input, writer, channels, handlers)?,
-        Output::Report { steps } => {
-            report_script(rt, alloc, input, writer, channels, handlers, steps)?;
-        }
+        Output::Posts => run_script(rt, alloc, input, writer, workers)?,
+        Output::Report { steps } => report_script(rt, alloc, input, writer, workers, steps)?,
     }
     Ok(0)
 }

@@ -75,6 +75,13 @@ impl Rows {
         })
     }
 
+    /// How many units they are for.
+    pub fn units(&self) -> u16
+        ensures { result ≡ self.now.units }
+    {
+        self.units
+    }
+
     /// The ends of these rows, which are those of the site.
     pub(crate) fn seats<S: Site>(&mut self, alloc: Global) -> Result<Ends<'_, S>, AllocError>
         requires site { S.rows ≡ site_of self.old }

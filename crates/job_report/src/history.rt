@@ -2,8 +2,10 @@
 
 ghost use Rattle.std.specs.Prelude.{◌<◌, length};
 
+use crate::doom::Dooms;
+use crate::open_dcbs::OpenDcbs;
 use crate::steps::Steps;
-use crate::words::{Count, Request, end_in_words, unstarted};
+use crate::words::{Count, Request, end_in_words};
 use device_port::{Device, Fault as DeviceFault, Kind};
 use io_images::{Code, Csw};
 use job_script::Fault;
@@ -13,23 +15,26 @@ use std::io::Write;
 use unit_book::{Entry, Mode, UnitBook};
 
 /// What the entries before one leave to be known at it.
-#[derive(Clone, Copy)]
-struct Past {
+#[derive(Drop)]
+struct Past<'a> {
     /// The request that was started and not posted since.
     active: Option<Name>,
     /// How often it was started.
     starts: u32,
     /// The request whose commands the last entry counts, if it counts any.
     ran: Option<Name>,
+    /// What dooms requests.
+    dooms: Dooms<'a>,
 }
 
-impl Past {
+impl<'a> Past<'a> {
     /// No entry.
-    fn new() -> Past {
+    fn new(open: &'a mut OpenDcbs) -> Past<'a> {
         Past {
             active: None,
             starts: 0,
             ran: None,
+            dooms: Dooms::new(open),
         }
     }
 
@@ -50,6 +55,7 @@ impl Past {
             Entry::Post(name, _, _, _) if self.active == Some(*name) => self.active = None,
             _ => {}
         }
+        self.dooms.note(entry);
     }
 
     fn note_start(&mut self, name: Name) {
@@ -63,19 +69,20 @@ impl Past {
 }
 
 /// Writes what happened at a unit, oldest first, as comments of a script. Where the faults are given that the unit's
-/// device was to meet, every command is told too.
+/// device was to meet, every command is told too. The table has to have room for the DCBs of the unit.
 pub fn write_history<W: Write, D: Device>(
     out: &mut W,
     unit: usize,
     book: &UnitBook<D>,
     faults: Option<&[DeviceFault]>,
+    open: &mut OpenDcbs,
 ) -> Result<(), Fault> {
     let steps = match faults {
         Some(faults) => Some(Steps::of(book, faults)?),
         None => None,
     };
     match write_heading(out, unit, book) {
-        Ok(()) => write_entries(out, book.trace(), steps),
+        Ok(()) => write_entries(out, book.trace(), steps, Past::new(open)),
         Err(_) => Err(Fault::NotWritten),
     }
 }
@@ -104,8 +111,9 @@ fn write_entries<W: Write, D: Device>(
     out: &mut W,
     trace: &[Entry],
     steps: Option<Steps<'_, D>>,
+    past: Past<'_>,
 ) -> Result<(), Fault> {
-    let mut past = Past::new();
+    let mut past = past;
     let mut steps = steps;
     for place in 0..trace.len() {
         if write_numbered(out, trace, place, &past).is_err() {
@@ -124,7 +132,7 @@ fn write_numbered<W: Write>(
     out: &mut W,
     trace: &[Entry],
     place: usize,
-    past: &Past,
+    past: &Past<'_>,
 ) -> io::Result<()>
     requires { place < length trace.now }
 {
@@ -141,7 +149,7 @@ fn write_entry<W: Write>(
     out: &mut W,
     entry: &Entry,
     entries: &[Entry],
-    past: &Past,
+    past: &Past<'_>,
 ) -> io::Result<()> {
     match entry {
         Entry::Opened(dcb, input, extents) => {
@@ -229,12 +237,12 @@ fn write_post<W: Write>(
     csw: &Csw,
     sense: u16,
     code: Code,
-    past: &Past,
+    past: &Past<'_>,
 ) -> io::Result<()> {
     write!(out, "{} ", Request(name))?;
     out.write_all(&end_in_words(csw, sense, code))?;
     if past.active != Some(name) {
-        out.write_all(unstarted(code).as_bytes())?;
+        out.write_all(past.dooms.why(code).as_bytes())?;
     }
     out.write_all(b"\n")
 }

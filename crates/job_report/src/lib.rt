@@ -4,9 +4,11 @@
 
 mod characters;
 mod digits;
+mod doom;
 mod history;
 mod medium;
 mod names;
+mod open_dcbs;
 mod steps;
 mod units;
 mod words;
@@ -14,4 +16,5 @@ mod words;
 pub use characters::Text;
 pub use digits::{put_decimal, put_digits, write_bytes};
 pub use history::write_history;
+pub use open_dcbs::OpenDcbs;
 pub use units::write_units;

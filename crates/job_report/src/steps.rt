@@ -65,14 +65,14 @@ impl<'t, D: Device> Steps<'t, D> {
     /// stand behind it.
     fn write_command<W: Write>(&mut self, out: &mut W) -> Result<(), Fault> {
         let Some(listing) = self.replay.next_command(&mut self.listed) else {
-            return Ok(());
+            return write_idle(out);
         };
         self.replay.step()?;
         let Some(context) = self.replay.context() else {
-            return Ok(());
+            return write_idle(out);
         };
         let Some(area) = self.replay.area() else {
-            return Ok(());
+            return write_idle(out);
         };
         let fault = met_by(&listing, self.faults, &mut self.met, &mut self.acted);
         match write_told(out, self.kind, &listing, context, area, fault) {
@@ -80,6 +80,11 @@ impl<'t, D: Device> Steps<'t, D> {
             Err(_) => Err(Fault::NotWritten),
         }
     }
+}
+
+/// Writes that no program runs where the trace counts a command.
+fn write_idle<W: Write>(out: &mut W) -> Result<(), Fault> {
+    writeln!(out, "#         no program runs here").or(Err(Fault::NotWritten))
 }
 
 /// The number of the fault that a command met, from 1, if it met one.

@@ -57,12 +57,3 @@ pub(crate) fn end_in_words(csw: &Csw, sense: u16, code: Code) -> [u8; 43] {
     put_digits(&mut text, 39, &sense.to_be_bytes());
     text
 }
-
-/// Why a request was posted with this code that was never started.
-pub(crate) fn unstarted(code: Code) -> &'static str {
-    match code {
-        Code::ExtentViolated => ", not started: its disk address is outside the extents",
-        Code::Purged => ", not started: purged",
-        Code::Ended | Code::PermanentError => ", not started",
-    }
-}

@@ -1,4 +1,2 @@
--- The books of a script, elements that stand at the places of their numbers, and what is dealt out to workers.
+-- The books of a script.
 pub mod Books
-pub mod Placing
-pub mod Sharing

@@ -1,4 +1,3 @@
--- Who serves what, how large rows and books are, and when all that a task prints is known.
+-- How large rows and books are, and when all that a task prints is known.
 pub mod Complete
 pub mod Rooms
-pub mod Shares

@@ -56,7 +56,7 @@ pub struct Lines {
 
 impl Lines {
     /// A line for each request that the script issues by a task.
-    pub(crate) fn of_task(alloc: Global, script: &Script, task: u16) -> Result<Lines, AllocError> {
+    pub fn of_task(alloc: Global, script: &Script, task: u16) -> Result<Lines, AllocError> {
         let mut lines = Lines::new(alloc, script.set_up.units.len())?;
         for command in &script.commands {
             if command.task == task {

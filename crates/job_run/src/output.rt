@@ -5,7 +5,7 @@ ghost use Rattle.std.specs.Prelude.{◌≤◌, All, length};
 ghost use Rattle.job_run.specs.Complete.{IsComplete, IsWhole};
 
 use crate::lines::{End, Line, Lines};
-use job_report::{put_decimal, put_digits, write_bytes, write_units};
+use job_report::{OpenDcbs, put_decimal, put_digits, write_bytes, write_units};
 use job_script::{Fault, SetUp};
 use std::alloc::Global;
 use std::io;
@@ -40,14 +40,18 @@ pub fn write<W: Write + Drop>(
     let Ok(mut out) = BufWriter::new(alloc, writer) else {
         return Err(Fault::NoMemory);
     };
-    write_posts(&mut out, lines)?;
-    if let Output::Report {
-        set_up,
-        books,
-        steps,
-    } = output
-    {
-        write_units(&mut out, set_up, books, steps)?;
+    match output {
+        Output::Posts => write_posts(&mut out, lines)?,
+        Output::Report {
+            set_up,
+            books,
+            steps,
+        } => {
+            // before anything is written, so that where there is no memory for it nothing is
+            let mut open = OpenDcbs::of_units(alloc, books)?;
+            write_posts(&mut out, lines)?;
+            write_units(&mut out, set_up, books, steps, &mut open)?;
+        }
     }
     out.flush().or(Err(Fault::NotWritten))
 }

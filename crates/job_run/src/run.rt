@@ -4,25 +4,22 @@ ghost use Rattle.std.specs.Prelude.{◌≡◌, ◌≤◌, ◌<◌, ◌+◌, All,
 ghost use Rattle.job_script.specs.Commands.{CanBeDone};
 ghost use Rattle.job_script.specs.Reading.{ReadsAtMost};
 ghost use Rattle.job_run.specs.Complete.{IsComplete};
-ghost use Rattle.excp_system.specs.Drained.{ArePlaced};
-ghost use Rattle.excp_system.specs.Opening.{AreBooks, AreFresh, site_of};
+ghost use Rattle.excp_system.specs.Opening.{AreBooks, AreFresh};
 ghost use Rattle.post_ledger.specs.Report.{IsFor};
 ghost use Rattle.post_ledger.specs.Work.{lists_of};
 
-use crate::crew::{Crew, Workers, leave_used, run_tasks};
 use crate::lines::Lines;
 use crate::output::{Output, write};
 use crate::rooms::rows_and_books;
-use crate::runner::{Job, Runner};
-use crate::tasks::{alarm_of, parted, runners};
-use excp_system::{Gate, Rows, Site, System, Task};
+use crate::script_tasks::ScriptTasks;
+use excp_system::Rows;
 use job_script::{Fault, LIMIT, Script, read_script};
-use post_ledger::{Report, finish};
+use post_ledger::Report;
 use std::alloc::Global;
 use std::io::{Read, Write};
-use std::marker::Brand;
 use std::sync::Wait;
 use std::thread::Threads;
+use system_threads::{Workers, run_program};
 use unit_book::UnitBook;
 use unit_device::UnitDevice;
 
@@ -41,14 +38,11 @@ pub fn run_script<R: Threads + Wait + Sync, I: Read, W: Write + Drop>(
     alloc: Global,
     reader: &mut I,
     writer: W,
-    channels: u8,
-    handlers: u8,
+    workers: Workers,
 ) -> Result<(), Fault>
-    requires channels { (1 ≤ channels) × (channels ≤ 16) }
-    requires handlers { (1 ≤ handlers) × (handlers ≤ 8) }
     ensures { ReadsAtMost (LIMIT + 1) (I.remaining reader.old) (I.remaining reader.new) }
 {
-    let (_, run) = read_and_run(rt, alloc, reader, Workers { channels, handlers })?;
+    let (_, run) = read_and_run(rt, alloc, reader, workers)?;
     write(alloc, &run.lines, Output::Posts, writer)
 }
 
@@ -59,15 +53,12 @@ pub fn report_script<R: Threads + Wait + Sync, I: Read, W: Write + Drop>(
     alloc: Global,
     reader: &mut I,
     writer: W,
-    channels: u8,
-    handlers: u8,
+    workers: Workers,
     steps: bool,
 ) -> Result<(), Fault>
-    requires channels { (1 ≤ channels) × (channels ≤ 16) }
-    requires handlers { (1 ≤ handlers) × (handlers ≤ 8) }
     ensures { ReadsAtMost (LIMIT + 1) (I.remaining reader.old) (I.remaining reader.new) }
 {
-    let (script, run) = read_and_run(rt, alloc, reader, Workers { channels, handlers })?;
+    let (script, run) = read_and_run(rt, alloc, reader, workers)?;
     let output = Output::Report {
         set_up: &script.set_up,
         books: run.report.units(),
@@ -87,106 +78,81 @@ fn read_and_run<R: Threads + Wait + Sync, I: Read>(
 {
     let text = read_script(alloc, reader)?;
     let script = Script::parse(alloc, &text)?;
-    let run = run_to_end(rt, alloc, &script, workers)?;
+    let (rows, books) = rows_and_books(alloc, &script)?;
+    let run = run_on(rt, alloc, rows, books, &script, workers)?;
     Ok((script, run))
 }
 
-/// Runs a script on rows and books of its own.
-fn run_to_end<R: Threads + Wait + Sync>(
+/// Runs a script on a system of these rows and books, to its end. What `run_program` refuses, for either cause, is told
+/// as want of memory, and the run is dropped; else it is refused as [`ended`].
+pub fn run_on<R: Threads + Wait + Sync>(
     rt: &R,
     alloc: Global,
-    script: &Script,
-    workers: Workers,
-) -> Result<Finished, Fault>
-    requires tasks { (1 ≤ script.now.set_up.tasks) × (script.now.set_up.tasks ≤ 64) }
-    requires units { (1 ≤ vec_len script.now.set_up.units) × (vec_len script.now.set_up.units ≤ 64) }
-{
-    let (mut rows, books) = rows_and_books(alloc, script)?;
-    run_on::<Brand, R>(rt, alloc, &mut rows, books, script, workers)
-}
-
-/// Runs a script on a system of these rows and books, to its end. It is refused for want of memory, and as
-/// `run_commands` and `ended` are.
-pub fn run_on<S: Site + Send + Sync, R: Threads + Wait + Sync>(
-    rt: &R,
-    alloc: Global,
-    rows: &mut Rows,
+    rows: Rows,
     books: Vec<UnitBook<UnitDevice>>,
     script: &Script,
     workers: Workers,
 ) -> Result<Finished, Fault>
-    requires site { S.rows ≡ site_of rows.old }
-    requires fresh { AreFresh rows.old }
-    requires books { AreBooks S.rows.units books.items }
-    requires units { vec_len script.now.set_up.units ≡ S.rows.units }
-    requires few { (S.rows.units ≤ 64) × (S.rows.tasks ≤ 64) }
+    requires fresh { AreFresh rows }
+    requires books { AreBooks rows.units books.items }
+    requires units { vec_len script.now.set_up.units ≡ rows.units }
+    requires few { (rows.units ≤ 64) × (rows.tasks ≤ 64) }
     requires requests { All CanBeDone script.now.commands.items }
 {
-    let (system, tasks, mut takers) = System::<S, UnitDevice>::new(alloc, rows, books)?;
-    leave_used(&mut takers, script);
-    let units = script.set_up.units.len() as u16;
-    let crew = Crew::new(alloc, units, takers, workers)?;
-    let runners = runners(alloc, tasks, script)?;
-    let alarm = alarm_of(alloc, runners.as_slice())?;
-    let job = Job::new(script, &system, &alarm);
-    let (tasks, lines) = run_commands(rt, alloc, &job, &alarm, runners, crew)?;
-    ended(rt, alloc, system, tasks, lines, units)
-}
-
-/// Lets the tasks do their commands beside the workers, which pass this gate, and gives them with what is printed of
-/// their requests. The gate has to hand on to the job's alarm what it is told of posts and of want of memory, since the
-/// tasks sleep until they are woken by it. It is refused where a task ended before its last command, and for want of
-/// memory; where a worker met that, it outranks the fault of a line at which a task ended, as it ended the others.
-pub fn run_commands<'r, S: Site + Send + Sync, G: Gate + Sync, R: Threads + Wait + Sync>(
-    rt: &R,
-    alloc: Global,
-    job: &Job<'_, 'r, S>,
-    gate: &G,
-    runners: Vec<Runner<'r, S>>,
-    crew: Crew<'r, S>,
-) -> Result<(Vec<Task<'r, S>>, Vec<Lines>), Fault>
-    requires { ArePlaced (λ runner. runner.task.number) S.rows.tasks runners.items }
-    ensures tasks { IfOk result (λ parts. ArePlaced (λ task. task.number) S.rows.tasks parts.0.items) }
-    ensures lines { IfOk result (λ parts. length parts.1.items ≡ S.rows.tasks) }
-{
-    let runners = run_tasks(rt, alloc, job, gate, crew, runners)?;
-    if job.alarm.raised() {
-        return Err(Fault::NoMemory);
-    }
-    parted(alloc, runners)
-}
-
-/// Brings a run to its end whose tasks have done their commands: what they had not collected is added to their lines.
-/// It is refused for want of memory, with all that is left of the run (a state under another unit's lock, which no
-/// worker leaves there, is told so too), and where a line has no post of its own.
-pub fn ended<'r, S: Site, R: Wait>(
-    rt: &R,
-    alloc: Global,
-    system: System<'r, S, UnitDevice>,
-    tasks: Vec<Task<'r, S>>,
-    mut lines: Vec<Lines>,
-    units: u16,
-) -> Result<Finished, Fault>
-    requires tasks { ArePlaced (λ task. task.number) S.rows.tasks tasks.items }
-    requires lines { length lines.items ≡ S.rows.tasks }
-    requires units { units ≡ S.rows.units }
-    requires few { S.rows.tasks ≤ 64 }
-{
-    let Ok(report) = finish(rt, alloc, system, tasks) else {
+    let tasks = ScriptTasks::new(script);
+    let Ok((report, outcomes)) = run_program(rt, alloc, rows, books, workers, &tasks) else {
         return Err(Fault::NoMemory);
     };
-    add_rest(&mut lines, &report, units);
+    ended(alloc, report, outcomes)
+}
+
+/// What is printed of a run that was brought to its end: what its tasks had not collected is added to their lines. It
+/// is refused where a task ended before its last command, of which want of memory is told first and then the fault of
+/// the first such task, and where a line has no post of its own.
+pub fn ended(
+    alloc: Global,
+    report: Report<UnitDevice>,
+    outcomes: Vec<Result<Lines, Fault>>,
+) -> Result<Finished, Fault>
+    requires lists { IsFor (length report.books) (length outcomes.items) report }
+    requires few_units { length report.books ≤ 64 }
+    requires few_tasks { length outcomes.items ≤ 64 }
+    ensures { IfOk result (λ finished. finished.report ≡ report) }
+{
+    let mut lines = lines_of(alloc, outcomes)?;
+    add_rest(&mut lines, &report);
     if !lines.iter().all(|of_task| of_task.is_complete()) {
         return Err(Fault::Unmatched);
     }
     Ok(Finished { lines, report })
 }
 
-/// Adds what the report of a run lists to the lines of each task.
-fn add_rest(lines: &mut [Lines], report: &Report<UnitDevice>, units: u16)
-    requires lists { IsFor units (length lines.old) report.now }
-    requires few { length lines.old ≤ 64 }
+/// What is printed of the requests of each task; or want of memory, if a task ended for it, or the first fault.
+fn lines_of(alloc: Global, outcomes: Vec<Result<Lines, Fault>>) -> Result<Vec<Lines>, Fault>
+    ensures { IfOk result (λ lines. length lines.items ≡ length outcomes.items) }
 {
+    if outcomes.iter().any(wants_memory) {
+        return Err(Fault::NoMemory);
+    }
+    let mut lines = Vec::with_capacity(alloc, outcomes.len())?;
+    for outcome in outcomes {
+        lines.push(outcome?)?;
+    }
+    Ok(lines)
+}
+
+/// Whether a task ended for want of memory.
+fn wants_memory(outcome: &Result<Lines, Fault>) -> bool {
+    matches!(outcome, Err(Fault::NoMemory))
+}
+
+/// Adds what the report of a run lists to the lines of each task.
+fn add_rest(lines: &mut [Lines], report: &Report<UnitDevice>)
+    requires lists { IsFor (length report.now.books) (length lines.old) report.now }
+    requires few_units { length report.now.books ≤ 64 }
+    requires few_tasks { length lines.old ≤ 64 }
+{
+    let units = report.units().len() as u16;
     for task in 0..lines.len() {
         add_listed(&mut lines[task], report, task as u16, units);
     }

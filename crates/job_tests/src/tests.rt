@@ -4,7 +4,7 @@
 
 ghost use Rattle.std.specs.Prelude.{◌≤◌};
 
-use job_run::{report_script, run_script};
+use job_run::{Workers, report_script, run_script};
 use job_script::{Fault, Script};
 use std::alloc::{AllocError, Global};
 use std::io;
@@ -24,6 +24,12 @@ mod unreadable;
 
 /// One task, and a disk of one track with R1, whose data are C1C2C3C4.
 const DISK: &str = "tasks 1\ndisk 0 0 1 1 40\nrec 0 0 0 1 - C1C2C3C4\n";
+
+/// A channel worker and an interruption handler.
+const ONE_OF_EACH: Workers = Workers {
+    channels: 1,
+    handlers: 1,
+};
 
 /// The parts of a text, joined.
 fn joined(alloc: Global, parts: &[&str]) -> Result<Vec<u8>, AllocError> {
@@ -46,7 +52,8 @@ fn printed<R: Threads + Wait + Sync + AllocGlobal>(
 {
     let mut output = Vec::new(rt.alloc());
     let mut reader = text;
-    run_script(rt, rt.alloc(), &mut reader, &mut output, channels, handlers)?;
+    let workers = Workers { channels, handlers };
+    run_script(rt, rt.alloc(), &mut reader, &mut output, workers)?;
     Ok(output)
 }
 
@@ -81,10 +88,10 @@ impl Write for Full {
 fn output_is_not_written(rt: HostRuntime) -> Result<(), Fail> {
     let text = joined(rt.alloc(), &["tasks 1\ndisk 0 0 1 1 40\n"])?;
     let mut reader = text.as_slice();
-    let done = run_script(&rt, rt.alloc(), &mut reader, Full, 1, 1);
+    let done = run_script(&rt, rt.alloc(), &mut reader, Full, ONE_OF_EACH);
     assert_eq!(rt; done, Err(Fault::NotWritten));
     let mut reader = text.as_slice();
-    let done = report_script(&rt, rt.alloc(), &mut reader, Full, 1, 1, false);
+    let done = report_script(&rt, rt.alloc(), &mut reader, Full, ONE_OF_EACH, false);
     assert_eq!(rt; done, Err(Fault::NotWritten));
     Ok(())
 }

@@ -2,120 +2,114 @@
 
 ghost use Rattle.std.specs.Prelude.{◌≡◌, ◌<◌, ◌≤◌};
 
-use crate::buffer::{MOST, PRINT, READ, clear_ecb, new_buffer, set_length};
-use crate::fault::Fault;
-use crate::system::Alarm;
-use crate::units::{PRINTER, TAPE};
-use crossbeam_utils::Backoff;
-use excp_system::{Site, Task};
+use anyhow::{Result, bail, ensure};
+use excp_system::{Site, System};
 use io_area::Area;
-use io_images::{Code, UnitStatus};
-use request_piece::{Posted, Request};
-use std::alloc::{AllocError, Global};
+use io_images::{Address, Ccw, CcwFlags, Code, Iob, UnitStatus};
+use std::alloc::Global;
 use std::sync::Wait;
+use system_threads::{Alarm, Client, Program};
+use unit_device::UnitDevice;
 
-/// Prints the blocks of the tape up to its mark.
-pub fn copy<S: Site, R: Wait>(
-    rt: &R,
-    alloc: Global,
-    task: &mut Task<'_, S>,
-    alarm: &Alarm,
-) -> Result<(), Fault>
-    requires { S.rows.units ≡ 2 }
-    ensures { task.new.number ≡ task.old.number }
-{
-    issue(rt, alloc, task, TAPE, READ, new_buffer(alloc)?)?;
-    let mut read = next_post(rt, task, alarm)?;
-    let mut spare = new_buffer(alloc)?;
-    for _ in rt.forever() {
-        let Some(filled) = block_of(&read)? else {
-            return Ok(());
-        };
-        issue(rt, alloc, task, TAPE, READ, spare)?;
-        issue(rt, alloc, task, PRINTER, PRINT, filled)?;
-        let (first, second) = (next_post(rt, task, alarm)?, next_post(rt, task, alarm)?);
-        let is_in_order = first.unit() == TAPE;
-        let posts = if is_in_order {
-            (first, second)
-        } else {
-            (second, first)
-        };
-        spare = printed_from(&posts.1)?;
-        read = posts.0;
+pub const TAPE: u16 = 0;
+
+pub const PRINTER: u16 = 1;
+
+/// The most bytes that are read: one more than a line has, so that a block that does not fit it is told.
+const MOST: u16 = 133;
+
+/// Prints the blocks of the tape up to its mark. All requests are related, so the error at the mark dooms the read that
+/// waits behind it too.
+pub struct CopyTape;
+
+impl Program<UnitDevice> for CopyTape {
+    type Outcome = Result<()>;
+
+    ghost units = { λ _. 2 };
+
+    fn run<S: Site, R: Wait>(
+        &self,
+        rt: &R,
+        alloc: Global,
+        _: &System<'_, S, UnitDevice>,
+        alarm: &Alarm,
+        client: &mut Client<'_, S>,
+    ) -> Result<()> {
+        for _ in 0..2 {
+            issue(rt, alloc, client, TAPE, new_buffer(alloc)?)?;
+        }
+        let mut at_mark = false;
+        for _ in rt.forever() {
+            let Some(posted) = client.next_post(rt, alarm)? else {
+                return Ok(());
+            };
+            let csw = posted.csw();
+            let is_mark = csw.unit == UnitStatus::EXCEPTION_END;
+            match (posted.unit(), posted.code()) {
+                (TAPE, Code::Ended) => {
+                    ensure!(csw.residual > 0, "a block is longer than a line");
+                    let count = MOST.saturating_sub(csw.residual).to_be_bytes();
+                    let mut buffer = posted.into_area();
+                    ensure!(buffer.put(iob_of(PRINTER) + 0x36, &count), "short buffer");
+                    issue(rt, alloc, client, PRINTER, buffer)?;
+                }
+                (TAPE, Code::PermanentError) if is_mark => at_mark = true,
+                (TAPE, Code::Purged) | (PRINTER, Code::Ended) if at_mark => {}
+                (PRINTER, Code::Ended) => issue(rt, alloc, client, TAPE, posted.into_area())?,
+                (unit, code) => bail!("unit {unit} ended with code {:02X}", code.byte()),
+            }
+        }
+        unreachable!()
     }
-    unreachable!()
 }
 
-/// Issues the request to a unit whose IOB stands there in a buffer. The buffer comes back with its post.
+/// Clears the ECB of the request to a unit in a buffer, and issues it. The buffer comes back with the post.
 fn issue<S: Site, R: Wait>(
     rt: &R,
     alloc: Global,
-    task: &mut Task<'_, S>,
+    client: &mut Client<'_, S>,
     unit: u16,
-    iob: u32,
     mut buffer: Area,
-) -> Result<(), Fault>
-    requires unit { unit < S.rows.units }
-    requires iob { iob ≤ 0x1040 }
-    ensures { task.new.number ≡ task.old.number }
+) -> Result<()>
+    requires { unit < S.rows.units }
+    ensures { client.new.number ≡ client.old.number }
 {
-    clear_ecb(&mut buffer, iob);
-    let name = task.name(unit).ok_or(Fault::NotTaken(unit))?;
-    let request = Request::new(alloc, name, unit, 1, iob, buffer).map_err(|refused| refused.0)?;
-    // it never comes back: a unit's row has room for one request, and the one before it was posted
-    task.excp(rt, request).map_err(|_| Fault::NotTaken(unit))
+    let iob = iob_of(unit);
+    ensure!(buffer.put(iob + 0x28, &[0; 4]), "short buffer");
+    Ok(
+        client
+            .issue(rt, alloc, unit, 1, iob, buffer)
+            .map_err(|refused| refused.0)?,
+    )
 }
 
-/// Waits for the next post. Where a worker wants memory it may never come, and is not waited for.
-fn next_post<S: Site, R: Wait>(
-    rt: &R,
-    task: &mut Task<'_, S>,
-    alarm: &Alarm,
-) -> Result<Posted, AllocError>
-    ensures { task.new.number ≡ task.old.number }
+/// Where a buffer has the IOB of the request to a unit. Its ECB is X'28' behind it, its channel program X'30'; the block
+/// is behind both requests, at X'1080'.
+fn iob_of(unit: u16) -> u32
+    ensures { result ≤ 0x800000 }
 {
-    let idle = Backoff::new();
-    for _ in rt.forever() {
-        match task.take_post(rt) {
-            Some(posted) => return Ok(posted),
-            None if alarm.raised() => return Err(AllocError),
-            None => idle.snooze(),
-        }
-    }
-    unreachable!()
+    0x1000 + 0x40 * u32::from(unit)
 }
 
-/// The buffer that a read has filled, with its length in the print; none at the tape mark.
-fn block_of(read: &Posted) -> Result<Option<Area>, Fault> {
-    let csw = read.csw();
-    match read.code() {
-        Code::Ended if csw.residual == 0 => Err(Fault::LongBlock),
-        Code::Ended => {
-            let mut buffer = read.area().copy()?;
-            set_length(&mut buffer, MOST.saturating_sub(csw.residual));
-            Ok(Some(buffer))
-        }
-        Code::PermanentError if csw.unit == UnitStatus::EXCEPTION_END && csw.sub.is_clear() => {
-            Ok(None)
-        }
-        _ => Err(unexpected(read)),
+/// A buffer, with a request that reads a block from the tape and one that prints it.
+fn new_buffer(alloc: Global) -> Result<Area> {
+    let mut buffer = Area::new(alloc, iob_of(TAPE), &[0; 0x80 + MOST as usize])?;
+    for (unit, command) in [(TAPE, 0x02), (PRINTER, 0x09)] {
+        let (at, mut iob_image, mut ccw_image) = (iob_of(unit), [0; 40], [0; 8]);
+        let mut iob = Iob::read(&iob_image);
+        iob.ecb = Address::new(at + 0x28);
+        iob.start = Address::new(at + 0x30);
+        iob.dcb = Address::new(1);
+        iob.write(&mut iob_image);
+        let ccw = Ccw {
+            command,
+            address: Address::new(0x1080),
+            flags: CcwFlags::SUPPRESS_LENGTH,
+            count: MOST,
+        };
+        ccw.write(&mut ccw_image);
+        let fits = buffer.put(at, &iob_image) && buffer.put(at + 0x30, &ccw_image);
+        ensure!(fits, "short buffer");
     }
-}
-
-/// The buffer that was printed, which is free again.
-fn printed_from(printed: &Posted) -> Result<Area, Fault> {
-    match printed.code() {
-        Code::Ended => Ok(printed.area().copy()?),
-        _ => Err(unexpected(printed)),
-    }
-}
-
-/// The end of a request that was to end otherwise.
-fn unexpected(posted: &Posted) -> Fault {
-    let csw = posted.csw();
-    Fault::Ended {
-        unit: posted.unit(),
-        code: posted.code().byte(),
-        status: u16::from_be_bytes([csw.unit.bits(), csw.sub.bits()]),
-    }
+    Ok(buffer)
 }

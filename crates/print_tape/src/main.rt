@@ -1,21 +1,85 @@
-//! `print_tape` copies a tape to a printer as an access method does: a task with two buffers issues its requests by
-//! EXCP and collects their posts, beside workers that serve both units, and what stands on the paper is printed.
+//! `print_tape` copies a tape to a printer as an access method does, with no script: it has two buffers, both units are
+//! served by workers, and what stands on the paper in the end is printed.
 #![tactic(auto)]
 
-mod buffer;
+ghost use Rattle.std.specs.Prelude.{◌≡◌, true, IfOk};
+ghost use Rattle.std.specs.List.{list_all};
+ghost use Rattle.unit_book.specs.Trace.{is_opening};
+ghost use Rattle.excp_system.specs.Opening.{AreBooks};
+
 mod copy;
-mod fault;
-mod system;
-mod units;
 
-use std::process::ExitCode;
+use anyhow::Result;
+use copy::{CopyTape, PRINTER};
+use excp_system::Rows;
+use job_report::Text;
+use line_printer::Printer;
+use std::alloc::Global;
+use std::io::Write;
+use system_threads::{Workers, run_program};
+use tape_unit::{InitialItem, Tape};
+use unit_book::UnitBook;
+use unit_device::UnitDevice;
 
-fn main(rt: HostRuntime) -> ExitCode {
-    match system::print_tape(&rt, rt.alloc(), &mut rt.stdout()) {
-        Ok(()) => ExitCode::SUCCESS,
-        Err(fault) => {
-            let _ = eprintln!(rt; "print_tape: {fault}");
-            ExitCode::from(fault.status())
-        }
+/// The blocks of the tape, in EBCDIC; the file `stdout` of this crate has them as they are printed.
+static BLOCKS: [&[u8]; 3] = [
+    b"\xC3\xD6\xC2\xC1\xD3\xE3\xC6\xC5\xD9\xD9\xC5\xE3",
+    b"\xE7",
+    b"\xF0\xF1\xF2\xF3\xF4\xF5\xF6\xF7\xF8\xF9",
+];
+
+fn main(rt: HostRuntime) -> Result<()> {
+    let alloc = rt.alloc();
+    // a task and two units; room for both buffers at each unit, and for their posts
+    let rows = Rows::new(alloc, 1, 2, 2, 2)?;
+    let workers = Workers {
+        channels: 2,
+        handlers: 1,
+    };
+    let (report, outcomes) = run_program(&rt, alloc, rows, books(alloc)?, workers, &CopyTape)?;
+    // what was printed is shown also where the task has ended before the tape
+    write_paper(&mut rt.stdout(), report.units())?;
+    for outcome in outcomes {
+        outcome?;
     }
+    Ok(())
+}
+
+/// The books of the tape and of the printer, in order of their numbers.
+fn books(alloc: Global) -> Result<Vec<UnitBook<UnitDevice>>>
+    ensures { IfOk result (λ books. AreBooks 2 books.items) }
+{
+    let mut items = Vec::new(alloc);
+    for block in BLOCKS {
+        items.push(InitialItem::Block(block.to_vec(alloc)?))?;
+    }
+    items.push(InitialItem::Mark)?;
+    let tape = Tape::mount(alloc, &items, 1024, &[])?;
+    let printer = Printer::mount(alloc, 100, 2, &[])?;
+    let mut books = Vec::with_capacity(alloc, 2)?;
+    books.push_reserved(book(alloc, UnitDevice::Tape(tape))?);
+    books.push_reserved(book(alloc, UnitDevice::Printer(printer))?);
+    Ok(books)
+}
+
+/// The book of a unit on subclass 0 with room for two requests, and with DCB 1.
+fn book(alloc: Global, device: UnitDevice) -> Result<UnitBook<UnitDevice>>
+    ensures { IfOk result (λ book. list_all is_opening book.trace ≡ true) }
+{
+    let mut book = UnitBook::new(alloc, device, 0, 2)?;
+    book.open(false, &[])?;
+    Ok(book)
+}
+
+/// Writes the printed lines of the printer among these units, each behind its page and line.
+fn write_paper<W: Write>(out: &mut W, units: &[UnitBook<UnitDevice>]) -> Result<()> {
+    let unit = units.get(usize::from(PRINTER)).map(|book| book.device());
+    let Some(UnitDevice::Printer(printer)) = unit else {
+        anyhow::bail!("unit {PRINTER} is no printer");
+    };
+    for line in printer.printed() {
+        let (at, text) = (line.position(), Text(line.bytes()));
+        writeln!(out, "page {} line {:2} |{text}", at.page, at.line)?;
+    }
+    Ok(())
 }

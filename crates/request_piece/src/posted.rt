@@ -96,6 +96,14 @@ impl Posted {
     {
         &self.piece.area
     }
+
+    /// Its storage, to be used anew.
+    pub fn into_area(self) -> Area
+        ensures { result ≡ self.area }
+    {
+        let Posted { piece, .. } = self;
+        Box::into_inner(piece).area
+    }
 }
 
 /// Writes the end of a request into its IOB and its ECB.

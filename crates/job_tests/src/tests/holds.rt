@@ -9,7 +9,7 @@ use excp_system::{Rows, Site, System, Task};
 use fifo_row::Full;
 use io_area::Area;
 use io_images::{Code, Ecb, Iob};
-use job_report::write_history;
+use job_report::{OpenDcbs, write_history};
 use job_script::Script;
 use look::Look;
 use request_piece::{Posted, Request};
@@ -175,7 +175,8 @@ fn told_history<R: Abort + AllocGlobal>(
     wanted: &str,
 ) -> Result<Told, Fail> {
     let mut text = Vec::new(rt.alloc());
-    write_history(&mut text, 0, book, None)?;
+    let mut open = OpenDcbs::new(rt.alloc(), 8)?;
+    write_history(&mut text, 0, book, None, &mut open)?;
     assert_eq!(rt; String::from_utf8(text)?.as_str(), wanted);
     Ok(("told", 0))
 }

@@ -23,15 +23,8 @@ fn reported<R: Threads + Wait + Sync + AllocGlobal>(
 {
     let mut output = Vec::new(rt.alloc());
     let mut reader = text;
-    report_script(
-        rt,
-        rt.alloc(),
-        &mut reader,
-        &mut output,
-        channels,
-        handlers,
-        false,
-    )?;
+    let workers = Workers { channels, handlers };
+    report_script(rt, rt.alloc(), &mut reader, &mut output, workers, false)?;
     Ok(String::from_utf8(output)?)
 }
 

@@ -1,41 +1,45 @@
 //! Runs on rows and books of one, runs whose tasks wait for their posts or do not, runs in which a worker or a task met
-//! want of memory or nobody takes a status, one in which a task ends early, and purges of what is under way.
+//! want of memory and nobody takes a status, one in which a task ends early, and purges of what is under way.
 
-ghost use Rattle.std.specs.Prelude.{◌≡◌, ◌<◌, ◌≤◌, All, IfOk, length, vec_len};
-ghost use Rattle.excp_system.specs.Drained.{ArePlaced};
+ghost use Rattle.std.specs.Prelude.{◌≡◌, ◌<◌, ◌≤◌, All, IfOk, vec_len};
 ghost use Rattle.excp_system.specs.Opening.{AreBooks, AreFresh, site_of};
 ghost use Rattle.job_script.specs.Commands.{CanBeDone};
 ghost use Rattle.job_run.specs.Complete.{IsComplete};
 
+mod not_awaited;
 mod purges;
 
-use excp_system::{Gate, Point, Rows, Site, System, Task};
-use job_run::{
-    Alarm, Crew, Finished, Job, Lines, Output, Runner, Workers, alarm_of, ended, parted,
-    run_commands, run_on, runners, write,
-};
+use super::joined;
+use excp_system::{Gate, IscTaker, Point, Rows, Site, System};
+use job_run::{Lines, Output, ScriptTasks, ended, run_on, write};
 use job_script::{Fault, FaultName, Script};
+use not_awaited::NotAwaited;
+use post_ledger::finish;
 use request_piece::Name;
 use std::alloc::{AllocError, Global};
 use std::marker::Brand;
 use std::sync::Wait;
+use std::sync::atomic::{AtomicUsize, Ordering};
 use std::test::Fail;
-use std::thread;
 use std::thread::Threads;
+use system_threads::{Alarm, Crew, Workers, parted, run_beside, run_program, runners};
 use unit_book::{Entry, UnitBook};
 use unit_device::UnitDevice;
 
-/// Two tasks, and two disks of a track, each with DCB 1.
-const UNITS: &str = "tasks 2
-disk 0 3 1 1 40
+/// So many tasks.
+const ONE_TASK: &str = "tasks 1\n";
+
+const TWO_TASKS: &str = "tasks 2\n";
+
+/// Two disks of a track, each with DCB 1.
+const UNITS: &str = "disk 0 3 1 1 40
 disk 1 6 1 1 40
 open 0 out 18000000000000000000000000000001
 open 1 out 18000000000000000000000000000001
 ";
 
 /// The same with four DCBs each.
-const FOUR_DCBS: &str = "tasks 2
-disk 0 3 1 1 40
+const FOUR_DCBS: &str = "disk 0 3 1 1 40
 disk 1 6 1 1 40
 open 0 out 18000000000000000000000000000001
 open 0 out 18000000000000000000000000000001
@@ -86,8 +90,10 @@ end 12
 /// A second DCB of unit 0, which its book does not have.
 const SECOND: &str = "open 0 out 18000000000000000000000000000001\n";
 
-/// Task 0 purges it.
+/// Task 0 purges it, and task 1 does.
 const PURGE: &str = "purge 0 0 2 halt\n";
+
+const OTHERS_PURGE: &str = "purge 1 0 2 halt\n";
 
 /// A purge of a DCB, a purge of a task, a close and a reset, and how many units' traces are to tell of it.
 const CONTROLS: [(&str, usize); 4] = [
@@ -97,52 +103,66 @@ const CONTROLS: [(&str, usize); 4] = [
     ("reset 0 0 1\n", 1),
 ];
 
+/// A worker meets want of memory when it has passed the gate so often before such a call: the tasks sleep by then.
+const LATE: usize = 5000;
+
 /// How a run goes.
 #[derive(Clone, Copy)]
 enum Way {
     /// To its end.
     Whole,
-    /// Its tasks do not wait for their posts, and there is no worker: all is left to its end.
+    /// To its end, and its tasks do not wait for their posts.
+    Unawaited,
+    /// The same, and there is no worker: all is left to its end.
     Left,
     /// The same, but what task 0 issued arrives before task 1 begins, and one command of the first is done.
     Begun,
     /// Until its tasks have ended.
     Tasks,
-    /// And a worker meets want of memory before such a call.
-    Drill(Point),
-    /// And a worker met want of memory before the tasks began.
-    Alarmed,
-    /// And no handler takes a status, so that nothing is posted.
-    NoHandler,
-    /// And there is no worker; the tasks run one after another.
+    /// And no handler takes a status, so that nothing is posted, and a worker meets want of memory before such a call.
+    Late(Point),
+    /// And no handler takes a status, and a worker met want of memory before the tasks began.
+    Raised,
+    /// And there is no worker, and one met want of memory before the tasks began.
     Alone,
 }
 
 impl Way {
     /// Whether want of memory was met before the tasks began.
-    fn is_alarmed(self) -> bool {
-        matches!(self, Way::Alarmed | Way::NoHandler | Way::Alone)
+    fn is_raised(self) -> bool {
+        matches!(self, Way::Raised | Way::Alone)
     }
 
     /// Before which calls a worker meets want of memory.
     fn point(self) -> Option<Point> {
         match self {
-            Way::Drill(point) => Some(point),
+            Way::Late(point) => Some(point),
             _ => None,
         }
     }
 }
 
-/// The gate of a run whose workers meet want of memory before such a call, if any.
+/// The gate of a run in which a worker meets want of memory late before such a call, if any.
 #[derive(Drop)]
 struct Drill<'a> {
     alarm: &'a Alarm,
     point: Option<Point>,
+    passed: AtomicUsize,
+}
+
+impl<'a> Drill<'a> {
+    fn new(alarm: &'a Alarm, way: Way) -> Drill<'a> {
+        Drill {
+            alarm,
+            point: way.point(),
+            passed: AtomicUsize::new(0),
+        }
+    }
 }
 
 impl<'a> Gate for Drill<'a> {
     fn pass(&self, unit: u16, point: Point) {
-        if self.point == Some(point) {
+        if self.point == Some(point) && self.passed.fetch_add(1, Ordering::SeqCst) == LATE {
             self.alarm.lack_memory(unit, point);
         }
     }
@@ -160,19 +180,40 @@ impl<'a> Gate for Drill<'a> {
 #[derive(PartialEq, Eq, Debug, Drop)]
 enum Outcome {
     Printed(Vec<u8>),
-    /// The fault of its tasks, and how many of their requests and controls the traces tell of.
-    Ended(Option<Fault>, usize),
-    /// How many of its tasks, one after another, ended for want of memory, and the same.
-    Short(usize, usize),
+    /// How many of its tasks ended for want of memory, and how many of their requests and controls the traces tell of.
+    Ended(usize, usize),
 }
 
-/// What comes of the script on these rows and books, or why it could not be set up or run to its end.
-fn on_rows<S: Site + Send + Sync, R: Threads + Wait + Sync + AllocGlobal>(
+/// What comes of a script on these rows and books whose tasks do not wait for their posts.
+fn unawaited<R: Threads + Wait + Sync + AllocGlobal>(
+    rt: &R,
+    rows: Rows,
+    books: Vec<UnitBook<UnitDevice>>,
+    script: &Script,
+) -> Result<Outcome, Fault>
+    requires fresh { AreFresh rows }
+    requires books { AreBooks rows.units books.items }
+    requires units { vec_len script.now.set_up.units ≡ rows.units }
+    requires few { (rows.units ≤ 64) × (rows.tasks ≤ 64) }
+    requires requests { All CanBeDone script.now.commands.items }
+{
+    let alloc = rt.alloc();
+    let program = NotAwaited::new(script, false);
+    let done = run_program(rt, alloc, rows, books, two_of_each(), &program);
+    let Ok((report, outcomes)) = done else {
+        return Err(Fault::NoMemory);
+    };
+    let run = ended(alloc, report, outcomes)?;
+    printed(alloc, &run.lines)
+}
+
+/// What comes of the same without workers.
+fn left<S: Site + Send + Sync, R: Threads + Wait + Sync + AllocGlobal>(
     rt: &R,
     rows: &mut Rows,
     books: Vec<UnitBook<UnitDevice>>,
     script: &Script,
-    way: Way,
+    begins: bool,
 ) -> Result<Outcome, Fault>
     requires site { S.rows ≡ site_of rows.old }
     requires fresh { AreFresh rows.old }
@@ -182,16 +223,24 @@ fn on_rows<S: Site + Send + Sync, R: Threads + Wait + Sync + AllocGlobal>(
     requires requests { All CanBeDone script.now.commands.items }
 {
     let alloc = rt.alloc();
-    let run = match way {
-        Way::Whole => run_on::<S, R>(rt, alloc, rows, books, script, two_of_each())?,
-        Way::Left => left::<S, R>(rt, alloc, rows, books, script, false)?,
-        Way::Begun => left::<S, R>(rt, alloc, rows, books, script, true)?,
-        _ => return tasks_alone::<S, R>(rt, rows, books, script, way),
+    let (system, tasks, _) = System::<S, UnitDevice>::new(alloc, rows, books)?;
+    let runners = runners(alloc, tasks)?;
+    let alarm = Alarm::of(alloc, runners.as_slice())?;
+    let crew = Crew {
+        channels: Vec::new(alloc),
+        handlers: Vec::new(alloc),
     };
+    let program = NotAwaited::new(script, begins);
+    let runners = run_beside(rt, alloc, &system, &alarm, &alarm, crew, runners, &program)?;
+    let (tasks, outcomes) = parted(alloc, runners)?;
+    let Ok(report) = finish(rt, alloc, system, tasks) else {
+        return Err(Fault::NoMemory);
+    };
+    let run = ended(alloc, report, outcomes)?;
     printed(alloc, &run.lines)
 }
 
-/// What comes of the tasks of the script on these rows and books.
+/// What comes of the tasks of a script on these rows and books.
 fn tasks_alone<S: Site + Send + Sync, R: Threads + Wait + Sync + AllocGlobal>(
     rt: &R,
     rows: &mut Rows,
@@ -203,36 +252,44 @@ fn tasks_alone<S: Site + Send + Sync, R: Threads + Wait + Sync + AllocGlobal>(
     requires fresh { AreFresh rows.old }
     requires books { AreBooks S.rows.units books.items }
     requires units { vec_len script.now.set_up.units ≡ S.rows.units }
-    requires few { (S.rows.units ≤ 64) × (S.rows.tasks ≤ 64) }
     requires requests { All CanBeDone script.now.commands.items }
 {
     let alloc = rt.alloc();
-    let units = script.set_up.units.len() as u16;
+    let units = rows.units();
     let (system, tasks, takers) = System::<S, UnitDevice>::new(alloc, rows, books)?;
-    let runners = runners(alloc, tasks, script)?;
-    let alarm = alarm_of(alloc, runners.as_slice())?;
-    if way.is_alarmed() {
+    let runners = runners(alloc, tasks)?;
+    let alarm = Alarm::of(alloc, runners.as_slice())?;
+    if way.is_raised() {
         alarm.lack_memory(0, Point::Take);
     }
-    let job = Job::new(script, &system, &alarm);
-    if let Way::Alone = way {
-        let short = short_alone(rt, alloc, &job, runners)?;
-        return Ok(Outcome::Short(short, told(rt, &system, units)?));
-    }
-    let gate = Drill {
-        alarm: &alarm,
-        point: way.point(),
+    let gate = Drill::new(&alarm, way);
+    let crew = crew_of(alloc, units, takers, way)?;
+    let program = ScriptTasks::new(script);
+    let runners = run_beside(rt, alloc, &system, &alarm, &gate, crew, runners, &program)?;
+    let (_, outcomes) = parted(alloc, runners)?;
+    Ok(Outcome::Ended(how_many_short(outcomes)?, told(rt, &system, units)?))
+}
+
+/// The workers of such a run.
+fn crew_of<'r, S: Site>(
+    alloc: Global,
+    units: u16,
+    takers: Vec<IscTaker<'r, S>>,
+    way: Way,
+) -> Result<Crew<'r, S>, AllocError>
+    requires { units ≡ S.rows.units }
+{
+    let handled = match way {
+        Way::Tasks => takers,
+        _ => Vec::new(alloc),
     };
-    let takers = match way {
-        Way::NoHandler => Vec::new(alloc),
-        _ => takers,
+    let served = match way {
+        Way::Alone => 0,
+        _ => 2,
     };
-    let crew = Crew::new(alloc, units, takers, two_of_each())?;
-    if !are_shares(&crew) {
-        return Err(Fault::Unmatched);
-    }
-    let fault = fault_of(run_commands(rt, alloc, &job, &gate, runners, crew));
-    Ok(Outcome::Ended(fault, told(rt, &system, units)?))
+    let mut crew = Crew::new(alloc, units, handled, two_of_each())?;
+    crew.channels.truncate(served);
+    Ok(crew)
 }
 
 /// Two channel workers and two handlers.
@@ -243,39 +300,18 @@ fn two_of_each() -> Workers {
     }
 }
 
-/// Whether each of two channel workers has units, and each of two handlers subclasses, whose number has the worker's
-/// for its remainder.
-fn are_shares<S: Site>(crew: &Crew<'_, S>) -> bool {
-    for (number, channel) in crew.channels.iter().enumerate() {
-        for unit in &channel.units {
-            if usize::from(*unit % 2) != number {
-                return false;
-            }
+/// How many tasks ended for want of memory. The others are to have collected all their posts.
+fn how_many_short(outcomes: Vec<Result<Lines, Fault>>) -> Result<usize, Fault> {
+    let mut short: usize = 0;
+    for outcome in outcomes {
+        match outcome {
+            Ok(lines) if lines.is_complete() => {}
+            Ok(_) => return Err(Fault::Unmatched),
+            Err(Fault::NoMemory) => short = short.saturating_add(1),
+            Err(fault) => return Err(fault),
         }
     }
-    for (number, takers) in crew.handlers.iter().enumerate() {
-        for taker in takers {
-            if usize::from(taker.isc() % 2) != number {
-                return false;
-            }
-        }
-    }
-    true
-}
-
-/// The fault of tasks that have ended, one that has not collected all its posts included.
-fn fault_of<'r, S: Site>(ended: Result<(Vec<Task<'r, S>>, Vec<Lines>), Fault>) -> Option<Fault> {
-    match ended {
-        Ok((_, lines)) => {
-            let complete = lines.iter().all(|of_task| of_task.is_complete());
-            if complete {
-                None
-            } else {
-                Some(Fault::Unmatched)
-            }
-        }
-        Err(fault) => Some(fault),
-    }
+    Ok(short)
 }
 
 /// What is printed of the requests of each task.
@@ -285,78 +321,6 @@ fn printed(alloc: Global, lines: &[Lines]) -> Result<Outcome, Fault>
     let mut text = Vec::new(alloc);
     write(alloc, lines, Output::Posts, &mut text)?;
     Ok(Outcome::Printed(text))
-}
-
-/// Runs a script as `run_on` does, without workers, and its tasks do not wait for their posts. What task 0 issued may
-/// begin before task 1 does.
-fn left<S: Site + Send + Sync, R: Threads + Wait + Sync>(
-    rt: &R,
-    alloc: Global,
-    rows: &mut Rows,
-    books: Vec<UnitBook<UnitDevice>>,
-    script: &Script,
-    begins: bool,
-) -> Result<Finished, Fault>
-    requires site { S.rows ≡ site_of rows.old }
-    requires fresh { AreFresh rows.old }
-    requires books { AreBooks S.rows.units books.items }
-    requires units { vec_len script.now.set_up.units ≡ S.rows.units }
-    requires few { (S.rows.units ≤ 64) × (S.rows.tasks ≤ 64) }
-    requires requests { All CanBeDone script.now.commands.items }
-{
-    let (system, tasks, _) = System::<S, UnitDevice>::new(alloc, rows, books)?;
-    let units = script.set_up.units.len() as u16;
-    let runners = runners(alloc, tasks, script)?;
-    let alarm = alarm_of(alloc, runners.as_slice())?;
-    let job = Job::new(script, &system, &alarm);
-    let (tasks, lines) = not_awaited(rt, alloc, &job, runners, begins)?;
-    ended(rt, alloc, system, tasks, lines, units)
-}
-
-/// Lets the tasks do their commands one after another, and not wait for their posts.
-fn not_awaited<'r, S: Site + Send + Sync, R: Threads + Wait + Sync>(
-    rt: &R,
-    alloc: Global,
-    job: &Job<'_, 'r, S>,
-    mut runners: Vec<Runner<'r, S>>,
-    begins: bool,
-) -> Result<(Vec<Task<'r, S>>, Vec<Lines>), Fault>
-    requires { ArePlaced (λ runner. runner.task.number) S.rows.tasks runners.items }
-    ensures tasks { IfOk result (λ parts. ArePlaced (λ task. task.number) S.rows.tasks parts.0.items) }
-    ensures lines { IfOk result (λ parts. length parts.1.items ≡ S.rows.tasks) }
-{
-    thread::for_each_mut(
-        rt,
-        runners.as_mut_slice(),
-        1,
-        &|place, runner| {
-            if begins && place == 1 {
-                purges::begin(rt, job);
-            }
-            let _ = runner.commands(rt, alloc, job);
-        },
-    );
-    parted(alloc, runners)
-}
-
-/// Runs the tasks one after another, and answers how many ended for want of memory.
-fn short_alone<'r, S: Site, R: Wait>(
-    rt: &R,
-    alloc: Global,
-    job: &Job<'_, 'r, S>,
-    runners: Vec<Runner<'r, S>>,
-) -> Result<usize, Fault> {
-    let mut short: usize = 0;
-    for runner in runners {
-        let mut runner = runner;
-        runner.run(rt, alloc, job);
-        match runner.into_parts() {
-            Ok(_) => {}
-            Err(Fault::NoMemory) => short = short.saturating_add(1),
-            Err(fault) => return Err(fault),
-        }
-    }
-    Ok(short)
 }
 
 /// How many requests and controls of tasks the traces of the units tell of. Their books have room for the requests in
@@ -383,11 +347,32 @@ fn told<S: Site, R: Wait>(
     Ok(count)
 }
 
-/// What comes of a script of these parts, on the units that have the DCBs of its first part alone, with rows and books
-/// of this room.
+/// Rows of this room for the tasks and units of a script, and books of this room.
+fn rows_and_books(
+    alloc: Global,
+    script: &Script,
+    room: usize,
+) -> Result<(Rows, Vec<UnitBook<UnitDevice>>), Fault>
+    requires tasks { (1 ≤ script.now.set_up.tasks) × (script.now.set_up.tasks ≤ 64) }
+    requires units { (1 ≤ vec_len script.now.set_up.units) × (vec_len script.now.set_up.units ≤ 64) }
+    requires some { 1 ≤ room }
+    requires few { room ≤ 65536 }
+    ensures tasks { IfOk result (λ made. made.0.tasks ≡ script.now.set_up.tasks) }
+    ensures units { IfOk result (λ made. made.0.units ≡ vec_len script.now.set_up.units) }
+    ensures fresh { IfOk result (λ made. AreFresh made.0) }
+    ensures books { IfOk result (λ made. AreBooks (vec_len script.now.set_up.units) made.1.items) }
+{
+    let books = script.books(alloc, room)?;
+    let units = script.set_up.units.len() as u16;
+    let rows = Rows::new(alloc, script.set_up.tasks, units, room, room)?;
+    Ok((rows, books))
+}
+
+/// What comes of a script of these parts, on the units that have the DCBs of its set-up alone, with rows and books of
+/// this room.
 fn run<R: Threads + Wait + Sync + AllocGlobal>(
     rt: &R,
-    units: &str,
+    set_up: [&str; 2],
     parts: &[&str],
     room: usize,
     way: Way,
@@ -396,26 +381,34 @@ fn run<R: Threads + Wait + Sync + AllocGlobal>(
     requires few { room ≤ 65536 }
 {
     let alloc = rt.alloc();
-    let mut text = Vec::from_slice(alloc, units.as_bytes())?;
+    let mut text = joined(alloc, &set_up)?;
+    let mounted = Script::parse(alloc, &text)?;
     for part in parts {
         text.extend_from_slice(part.as_bytes())?;
     }
     let script = Script::parse(alloc, &text)?;
+    // its requests can be made
     script.books(alloc, room)?;
-    let mounted = Script::parse(alloc, units.as_bytes())?;
-    let units = mounted.set_up.units.len();
-    if script.set_up.units.len() != units {
+    if script.set_up.units.len() != mounted.set_up.units.len() {
         return Err(Fault::Unmatched);
     }
-    let books = mounted.books(alloc, room)?;
-    let mut rows = Rows::new(alloc, mounted.set_up.tasks, units as u16, room, room)?;
-    on_rows::<Brand, R>(rt, &mut rows, books, &script, way)
+    let (mut rows, books) = rows_and_books(alloc, &mounted, room)?;
+    match way {
+        Way::Whole => {
+            let run = run_on(rt, alloc, rows, books, &script, two_of_each())?;
+            printed(alloc, &run.lines)
+        }
+        Way::Unawaited => unawaited(rt, rows, books, &script),
+        Way::Left => left::<Brand, R>(rt, &mut rows, books, &script, false),
+        Way::Begun => left::<Brand, R>(rt, &mut rows, books, &script, true),
+        _ => tasks_alone::<Brand, R>(rt, &mut rows, books, &script, way),
+    }
 }
 
 #[test]
 fn rows_and_books_of_one(rt: HostRuntime) -> Result<(), Fail> {
     let posts = Vec::from_slice(rt.alloc(), POSTS.as_bytes())?;
-    let outcome = run(&rt, UNITS, &[AREAS, EXCPS], 1, Way::Whole)?;
+    let outcome = run(&rt, [TWO_TASKS, UNITS], &[AREAS, EXCPS], 1, Way::Whole)?;
     assert_eq!(rt; outcome, Outcome::Printed(posts));
     Ok(())
 }
@@ -423,30 +416,38 @@ fn rows_and_books_of_one(rt: HostRuntime) -> Result<(), Fail> {
 /// A task has collected all its posts when it ends; where tasks do not, the end of the run gives them.
 #[test]
 fn tasks_wait_for_their_posts(rt: HostRuntime) -> Result<(), Fail> {
-    let outcome = run(&rt, UNITS, &[AREAS, EXCPS], 8, Way::Tasks)?;
-    assert_eq!(rt; outcome, Outcome::Ended(None, 12));
-    let posts = Vec::from_slice(rt.alloc(), POSTS.as_bytes())?;
-    let outcome = run(&rt, UNITS, &[AREAS, EXCPS], 8, Way::Left)?;
-    assert_eq!(rt; outcome, Outcome::Printed(posts));
+    let set_up = [TWO_TASKS, UNITS];
+    let outcome = run(&rt, set_up, &[AREAS, EXCPS], 8, Way::Tasks)?;
+    assert_eq!(rt; outcome, Outcome::Ended(0, 12));
+    for way in [Way::Unawaited, Way::Left] {
+        let outcome = run(&rt, set_up, &[AREAS, EXCPS], 8, way)?;
+        let posts = Vec::from_slice(rt.alloc(), POSTS.as_bytes())?;
+        assert_eq!(rt; outcome, Outcome::Printed(posts));
+    }
     Ok(())
 }
 
-/// Also where a worker alone was told of it: it is given the alarm of the run.
+/// Also where a worker alone was told of it: it wakes the tasks, which sleep.
 #[test]
 fn want_of_memory_ends_the_tasks(rt: HostRuntime) -> Result<(), Fail> {
+    let set_up = [TWO_TASKS, UNITS];
     let parts = [AREAS, EXCPS];
     for way in [
-        Way::Drill(Point::Run),
-        Way::Drill(Point::Interrupt),
-        Way::Alarmed,
-        Way::NoHandler,
+        Way::Late(Point::Take),
+        Way::Late(Point::Deliver),
+        Way::Raised,
+        Way::Alone,
     ] {
-        let outcome = run(&rt, UNITS, &parts, 8, way)?;
-        assert_eq!(rt; outcome, Outcome::Ended(Some(Fault::NoMemory), 12));
+        let outcome = run(&rt, set_up, &parts, 8, way)?;
+        assert_eq!(rt; outcome, Outcome::Ended(2, 12));
     }
-    for (room, told) in [(8, 12), (1, 2)] {
-        let outcome = run(&rt, UNITS, &parts, room, Way::Alone)?;
-        assert_eq!(rt; outcome, Outcome::Short(2, told));
+    let outcome = run(&rt, set_up, &parts, 1, Way::Alone)?;
+    assert_eq!(rt; outcome, Outcome::Ended(2, 2));
+    // it outranks the fault of a line, behind which the task does no more
+    for (first, last, told) in [(EXCPS, PURGE, 12), (PURGE, EXCPS, 6)] {
+        let parts = [SECOND, AREAS, first, last];
+        let outcome = run(&rt, set_up, &parts, 8, Way::Raised)?;
+        assert_eq!(rt; outcome, Outcome::Ended(2, told));
     }
     Ok(())
 }
@@ -456,21 +457,27 @@ fn want_of_memory_ends_the_tasks(rt: HostRuntime) -> Result<(), Fail> {
 #[test]
 fn controls_without_memory(rt: HostRuntime) -> Result<(), Fail> {
     for (control, units) in CONTROLS {
-        match run(&rt, FOUR_DCBS, &[control], 1, Way::Alone)? {
-            Outcome::Short(0, told) => assert_eq!(rt; told, units, "{control}"),
-            Outcome::Short(1, told) => assert!(rt; told < units, "{control}"),
+        match run(&rt, [ONE_TASK, FOUR_DCBS], &[control], 1, Way::Alone)? {
+            Outcome::Ended(0, told) => assert_eq!(rt; told, units, "{control}"),
+            Outcome::Ended(1, told) => assert!(rt; told < units, "{control}"),
             _ => return Err(Fail::from("another outcome")),
         }
     }
     Ok(())
 }
 
+/// The first fault of the first task that has one.
 #[test]
 fn task_that_ends_early_is_told(rt: HostRuntime) -> Result<(), Fail> {
-    for (commands, line) in [([PURGE, EXCPS], 9), ([EXCPS, PURGE], 21)] {
+    for (commands, line) in [
+        ([PURGE, EXCPS], 9),
+        ([EXCPS, PURGE], 21),
+        ([PURGE, PURGE], 9),
+        ([OTHERS_PURGE, PURGE], 10),
+    ] {
         let [first, last] = commands;
         let parts = [SECOND, AREAS, first, last];
-        let ended = run(&rt, UNITS, &parts, 1, Way::Whole);
+        let ended = run(&rt, [TWO_TASKS, UNITS], &parts, 1, Way::Whole);
         let name = FaultName::Name;
         assert_eq!(rt; ended, Err(Fault::Line { line, name }));
     }

@@ -116,7 +116,7 @@ fn rule_breakers(alloc: Global) -> Result<String, AllocError> {
 fn stepped<R: Threads + Wait + Sync + AllocGlobal>(rt: &R, script: &str) -> Result<String, Fail> {
     let mut output = Vec::new(rt.alloc());
     let mut reader = script.as_bytes();
-    report_script(rt, rt.alloc(), &mut reader, &mut output, 1, 1, true)?;
+    report_script(rt, rt.alloc(), &mut reader, &mut output, ONE_OF_EACH, true)?;
     Ok(String::from_utf8(output)?)
 }
 

@@ -85,7 +85,7 @@ fn readers_that_fail(rt: HostRuntime) -> Result<(), Fail> {
         let mut reader = Broken {
             bytes: &text[..count],
         };
-        let done = run_script(&rt, rt.alloc(), &mut reader, &mut output, 1, 1);
+        let done = run_script(&rt, rt.alloc(), &mut reader, &mut output, ONE_OF_EACH);
         assert_eq!(rt; done, Err(Fault::Unreadable), "{count}");
         assert!(rt; output.is_empty(), "{count}");
     }

@@ -55,12 +55,12 @@ pub const CLOSE: &str = "\
 #     4 task 0 request 1 started
 #     5 task 0 request 1 ran 1 command
 #     6 DCB 1 closed
-#     7 task 0 request 2 posted 48, CSW 000000 0000 0000, sense 0000, not started: purged
+#     7 task 0 request 2 posted 48, CSW 000000 0000 0000, sense 0000, not started: its DCB was closed
 #     8 task 0 request 1 started again, attempt 2
 #     9 task 0 request 1 ran 3 commands
 #    10 task 0 request 1 posted 7F, CSW 001048 0C00 0000, sense 0000
 #    11 task 0 request 3 arrived for DCB 1
-#    12 task 0 request 3 posted 48, CSW 000000 0000 0000, sense 0000, not started: purged
+#    12 task 0 request 3 posted 48, CSW 000000 0000 0000, sense 0000, not started: its DCB is not open
 ";
 
 pub const VIOLATION: &str = "\
@@ -69,5 +69,5 @@ pub const VIOLATION: &str = "\
 #     2 task 0 request 1 arrived for DCB 1, related
 #     3 task 0 request 2 arrived for DCB 1, related
 #     4 task 0 request 1 posted 42, CSW 000000 0000 0000, sense 0000, not started: its disk address is outside the extents
-#     5 task 0 request 2 posted 48, CSW 000000 0000 0000, sense 0000, not started: purged
+#     5 task 0 request 2 posted 48, CSW 000000 0000 0000, sense 0000, not started: a related request ended in error
 ";

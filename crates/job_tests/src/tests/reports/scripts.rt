@@ -66,7 +66,7 @@ end 3
 #     8 purge of task 0 with quiesce, nothing active
 #     9 DCB 1 closed
 #    10 task 0 request 2 arrived for DCB 1
-#    11 task 0 request 2 posted 48, CSW 000000 0000 0000, sense 0000, not started: purged
+#    11 task 0 request 2 posted 48, CSW 000000 0000 0000, sense 0000, not started: its DCB is not open
 #    12 DCB 2 reset
 #    13 task 0 request 3 arrived for DCB 2, related
 #    14 task 0 request 3 started

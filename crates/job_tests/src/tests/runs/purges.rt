@@ -1,6 +1,8 @@
 //! Purges of a script that meet an active request between two of its commands, requests that wait, and one that has not
 //! arrived.
 
+ghost use Rattle.std.specs.Prelude.{◌≡◌};
+
 use super::*;
 use std::process::Abort;
 
@@ -55,10 +57,12 @@ const PURGES: [(&str, [&str; 5]); 4] = [
 
 /// What stands in the intake rows of units 0 and 1 arrives; the first request to unit 0 is started, and does one
 /// command.
-pub fn begin<S: Site, R: Wait>(rt: &R, job: &Job<'_, '_, S>) {
+pub fn begin<S: Site, R: Wait>(rt: &R, system: &System<'_, S, UnitDevice>, units: usize)
+    requires { units ≡ S.rows.units }
+{
     for unit in [0, 1] {
-        if usize::from(unit) < job.script.set_up.units.len() {
-            let mut state = job.system.lock_of(unit).lock(rt);
+        if usize::from(unit) < units {
+            let mut state = system.lock_of(unit).lock(rt);
             for _ in 0..4 {
                 let _ = state.take(rt);
             }
@@ -86,7 +90,7 @@ fn expected(alloc: Global, ends: [&str; 5]) -> Result<Vec<u8>, AllocError> {
 fn purges_meet_what_is_under_way(rt: HostRuntime) -> Result<(), Fail> {
     for (purge, ends) in PURGES {
         let parts = [PROGRAMS, ISSUED, purge];
-        let outcome = run(&rt, FOUR_DCBS, &parts, 8, Way::Begun)?;
+        let outcome = run(&rt, [TWO_TASKS, FOUR_DCBS], &parts, 8, Way::Begun)?;
         let printed = expected(rt.alloc(), ends)?;
         assert_eq!(rt; outcome, Outcome::Printed(printed), "{purge}");
     }

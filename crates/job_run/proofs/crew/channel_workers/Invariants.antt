@@ -1,5 +1,0 @@
-use Rattle.job_run.specs.Shares.{AreSharedSoFar, below}
-use Rattle.job_run.proofs.crew.channel_workers.Given as goal
-
-abbrev pub invariant-loop-number : goal.invariant-loop-number
-invariant-loop-number g l = AreSharedSoFar (λ channel. channel.units.items) (λ unit. unit) l.count l.number (below l.units) l.channels.items

@@ -1,0 +1,18 @@
+use Rattle.std.proofs.Common.{ap}
+use Rattle.job_script.specs.Commands.{dcb_of, excp_of}
+use Rattle.job_run.proofs.job.Job.command.Goals as goal
+
+pub issue-requires-clause-unit : goal.issue-requires-clause-unit
+issue-requires-clause-unit g c = c.requires.units c.in-Excp.excp.dcb (ap dcb_of c.in-Excp.is)
+
+pub issue-requires-clause-request : goal.issue-requires-clause-request
+issue-requires-clause-request g c = c.requires.request c.in-Excp.excp (ap excp_of c.in-Excp.is)
+
+pub purge-requires : goal.purge-requires
+purge-requires g c = c.requires.units c.in-Purge.dcb (ap dcb_of c.in-Purge.is)
+
+pub close-requires : goal.close-requires
+close-requires g c = c.requires.units c.in-Close.dcb (ap dcb_of c.in-Close.is)
+
+pub reset-requires : goal.reset-requires
+reset-requires g c = c.requires.units c.in-Reset.dcb (ap dcb_of c.in-Reset.is)

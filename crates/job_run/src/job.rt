@@ -1,0 +1,147 @@
+//! What one task does of a script.
+
+ghost use Rattle.std.specs.Prelude.{◌≡◌, ◌<◌, All, vec_len};
+ghost use Rattle.job_script.specs.Commands.{CanBeDone, CanIssue, NamesUnits};
+
+use crate::lines::Lines;
+use crate::unit_calls::{close, purge, purge_task, reset};
+use crossbeam_utils::Backoff;
+use excp_system::{Site, System};
+use fifo_row::Full;
+use job_script::{Action, Command, Excp, Fault, FaultName, LineFault, Script};
+use std::alloc::{AllocError, Global};
+use std::sync::Wait;
+use system_threads::{Alarm, Client};
+use unit_device::UnitDevice;
+
+/// The most requests that a task has under way, so that the storage of a run does not grow with all its requests
+/// (profile).
+const MOST_UNDER_WAY: usize = 256;
+
+/// What the tasks of a run share: the script, the system of its units, and what wakes them.
+#[derive(Drop)]
+pub struct Job<'a, 'r, S: Site> {
+    script: &'a Script,
+    system: &'a System<'r, S, UnitDevice>,
+    alarm: &'a Alarm,
+    ghost units_are: { vec_len script.now.set_up.units ≡ S.rows.units },
+    ghost requests_can_be_made: { All CanBeDone script.now.commands.items },
+}
+
+impl<'a, 'r, S: Site> Job<'a, 'r, S> {
+    /// The job of a script, whose requests can be made, on the system of its units.
+    pub fn new(
+        script: &'a Script,
+        system: &'a System<'r, S, UnitDevice>,
+        alarm: &'a Alarm,
+    ) -> Job<'a, 'r, S>
+        requires units { vec_len script.now.set_up.units ≡ S.rows.units }
+        requires requests { All CanBeDone script.now.commands.items }
+    {
+        Job {
+            script,
+            system,
+            alarm,
+        }
+    }
+
+    /// Does the commands of a task, in order, up to the first fault.
+    pub fn commands<R: Wait>(
+        &self,
+        rt: &R,
+        alloc: Global,
+        client: &mut Client<'_, S>,
+        lines: &mut Lines,
+    ) -> Result<(), Fault>
+        ensures { client.new.number ≡ client.old.number }
+    {
+        let number = client.number();
+        for command in &self.script.commands {
+            if command.task == number {
+                if let Err(fault) = self.command(rt, alloc, client, lines, command) {
+                    return Err(fault.at(command.line));
+                }
+            }
+        }
+        Ok(())
+    }
+
+    /// Does one command.
+    fn command<R: Wait>(
+        &self,
+        rt: &R,
+        alloc: Global,
+        client: &mut Client<'_, S>,
+        lines: &mut Lines,
+        command: &Command,
+    ) -> Result<(), LineFault>
+        requires units { NamesUnits S.rows.units command.now }
+        requires request { CanBeDone command.now }
+        ensures { client.new.number ≡ client.old.number }
+    {
+        match &command.action {
+            Action::Excp(excp) => self.issue(rt, alloc, client, lines, excp)?,
+            Action::Purge(dcb, mode) => purge(rt, self.system, *dcb, *mode)?,
+            Action::PurgeTask(task, mode) => purge_task(rt, self.system, *task, *mode)?,
+            Action::Close(dcb) => close(rt, self.system, *dcb)?,
+            Action::Reset(dcb) => reset(rt, self.system, *dcb)?,
+            Action::Wait => self.collect(rt, client, lines)?,
+        }
+        Ok(())
+    }
+
+    /// Issues a request. Where as many as may be are under way, or the row of its unit is full, it collects what was
+    /// posted, and tries again.
+    fn issue<R: Wait>(
+        &self,
+        rt: &R,
+        alloc: Global,
+        client: &mut Client<'_, S>,
+        lines: &mut Lines,
+        excp: &Excp,
+    ) -> Result<(), LineFault>
+        requires unit { excp.now.dcb.unit < S.rows.units }
+        requires request { CanIssue excp.now }
+        ensures { client.new.number ≡ client.old.number }
+    {
+        let Some(name) = client.name(excp.dcb.unit) else {
+            return Err(LineFault::Named(FaultName::Request));
+        };
+        let mut request = excp.request(alloc, name)?;
+        let idle = Backoff::new();
+        for _ in rt.forever() {
+            if client.awaited() < MOST_UNDER_WAY {
+                match client.excp(rt, request) {
+                    Ok(()) => return Ok(()),
+                    Err(Full(again)) => request = again,
+                }
+            }
+            match client.next_post(rt, self.alarm)? {
+                Some(posted) => {
+                    lines.fill(&posted);
+                    idle.reset();
+                }
+                None => idle.snooze(),
+            }
+        }
+        unreachable!()
+    }
+
+    /// Collects the posts of all requests that a task has issued.
+    pub fn collect<R: Wait>(
+        &self,
+        rt: &R,
+        client: &mut Client<'_, S>,
+        lines: &mut Lines,
+    ) -> Result<(), AllocError>
+        ensures { client.new.number ≡ client.old.number }
+    {
+        for _ in rt.forever() {
+            match client.next_post(rt, self.alarm)? {
+                Some(posted) => lines.fill(&posted),
+                None => return Ok(()),
+            }
+        }
+        unreachable!()
+    }
+}

@@ -1,0 +1,53 @@
+//! The tasks of a script.
+
+ghost use Rattle.std.specs.Prelude.{◌≡◌, ℕ, All, vec_len};
+ghost use Rattle.job_script.specs.Commands.{CanBeDone};
+
+use crate::job::Job;
+use crate::lines::Lines;
+use excp_system::{Site, System};
+use job_script::{Fault, Script};
+use std::alloc::Global;
+use std::sync::Wait;
+use system_threads::{Alarm, Client, Program};
+use unit_device::UnitDevice;
+
+/// Each task does its commands of the script, up to its first fault, and waits until all its requests were posted. It
+/// leaves what is printed of them, or why it ended; want of memory of a worker outranks the fault of a line.
+#[derive(Drop)]
+pub struct ScriptTasks<'a> {
+    script: &'a Script,
+    ghost requests_can_be_made: { All CanBeDone script.now.commands.items },
+}
+
+impl<'a> ScriptTasks<'a> {
+    /// The tasks of a script whose requests can be made.
+    pub fn new(script: &'a Script) -> ScriptTasks<'a>
+        requires { All CanBeDone script.now.commands.items }
+        ensures { result.script.now ≡ script.now }
+    {
+        ScriptTasks { script }
+    }
+}
+
+impl<'a> Program<UnitDevice> for ScriptTasks<'a> {
+    type Outcome = Result<Lines, Fault>;
+
+    ghost units = { λ tasks. vec_len tasks.script.now.set_up.units };
+
+    fn run<S: Site, R: Wait>(
+        &self,
+        rt: &R,
+        alloc: Global,
+        system: &System<'_, S, UnitDevice>,
+        alarm: &Alarm,
+        client: &mut Client<'_, S>,
+    ) -> Result<Lines, Fault> {
+        let mut lines = Lines::of_task(alloc, self.script, client.number())?;
+        let job = Job::new(self.script, system, alarm);
+        let done = job.commands(rt, alloc, client, &mut lines);
+        job.collect(rt, client, &mut lines)?;
+        done?;
+        Ok(lines)
+    }
+}

@@ -1,0 +1,22 @@
+use Rattle.std.proofs.Common.{◌≡◌, ◌+◌, List, [], ◌∷◌, ◌++◌, length, rules, sym, ap, ◌∙◌, subst, arith, length-append, append_assoc}
+use Rattle.std.specs.Vec.Iter.{into_iter_items}
+use Rattle.std.proofs.lemmas.Grind.{common_steps}
+use Rattle.excp_system.specs.Drained.{ArePlaced}
+use Rattle.excp_system.specs.States.{TaskState}
+use Rattle.system_threads.proofs.Placing.{placed_more}
+use Rattle.system_threads.proofs.runner.parted.Goals as goal
+
+pub loop-runner-preserved : goal.loop-runner-preserved
+loop-runner-preserved g c =
+    let i = c.loop-runner.invariant in
+    let runner = c.in-Some.runner in
+    let yielded = c.loop-runner.yielded in
+    let rest = into_iter_items c.next.new.self in
+    let task = c.into_task.result in
+    let all : c.args.runners.items ≡ yielded ++ runner ∷ rest = first_of (search rules, grind (arith, common_steps)) in
+    record {
+      all = all ∙ sym (append_assoc yielded (runner ∷ []) rest);
+      made = subst (λ (l : List TaskState). ArePlaced (λ task. task.number) (length (yielded ++ runner ∷ [])) l) (sym c.in_ok-push.ensures.items)
+          (placed_more (λ runner. runner.client.number) (λ (task : TaskState). task.number) g.S.Site.rows.tasks c.args.runners.items yielded rest runner c.loop-runner.tasks.items task c.requires.placed all i.made (ap (λ (w : TaskState). w.number) c.into_task.ensures));
+      kept = ap length c.in_ok-push-2.ensures.items ∙ length-append c.loop-runner.outcomes.items (c.in-Some-outcome.outcome ∷ []) ∙ ap (λ n. n + 1) i.kept ∙ sym (length-append yielded (runner ∷ []));
+    }

@@ -1,0 +1,11 @@
+use Rattle.std.proofs.Common.{◌≡◌, ◌++◌, length}
+use Rattle.std.specs.Vec.Iter.{into_iter_items}
+use Rattle.excp_system.specs.Drained.{ArePlaced}
+use Rattle.system_threads.proofs.runner.parted.Given as goal
+
+abbrev pub invariant-loop-runner : goal.invariant-loop-runner
+invariant-loop-runner g l = record {
+  all : l.fn.runners.items ≡ l.yielded ++ into_iter_items l.runner-iterator;
+  made : ArePlaced (λ task. task.number) (length l.yielded) l.tasks.items;
+  kept : length l.outcomes.items ≡ length l.yielded;
+}

@@ -1,0 +1,184 @@
+//! A task that sleeps until its requests are posted.
+
+ghost use Rattle.std.specs.Prelude.{◌≡◌, ◌<◌, ◌≤◌, ◌-◌, ◌^◌, length, IfErr, IfNone, IfOk, IfSome, OnErr, OnOk};
+ghost use Rattle.request_piece.specs.Requests.{request_of};
+ghost use Rattle.excp_system.specs.Calls.{Collects, IntakeWasFull, Issues, PostRowWasEmpty, next_name};
+ghost use Rattle.excp_system.specs.States.{sent_by};
+ghost use Rattle.system_threads.specs.Issuing.{IssueRefused};
+
+use crate::alarm::Alarm;
+use crossbeam_utils::Backoff;
+use crossbeam_utils::sync::{Parker, Unparker};
+use excp_system::{Site, Task};
+use fifo_row::Full;
+use io_area::Area;
+use request_piece::{Name, Posted, Request, RequestError};
+use std::alloc::{AllocError, Global};
+use std::marker::Model;
+use std::sync::Wait;
+use thiserror::Error;
+
+/// Why a request is not issued.
+#[derive(Clone, Copy, PartialEq, Eq, Debug, Error)]
+pub enum IssueError {
+    /// The task has sent as many requests to the unit as there are numbers.
+    #[error("the last number of a request to this unit is used")]
+    NoName,
+    /// The area describes no request, or there is no memory for it.
+    #[error("{0}")]
+    Request(RequestError),
+    /// There was no room in the unit's row.
+    #[error("the row of the unit is full")]
+    Full,
+}
+
+/// A task that counts which of its requests it still awaits, and sleeps until the next of them is posted. Contracts see
+/// the task: its number, what it sent to each unit, and what it collected.
+#[derive(Drop)]
+pub struct Client<'r, S: Site> {
+    task: Task<'r, S>,
+    awaited: usize,
+    parker: Parker,
+}
+
+impl<'r, S: Site> Model for Client<'r, S> {
+    ghost use Rattle.excp_system.specs.States.{TaskState};
+
+    ghost Value = { TaskState };
+
+    ghost view = { λ c. c.task };
+}
+
+impl<'r, S: Site> Client<'r, S> {
+    /// The client of a task that awaits no request.
+    pub(crate) fn new(alloc: Global, task: Task<'r, S>) -> Result<Client<'r, S>, AllocError>
+        ensures { IfOk result (λ client. client ≡ task.entry) }
+    {
+        Ok(Client {
+            task,
+            awaited: 0,
+            parker: Parker::new(alloc)?,
+        })
+    }
+
+    /// What wakes it.
+    pub(crate) fn unparker(&self) -> Result<Unparker, AllocError> {
+        self.parker.unparker().clone()
+    }
+
+    /// The number of the task.
+    pub fn number(&self) -> u16
+        ensures { result ≡ self.now.number }
+    {
+        self.task.number()
+    }
+
+    /// How many of its requests it has issued and not collected.
+    pub fn awaited(&self) -> usize {
+        self.awaited
+    }
+
+    /// The name of the next request to a unit, and none after the last number, 4,294,967,295 (profile).
+    pub fn name(&self, unit: u16) -> Option<Name>
+        requires { unit < S.rows.units }
+        ensures name { IfSome result (λ name. name ≡ next_name self.now unit) }
+        ensures last { IfNone result (2 ^ 32 - 1 ≤ length (sent_by self.now unit)) }
+    {
+        self.task.name(unit)
+    }
+
+    /// Issues a request, whose name is the next to its unit, as [`Task::excp`]. It comes back only where the unit's row
+    /// was full at one moment of the call.
+    pub fn excp<R: Wait>(&mut self, rt: &R, request: Request) -> Result<(), Full<Request>>
+        requires unit { request.unit < S.rows.units }
+        requires name { request.name ≡ next_name self.old request.unit }
+        ensures accepted { OnOk result (Issues self.old request self.new) }
+        ensures handed_back { IfErr result (λ full. full.0 ≡ request) }
+        ensures unchanged { OnErr result (self.new ≡ self.old) }
+        ensures was_full { OnErr result (IntakeWasFull S.rows self.old request.unit) }
+    {
+        self.task.excp(rt, request)?;
+        self.awaited = self.awaited.saturating_add(1);
+        Ok(())
+    }
+
+    /// Issues the request that the IOB at the address `iob` of an area describes, to a DCB of a unit (DFSMSdfp Advanced
+    /// Services, EXCP). It is refused, with the area, where the last number is used, where the area describes no
+    /// request, and where the unit's row was full at one moment of the call.
+    pub fn issue<R: Wait>(
+        &mut self,
+        rt: &R,
+        alloc: Global,
+        unit: u16,
+        dcb: u16,
+        iob: u32,
+        area: Area,
+    ) -> Result<(), (IssueError, Area)>
+        requires { unit < S.rows.units }
+        ensures accepted { OnOk result (Issues self.old (request_of (next_name self.old unit) unit dcb iob area) self.new) }
+        ensures refused { IfErr result (λ e. IssueRefused S.rows self.old unit dcb iob area e.0) }
+        ensures given_back { IfErr result (λ e. e.1 ≡ area) }
+        ensures unchanged { OnErr result (self.new ≡ self.old) }
+    {
+        let Some(name) = self.name(unit) else {
+            return Err((IssueError::NoName, area));
+        };
+        match Request::new(alloc, name, unit, dcb, iob, area) {
+            Ok(request) => self
+                .excp(rt, request)
+                .map_err(|full| (IssueError::Full, area_of(full))),
+            Err((error, area)) => Err((IssueError::Request(error), area)),
+        }
+    }
+
+    /// Collects the next post of its requests, and sleeps until there is one. Where there was none at one moment of the
+    /// call it ends for want of memory if a worker met that, as a post may never come, even where none is awaited; else
+    /// it answers none where none is awaited. The alarm is to be that of the run. It takes no memory.
+    pub fn next_post<R: Wait>(
+        &mut self,
+        rt: &R,
+        alarm: &Alarm,
+    ) -> Result<Option<Posted>, AllocError>
+        ensures collected { IfOk result (λ next. IfSome next (λ posted. Collects self.old posted self.new)) }
+        ensures of_unit { IfOk result (λ next. IfSome next (λ posted. posted.unit < S.rows.units)) }
+        ensures none { IfOk result (λ next. IfNone next (self.new ≡ self.old)) }
+        ensures was_empty { IfOk result (λ next. IfNone next (PostRowWasEmpty S.rows self.old)) }
+        ensures unchanged { OnErr result (self.new ≡ self.old) }
+        ensures looked { OnErr result (PostRowWasEmpty S.rows self.old) }
+    {
+        let idle = Backoff::new();
+        for _ in rt.forever() {
+            if let Some(posted) = self.task.take_post(rt) {
+                self.awaited = self.awaited.saturating_sub(1);
+                return Ok(Some(posted));
+            }
+            if alarm.raised() {
+                return Err(AllocError);
+            }
+            if self.awaited == 0 {
+                return Ok(None);
+            }
+            if idle.is_completed() {
+                self.parker.park(rt);
+            } else {
+                idle.snooze();
+            }
+        }
+        unreachable!()
+    }
+
+    /// The task.
+    pub fn into_task(self) -> Task<'r, S>
+        ensures { result ≡ self.entry }
+    {
+        self.task
+    }
+}
+
+/// The area of a request that came back.
+fn area_of(full: Full<Request>) -> Area
+    ensures { result ≡ full.0.area }
+{
+    let (_, piece) = full.0.into_parts();
+    Box::into_inner(piece).area
+}

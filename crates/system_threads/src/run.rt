@@ -1,0 +1,226 @@
+//! A run: the tasks of a system, each on a thread of its own, beside its workers.
+
+ghost use Rattle.std.specs.Prelude.{◌≡◌, ◌<◌, All, IfOk, is_some, length, true};
+ghost use Rattle.excp_system.specs.Drained.{ArePlaced};
+ghost use Rattle.excp_system.specs.Opening.{AreBooks, AreFresh, site_of};
+ghost use Rattle.post_ledger.specs.Report.{AreIdle, AreLegal, IsFor};
+
+use crate::alarm::Alarm;
+use crate::crew::{Crew, Workers, start};
+use crate::program::Program;
+use crate::runner::{Runner, parted, runners};
+use device_port::Device;
+use excp_system::{Gate, IscTaker, Rows, Site, Stop, System, Task};
+use post_ledger::{Cause, Report, finish};
+use std::alloc::{AllocError, Global};
+use std::marker::Brand;
+use std::sync::Wait;
+use std::thread;
+use std::thread::Threads;
+use unit_book::UnitBook;
+
+/// The most tasks of a system, each of which has a thread of its own (profile).
+const MOST_TASKS: usize = 64;
+
+/// Runs the tasks of a system of these rows and books by a program, beside so many workers, and brings the run to its
+/// end. Answers the account of the run, which holds all posts that the tasks have not collected, and, in order of tasks,
+/// what each has left behind.
+///
+/// A worker that meets want of memory goes on, and wakes the tasks, whose [`Client::next_post`](crate::Client::next_post)
+/// tells them of it. The run is refused, and dropped, where there is no memory for what it is made of, and where its
+/// end wants memory and, tried once more from where it stands, wants it again.
+pub fn run_program<D: Device + Send + Sync, P: Program<D>, R: Threads + Wait + Sync>(
+    rt: &R,
+    alloc: Global,
+    mut rows: Rows,
+    books: Vec<UnitBook<D>>,
+    workers: Workers,
+    program: &P,
+) -> Result<(Report<D>, Vec<P::Outcome>), Cause>
+    requires fresh { AreFresh rows }
+    requires books { AreBooks rows.units books.items }
+    requires units { rows.units ≡ P.units program.now }
+    ensures report { IfOk result (λ done. IsFor rows.units rows.tasks done.0) }
+    ensures legal { IfOk result (λ done. AreLegal D.meaning done.0) }
+    ensures idle { IfOk result (λ done. AreIdle done.0) }
+    ensures outcomes { IfOk result (λ done. length done.1.items ≡ rows.tasks) }
+{
+    run_at::<Brand, D, P, R>(rt, alloc, &mut rows, books, workers, program)
+}
+
+/// Does so on the system of a site.
+fn run_at<S: Site + Send + Sync, D: Device + Send + Sync, P: Program<D>, R: Threads + Wait + Sync>(
+    rt: &R,
+    alloc: Global,
+    rows: &mut Rows,
+    books: Vec<UnitBook<D>>,
+    workers: Workers,
+    program: &P,
+) -> Result<(Report<D>, Vec<P::Outcome>), Cause>
+    requires site { S.rows ≡ site_of rows.old }
+    requires fresh { AreFresh rows.old }
+    requires books { AreBooks S.rows.units books.items }
+    requires units { S.rows.units ≡ P.units program.now }
+    ensures report { IfOk result (λ done. IsFor S.rows.units S.rows.tasks done.0) }
+    ensures legal { IfOk result (λ done. AreLegal D.meaning done.0) }
+    ensures idle { IfOk result (λ done. AreIdle done.0) }
+    ensures outcomes { IfOk result (λ done. length done.1.items ≡ S.rows.tasks) }
+{
+    let units = rows.units();
+    let used = subclasses_of(books.as_slice());
+    let (system, tasks, mut takers) = System::<S, D>::new(alloc, rows, books)?;
+    takers.retain(|taker| is_used(&used, taker));
+    let crew = Crew::new(alloc, units, takers, workers)?;
+    let runners = runners(alloc, tasks)?;
+    let alarm = Alarm::of(alloc, runners.as_slice())?;
+    let runners = run_beside(rt, alloc, &system, &alarm, &alarm, crew, runners, program)?;
+    let (tasks, outcomes) = parted(alloc, runners)?;
+    let report = brought_to_end(rt, alloc, system, tasks)?;
+    Ok((report, outcomes))
+}
+
+/// Which interruption subclasses the units of these books have. To the others no notice comes.
+fn subclasses_of<D: Device>(books: &[UnitBook<D>]) -> [bool; 256] {
+    let mut used = [false; 256];
+    for book in books {
+        used[usize::from(book.isc())] = true;
+    }
+    used
+}
+
+/// Whether a taker of notices is of one of these subclasses.
+fn is_used<S: Site>(used: &[bool; 256], taker: &IscTaker<'_, S>) -> bool {
+    used[usize::from(taker.isc())]
+}
+
+/// Brings a run to its end whose workers have ended; once more from where it stands where that was refused.
+fn brought_to_end<'r, S: Site, D: Device, R: Wait>(
+    rt: &R,
+    alloc: Global,
+    system: System<'r, S, D>,
+    tasks: Vec<Task<'r, S>>,
+) -> Result<Report<D>, Cause>
+    requires { ArePlaced (λ task. task.number) S.rows.tasks tasks.items }
+    ensures complete { IfOk result (λ report. IsFor S.rows.units S.rows.tasks report) }
+    ensures legal { IfOk result (λ report. AreLegal D.meaning report) }
+    ensures idle { IfOk result (λ report. AreIdle report) }
+{
+    let left = match finish(rt, alloc, system, tasks) {
+        Ok(report) => return Ok(report),
+        Err(left) => left,
+    };
+    match left.resume(rt) {
+        Ok(report) => Ok(report),
+        Err(left) => Err(left.cause()),
+    }
+}
+
+/// Runs all tasks by the program beside the workers, which pass this gate, and stops and joins these. The gate has to
+/// hand on to the alarm what it is told of posts and of want of memory, since the tasks sleep until they are woken by
+/// it; the alarm has to be [`Alarm::of`] these runners. Where a worker cannot be started no task runs, and there is want
+/// of memory.
+pub fn run_beside<
+    'r,
+    S: Site + Send + Sync,
+    D: Device + Send + Sync,
+    G: Gate + Sync,
+    P: Program<D>,
+    R: Threads + Wait + Sync,
+>(
+    rt: &R,
+    alloc: Global,
+    system: &System<'r, S, D>,
+    alarm: &Alarm,
+    gate: &G,
+    crew: Crew<'r, S>,
+    runners: Vec<Runner<'r, S, P::Outcome>>,
+    program: &P,
+) -> Result<Vec<Runner<'r, S, P::Outcome>>, AllocError>
+    requires placed { ArePlaced (λ runner. runner.client.number) S.rows.tasks runners.items }
+    requires units { S.rows.units ≡ P.units program.now }
+    ensures placed { IfOk result (λ after. ArePlaced (λ runner. runner.client.number) S.rows.tasks after.items) }
+    ensures ran { IfOk result (λ after. All (λ runner. is_some runner.outcome ≡ true) after.items) }
+{
+    let Crew { channels, handlers } = crew;
+    let channels = channels.as_slice();
+    let stop = Stop::new();
+    let stop = &stop;
+    thread::scope(
+        thread::scope_env(),
+        rt,
+        move |scope| -> Result<Vec<Runner<'_, S, P::Outcome>>, AllocError>
+            requires placed { ArePlaced (λ runner. runner.client.number) S.rows.tasks runners.items }
+            requires units { S.rows.units ≡ P.units program.now }
+            ensures placed { IfOk result (λ after. ArePlaced (λ runner. runner.client.number) S.rows.tasks after.items) }
+            ensures ran { IfOk result (λ after. All (λ runner. is_some runner.outcome ≡ true) after.items) }
+        {
+            let mut runners = runners;
+            if let Err(error) = start(rt, alloc, scope, system, gate, channels, handlers, stop) {
+                stop.raise();
+                return Err(error);
+            }
+            run_each(
+                rt,
+                alloc,
+                system,
+                alarm,
+                runners.as_mut_slice(),
+                MOST_TASKS,
+                program,
+            );
+            stop.raise();
+            Ok(runners)
+        },
+    )
+}
+
+/// Runs all tasks by the program in at most so many threads.
+fn run_each<
+    'r,
+    S: Site + Send + Sync,
+    D: Device + Send + Sync,
+    P: Program<D>,
+    R: Threads + Wait + Sync,
+>(
+    rt: &R,
+    alloc: Global,
+    system: &System<'_, S, D>,
+    alarm: &Alarm,
+    runners: &mut [Runner<'r, S, P::Outcome>],
+    threads: usize,
+    program: &P,
+)
+    requires threads { 0 < threads }
+    requires placed { ArePlaced (λ runner. runner.client.number) S.rows.tasks runners.old }
+    requires units { S.rows.units ≡ P.units program.now }
+    ensures placed { ArePlaced (λ runner. runner.client.number) S.rows.tasks runners.new }
+    ensures ran { All (λ runner. is_some runner.outcome ≡ true) runners.new }
+{
+    thread::for_each_mut(
+        rt,
+        runners,
+        threads,
+        &|_, runner|
+            requires { S.rows.units ≡ P.units program.now }
+            ensures number { runner.exit.now.client.number ≡ runner.entry.now.client.number }
+            ensures ran { is_some runner.exit.now.outcome ≡ true }
+        { run_one(rt, alloc, system, alarm, runner, program) },
+    );
+}
+
+/// Runs one task by the program.
+fn run_one<'r, S: Site, D: Device, P: Program<D>, R: Wait>(
+    rt: &R,
+    alloc: Global,
+    system: &System<'_, S, D>,
+    alarm: &Alarm,
+    runner: &mut Runner<'r, S, P::Outcome>,
+    program: &P,
+)
+    requires { S.rows.units ≡ P.units program.now }
+    ensures number { runner.new.client.number ≡ runner.old.client.number }
+    ensures ran { is_some runner.new.outcome ≡ true }
+{
+    let outcome = program.run(rt, alloc, system, alarm, &mut runner.client);
+    runner.outcome = Some(outcome);
+}
