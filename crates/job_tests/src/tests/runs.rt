@@ -457,7 +457,7 @@ fn want_of_memory_ends_the_tasks(rt: HostRuntime) -> Result<(), Fail> {
 #[test]
 fn controls_without_memory(rt: HostRuntime) -> Result<(), Fail> {
     for (control, units) in CONTROLS {
-        match run(&rt, [ONE_TASK, FOUR_DCBS], &[control], 1, Way::Alone)? {
+        match run(&rt, [ONE_TASK, FOUR_DCBS], &[control], 1, Way::Tasks)? {
             Outcome::Ended(0, told) => assert_eq!(rt; told, units, "{control}"),
             Outcome::Ended(1, told) => assert!(rt; told < units, "{control}"),
             _ => return Err(Fail::from("another outcome")),
