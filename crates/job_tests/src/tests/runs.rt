@@ -125,6 +125,8 @@ enum Way {
     Raised,
     /// And there is no worker, and one met want of memory before the tasks began.
     Alone,
+    /// And there is no worker.
+    Unserved,
 }
 
 impl Way {
@@ -284,7 +286,7 @@ fn crew_of<'r, S: Site>(
         _ => Vec::new(alloc),
     };
     let served = match way {
-        Way::Alone => 0,
+        Way::Alone | Way::Unserved => 0,
         _ => 2,
     };
     let mut crew = Crew::new(alloc, units, handled, two_of_each())?;
@@ -457,7 +459,7 @@ fn want_of_memory_ends_the_tasks(rt: HostRuntime) -> Result<(), Fail> {
 #[test]
 fn controls_without_memory(rt: HostRuntime) -> Result<(), Fail> {
     for (control, units) in CONTROLS {
-        match run(&rt, [ONE_TASK, FOUR_DCBS], &[control], 1, Way::Tasks)? {
+        match run(&rt, [ONE_TASK, FOUR_DCBS], &[control], 1, Way::Unserved)? {
             Outcome::Ended(0, told) => assert_eq!(rt; told, units, "{control}"),
             Outcome::Ended(1, told) => assert!(rt; told < units, "{control}"),
             _ => return Err(Fail::from("another outcome")),
