@@ -10,6 +10,4 @@ mod endings;
 #[cfg(test)]
 mod fixtures;
 #[cfg(test)]
-mod stress;
-#[cfg(test)]
 mod units;

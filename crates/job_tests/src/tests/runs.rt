@@ -9,7 +9,6 @@ ghost use Rattle.job_run.specs.Complete.{IsComplete};
 mod not_awaited;
 mod purges;
 
-use super::joined;
 use excp_system::{Gate, IscTaker, Point, Rows, Site, System};
 use job_run::{Lines, Output, ScriptTasks, ended, run_on, write};
 use job_script::{Fault, FaultName, Script};
@@ -383,7 +382,8 @@ fn run<R: Threads + Wait + Sync + AllocGlobal>(
     requires few { room ≤ 65536 }
 {
     let alloc = rt.alloc();
-    let mut text = joined(alloc, &set_up)?;
+    let mut text = Vec::from_slice(alloc, set_up[0].as_bytes())?;
+    text.extend_from_slice(set_up[1].as_bytes())?;
     let mounted = Script::parse(alloc, &text)?;
     for part in parts {
         text.extend_from_slice(part.as_bytes())?;
