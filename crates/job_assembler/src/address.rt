@@ -9,7 +9,11 @@ use crate::labels::{Labels, is_label};
 const NO_ADDRESS: &str =
     "no address: a label, * or a number is wanted, with +N or -N behind it or without";
 
-const UNDEFINED: &str = "no label of this area, LABEL: in front of a statement defines one";
+/// What is told of a label that its area does not define.
+pub const UNDEFINED: &str = "no label of this area, LABEL: in front of a statement defines one";
+
+/// What is told of one that ORG names before it is defined.
+pub const NOT_EARLIER: &str = "no label of an earlier line of this area, ORG wants one";
 
 const NO_PLACE: &str = "no statement whose address it could be, a label is wanted";
 
@@ -20,18 +24,20 @@ const TOO_LARGE: &str = "too large, X'FFFFFF' is the most";
 const NO_NUMBER: &str =
     "no number: decimal digits, or hexadecimal ones as X'1F', are wanted, up to X'FFFFFF'";
 
-/// The address that an expression gives at a place, where there is one, which `*` stands for.
+/// The address that an expression gives at a place, where there is one, which `*` stands for; and what is told of a label
+/// that is none of these.
 pub fn address<'a>(
     expression: &'a [u8],
     place: Option<u32>,
     labels: &Labels,
+    unknown: &'static str,
 ) -> Result<u32, Wrong<'a>> {
     let end = expression
         .iter()
         .position(|byte| *byte == b'+' || *byte == b'-')
         .unwrap_or(expression.len());
     let (term, offset) = expression.split_at(end);
-    let start = term_address(term, place, labels)?;
+    let start = term_address(term, place, labels, unknown)?;
     let moved = match offset.split_first() {
         None => Some(start),
         Some((b'+', number)) => start.checked_add(self::number(number)?),
@@ -43,7 +49,12 @@ pub fn address<'a>(
     }
 }
 
-fn term_address<'a>(term: &'a [u8], place: Option<u32>, labels: &Labels) -> Result<u32, Wrong<'a>> {
+fn term_address<'a>(
+    term: &'a [u8],
+    place: Option<u32>,
+    labels: &Labels,
+    unknown: &'static str,
+) -> Result<u32, Wrong<'a>> {
     if let b"*" = term {
         return place.ok_or(Wrong::of(term, NO_PLACE));
     }
@@ -51,7 +62,7 @@ fn term_address<'a>(term: &'a [u8], place: Option<u32>, labels: &Labels) -> Resu
         return Ok(address);
     }
     if is_label(term) {
-        return Err(Wrong::of(term, UNDEFINED));
+        return Err(Wrong::of(term, unknown));
     }
     value_to_top(term, NO_ADDRESS)
 }

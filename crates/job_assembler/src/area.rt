@@ -2,7 +2,7 @@
 
 ghost use Rattle.std.specs.Prelude.{◌≡◌, ◌≤◌, vec_len, OnOk};
 
-use crate::address::address;
+use crate::address::{NOT_EARLIER, UNDEFINED, address};
 use crate::digits::TOP;
 use crate::finding::{Finding, Refusal, Wrong};
 use crate::labels::Labels;
@@ -123,7 +123,7 @@ impl<'a> Area<'a> {
             let len = u32::try_from(self.bytes.len()).unwrap_or(LONGEST);
             self.base.saturating_add(len)
         } else {
-            address(expression, Some(self.place()), &self.labels)?
+            address(expression, Some(self.place()), &self.labels, NOT_EARLIER)?
         };
         if self.is_full {
             return Ok(());
@@ -170,7 +170,12 @@ impl<'a> Area<'a> {
             references,
         } = self;
         for reference in &references {
-            match address(reference.expression, Some(reference.place), &labels) {
+            match address(
+                reference.expression,
+                Some(reference.place),
+                &labels,
+                UNDEFINED,
+            ) {
                 Ok(value) => put_address(&mut bytes, reference.offset, value),
                 Err(wrong) => {
                     let line = reference.line;

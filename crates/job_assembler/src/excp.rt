@@ -1,6 +1,6 @@
 //! Lines of requests that name places of their area by labels.
 
-use crate::address::address;
+use crate::address::{UNDEFINED, address};
 use crate::digits::{put_digits, value_of};
 use crate::finding::{Refusal, Wrong};
 use crate::labels::Labels;
@@ -71,7 +71,7 @@ fn put_place<'a>(
     let Some(labels) = labels else {
         return Err(Refusal::Wrong(Wrong::of(area, NO_AREA)));
     };
-    let value = address(word, None, labels)?;
+    let value = address(word, None, labels, UNDEFINED)?;
     put_digits(script, &value.to_be_bytes()[1..])?;
     Ok(())
 }

@@ -16,6 +16,9 @@ const UNKNOWN: &str =
 const NO_COLON: &str =
     "no statement has this name; behind a label in front of a statement a colon is wanted";
 
+const NAMED_AS_STATEMENT: &str =
+    "a statement stands behind it; behind a label in front of a statement a colon is wanted";
+
 const NO_OPERAND: &str =
     "a comma has no operand in front of it, or none behind it; one is wanted there";
 
@@ -44,6 +47,9 @@ pub fn put_statement<'a>(
         area.labels.define(alloc, label, place)?;
     }
     match operation {
+        Some(Operation::Block | Operation::Event) if is_statement(operands) => {
+            return Err(Refusal::Wrong(Wrong::of(word, NAMED_AS_STATEMENT)));
+        }
         Some(operation) => put_operation(area, line, operation, operands)?,
         None if word.is_empty() => {}
         None => return Err(Refusal::Wrong(Wrong::of(word, unknown(operands)))),
@@ -56,10 +62,16 @@ pub fn put_statement<'a>(
 
 /// What is told of a word that is no statement, behind which this stands.
 fn unknown(rest: &[u8]) -> &'static str {
-    match Operation::of(first_word(rest).0) {
-        Some(_) => NO_COLON,
-        None => UNKNOWN,
+    if is_statement(rest) {
+        NO_COLON
+    } else {
+        UNKNOWN
     }
+}
+
+/// Whether what stands behind a word begins with the name of a statement. An IOB and an ECB have no such operand.
+fn is_statement(rest: &[u8]) -> bool {
+    Operation::of(first_word(rest).0).is_some()
 }
 
 fn put_operation<'a>(
