@@ -1,5 +1,5 @@
 //! The command line: `excp_job run [--channels N] [--handlers N]`, `report` with the same options, `check` and
-//! `assemble`.
+//! `assemble`, these three with the name of a script's file or without.
 
 ghost use Rattle.std.specs.Prelude.{◌≤◌, IfSome};
 
@@ -28,6 +28,16 @@ pub enum Order {
     Assemble,
 }
 
+/// The argument of what reads a script from a file, where one is named.
+const SCRIPT: &str = "SCRIPT";
+
+/// What the command line asks for, and from which file, if not from standard input, the script is read.
+#[derive(Drop)]
+pub struct Words {
+    pub order: Order,
+    pub script: Option<String>,
+}
+
 fn command<'a>(alloc: Global) -> Result<Command<'a>, AllocError> {
     let run = subcommand(
         alloc,
@@ -41,15 +51,18 @@ fn command<'a>(alloc: Global) -> Result<Command<'a>, AllocError> {
     let report = subcommand(
         alloc,
         "report",
-        "Reads a script from standard input and prints its posts, the history of each unit and what lies on its medium",
+        "Prints the posts of a script, the history of each unit and what lies on its medium",
     )?
-    .arg(steps)?;
-    let check = Command::new(alloc, "check").about(
-        "Reads a script from standard input and prints every fault of it, and what is hardly meant",
-    );
-    let assemble = Command::new(alloc, "assemble").about(
-        "Reads a script with symbolic areas from standard input and prints the plain script that it comes to, or every fault of it",
-    );
+    .arg(steps)?
+    .arg(script(alloc))?;
+    let check = Command::new(alloc, "check")
+        .about("Prints every fault of a script, and what is hardly meant")
+        .arg(script(alloc))?;
+    let assemble = Command::new(alloc, "assemble")
+        .about(
+            "Prints the plain script that a script with symbolic areas comes to, or every fault of it",
+        )
+        .arg(script(alloc))?;
     Command::new(alloc, "excp_job")
         .about("Runs a script of EXCP requests on models of disk, tape and printer")
         .version("1.0")
@@ -58,6 +71,12 @@ fn command<'a>(alloc: Global) -> Result<Command<'a>, AllocError> {
         .subcommand(report)?
         .subcommand(check)?
         .subcommand(assemble)
+}
+
+fn script<'a>(alloc: Global) -> Arg<'a> {
+    Arg::new(alloc, SCRIPT).help(
+        "The file of the script, which is read from standard input where none is named",
+    )
 }
 
 /// A subcommand that runs a script, with the options of all of them.
@@ -81,13 +100,28 @@ fn subcommand<'a>(alloc: Global, name: &'a str, about: &'a str) -> Result<Comman
 }
 
 /// What the words of the command line say, or what `clap` says of them.
-pub fn parse(alloc: Global, words: &[String]) -> Result<Order, Error> {
+pub fn parse(alloc: Global, words: &[String]) -> Result<Words, Error> {
     let mut command = command(alloc)?;
     let matches = command.try_get_matches_from_mut(words)?;
+    let script = file_of(alloc, &matches)?;
     match asked_for(&matches) {
-        Some(order) => Ok(order),
+        Some(order) => Ok(Words { order, script }),
         // no words come to this: a subcommand is required, and its options have defaults and ranges
         None => Err(command.error(ErrorKind::ValueValidation, "no number of workers")?),
+    }
+}
+
+/// The name of the script's file, where a subcommand that takes one has it.
+fn file_of(alloc: Global, matches: &ArgMatches<'_>) -> Result<Option<String>, AllocError> {
+    let Some((name, options)) = matches.subcommand() else {
+        return Ok(None);
+    };
+    if name == "run" {
+        return Ok(None);
+    }
+    match options.get_str(SCRIPT) {
+        Some(file) => Ok(Some(String::from_str(alloc, file)?)),
+        None => Ok(None),
     }
 }
 

@@ -1,17 +1,19 @@
-//! `excp_job` reads a script of EXCP requests from standard input, runs it on models of devices, and prints
-//! what each request was posted with; by `report` also what the run left behind. By `check` it runs nothing and prints
-//! what is wrong in the script; by `assemble` it makes a plain script of one with symbolic areas.
+//! `excp_job` reads a script of EXCP requests, runs it on models of devices, and prints what each request was posted with;
+//! by `report` also what the run left behind. By `check` it runs nothing and prints what is wrong in the script; by
+//! `assemble` it makes a plain script of one with symbolic areas. The script is read from standard input, or, but by `run`,
+//! from a file that is named.
 #![tactic(auto)]
 
 mod arguments;
 
-use arguments::{Order, Output};
+use arguments::{Order, Output, Words};
 use clap::error::ErrorKind;
 use job_assembler::assemble_script;
 use job_run::{Workers, report_script, run_script};
 use job_script::{Fault, check_script};
 use std::alloc::{AllocError, Global};
 use std::env;
+use std::fs::File;
 use std::io::{Read, Write};
 use std::process::ExitCode;
 use std::sync::Wait;
@@ -24,19 +26,37 @@ const USAGE: u8 = 2;
 const REFUSED: u8 = 1;
 
 fn main(rt: HostRuntime) -> ExitCode {
-    let alloc = rt.alloc();
-    let mut input = rt.stdin();
-    let done = match command_line(&rt) {
-        Ok(Order::Run(output, workers)) => {
-            run(&rt, alloc, &mut input, rt.stdout(), output, workers)
-        }
-        Ok(Order::Check) => check(alloc, &mut input, rt.stdout()),
-        Ok(Order::Assemble) => assemble(alloc, &mut input, rt.stdout(), rt.stderr()),
+    let Words { order, script } = match command_line(&rt) {
+        Ok(words) => words,
         Err(status) => return ExitCode::from(status),
+    };
+    let (output, faults) = (rt.stdout(), rt.stderr());
+    let done = match script {
+        None => carry_out(&rt, rt.alloc(), order, &mut rt.stdin(), output, faults),
+        Some(file) => match File::open(&rt, &file) {
+            Ok(mut file) => carry_out(&rt, rt.alloc(), order, &mut file, output, faults),
+            Err(_) => Err(Fault::Unreadable),
+        },
     };
     match done {
         Ok(status) => ExitCode::from(status),
         Err(fault) => ExitCode::from(ended_by(&rt, fault)),
+    }
+}
+
+/// Does what is asked for with the script that is read, and gives the exit status.
+fn carry_out<R: Threads + Wait + Sync, I: Read, W: Write + Drop, E: Write + Drop>(
+    rt: &R,
+    alloc: Global,
+    order: Order,
+    input: &mut I,
+    writer: W,
+    faults: E,
+) -> Result<u8, Fault> {
+    match order {
+        Order::Run(output, workers) => run(rt, alloc, input, writer, output, workers),
+        Order::Check => check(alloc, input, writer),
+        Order::Assemble => assemble(alloc, input, writer, faults),
     }
 }
 
@@ -74,7 +94,7 @@ fn assemble<I: Read, W: Write + Drop, E: Write + Drop>(
 }
 
 /// Reads the command line, before any byte of the script is read, or gives the exit status.
-fn command_line(rt: &HostRuntime) -> Result<Order, u8> {
+fn command_line(rt: &HostRuntime) -> Result<Words, u8> {
     let Ok(arguments) = env::args(rt) else {
         return Err(ended_by(rt, Fault::NoMemory));
     };
