@@ -31,6 +31,22 @@ pub enum Order {
 /// The argument of what reads a script from a file, where one is named.
 const SCRIPT: &str = "SCRIPT";
 
+/// The lines of a script in brief (docs/MANUAL.md).
+const LINES: &str = "Lines of a script; tasks, units and areas are numbered from 0, DCBs from 1:
+  tasks N                            so many tasks; the first line
+  disk U ISC CYLINDERS HEADS BYTES   a disk with tracks of so many bytes
+  rec U CYLINDER HEAD R KEY DATA     a record on it, in hexadecimal, - for none
+  tape U ISC BYTES                   a tape; block U DATA and mark U lie on it
+  printer U ISC LINES PAGES          a printer
+  fault U N STATUS STATUS SENSE      the unit's N-th command meets a fault
+  open U in|out EXTENT ...           the next DCB of a unit; extents of a disk alone
+  area A ADDR HEX ...                storage of requests: IOB, ECB, channel program
+  excp T U DCB IOB A SHOW LEN        task T issues a request, shows LEN bytes of it
+  wait T                             task T waits for its requests
+  purge T U DCB halt|quiesce         purgetask T OTHER halt|quiesce
+  close T U DCB                      reset T U DCB
+  # ...                              a comment";
+
 /// What the command line asks for, and from which file, if not from standard input, the script is read.
 #[derive(Drop)]
 pub struct Words {
@@ -66,6 +82,7 @@ fn command<'a>(alloc: Global) -> Result<Command<'a>, AllocError> {
     Command::new(alloc, "excp_job")
         .about("Runs a script of EXCP requests on models of disk, tape and printer")
         .version("1.0")
+        .after_help(LINES)
         .subcommand_required(true)
         .subcommand(run)?
         .subcommand(report)?
