@@ -5,6 +5,8 @@
 //! `length`) and whether the program goes on (`context`). What all of it means stands in `specs/`: the chain of
 //! a command in Links.antt, its data areas in Areas.antt, the command step, what stands after so many steps and
 //! the length of a program in Step.antt.
+//!
+//! Tests: tests/cases/scripts, tests/cases/histories, tests/mutants/ccw_programs.
 #![tactic(auto)]
 
 mod areas;

@@ -4,6 +4,8 @@
 //! A replay depends on the trace alone, so a run of any threads can be looked at step by step afterwards. Its device,
 //! its areas and the places of its programs are at each place those of the trace up to there; what a program is to do
 //! next is told before it is done.
+//!
+//! Tests: tests/cases/histories, tests/mutants/ccw_trace.
 #![tactic(auto)]
 
 mod arrivals;

@@ -3,6 +3,8 @@
 //! A track is seen as the list of its records, R0 first; in the code it is one image of the track's size with
 //! the records packed in order, so no command takes memory. A place on a track is kept beside its offset, so a
 //! command costs time in the bytes that it moves.
+//!
+//! Tests: component_tests (`disks`), tests/cases/scripts.
 #![tactic(auto)]
 
 mod access;

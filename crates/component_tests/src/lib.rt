@@ -32,3 +32,5 @@ mod subchannels;
 mod tapes;
 #[cfg(test)]
 mod verdicts;
+#[cfg(test)]
+mod words;

@@ -1,7 +1,7 @@
-//! What scripts say, and scripts that are cut, too long or unreadable. Broken lines are cases of `runs/scripts/broken`,
-//! and what a check tells of them of `runs/mistakes`.
+//! What scripts say, and scripts that are cut, too long or unreadable. Broken lines are in
+//! tests/cases/scripts/broken.posts, and what `check` prints of them in tests/cases/mistakes.
 
-use job_script::{Action, Fault, LIMIT, Script, check_script, read_script};
+use job_script::{Action, Fault, LIMIT, Script, Source, check_script, read_script};
 use std::alloc::{AllocError, Global};
 use std::io;
 use std::io::Read;
@@ -18,6 +18,12 @@ const AREA: &str =
     "area 0 001000 4200000000001028 0000000000000000 0000103000000001 0000000000000000 0000000000000001 0000000000000000 3100105040000005 0800103000000000 0600106000000004 0000000000000000 0000000001000000 0000000000000000 0000000000000000\n";
 
 const EXCP: &str = "excp 0 0 1 001000 0 001060 4\n";
+
+/// Where findings are placed.
+const SCRIPT: Source<'static> = Source {
+    name: "script",
+    is_coloured: false,
+};
 
 /// The parts of a script, joined.
 fn joined(alloc: Global, parts: &[&str]) -> Result<Vec<u8>, AllocError> {

@@ -1,118 +1,170 @@
-//! `excp_job` reads a script of EXCP requests, runs it on models of devices, and prints what each request was posted with;
-//! by `report` also what the run left behind. By `check` it runs nothing and prints what is wrong in the script; by
-//! `assemble` it makes a plain script of one with symbolic areas. The script is read from standard input, or, but by `run`,
-//! from a file that is named.
+//! `excp_job` reads a script of EXCP requests, runs it on models of devices, and prints the post of each request. `report`
+//! also prints what the run left behind. `check` runs nothing and prints what is wrong in the script. `assemble` prints the
+//! plain script of one with symbolic areas. The script is standard input; all but `run` also take a file.
+//!
+//! Tests: `tests/run command_line`, and every group that runs the program.
 #![tactic(auto)]
 
-mod arguments;
+mod screen;
+mod words;
 
-use arguments::{Order, Output, Words};
-use clap::error::ErrorKind;
 use job_assembler::assemble_script;
+use job_options::{Counts, Order, Words};
 use job_run::{Workers, report_script, run_script};
-use job_script::{Fault, check_script};
-use std::alloc::{AllocError, Global};
+use job_script::{Fault, Source, check_script};
+use screen::Screen;
+use std::cell::Cell;
 use std::env;
 use std::fs::File;
-use std::io::{Read, Write};
+use std::io::{ErrorKind, IsTerminal, Read};
 use std::process::ExitCode;
 use std::sync::Wait;
 use std::thread::Threads;
 
-/// The exit status of a fault of the command line.
-const USAGE: u8 = 2;
+/// The exit status of a script that is rejected, and of a file that cannot be read.
+const REJECTED: u8 = 1;
 
-/// The exit status of a script that is refused, or of a run that could not be brought to its end.
-const REFUSED: u8 = 1;
+/// The name of a script that is standard input.
+const STANDARD_INPUT: &str = "<stdin>";
 
 fn main(rt: HostRuntime) -> ExitCode {
-    let Words { order, script } = match command_line(&rt) {
-        Ok(words) => words,
-        Err(status) => return ExitCode::from(status),
-    };
-    let (output, faults) = (rt.stdout(), rt.stderr());
-    let done = match script {
-        None => carry_out(&rt, rt.alloc(), order, &mut rt.stdin(), output, faults),
-        Some(file) => match File::open(&rt, &file) {
-            Ok(mut file) => carry_out(&rt, rt.alloc(), order, &mut file, output, faults),
-            Err(_) => Err(Fault::Unreadable),
+    let status = match words::read(&rt) {
+        Ok(Words { order, script }) => match script {
+            Some(file) => of_file(&rt, &rt, order, &file),
+            None => carry_out(&rt, &rt, order, &mut rt.stdin(), STANDARD_INPUT),
         },
+        Err(status) => status,
     };
-    match done {
-        Ok(status) => ExitCode::from(status),
-        Err(fault) => ExitCode::from(ended_by(&rt, fault)),
+    ExitCode::from(status)
+}
+
+/// Carries out an order on the script in a file.
+fn of_file<R: Threads + Wait + Sync>(
+    rt: &HostRuntime,
+    threads: &R,
+    order: Order,
+    name: &str,
+) -> u8 {
+    match File::open(rt, name) {
+        Ok(file) if is_directory(&file) => unreadable(rt, name, "it is a directory"),
+        Ok(mut file) => carry_out(rt, threads, order, &mut file, name),
+        Err(error) => unreadable(rt, name, why_unopened(error.kind())),
     }
 }
 
-/// Does what is asked for with the script that is read, and gives the exit status.
-fn carry_out<R: Threads + Wait + Sync, I: Read, W: Write + Drop, E: Write + Drop>(
-    rt: &R,
-    alloc: Global,
+fn is_directory(file: &File) -> bool {
+    match file.metadata() {
+        Ok(metadata) => metadata.is_dir(),
+        Err(_) => false,
+    }
+}
+
+/// Why a file was not opened.
+fn why_unopened(kind: ErrorKind) -> &'static str {
+    match kind {
+        ErrorKind::NotFound | ErrorKind::NotADirectory => "there is no such file",
+        ErrorKind::PermissionDenied => "this user has no permission to read it",
+        _ => "the file cannot be opened",
+    }
+}
+
+/// Prints why the script in a file is not read, and returns the exit status.
+fn unreadable(rt: &HostRuntime, name: &str, why: &str) -> u8 {
+    let _ = eprintln!(rt; "excp_job: {name}: {why}");
+    REJECTED
+}
+
+/// Carries out an order on the script that is read, and returns the exit status. If what reads the output has gone, all but
+/// `run` end without a text; `check` had something to print, so it does not end with status 0.
+fn carry_out<R: Threads + Wait + Sync, I: Read>(
+    rt: &HostRuntime,
+    threads: &R,
     order: Order,
     input: &mut I,
-    writer: W,
-    faults: E,
-) -> Result<u8, Fault> {
-    match order {
-        Order::Run(output, workers) => run(rt, alloc, input, writer, output, workers),
-        Order::Check => check(alloc, input, writer),
-        Order::Assemble => assemble(alloc, input, writer, faults),
+    name: &str,
+) -> u8 {
+    let is_broken = Cell::new(false);
+    let done = match order {
+        Order::Run(counts) => run(rt, threads, input, counts),
+        Order::Report { counts, steps } => report(rt, threads, input, counts, steps, &is_broken),
+        Order::Check => check(rt, input, name, &is_broken),
+        Order::Assemble => assemble(rt, input, name, &is_broken),
+    };
+    match done {
+        Ok(status) => status,
+        Err(Fault::NotWritten) if is_broken.get() => {
+            if matches!(order, Order::Check) {
+                REJECTED
+            } else {
+                0
+            }
+        }
+        Err(fault) => words::ended_by(rt, fault),
     }
 }
 
-/// Runs a script, and prints what is asked for.
-fn run<R: Threads + Wait + Sync, I: Read, W: Write + Drop>(
-    rt: &R,
-    alloc: Global,
+/// Runs a script, and prints its posts.
+fn run<R: Threads + Wait + Sync, I: Read>(
+    rt: &HostRuntime,
+    threads: &R,
     input: &mut I,
-    writer: W,
-    output: Output,
-    workers: Workers,
+    counts: Counts,
 ) -> Result<u8, Fault> {
-    match output {
-        Output::Posts => run_script(rt, alloc, input, writer, workers)?,
-        Output::Report { steps } => report_script(rt, alloc, input, writer, workers, steps)?,
-    }
+    run_script(threads, rt.alloc(), input, rt.stdout(), workers(counts))?;
     Ok(0)
 }
 
-/// Prints what is wrong in a script, and gives the exit status.
-fn check<I: Read, W: Write + Drop>(alloc: Global, input: &mut I, writer: W) -> Result<u8, Fault> {
-    let refused = check_script(alloc, input, writer)?;
-    Ok(if refused { REFUSED } else { 0 })
-}
-
-/// Prints the plain script that a script comes to, or its faults, and gives the exit status.
-fn assemble<I: Read, W: Write + Drop, E: Write + Drop>(
-    alloc: Global,
+/// Runs a script, and prints its posts and what the run left behind.
+fn report<R: Threads + Wait + Sync, I: Read>(
+    rt: &HostRuntime,
+    threads: &R,
     input: &mut I,
-    writer: W,
-    faults: E,
+    counts: Counts,
+    steps: bool,
+    is_broken: &Cell<bool>,
 ) -> Result<u8, Fault> {
-    let refused = assemble_script(alloc, input, writer, faults)?;
-    Ok(if refused { REFUSED } else { 0 })
+    let screen = Screen::new(rt.stdout(), takes_colour(rt, rt.stdout()), is_broken);
+    report_script(threads, rt.alloc(), input, screen, workers(counts), steps)?;
+    Ok(0)
 }
 
-/// Reads the command line, before any byte of the script is read, or gives the exit status.
-fn command_line(rt: &HostRuntime) -> Result<Words, u8> {
-    let Ok(arguments) = env::args(rt) else {
-        return Err(ended_by(rt, Fault::NoMemory));
-    };
-    let words: Result<Vec<String>, AllocError> = arguments.collect(rt.alloc());
-    let Ok(words) = words else {
-        return Err(ended_by(rt, Fault::NoMemory));
-    };
-    arguments::parse(rt.alloc(), words.as_slice()).map_err(|error| {
-        if error.kind() == ErrorKind::OutOfMemory {
-            return ended_by(rt, Fault::NoMemory);
-        }
-        let _ = eprint!(rt; "{error}");
-        USAGE
-    })
+/// Prints what is wrong in a script, and returns the exit status.
+fn check<I: Read>(
+    rt: &HostRuntime,
+    input: &mut I,
+    name: &str,
+    is_broken: &Cell<bool>,
+) -> Result<u8, Fault> {
+    let is_coloured = takes_colour(rt, rt.stdout());
+    let screen = Screen::new(rt.stdout(), false, is_broken);
+    let is_rejected = check_script(rt.alloc(), input, Source { name, is_coloured }, screen)?;
+    Ok(if is_rejected { REJECTED } else { 0 })
 }
 
-/// Writes why the run ended, and gives the exit status.
-fn ended_by(rt: &HostRuntime, fault: Fault) -> u8 {
-    let _ = eprintln!(rt; "excp_job: {fault}");
-    fault.status()
+/// Prints the plain script that a script comes to, or its faults, and returns the exit status.
+fn assemble<I: Read>(
+    rt: &HostRuntime,
+    input: &mut I,
+    name: &str,
+    is_broken: &Cell<bool>,
+) -> Result<u8, Fault> {
+    let is_coloured = takes_colour(rt, rt.stderr());
+    let source = Source { name, is_coloured };
+    let screen = Screen::new(rt.stdout(), false, is_broken);
+    let is_rejected = assemble_script(rt.alloc(), input, source, screen, rt.stderr())?;
+    Ok(if is_rejected { REJECTED } else { 0 })
+}
+
+fn workers(counts: Counts) -> Workers {
+    let Counts {
+        channels,
+        handlers,
+        ..
+    } = counts;
+    Workers { channels, handlers }
+}
+
+/// Whether an output is a terminal, and `NO_COLOR` is unset or empty (no-color.org).
+fn takes_colour<T: IsTerminal + Drop>(rt: &HostRuntime, output: T) -> bool {
+    output.is_terminal() && env::var(rt, "NO_COLOR").map_or(true, |value| value.is_empty())
 }

@@ -5,6 +5,8 @@
 //! value back. All numbers are big-endian. What the bytes say stands in `specs/Images.antt`, what an
 //! image is after `write` in `specs/Written.antt`, and the named bits in `specs/Bits.antt`. Nothing here takes memory
 //! or is refused.
+//!
+//! Tests: component_tests (`images`).
 #![tactic(auto)]
 
 mod address;

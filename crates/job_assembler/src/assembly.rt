@@ -10,7 +10,7 @@ use crate::finding::{Finding, Refusal, Wrong, note};
 use crate::labels::Labels;
 use crate::line::{Operands, first_word, is_printable, without_comment};
 use crate::statement::put_statement;
-use job_script::{Fault, LIMIT, Message, begins_line, read_script, write_findings};
+use job_script::{Fault, LIMIT, Message, Source, begins_line, read_script, write_findings};
 use std::alloc::{AllocError, Global};
 use std::io::{Read, Write};
 
@@ -29,10 +29,11 @@ const LONG: &str =
     "the script that comes out has more than 1048576 bytes with this line, no more may be run";
 
 /// Reads a script with symbolic areas, at most 1,048,576 bytes and one more, and writes the plain script that it comes
-/// to, or, to the second writer, every fault of it. It answers whether there is a fault.
+/// to, or, to the second writer, every fault of it with its place in the source. Returns whether there is a fault.
 pub fn assemble_script<R: Read, W: Write + Drop, E: Write + Drop>(
     alloc: Global,
     reader: &mut R,
+    source: Source<'_>,
     writer: W,
     faults: E,
 ) -> Result<bool, Fault>
@@ -52,7 +53,7 @@ pub fn assemble_script<R: Read, W: Write + Drop, E: Write + Drop>(
         return Ok(false);
     }
     findings.sort_by_key(|finding| finding.line)?;
-    write_findings(alloc, &findings, faults)?;
+    write_findings(alloc, source, &findings, faults)?;
     Ok(true)
 }
 

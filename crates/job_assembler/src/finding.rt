@@ -1,6 +1,6 @@
 //! What is wrong with a line, and how it is told.
 
-use job_script::{Message, write_word};
+use job_script::{Found, Message, write_word};
 use std::alloc::{AllocError, AllocFailed};
 use std::fmt;
 
@@ -55,10 +55,19 @@ pub struct Finding<'a> {
     pub wrong: Wrong<'a>,
 }
 
+impl<'a> Found for Finding<'a> {
+    fn line(&self) -> Option<usize> {
+        Some(self.line)
+    }
+
+    fn is_fault(&self) -> bool {
+        true
+    }
+}
+
 impl<'a> fmt::Display for Finding<'a> {
     fn fmt<W: fmt::Write>(&self, f: &mut fmt::Formatter<W>) -> fmt::Result {
-        let Finding { line, wrong } = *self;
-        write!(f, "line {line}: ")?;
+        let wrong = self.wrong;
         if !wrong.word.is_empty() {
             write_word(f, wrong.word)?;
             f.write_str(": ")?;

@@ -4,6 +4,8 @@
 //! A line `area A ADDR` without words opens a symbolic area, which goes on to the line `endarea`. Each line between
 //! them is `LABEL: OPERATION OPERANDS ; COMMENT`. An `excp` line may name its IOB, and what it shows, by labels of its
 //! area. All other lines are those of a script, and are passed on.
+//!
+//! Tests: tests/cases/assembler.
 #![tactic(auto)]
 
 mod address;

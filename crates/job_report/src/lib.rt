@@ -1,5 +1,7 @@
 //! What a run left behind, as text that a script takes again: of each unit its history, in words and as comments, and
 //! its medium, in the lines that declare it.
+//!
+//! Tests: tests/cases/histories, the group media of tests/run.
 #![tactic(auto)]
 
 mod characters;

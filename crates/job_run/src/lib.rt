@@ -8,6 +8,8 @@
 //! by another gate than the alarm of its tasks, by `system_threads::run_beside`, [`ScriptTasks`] is what the tasks do,
 //! and for tasks that do more or less, a [`Job`] does the commands of one; [`ended`] is what comes of a run, and
 //! [`write`] prints it.
+//!
+//! Tests: job_tests, tests/cases/scripts, the groups random and purges of tests/run.
 #![tactic(auto)]
 
 mod job;

@@ -19,7 +19,7 @@ use std::alloc::Global;
 use std::io::{Read, Write};
 use std::sync::Wait;
 use std::thread::Threads;
-use system_threads::{Workers, run_program};
+use system_threads::{RunError, Workers, run_program};
 use unit_book::UnitBook;
 use unit_device::UnitDevice;
 
@@ -42,8 +42,12 @@ pub fn run_script<R: Threads + Wait + Sync, I: Read, W: Write + Drop>(
 ) -> Result<(), Fault>
     ensures { ReadsAtMost (LIMIT + 1) (I.remaining reader.old) (I.remaining reader.new) }
 {
-    let (_, run) = read_and_run(rt, alloc, reader, workers)?;
-    write(alloc, &run.lines, Output::Posts, writer)
+    match read_and_run(rt, alloc, reader, workers) {
+        Ok((_, run)) => write(alloc, &run.lines, Output::Posts, writer),
+        // one text for both causes (profile)
+        Err(Fault::NoThread) => Err(Fault::NoMemory),
+        Err(fault) => Err(fault),
+    }
 }
 
 /// Does so, and writes behind that, for each unit, its history, with `steps` every command of it too, and its medium:
@@ -83,8 +87,8 @@ fn read_and_run<R: Threads + Wait + Sync, I: Read>(
     Ok((script, run))
 }
 
-/// Runs a script on a system of these rows and books, to its end. What `run_program` refuses, for either cause, is told
-/// as want of memory, and the run is dropped; else it is refused as [`ended`].
+/// Runs a script on a system of these rows and books, to its end. Returns `NoThread` if no thread can be made for a
+/// worker, `NoMemory` if `run_program` fails for another cause, and else what [`ended`] returns.
 pub fn run_on<R: Threads + Wait + Sync>(
     rt: &R,
     alloc: Global,
@@ -100,10 +104,11 @@ pub fn run_on<R: Threads + Wait + Sync>(
     requires requests { All CanBeDone script.now.commands.items }
 {
     let tasks = ScriptTasks::new(script);
-    let Ok((report, outcomes)) = run_program(rt, alloc, rows, books, workers, &tasks) else {
-        return Err(Fault::NoMemory);
-    };
-    ended(alloc, report, outcomes)
+    match run_program(rt, alloc, rows, books, workers, &tasks) {
+        Ok((report, outcomes)) => ended(alloc, report, outcomes),
+        Err(RunError::NoThread) => Err(Fault::NoThread),
+        Err(_) => Err(Fault::NoMemory),
+    }
 }
 
 /// What is printed of a run that was brought to its end: what its tasks had not collected is added to their lines. It

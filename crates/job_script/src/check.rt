@@ -17,7 +17,7 @@ use crate::line::{ExcpLine, Line};
 use crate::reading::{LIMIT, read_script};
 use crate::script::late;
 use crate::set_up::SetUp;
-use crate::telling::write_findings;
+use crate::telling::{Found, Source, write_findings};
 use crate::words::Words;
 use finding::{Finding, SCRIPT, Told, add, tell};
 use media::check_unit;
@@ -31,17 +31,18 @@ const SYMBOLIC: &str =
     "a symbolic area ends here, assemble the script first and check what comes out";
 
 /// Reads a script, at most 1,048,576 bytes and one more, and writes every fault and note that is found, in the order of
-/// lines. It answers whether a run would refuse the script.
+/// lines, each with its place in the source. Returns whether a run would reject the script.
 pub fn check_script<R: Read, W: Write + Drop>(
     alloc: Global,
     reader: &mut R,
+    source: Source<'_>,
     writer: W,
 ) -> Result<bool, Fault>
     ensures { ReadsAtMost (LIMIT + 1) (R.remaining reader.old) (R.remaining reader.new) }
 {
     let text = read_script(alloc, reader)?;
     let findings = findings(alloc, &text)?;
-    write_findings(alloc, &findings, writer)?;
+    write_findings(alloc, source, &findings, writer)?;
     Ok(refuses(&findings))
 }
 

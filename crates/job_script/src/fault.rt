@@ -115,13 +115,16 @@ pub enum Fault {
     Unmatched,
     #[error("out of memory")]
     NoMemory,
+    /// No thread can be made for a worker (profile).
+    #[error("no thread can be made for a worker, or out of memory")]
+    NoThread,
 }
 
 impl Fault {
-    /// The exit status of the program: 3 for want of memory, else 1.
+    /// The exit status of the program: 3 if memory or a thread is lacking, else 1.
     pub fn status(self) -> u8 {
         match self {
-            Fault::NoMemory => 3,
+            Fault::NoMemory | Fault::NoThread => 3,
             _ => 1,
         }
     }

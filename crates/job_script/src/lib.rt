@@ -3,6 +3,8 @@
 //!
 //! A script has at most 1,048,576 bytes. Its lines end with LF; words are separated by spaces; a line that is empty or
 //! whose first word begins with `#` says nothing. Set-up lines stand before the first command.
+//!
+//! Tests: component_tests (`scripts`), tests/cases/scripts/broken.posts, tests/cases/mistakes.
 #![tactic(auto)]
 
 mod cause;
@@ -28,4 +30,4 @@ pub use message::{Message, write_word};
 pub use reading::{LIMIT, read_script};
 pub use script::Script;
 pub use set_up::{Medium, Opening, SetUp, UnitSetup};
-pub use telling::write_findings;
+pub use telling::{Found, Source, write_findings};

@@ -1,5 +1,5 @@
 //! Runs of scripts that need more than a script and what it prints: steps in between, and readers and writers that fail.
-//! Whole scripts with what they print are cases of `runs/scripts`, and those at random are judged by `runs/at_random`.
+//! Whole scripts with their posts are in tests/cases/scripts; the group random of tests/run judges scripts at random.
 //! Expected values are those of the profile's tables.
 
 use job_run::{Workers, report_script, run_script};

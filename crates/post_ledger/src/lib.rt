@@ -4,6 +4,8 @@
 //! [`finish`] says of every run, whatever its threads did, that each unit received what its tasks sent, once and in
 //! order, and has posted each request of it just once, and that what a task had collected and what the [`Report`]
 //! lists for it is all that was posted for it.
+//!
+//! Tests: system_tests (`endings`), tests/mutants/post_ledger.
 #![tactic(auto)]
 
 mod cause;

@@ -1,5 +1,7 @@
 //! `print_tape` copies a tape to a printer as an access method does, with no script: it has two buffers, both units are
 //! served by workers, and what stands on the paper in the end is printed.
+//!
+//! Tests: crates/print_tape/stdout, the group refusals of tests/run.
 #![tactic(auto)]
 
 ghost use Rattle.std.specs.Prelude.{◌≡◌, true, IfOk};

@@ -1,4 +1,6 @@
 //! What becomes of a request whose channel program has ended: another try, or an end with a code.
+//!
+//! Tests: component_tests (`verdicts`).
 #![tactic(auto)]
 
 mod answer;

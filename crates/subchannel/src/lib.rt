@@ -1,6 +1,8 @@
 //! A subchannel: START SUBCHANNEL, TEST SUBCHANNEL, HALT SUBCHANNEL and the running of its channel program
 //! (Principles of Operation, chapter 14). Every answer is a function of its phase: not operational, idle,
 //! running a program, or status pending.
+//!
+//! Tests: component_tests (`subchannels`).
 #![tactic(auto)]
 
 ghost use Rattle.std.specs.Prelude.{◌≡◌, ◌≤◌, Some, None, MatchOption, min};

@@ -4,6 +4,7 @@ ghost use Rattle.std.specs.Prelude.{◌≡◌, ◌<◌, ◌≤◌, IfOk};
 ghost use Rattle.std.specs.List.{All};
 ghost use Rattle.system_threads.specs.Shares.{AreShared, below, share_of};
 
+use crate::run_error::RunError;
 use device_port::Device;
 use excp_system::{Gate, IscTaker, Site, Stop, System, serve};
 use std::alloc::{AllocError, Global};
@@ -127,7 +128,8 @@ fn work<'r, S: Site, D: Device, G: Gate, R: Wait>(
 }
 
 /// Starts the workers that have something to serve: a channel worker and the handler with its number share a thread, so
-/// that the state of a unit that both serve stays with one processor.
+/// that the state of a unit that both serve stays with one processor. If no thread can be made for one of them, the
+/// others go on until they are stopped.
 pub(crate) fn start<
     's,
     'r,
@@ -145,17 +147,30 @@ pub(crate) fn start<
     channels: &'s [Channel<S>],
     handlers: Vec<Vec<IscTaker<'r, S>>>,
     stop: &'s Stop,
-) -> Result<(), AllocError> {
+) -> Result<(), RunError> {
     let mut handlers = handlers.into_iter();
     for channel in channels {
         let takers = handlers.next().unwrap_or(Vec::new(alloc));
         if !channel.units.is_empty() || !takers.is_empty() {
-            scope.spawn(move || work(rt, system, gate, channel.units.as_slice(), takers, stop))?;
+            let worker = scope.spawn(move || work(
+                rt,
+                system,
+                gate,
+                channel.units.as_slice(),
+                takers,
+                stop,
+            ));
+            if worker.is_err() {
+                return Err(RunError::NoThread);
+            }
         }
     }
     for takers in handlers {
         if !takers.is_empty() {
-            scope.spawn(move || work(rt, system, gate, &[], takers, stop))?;
+            let worker = scope.spawn(move || work(rt, system, gate, &[], takers, stop));
+            if worker.is_err() {
+                return Err(RunError::NoThread);
+            }
         }
     }
     Ok(())

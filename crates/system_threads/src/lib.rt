@@ -5,6 +5,8 @@
 //! end. Its parts are public too, for a run by a gate that does more than to wake the tasks: [`runners`] makes the
 //! clients of a system, [`Alarm::of`] what wakes them, and [`Crew`] the workers; [`run_beside`] lets the tasks run
 //! beside these, and [`parted`] gives them back.
+//!
+//! Tests: job_tests, the groups random and costs of tests/run.
 #![tactic(auto)]
 
 mod alarm;
@@ -12,6 +14,7 @@ mod client;
 mod crew;
 mod program;
 mod run;
+mod run_error;
 mod runner;
 
 pub use alarm::Alarm;
@@ -19,4 +22,5 @@ pub use client::{Client, IssueError};
 pub use crew::{Channel, Crew, Workers};
 pub use program::Program;
 pub use run::{run_beside, run_program};
+pub use run_error::RunError;
 pub use runner::{Runner, parted, runners};

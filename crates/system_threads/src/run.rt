@@ -8,11 +8,12 @@ ghost use Rattle.post_ledger.specs.Report.{AreIdle, AreLegal, IsFor};
 use crate::alarm::Alarm;
 use crate::crew::{Crew, Workers, start};
 use crate::program::Program;
+use crate::run_error::RunError;
 use crate::runner::{Runner, parted, runners};
 use device_port::Device;
 use excp_system::{Gate, IscTaker, Rows, Site, Stop, System, Task};
-use post_ledger::{Cause, Report, finish};
-use std::alloc::{AllocError, Global};
+use post_ledger::{Report, finish};
+use std::alloc::Global;
 use std::marker::Brand;
 use std::sync::Wait;
 use std::thread;
@@ -27,8 +28,8 @@ const MOST_TASKS: usize = 64;
 /// what each has left behind.
 ///
 /// A worker that meets want of memory goes on, and wakes the tasks, whose [`Client::next_post`](crate::Client::next_post)
-/// tells them of it. The run is refused, and dropped, where there is no memory for what it is made of, and where its
-/// end wants memory and, tried once more from where it stands, wants it again.
+/// tells them of it. The run returns an error, and is dropped, if memory runs out for its parts, if no thread can be made
+/// for a worker, or if its end runs out of memory twice: the end is tried once more from where it stopped.
 pub fn run_program<D: Device + Send + Sync, P: Program<D>, R: Threads + Wait + Sync>(
     rt: &R,
     alloc: Global,
@@ -36,7 +37,7 @@ pub fn run_program<D: Device + Send + Sync, P: Program<D>, R: Threads + Wait + S
     books: Vec<UnitBook<D>>,
     workers: Workers,
     program: &P,
-) -> Result<(Report<D>, Vec<P::Outcome>), Cause>
+) -> Result<(Report<D>, Vec<P::Outcome>), RunError>
     requires fresh { AreFresh rows }
     requires books { AreBooks rows.units books.items }
     requires units { rows.units ≡ P.units program.now }
@@ -56,7 +57,7 @@ fn run_at<S: Site + Send + Sync, D: Device + Send + Sync, P: Program<D>, R: Thre
     books: Vec<UnitBook<D>>,
     workers: Workers,
     program: &P,
-) -> Result<(Report<D>, Vec<P::Outcome>), Cause>
+) -> Result<(Report<D>, Vec<P::Outcome>), RunError>
     requires site { S.rows ≡ site_of rows.old }
     requires fresh { AreFresh rows.old }
     requires books { AreBooks S.rows.units books.items }
@@ -99,7 +100,7 @@ fn brought_to_end<'r, S: Site, D: Device, R: Wait>(
     alloc: Global,
     system: System<'r, S, D>,
     tasks: Vec<Task<'r, S>>,
-) -> Result<Report<D>, Cause>
+) -> Result<Report<D>, RunError>
     requires { ArePlaced (λ task. task.number) S.rows.tasks tasks.items }
     ensures complete { IfOk result (λ report. IsFor S.rows.units S.rows.tasks report) }
     ensures legal { IfOk result (λ report. AreLegal D.meaning report) }
@@ -111,14 +112,14 @@ fn brought_to_end<'r, S: Site, D: Device, R: Wait>(
     };
     match left.resume(rt) {
         Ok(report) => Ok(report),
-        Err(left) => Err(left.cause()),
+        Err(left) => Err(RunError::from(left.cause())),
     }
 }
 
 /// Runs all tasks by the program beside the workers, which pass this gate, and stops and joins these. The gate has to
 /// hand on to the alarm what it is told of posts and of want of memory, since the tasks sleep until they are woken by
-/// it; the alarm has to be [`Alarm::of`] these runners. Where a worker cannot be started no task runs, and there is want
-/// of memory.
+/// it; the alarm has to be [`Alarm::of`] these runners. If no thread can be made for a worker, no task runs, and the
+/// answer is [`RunError::NoThread`].
 pub fn run_beside<
     'r,
     S: Site + Send + Sync,
@@ -135,7 +136,7 @@ pub fn run_beside<
     crew: Crew<'r, S>,
     runners: Vec<Runner<'r, S, P::Outcome>>,
     program: &P,
-) -> Result<Vec<Runner<'r, S, P::Outcome>>, AllocError>
+) -> Result<Vec<Runner<'r, S, P::Outcome>>, RunError>
     requires placed { ArePlaced (λ runner. runner.client.number) S.rows.tasks runners.items }
     requires units { S.rows.units ≡ P.units program.now }
     ensures placed { IfOk result (λ after. ArePlaced (λ runner. runner.client.number) S.rows.tasks after.items) }
@@ -148,7 +149,7 @@ pub fn run_beside<
     thread::scope(
         thread::scope_env(),
         rt,
-        move |scope| -> Result<Vec<Runner<'_, S, P::Outcome>>, AllocError>
+        move |scope| -> Result<Vec<Runner<'_, S, P::Outcome>>, RunError>
             requires placed { ArePlaced (λ runner. runner.client.number) S.rows.tasks runners.items }
             requires units { S.rows.units ≡ P.units program.now }
             ensures placed { IfOk result (λ after. ArePlaced (λ runner. runner.client.number) S.rows.tasks after.items) }

@@ -4,6 +4,8 @@
 //! size with the items packed in order, each behind a length word, so no command takes memory. Where each item
 //! begins is kept in an index, so no command walks from the load point: a command costs time in the bytes that
 //! it moves, and one that spaces over a file in the items that go by.
+//!
+//! Tests: component_tests (`tapes`), tests/cases/scripts.
 #![tactic(auto)]
 
 mod command;

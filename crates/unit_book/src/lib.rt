@@ -3,6 +3,8 @@
 //!
 //! What a trace is and which ones are legal stands in `specs/`, from `Trace.antt` to `Legal.antt`; what each
 //! call adds and answers stands in `Answers.antt`.
+//!
+//! Tests: system_tests (`units`), job_tests, tests/cases/scripts, tests/mutants/unit_book.
 #![tactic(auto)]
 
 mod active;

@@ -1,4 +1,6 @@
 //! The requests that wait for a unit, in order of arrival, in a ring whose room is made once.
+//!
+//! Tests: component_tests (`queues`).
 #![tactic(auto)]
 
 mod queue;

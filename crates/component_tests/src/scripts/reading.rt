@@ -86,7 +86,7 @@ fn expect_judged<R: Abort + AllocGlobal>(rt: &R, text: &[u8]) -> Result<(), Fail
     let mut reader = text;
     let mut output = Vec::new(rt.alloc());
     assert_eq!(rt;
-        check_script(rt.alloc(), &mut reader, &mut output)?,
+        check_script(rt.alloc(), &mut reader, SCRIPT, &mut output)?,
         refused
     );
     Ok(())

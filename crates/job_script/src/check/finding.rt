@@ -3,6 +3,7 @@
 use crate::cause::Cause;
 use crate::fault::FaultName;
 use crate::message::Message;
+use crate::telling::Found;
 use ccw_programs::Refusal as BrokenRule;
 use std::alloc::AllocError;
 use std::fmt;
@@ -27,9 +28,12 @@ pub struct Finding<'a> {
     pub told: Told,
 }
 
-impl<'a> Finding<'a> {
-    /// Whether a run refuses the script for it.
-    pub fn is_fault(&self) -> bool {
+impl<'a> Found for Finding<'a> {
+    fn line(&self) -> Option<usize> {
+        (self.line != SCRIPT).then_some(self.line)
+    }
+
+    fn is_fault(&self) -> bool {
         matches!(self.told, Told::Fault(_, _))
     }
 }
@@ -49,13 +53,8 @@ pub fn add(findings: &mut Vec<Finding<'_>>, line: usize, told: Told) -> Result<(
 
 impl<'a> fmt::Display for Finding<'a> {
     fn fmt<W: fmt::Write>(&self, f: &mut fmt::Formatter<W>) -> fmt::Result {
-        let Finding { line, bytes, told } = *self;
-        if line == SCRIPT {
-            f.write_str("script: ")?;
-        } else {
-            write!(f, "line {line}: ")?;
-        }
-        match told {
+        let bytes = self.bytes;
+        match self.told {
             Told::Fault(name, message) => {
                 write!(f, "{name}: ")?;
                 message.write(f, bytes)

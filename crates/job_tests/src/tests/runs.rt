@@ -232,7 +232,9 @@ fn left<S: Site + Send + Sync, R: Threads + Wait + Sync + AllocGlobal>(
         handlers: Vec::new(alloc),
     };
     let program = NotAwaited::new(script, begins);
-    let runners = run_beside(rt, alloc, &system, &alarm, &alarm, crew, runners, &program)?;
+    let runners = run_beside(rt, alloc, &system, &alarm, &alarm, crew, runners, &program).or(Err(
+        Fault::NoMemory,
+    ))?;
     let (tasks, outcomes) = parted(alloc, runners)?;
     let Ok(report) = finish(rt, alloc, system, tasks) else {
         return Err(Fault::NoMemory);
@@ -266,7 +268,9 @@ fn tasks_alone<S: Site + Send + Sync, R: Threads + Wait + Sync + AllocGlobal>(
     let gate = Drill::new(&alarm, way);
     let crew = crew_of(alloc, units, takers, way)?;
     let program = ScriptTasks::new(script);
-    let runners = run_beside(rt, alloc, &system, &alarm, &gate, crew, runners, &program)?;
+    let runners = run_beside(rt, alloc, &system, &alarm, &gate, crew, runners, &program).or(Err(
+        Fault::NoMemory,
+    ))?;
     let (_, outcomes) = parted(alloc, runners)?;
     Ok(Outcome::Ended(how_many_short(outcomes)?, told(rt, &system, units)?))
 }

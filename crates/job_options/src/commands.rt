@@ -1,0 +1,91 @@
+//! The subcommands and their options, as `clap` takes them.
+
+use crate::VERSION;
+use clap::{Arg, ArgAction, Command, value_parser};
+use std::alloc::{AllocError, Global};
+
+/// The argument that names the file of a script.
+pub const SCRIPT: &str = "SCRIPT";
+
+/// The lines of a script in brief (docs/MANUAL.md).
+const LINES: &str = "Lines of a script; tasks, units and areas are numbered from 0, DCBs from 1:
+  tasks N                            so many tasks; the first line
+  disk U ISC CYLINDERS HEADS BYTES   a disk with tracks of so many bytes
+  rec U CYLINDER HEAD R KEY DATA     a record on it, in hexadecimal, - for none
+  tape U ISC BYTES                   a tape; block U DATA and mark U lie on it
+  printer U ISC LINES PAGES          a printer
+  fault U N STATUS STATUS SENSE      the unit's N-th command meets a fault
+  open U in|out EXTENT ...           the next DCB of a unit; extents of a disk alone
+  area A ADDR HEX ...                storage of requests: IOB, ECB, channel program
+  excp T U DCB IOB A SHOW LEN        task T issues a request, shows LEN bytes of it
+  wait T                             task T waits for its requests
+  purge T U DCB halt|quiesce         purgetask T OTHER halt|quiesce
+  close T U DCB                      reset T U DCB
+  # ...                              a comment";
+
+/// The whole command line.
+pub fn command<'a>(alloc: Global) -> Result<Command<'a>, AllocError> {
+    Command::new(alloc, "excp_job")
+        .about("Runs a script of EXCP requests on models of disk, tape and printer")
+        .version(VERSION)
+        .after_help(LINES)
+        .subcommand_required(true)
+        .subcommand(run(alloc)?)?
+        .subcommand(report(alloc)?)?
+        .subcommand(check(alloc)?)?
+        .subcommand(assemble(alloc)?)
+}
+
+fn run<'a>(alloc: Global) -> Result<Command<'a>, AllocError> {
+    Command::new(alloc, "run")
+        .about("Reads a script from standard input and prints its posts")
+        .arg(channels(alloc))?
+        .arg(handlers(alloc))
+}
+
+fn report<'a>(alloc: Global) -> Result<Command<'a>, AllocError> {
+    let steps = Arg::new(alloc, "steps")
+        .long("steps")
+        .help("Every command of each history too")
+        .action(ArgAction::SetTrue);
+    Command::new(alloc, "report")
+        .about("Prints the posts of a script, the history of each unit and what lies on its medium")
+        .arg(channels(alloc))?
+        .arg(handlers(alloc))?
+        .arg(steps)?
+        .arg(script(alloc))
+}
+
+fn check<'a>(alloc: Global) -> Result<Command<'a>, AllocError> {
+    Command::new(alloc, "check")
+        .about("Prints every fault of a script, and warnings, as FILE:LINE: TEXT; runs nothing")
+        .arg(script(alloc))
+}
+
+fn assemble<'a>(alloc: Global) -> Result<Command<'a>, AllocError> {
+    Command::new(alloc, "assemble")
+        .about("Prints the plain script of one with symbolic areas, or every fault of it")
+        .arg(script(alloc))
+}
+
+fn script<'a>(alloc: Global) -> Arg<'a> {
+    Arg::new(alloc, SCRIPT).help("The file of the script; without it, or with -, standard input")
+}
+
+fn channels<'a>(alloc: Global) -> Arg<'a> {
+    Arg::new(alloc, "channels")
+        .long("channels")
+        .value_name("N")
+        .help("How many channel workers serve the units, 1 to 16")
+        .value_parser(value_parser!(u8).range(1..=16))
+        .default_value("1")
+}
+
+fn handlers<'a>(alloc: Global) -> Arg<'a> {
+    Arg::new(alloc, "handlers")
+        .long("handlers")
+        .value_name("N")
+        .help("How many handlers serve interruptions, 1 to 8")
+        .value_parser(value_parser!(u8).range(1..=8))
+        .default_value("1")
+}

@@ -1,0 +1,9 @@
+use Rattle.std.proofs.Common.{◌≡◌, length}
+use Rattle.script_words.specs.Forms.{after, pairs}
+use Rattle.script_words.proofs.forms.push_pairs.Given as goal
+
+abbrev pub invariant-loop-rest : goal.invariant-loop-rest
+invariant-loop-rest l = after l.bytes.items (pairs l.rest) ≡ after l.fn.bytes.items (pairs l.word)
+
+abbrev pub decreases-loop-rest : goal.decreases-loop-rest
+decreases-loop-rest l = length l.rest

@@ -1,0 +1,63 @@
+use Rattle.std.proofs.Common.{◌≡◌, ◌<◌, ◌≤◌, ◌≢◌, get_or, arith}
+use Rattle.std.proofs.lemmas.Bool.{ne_eqb}
+use Rattle.script_words.proofs.Scans.{after_space, after_byte, plain_byte, other_byte, plain_more, plain_less, line_goes_on, line_stops, line_is_last}
+use Rattle.script_words.proofs.words.Words.scan.Goals as goal
+use Rattle.script_words.proofs.words.Words.scan.Goals.{in-32, in_default, else-byte-ge33-via-else-byte-ge33, else-byte-ge33-via-then-byte-ge33+else-byte-le126}
+
+pub returns-in-10-clause-line : goal.returns-in-10-clause-line
+returns-in-10-clause-line c =
+    rw c.words.ensures
+    (line_stops c.args.text.now c.split_at.result.1.now c.loop-place.place c.loop-place-test.true c.loop-place.invariant.line c.in-10.is
+    c.split_at.ensures.back)
+
+pub loop-place-preserved-then-byte-le126 : goal.loop-place-preserved-then-byte-le126
+loop-place-preserved-then-byte-le126 c =
+    let text = c.args.text.now in
+    let at = c.loop-place.place in
+    let b = get_or text at 0 in
+    let old = c.loop-place.scan in
+    let i = c.loop-place.invariant in
+    let low : 33 ≤ b = omega arith in
+    let high : b ≤ 126 = omega arith in
+    record {
+      scanned = after_byte text old.starts old.ends old.count old.start at c.loop-place-test.true (ne_eqb b 32 (λ e. omega (arith, e, low)))
+          i.scanned;
+      few = omega (arith, i.few);
+      printable = plain_more text at c.loop-place.printable c.loop-place-test.true (plain_byte b (omega arith) high) i.printable;
+      line = line_goes_on text at (ne_eqb b 10 (λ e. omega (arith, e, low))) i.line;
+    }
+
+pub loop-place-preserved : goal.loop-place-preserved
+loop-place-preserved c =
+    let text = c.args.text.now in
+    let at = c.loop-place.place in
+    let b = get_or text at 0 in
+    let old = c.loop-place.scan in
+    let i = c.loop-place.invariant in
+    elim c.match-byte.branch [
+      | in-32 w ↦ (let is : b ≡ 32 = w.in-32.is in rw (w.scan-is, w.printable-is) (record {
+        scanned = after_space text w.close.new.self.starts w.close.new.self.ends w.close.new.self.count at c.loop-place-test.true is
+            w.close.ensures.closed;
+        few = w.close.ensures.few;
+        printable = plain_more text at c.loop-place.printable c.loop-place-test.true (plain_byte b (omega (arith, is)) (omega (arith, is)))
+            i.printable;
+        line = line_goes_on text at (ne_eqb b 10 (λ e. omega (arith, e, is))) i.line;
+      }))
+      | in_default w ↦ (
+          let blank : b ≢ 32 = λ e. omega arith in
+          let feed : b ≢ 10 = λ e. omega arith in
+          let far : 33 ≤ b → 126 < b =
+          λ h. elim c.else-byte-ge33.branch
+          [ else-byte-ge33-via-else-byte-ge33 v ↦ absurd (omega arith) | else-byte-ge33-via-then-byte-ge33+else-byte-le126 v ↦ omega arith ]
+          in
+          rw (w.scan-is, w.printable-is) (record {
+            scanned = after_byte text old.starts old.ends old.count old.start at c.loop-place-test.true (ne_eqb b 32 blank) i.scanned;
+            few = omega (arith, i.few);
+            printable = plain_less text at c.loop-place-test.true (other_byte b blank far);
+            line = line_goes_on text at (ne_eqb b 10 feed) i.line;
+          }))
+    ]
+
+pub returns-clause-line : goal.returns-clause-line
+returns-clause-line c =
+    rw c.words-2.ensures (line_is_last c.args.text.now c.loop-place.place c.loop-place-test.false c.loop-place.invariant.line)

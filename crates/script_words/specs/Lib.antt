@@ -1,0 +1,4 @@
+-- Text: lines, words, and the forms of words.
+pub mod Forms
+pub mod Scan
+pub mod Text

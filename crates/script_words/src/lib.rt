@@ -1,0 +1,17 @@
+//! Text as lines, words and the forms of words (profile). It knows no kind of line.
+//!
+//! Lines end with LF. Words are separated by one or more spaces. A word is a decimal number, hexadecimal digits, bytes
+//! of two hexadecimal digits each, or a fixed word.
+#![tactic(auto)]
+
+mod digits;
+mod forms;
+mod text;
+mod words;
+
+pub use forms::{
+    FormError, byte, bytes_of, decimal, decimal_in, hexadecimal, push_bytes, sixteen_bytes,
+    two_bytes,
+};
+pub use text::{after_words, next_word};
+pub use words::Words;

@@ -1,0 +1,142 @@
+"""What runs cost: the most memory, how processor time grows with the requests, and what threads that wait take.
+
+The bounds are wide, so that a busy machine passes. Nine times as many requests take nine times as long; they would take 81
+times as long if each cost time in those before it.
+"""
+
+import os
+import subprocess
+import sys
+import tempfile
+import time
+
+from harness import SAMPLES, SECONDS, Case, Failed, require
+
+# The cases run one after another, so that none slows down another.
+RUNS_ALONE = True
+
+ROUNDS = 9
+
+# The most memory of 20,000 requests, in MiB, and of each entry of a trace besides: 64 bytes. A program up to the fetch limit
+# has one turn for 64 of its commands, and four entries more. A loop of two CCWs has 2,048 commands, a straight program
+# 4,092.
+BESIDE = 20
+ENTRY = 64 / 2**20
+LOOP = (32 + 4) * ENTRY
+STRAIGHT = (64 + 4) * ENTRY
+
+# The kind and number of requests, and the most memory that a run may take, in MiB. The last trace has 2.4 million entries.
+MEMORY = [
+    ("small", 20_000, BESIDE),
+    ("large", 20_000, BESIDE),
+    ("units", 16_384, 24),
+    ("loops", 2_000, 24),
+    ("loops", 36_000, BESIDE + 36_000 * LOOP),
+    ("straight", 35_000, BESIDE + 35_000 * STRAIGHT),
+]
+
+# The kind, a number of requests, how many times as many, and how many times as long they may take at most. The longer
+# trace of loops has 1.3 million entries.
+TIMES = [("small", 4_000, 9, 20), ("waits", 3_300, 9, 20), ("loops", 4_000, 9, 20)]
+
+# The kind, a number of requests, and the most processor time for each second that passes: one worker is busy, and the two
+# tasks that wait for it sleep. Each thread that did not would take one more, where there is a processor for it.
+AWAKE = [("pair", 12_000, 1.7)]
+
+# The kind, a number of requests, and how many times as long as one worker of each kind as many as there may be take at
+# most, on one processor: those that find nothing to do give way to the others.
+CROWDS = [("units", 16_384, 8)]
+CROWD = ("--channels", "16", "--handlers", "8")
+
+
+# A small process that runs a program, and prints its status, processor seconds and most memory on standard error. The memory
+# of a process counts that of the one that starts it, so that is not this one, with its 20 MiB.
+STARTER = """
+import os, sys
+pid = os.fork()
+if pid == 0:
+    os.execv(sys.argv[1], sys.argv[1:])
+_, status, used = os.wait4(pid, 0)
+print(status, used.ru_utime + used.ru_stime, used.ru_maxrss, file=sys.stderr)
+"""
+
+
+def script_of(kind, count):
+    """A file with a script, to be read from its start."""
+    file = tempfile.TemporaryFile()
+    subprocess.run([f"{SAMPLES}/timed", kind, str(count)], stdout=file, check=True)
+    return file
+
+
+def cost(setup, script, count, *words):
+    """The cost of a run on a script: processor time and wall time, in seconds, and the most memory in MiB. It prints
+    `count` posts."""
+    script.seek(0)
+    words = [sys.executable, "-S", "-E", "-c", STARTER, setup.program, "run", *words]
+    with tempfile.TemporaryFile() as out:
+        begun = time.monotonic()
+        ran = subprocess.run(words, stdin=script, stdout=out, stderr=subprocess.PIPE, timeout=SECONDS, check=False)
+        passed = time.monotonic() - begun
+        status, seconds, memory = ran.stderr.split()[-3:]
+        out.seek(0)
+        if status != b"0" or out.read().split(b"\n")[-2:-1] != [b"end %d" % count]:
+            raise Failed(f"a run of {count} requests ended with status {status}, or without `end {count}`")
+    return float(seconds), passed, int(memory) / 1024
+
+
+def fits(setup, kind, count, most):
+    """A run takes at most this memory."""
+    with script_of(kind, count) as script:
+        _, _, memory = cost(setup, script, count)
+    text = f"{kind} {count}: {memory:.1f} MiB, at most {most:.0f}"
+    require(memory <= most, text)
+    return text
+
+
+def grows(setup, kind, count, times, most):
+    """`times` as many requests take at most `most` times as long: the least of some runs, by turns."""
+    more = times * count
+    with script_of(kind, count) as few, script_of(kind, more) as many:
+        seconds = [(cost(setup, few, count)[0], cost(setup, many, more)[0]) for _ in range(ROUNDS)]
+    least, longer = (min(column) for column in zip(*seconds))
+    text = f"{kind} {count} and {more}: {least:.3f} and {longer:.3f} s, {longer / least:.1f} times, at most {most}"
+    require(longer <= most * least, text)
+    return text
+
+
+def sleeps(setup, kind, count, most):
+    """A run takes at most this processor time for each second that passes: the least of some runs."""
+    with script_of(kind, count) as script:
+        runs = [cost(setup, script, count) for _ in range(ROUNDS)]
+    share = min(seconds / passed for seconds, passed, _ in runs)
+    text = f"{kind} {count}: {share:.2f} processors, at most {most}"
+    require(share <= most, text)
+    return text
+
+
+def gives_way(setup, kind, count, most):
+    """On one processor the most workers take at most `most` times as long as one of each kind: the least of some runs, by
+    turns."""
+    all_of_them = os.sched_getaffinity(0)
+    os.sched_setaffinity(0, {min(all_of_them)})
+    try:
+        with script_of(kind, count) as script:
+            seconds = [(cost(setup, script, count)[1], cost(setup, script, count, *CROWD)[1]) for _ in range(ROUNDS)]
+    finally:
+        os.sched_setaffinity(0, all_of_them)
+    alone, crowd = (min(column) for column in zip(*seconds))
+    text = f"{kind} {count} on one processor: {alone:.3f} s, all workers {crowd:.3f} s, {crowd / alone:.1f} times, at most {most}"
+    require(crowd <= most * alone, text)
+    return text
+
+
+def cases(setup):
+    for name, judge, rows in (
+        ("memory", fits, MEMORY),
+        ("processor time", grows, TIMES),
+        ("threads that wait", sleeps, AWAKE),
+        ("workers on one processor", gives_way, CROWDS),
+    ):
+        for row in rows:
+            origin = "tests/groups/costs.py, whose bounds are by reasoning"
+            yield Case(f"{name}: {row[0]} {row[1]}", lambda j=judge, r=row: j(setup, *r), origin)

@@ -1,0 +1,61 @@
+"""Reports of whole scripts: histories and media, every command with `--steps`, and the rule that a program check names.
+
+The files are in tests/cases/histories: `*.report` has reports, `*.steps` has reports with every command, and
+`rules.checks` has channel programs and the rule that each breaks. If a report has no history, none is compared, because
+it may be one of several. All texts follow from docs/SPECIFICATION.md and docs/MANUAL.md.
+"""
+
+import os
+
+from groups.samples import without_history
+from groups.scripts import is_printed
+from harness import CASES, Case, Failed, files, multiple, read
+
+RULES = f"{CASES}/histories/rules.checks"
+
+# A disk and a tape, each with a DCB, and an area at X'1780' with an unrelated IOB, its ECB at X'17A8' and its channel
+# program at X'17B0'.
+DISK_AND_TAPE = """tasks 1
+disk 0 0 1 1 40
+rec 0 0 0 1 - C1C2C3C4
+tape 1 0 40
+block 1 C1C2C3C4
+open 0 out 18000000000000000000000000000001
+open 1 out
+area 0 001780 42000000000017A8 0000000000000000 000017B000000001 0000000000000000 0000000000000001 0000000000000000"""
+CHECK = "#           program check at "
+
+
+def is_reported(setup, script, wanted):
+    is_printed(setup, ["report"], script, wanted, str if "# unit " in wanted else without_history)
+
+
+def names_rule(setup, script, rule):
+    """The report names this rule, and no other."""
+    ran = setup.run("report", "--steps", script=script)
+    found = [line.removeprefix(CHECK) for line in ran.out.splitlines() if line.startswith(CHECK)]
+    if (ran.status, ran.err, found) != (0, "", [rule]):
+        raise Failed("another rule, or none", ran, f"{rule}\n", "\n".join([*found, ran.err]))
+
+
+def cases(setup):
+    for suffix in ".report", ".steps":
+        for file in files("histories", suffix):
+            group = os.path.basename(file).removesuffix(suffix)
+            for name, script, wanted, place in multiple(file):
+                if suffix == ".report":
+                    judge = lambda s=script, w=wanted: is_reported(setup, s, w)
+                else:
+                    judge = lambda s=script, w=wanted: is_printed(setup, ["report", "--steps"], s, w)
+                yield Case(f"{group}: {name}", judge, f"{place}, by docs/SPECIFICATION.md and docs/MANUAL.md")
+    for number, line in enumerate(read(RULES).splitlines(), 1):
+        if line.startswith("#"):
+            continue
+        program, _, rule = line.partition(": ")
+        unit, _, program = program.partition(" ")
+        script = f"{DISK_AND_TAPE} {program}\nexcp 0 {unit} 1 001780 0 001780 0\n"
+        yield Case(
+            f"rules: {rule}",
+            lambda s=script, r=rule: names_rule(setup, s, r),
+            f"tests/cases/histories/rules.checks, line {number}, by docs/SPECIFICATION.md",
+        )

@@ -1,0 +1,132 @@
+"""Mutants: edits that a contract or a test rejects, each tried on a copy of its crate over kept work.
+
+A mutant is a file tests/mutants/CRATE/NAME.edit in the form of a must-fail edit (`rt` without words says more), whose first
+line says what rejects it:
+
+    rejected by: check                 `rt check` of the crate does not prove it
+    rejected by: test CRATE NAME       the test of that crate fails; nothing is proved, as by `rt try --test`
+
+Kept work is what `rt check` or `rt lib` leaves in crates/CRATE/out; the crates below have to be built too. An edit that
+cannot be read, applied or compiled fails as BAD EDIT, and is not counted as rejected.
+"""
+
+import glob
+import importlib.machinery
+import importlib.util
+import os
+import re
+import shutil
+import subprocess
+import sys
+import tempfile
+
+from harness import TOP, Case, Failed, require, run
+
+MUTANTS = f"{TOP}/tests/mutants"
+
+# The most seconds that a build of tests with nothing proved may take.
+SECONDS = 900
+
+# What a worker keeps of a crate from one mutant to the next: the copy of its kept work.
+KEPT = {}
+
+
+def loaded():
+    """The kit's own `rt`, which tells a rejected edit from one that cannot be read."""
+    file = os.path.realpath(shutil.which("rt"))
+    loader = importlib.machinery.SourceFileLoader("rt", file)
+    made = importlib.util.module_from_spec(importlib.util.spec_from_loader("rt", loader))
+    before = sys.dont_write_bytecode
+    loader.exec_module(made)
+    sys.dont_write_bytecode = before
+    return made
+
+
+def crate_of(rt, name):
+    """The crate with this name, whose libraries below are built."""
+    crate = next((it for it in rt.rtlib.crates_below(f"{TOP}/crates/{name}") if it.name == name), None)
+    require(crate, f"crates.txt names no crate {name}")
+    lacking = [it.name for it in crate.below() if not it.is_built()]
+    require(not lacking, f"not built from these sources: {' '.join(lacking)}; `rt lib` in their folders builds them")
+    return crate
+
+
+def kept_work(rt, crate):
+    """A copy of the work that the crate's out/ keeps, over which the crate is proved with nothing changed."""
+    if crate.name not in KEPT:
+        source = f"{crate.folder}/out/incremental"
+        require(os.path.isdir(source), f"crates/{crate.name}/out has no kept work; `rt check` in its folder makes it")
+        room = tempfile.TemporaryDirectory(prefix="mutants-")
+        subprocess.run(["cp", "-a", "--reflink=auto", source, f"{room.name}/kept"], check=True)
+        KEPT[crate.name] = room
+        require_proved(rt, crate, f"{room.name}/kept")
+    return f"{KEPT[crate.name].name}/kept"
+
+
+def require_proved(rt, crate, kept):
+    """The crate itself is proved over this work, so that nothing but an edit can be rejected over it."""
+    ran = rt.checked(crate, {}, ["--jobs", "1"], kept)
+    last = ran.stdout.rstrip("\n").rpartition("\n")[2]
+    require(ran.returncode == 0, f"crates/{crate.name} with no edit is not proved over the copied work: {last[:300]}")
+
+
+def rejected_by_check(name, edit):
+    rt = loaded()
+    crate = crate_of(rt, name)
+    is_rejected, text = rt.must_fail(crate, edit, ["--jobs", "1"], kept_work(rt, crate))
+    text = text.partition(": ")[2]
+    if not is_rejected:
+        raise Failed(text)
+    return f"{name}/{os.path.basename(edit)}: {text}"
+
+
+def rejected_by_test(name, edit, tests, test):
+    """The test of a crate of tests passes without the edit, and fails with it."""
+    rt = loaded()
+    texts, why = rt.read_edit(edit, f"{TOP}/crates/{name}")
+    require(not why, f"BAD EDIT: {why}")
+    with tempfile.TemporaryDirectory(prefix="mutants-") as room:
+        run(["git", "init", "-q", room])
+        for file in ("crates.txt", "HANDLES"):
+            shutil.copy(f"{TOP}/{file}", room)
+        shutil.copytree(f"{TOP}/crates", f"{room}/crates", ignore=shutil.ignore_patterns("out", "must-fail"))
+        for path, text in texts.items():
+            with open(f"{room}/crates/{name}/{path}", "w", encoding="utf-8") as it:
+                it.write(text)
+        ran = run(["rt", "try", "--test", "--", test], cwd=f"{room}/crates/{tests}", timeout=SECONDS, stdin=subprocess.DEVNULL)
+    said = ran.out + ran.err
+    require(re.search(rf"^test (\S+::)?{re.escape(test)} \.\.\. ", said, re.M), f"BAD EDIT: {test} of {tests} did not run", ran)
+    require(re.search(rf"^test (\S+::)?{re.escape(test)} \.\.\. FAILED", said, re.M), f"NOT REJECTED: {test} of {tests} passes", ran)
+    return f"{name}/{os.path.basename(edit)}: rejected: {test} of {tests} fails"
+
+
+def still_proved(name):
+    """The crate is proved over the work that its mutants left, so each of them was rejected for its edit alone."""
+    rt = loaded()
+    crate = crate_of(rt, name)
+    room = KEPT.get(name)
+    require(room, f"no mutant of crates/{name} was tried over kept work")
+    require_proved(rt, crate, f"{room.name}/kept")
+    KEPT.pop(name).cleanup()
+
+
+def cases(setup):
+    for folder in sorted(glob.glob(f"{MUTANTS}/*/")):
+        name = os.path.basename(folder.rstrip("/"))
+        by_check = 0
+        for edit in sorted(glob.glob(f"{folder}*.edit")):
+            if setup.names and os.path.basename(edit).removesuffix(".edit") not in setup.names:
+                continue
+            with open(edit, encoding="utf-8") as it:
+                first = it.readline().split()
+            origin = f"{os.path.relpath(edit, TOP)}, line 1"
+            title = f"{name} {os.path.basename(edit).removesuffix('.edit')}"
+            if first == ["rejected", "by:", "check"]:
+                by_check += 1
+                yield Case(title, lambda n=name, e=edit: rejected_by_check(n, e), origin, name)
+            elif first[:3] == ["rejected", "by:", "test"] and len(first) == 5:
+                yield Case(title, lambda n=name, e=edit, f=first: rejected_by_test(n, e, f[3], f[4]), origin)
+            else:
+                yield Case(title, lambda: require(False, "BAD EDIT: line 1 is no `rejected by: check` or `test CRATE NAME`"), origin)
+        if by_check:
+            yield Case(f"{name}: proved after its mutants", lambda n=name: still_proved(n), "tests/groups/mutants.py", name)

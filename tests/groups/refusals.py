@@ -1,0 +1,284 @@
+"""Calls made to fail in turn: each allocation, each write to standard output, and each thread, in programs and in tests.
+
+`tests/refuse.c`, preloaded, makes calls of one kind fail by their numbers. A case runs a proved program, or a test as `rt
+ci` or `rt test` leaves it in crates/*/out, with the first call failing, then with the second, and so on, until there is no
+such call. Each run ends in one of the ways that the case allows; the last one, in which no call failed, ends well.
+"""
+
+import os
+import re
+import shutil
+import struct
+import subprocess
+import tempfile
+from dataclasses import dataclass, field, replace
+
+from harness import CASES, SAMPLES, TOP, Case, Failed, Skipped, read, require, run, side_by_side
+
+LIBRARY = f"{TOP}/out/refuse.so"
+STORED = f"{TOP}/crates/excp_job/stdin"
+POSTS = f"{TOP}/crates/excp_job/stdout"
+NO_MEMORY = "excp_job: out of memory\n"
+
+# What `report` says if it cannot make a worker's thread; `run` has one text for both.
+NO_THREAD = "excp_job: no thread can be made for a worker, or out of memory\n"
+
+# How many small requests have posts that are written in several parts.
+REQUESTS = 2000
+
+# With two failing calls, the default form tries one in so many of the second ones.
+STEP = 3
+
+
+# --- ways to end, each the name of the way that a run ended in, or nothing
+
+
+def lacked(ran):
+    """What a run ran out of, as it says itself."""
+    if (ran.status, ran.err) == (3, NO_MEMORY):
+        return "out of memory"
+    return "no thread" if (ran.status, ran.err) == (3, NO_THREAD) and "report" in ran.words else None
+
+
+def prints_all_or_nothing(ran, text):
+    """It printed all, or it ran out of memory and printed nothing."""
+    return "printed all" if (ran.status, ran.out) == (0, text) else prints_nothing(ran, text)
+
+
+def prints_nothing(ran, text):
+    """It ran out of memory and printed nothing."""
+    return None if ran.out else lacked(ran)
+
+
+def reports_threads(ran, text):
+    """It said that it lacks a thread, and printed nothing."""
+    return "no thread" if lacked(ran) == "no thread" and not ran.out else None
+
+
+def prints_a_part(ran, text):
+    """It printed all, or it ran out of memory and printed a part."""
+    if lacked(ran) and ran.out and text.startswith(ran.out):
+        return "out of memory after a part"
+    return prints_all_or_nothing(ran, text)
+
+
+def finds_all_or_nothing(ran, text):
+    """It printed all faults with status 1, or it ran out of memory and printed nothing."""
+    return "printed all" if (ran.status, ran.out + ran.err) == (1, text) else prints_nothing(ran, text)
+
+
+def rejects_its_output(ran, text):
+    """It reported that its output cannot be written, after a part of it."""
+    is_reported = (ran.status, ran.err) == (1, "excp_job: output not written\n")
+    return "output not written" if is_reported and text.startswith(ran.out) else None
+
+
+def is_program(ran, text):
+    """A client printed all, or it reported an error of memory, after a part of its output."""
+    if (ran.status, ran.out) == (0, text):
+        return "printed all"
+    is_reported = re.search(r"^Error: .*((no|out of) memory|memory allocation failed)$", ran.err, re.M)
+    return "out of memory" if ran.status == 1 and is_reported and text.startswith(ran.out) else None
+
+
+def is_test(ran, text):
+    """A test passed, or it ended in a plain error of memory."""
+    if ran.status == 0:
+        return "passed"
+    is_reported = re.search(r"^error: (AllocError|AllocFailed .*|NoMemory)$", ran.out + ran.err, re.M)
+    return "out of memory" if ran.status == 101 and is_reported else None
+
+
+def is_resumed_test(ran, text):
+    """As `is_test`; if it passed it resumed its run, at most once for each call that failed."""
+    way = is_test(ran, text)
+    if way == "passed":
+        times = re.search(r"^resumed (\d+)$", ran.out, re.M)
+        return way if times and int(times[1]) <= ran.failing else None
+    return way
+
+
+# --- what is run
+
+
+@dataclass
+class Plan:
+    """What is run with calls of a kind failing, how a run may end, and what the cases require of all runs together: how many
+    such calls there are, if `calls` is not 0, and in how many ways the runs end at least."""
+
+    words: list
+    judge: object
+    input: str = "/dev/null"
+    text: str = ""
+    kind: str = "growth"
+    status: int = 0
+    passes: bool = False
+    pairs: bool = False
+    step: int = 1
+    calls: int = 0
+    least: int = 1
+    ways: dict = field(default_factory=dict)
+
+    def run(self, *numbers):
+        """A run with the calls of these numbers failing, and how many such calls there were."""
+        with tempfile.NamedTemporaryFile() as calls, open(self.input, "rb") as script:
+            failing = " ".join(map(str, numbers))
+            environment = {"LD_PRELOAD": LIBRARY, "REFUSE_KIND": self.kind, "REFUSE": failing, "CALLS": calls.name}
+            file = "" if self.input == "/dev/null" else os.path.relpath(self.input, TOP)
+            ran = run(self.words, file=file, stdin=script, env={**os.environ, **environment})
+            ran.failing = len(numbers)
+            data = calls.read(8)
+        shown = [f"{key}={environment[key]}" for key in ("LD_PRELOAD", "REFUSE_KIND", "REFUSE")]
+        ran.words = ["env", *shown, *ran.words]
+        return ran, struct.unpack("q", data)[0] if len(data) == 8 else 0
+
+    def sweep(self, before, first, jobs):
+        """Runs with a further call failing, from the first number on by steps, until there is no such call. Gives the numbers
+        of those that passed, and the run in which no further call failed."""
+        passed, number, size = [], first, max(4, 2 * jobs)
+        while True:
+            numbers = [number + at * self.step for at in range(size)] if before else [number + at for at in range(size)]
+            for at, (ran, calls) in zip(numbers, side_by_side(lambda it: self.run(*before, it), numbers, jobs)):
+                if calls < at:
+                    return passed, ran, at - 1
+                way = self.judge(ran, self.text)
+                if not way:
+                    raise Failed(f"ended badly, {self.kind} {' and '.join(map(str, [*before, at]))} failing", ran, None, ran.text())
+                self.ways[way] = self.ways.get(way, 0) + 1
+                if way == "passed":
+                    passed.append(at)
+            number = numbers[-1] + (self.step if before else 1)
+
+    def judged(self, name, jobs):
+        """Tries the plan, and returns how its runs ended."""
+        require(os.path.exists(self.words[0]), f"{os.path.relpath(self.words[0], TOP)} is missing; `./gate` builds it")
+        passed, last, count = self.sweep([], 1, jobs)
+        if self.pairs:
+            for at, first in enumerate(passed):
+                self.sweep([first], first + 1 + at % self.step, jobs)
+        require(count > 0, f"no call to make fail ({self.kind})", last)
+        is_well = last.status == self.status and (not self.text or last.out + last.err == self.text)
+        require(is_well, f"ended badly with no {self.kind} failing", last)
+        require(not self.passes or "passed" in self.ways, f"never passed with a {self.kind} failing")
+        require(not self.calls or count == self.calls, f"{count} {self.kind}s, and not {self.calls}", last)
+        require(len(self.ways) >= self.least, f"the runs ended in {len(self.ways)} ways, and not in {self.least}", last)
+        return f"{name}: {count} {self.kind}s: " + ", ".join(f"{number} {way}" for way, number in self.ways.items())
+
+
+def tests_of(crate, name):
+    """The program of a crate's tests, and those of its tests with this name."""
+    program = f"{TOP}/crates/{crate}/out/{crate}_tests"
+    require(os.path.exists(program), f"{os.path.relpath(program, TOP)} is missing; `rt test` in crates/{crate} builds it")
+    ran = run([program, "--list"])
+    names = re.findall(r"^(.*): test$", ran.out, re.M)
+    found = [it for it in names if it == name or it.endswith(f"::{name}")]
+    require(found, f"{crate} has no test {name}", ran)
+    return program, found
+
+
+def tests(crate, name, plan, jobs):
+    program, names = tests_of(crate, name)
+    return "; ".join(replace(plan, words=[program, it], ways={}).judged(it, jobs) for it in names)
+
+
+def long_posts(setup, work):
+    """A plan for a run whose posts are written in several parts."""
+    script = f"{work}/long.script"
+    with open(script, "wb") as it:
+        subprocess.run([f"{SAMPLES}/timed", "small", str(REQUESTS)], stdout=it, check=True)
+    posts = "".join(f"post 0 0 {n} 7F 001048 0C00 0000 0000 C1C1C1C1\n" for n in range(1, REQUESTS + 1)) + f"end {REQUESTS}\n"
+    return Plan([setup.program, "run"], rejects_its_output, script, posts, "write", status=0)
+
+
+def programs(setup):
+    """The cases of programs: a name, and the plan or a call that gives it."""
+    def plan(word, judge, script, text, *words, **more):
+        return f"{word} {os.path.relpath(script, TOP)} {' '.join(words)}".rstrip(), Plan(
+            [setup.program, word, *words], judge, script, read(text), **more
+        )
+
+    for words in ((), ("--channels", "2"), ("--channels", "4", "--handlers", "3")):
+        yield plan("run", prints_all_or_nothing, STORED, POSTS, *words)
+        name, it = plan("run", prints_nothing, STORED, POSTS, *words, kind="lasting")
+        yield f"{name}: each later growth fails too", it
+    name, it = plan("run", prints_all_or_nothing, STORED, POSTS, "--channels", "4", "--handlers", "3", kind="thread", calls=4, least=2)
+    yield f"{name}: threads", it
+    yield plan("report", prints_all_or_nothing, f"{SAMPLES}/read.script", f"{SAMPLES}/read.report")
+    name, it = plan("report", reports_threads, f"{SAMPLES}/read.script", f"{SAMPLES}/read.report", kind="thread", calls=1)
+    yield f"{name}: threads", it
+    programs_end = f"{SAMPLES}/how-programs-end"
+    yield plan("report", prints_a_part, f"{programs_end}.script", f"{programs_end}.steps", "--steps")
+    yield plan("check", prints_all_or_nothing, f"{SAMPLES}/read.script", "/dev/null")
+    yield plan("assemble", prints_all_or_nothing, f"{SAMPLES}/read.symbolic", f"{SAMPLES}/read.assembled")
+    folder = f"{CASES}/refusals"
+    yield plan("check", finds_all_or_nothing, f"{folder}/check.script", f"{folder}/check.findings", status=1)
+    yield plan("assemble", finds_all_or_nothing, f"{folder}/assemble.symbolic", f"{folder}/assemble.findings", status=1)
+    client = f"{TOP}/crates/print_tape"
+    yield "print_tape", Plan([f"{client}/out/print_tape"], is_program, text=read(f"{client}/stdout"))
+
+
+# The tests: the crate, the names, and what is required of the runs.
+MUST_PASS = {"passes": True}
+RESUMES = {"passes": True, "pairs": True}
+TESTS = [
+    (
+        "component_tests",
+        [
+            *(f"{it}_without_memory" for it in ("areas::areas", "disks::mount", "tapes::mount", "printers::mount")),
+            *(f"{it}_without_memory" for it in ("queues::queues", "requests::requests", "rows::rows")),
+        ],
+        MUST_PASS,
+    ),
+    ("component_tests", [*(f"{it}::every_command" for it in ("disks", "tapes", "printers")), "two_senders_and_a_taker"], {}),
+    ("job_tests", ["controls_without_memory", "steps_without_memory"], MUST_PASS),
+    (
+        "system_tests",
+        [
+            *(f"{it}_without_memory" for it in ("arrive", "open", "purge_of_a_task", "reserve", "restarts", "system")),
+            "gate_is_told_of_want_of_memory",
+        ],
+        MUST_PASS,
+    ),
+    ("system_tests", ["finish_without_memory", "finish_after_excp_without_memory"], RESUMES),
+]
+
+
+def compiled():
+    """Why there is no library that makes calls fail, or nothing."""
+    compiler = os.environ.get("CC") or shutil.which("cc") or shutil.which("gcc")
+    if not compiler:
+        return "no C compiler (cc or gcc) for tests/refuse.c"
+    os.makedirs(os.path.dirname(LIBRARY), exist_ok=True)
+    made = f"{LIBRARY}.{os.getpid()}"
+    ran = run([compiler, "-O2", "-Wall", "-shared", "-fPIC", "-o", made, f"{TOP}/tests/refuse.c"])
+    if ran.status:
+        return f"tests/refuse.c cannot be compiled: {ran.err.strip()[:200]}"
+    os.replace(made, LIBRARY)
+    return ""
+
+
+def cases(setup):
+    lacks = compiled()
+    jobs = max(1, setup.jobs // 2)
+
+    def case(name, judge, origin):
+        def judged():
+            if lacks:
+                raise Skipped(lacks)
+            return judge()
+
+        return Case(name, judged, origin)
+
+    def writes():
+        with tempfile.TemporaryDirectory() as work:
+            return long_posts(setup, work).judged("run samples/timed small: writes", jobs)
+
+    for crate, names, required in reversed(TESTS):
+        for name in names:
+            plan = Plan([], is_resumed_test if "pairs" in required else is_test, step=1 if setup.is_long else STEP, **required)
+            origin = f"the test {name} of {crate}, and tests/groups/refusals.py"
+            yield case(f"{crate} {name}", lambda c=crate, n=name, p=plan: tests(c, n, p, jobs), origin)
+    for name, plan in programs(setup):
+        origin = "the text stored for this script, docs/MANUAL.md, and tests/groups/refusals.py"
+        yield case(name, lambda n=name, p=plan: p.judged(n, jobs), origin)
+    yield case("run samples/timed small: writes", writes, "tests/groups/refusals.py, by docs/MANUAL.md")
