@@ -7,6 +7,8 @@
 #[cfg(test)]
 mod areas;
 #[cfg(test)]
+mod chains;
+#[cfg(test)]
 mod devices;
 #[cfg(test)]
 mod disks;
