@@ -1,5 +1,2 @@
--- Lemmas on bytes that are read piece after piece, on joined words, on one changed unit, and on lines one after the other.
-pub mod Changing
+-- Bytes that are read one piece after another.
 pub mod Consuming
-pub mod Joining
-pub mod Reading

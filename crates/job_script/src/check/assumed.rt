@@ -3,7 +3,7 @@
 use super::Check;
 use super::notes::AreaUse;
 use crate::line::{SetUpLine, SetUpVerb, Verb};
-use script_words::{Words, decimal, decimal_in};
+use crate::words::Words;
 use std::alloc::{AllocError, Global};
 
 /// Whether what a line declares is only assumed.
@@ -17,12 +17,13 @@ impl<'a> Check<'a> {
         &mut self,
         alloc: Global,
         line: usize,
-        words: &Words<'_>,
+        bytes: &[u8],
     ) -> Result<(), AllocError> {
-        let verb = match Verb::of(words.word(0)) {
+        let mut words = Words::of(bytes);
+        let verb = match Verb::of(words.word()) {
             Some(Verb::SetUp(verb)) => verb,
             Some(Verb::Excp) => {
-                self.assume_use(words);
+                self.assume_use(&mut words);
                 return Ok(());
             }
             _ => return Ok(()),
@@ -31,17 +32,20 @@ impl<'a> Check<'a> {
         match verb {
             SetUpVerb::Tasks => set_up.assume_tasks(),
             SetUpVerb::Disk | SetUpVerb::Tape | SetUpVerb::Printer => {
-                if let Some(number) = decimal_in(words.word(1), 0, 63) {
+                let number = words.index();
+                if words.refused().is_none() {
                     set_up.assume_units(alloc, line, number)?;
                 }
             }
             SetUpVerb::Open => {
-                if let Some(number) = decimal_in(words.word(1), 0, 63) {
+                let number = words.index();
+                if words.refused().is_none() {
                     set_up.assume_dcb(alloc, line, number)?;
                 }
             }
             SetUpVerb::Area => {
-                if let Some(number) = decimal(words.word(1)) {
+                let number = words.number();
+                if words.refused().is_none() {
                     set_up.assume_areas(alloc, number)?;
                 }
             }
@@ -51,9 +55,13 @@ impl<'a> Check<'a> {
         self.count_areas(line)
     }
 
-    /// The area of an EXCP is used: its number comes after a task, a unit, a DCB and the address of an IOB.
-    fn assume_use(&mut self, words: &Words<'_>) {
-        if let Some(area) = decimal(words.word(5)) {
+    /// The area of an EXCP is used: its number stands behind a task, a unit, a DCB and the address of an IOB.
+    fn assume_use(&mut self, words: &mut Words<'_>) {
+        for _ in 0..4 {
+            words.word();
+        }
+        let area = words.number();
+        if words.refused().is_none() {
             self.use_area(area);
         }
     }
