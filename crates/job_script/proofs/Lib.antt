@@ -1,2 +1,5 @@
--- Bytes that are read one piece after another.
+-- Lemmas on bytes that are read piece after piece, on joined words, on one changed unit, and on lines one after the other.
+pub mod Changing
 pub mod Consuming
+pub mod Joining
+pub mod Parsing

@@ -1,6 +1,9 @@
 //! Why a line of a script is refused: the name of its fault, and a message that says what is wrong and what would be
 //! right.
 
+ghost use Rattle.std.specs.Prelude.{◌≡◌};
+ghost use Rattle.job_script.specs.declared.cause.Refusal.TheVariants as refusals;
+
 use crate::fault::{Fault, FaultName};
 use crate::message::Message;
 use std::alloc::{AllocError, AllocFailed};
@@ -14,7 +17,9 @@ pub struct Cause {
 
 impl Cause {
     /// A fault with this name, and the text that is told of it, in which these numbers stand.
-    pub fn new(name: FaultName, text: &'static str, numbers: &[u64]) -> Self {
+    pub fn new(name: FaultName, text: &'static str, numbers: &[u64]) -> Self
+        ensures { result.name ≡ name }
+    {
         let message = Message::new(text, numbers);
         Cause { name, message }
     }
@@ -41,18 +46,24 @@ impl Refusal {
 }
 
 impl From<Cause> for Refusal {
+    ghost from_gives = { λ cause e. e ≡ refusals.Caused cause };
+
     fn from(cause: Cause) -> Self {
         Refusal::Caused(cause)
     }
 }
 
 impl From<AllocError> for Refusal {
+    ghost from_gives = { λ _ e. e ≡ refusals.NoMemory };
+
     fn from(_error: AllocError) -> Self {
         Refusal::NoMemory
     }
 }
 
 impl<T: Drop> From<AllocFailed<T>> for Refusal {
+    ghost from_gives = { λ _ e. e ≡ refusals.NoMemory };
+
     fn from(_error: AllocFailed<T>) -> Self {
         Refusal::NoMemory
     }

@@ -18,11 +18,11 @@ use crate::reading::{LIMIT, read_script};
 use crate::script::late;
 use crate::set_up::SetUp;
 use crate::telling::{Found, Source, write_findings};
-use crate::words::Words;
 use finding::{Finding, SCRIPT, Told, add, tell};
 use media::check_unit;
 use notes::{AreaUse, early, note_doubles, note_unused};
 use programs::{Issued, note_requests};
+use script_words::{Words, next_word};
 use std::alloc::{AllocError, Global};
 use std::io::{Read, Write};
 
@@ -70,8 +70,10 @@ fn findings(alloc: Global, text: &[u8]) -> Result<Vec<Finding<'_>>, AllocError> 
 /// does.
 fn end_of_symbolic(text: &[u8]) -> Option<usize> {
     for (place, bytes) in text.split(|byte| *byte == b'\n').enumerate() {
-        if Words::of(bytes).word().starts_with(b"endarea") {
-            return Some(place.saturating_add(1));
+        if let Some((first, _)) = next_word(bytes) {
+            if first.starts_with(b"endarea") {
+                return Some(place.saturating_add(1));
+            }
         }
     }
     None
@@ -136,7 +138,8 @@ impl<'a> Check<'a> {
 
     /// Reads the line with this number.
     fn line(&mut self, alloc: Global, line: usize, bytes: &'a [u8]) -> Result<(), AllocError> {
-        let added = match Line::read(alloc, line, bytes) {
+        let (words, _) = Words::scan(bytes);
+        let added = match Line::read(alloc, line, &words) {
             Ok(read) => self.add(alloc, line, read),
             Err(refusal) => Err(refusal),
         };
@@ -146,7 +149,7 @@ impl<'a> Check<'a> {
             Err(Refusal::Caused(cause)) => {
                 let told = Told::Fault(cause.name, cause.message);
                 self.findings.push(Finding { line, bytes, told })?;
-                self.assume(alloc, line, bytes)
+                self.assume(alloc, line, &words)
             }
         }
     }

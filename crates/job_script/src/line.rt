@@ -6,20 +6,23 @@ mod commands;
 mod units;
 mod verb;
 
-ghost use Rattle.std.specs.Prelude.{◌≤◌, ◌<◌};
+ghost use Rattle.std.specs.Prelude.{◌≡◌, ◌≤◌, ◌<◌};
+ghost use Rattle.std.specs.Arc.{arc_value};
+ghost use Rattle.job_script.specs.declared.fault.FaultName.TheVariants as names;
 
 use crate::cause::{Cause, Refusal};
 use crate::command::{Command, DcbName, Excp};
 use crate::fault::FaultName;
+use crate::forms::is_comment;
 use crate::message::Message;
 use crate::set_up::{Opening, UnitSetup};
-use crate::words::Words;
 use areas::{area, opening, tasks};
 use ckd_disk::InitialRecord;
 use commands::{close, excp, purge, purge_task, reset, wait};
 use device_port::Fault as DeviceFault;
 use io_area::Area;
-use std::alloc::{AllocError, Global};
+use script_words::Words;
+use std::alloc::Global;
 use std::sync::Arc;
 use tape_unit::InitialItem;
 use units::{block, disk, fault, mark, printer, record, tape};
@@ -79,22 +82,13 @@ pub struct ExcpLine {
 }
 
 impl ExcpLine {
-    /// The EXCP that a line in its form says. Its words are then as many as they should be, and printable.
-    pub fn of(number: usize, bytes: &[u8]) -> Option<ExcpLine> {
-        let mut words = Words::of(bytes);
-        let b"excp" = words.next_word()? else {
-            return None;
-        };
-        let excp = excp(number, &mut words);
-        if words.refused().is_none() && words.is_empty() {
-            Some(excp)
-        } else {
-            None
-        }
-    }
+    ghost use Rattle.job_script.specs.Adding.{excp_on};
+    ghost use Rattle.job_script.specs.Views.{excp_said};
 
     /// The EXCP on a copy of this area.
-    pub fn over(self, area: Arc<Area, Global>) -> Excp {
+    pub fn over(self, area: Arc<Area, Global>) -> Excp
+        ensures { excp_said result ≡ excp_on self (arc_value area) }
+    {
         Excp {
             dcb: self.dcb,
             iob: self.iob,
@@ -117,71 +111,92 @@ pub enum Line {
 }
 
 impl Line {
+    ghost use Rattle.job_script.specs.Lines.{by_verb, line_of};
+    ghost use Rattle.job_script.specs.LineViews.{line_said};
+    ghost use Rattle.job_script.specs.Outcomes.{Returns, words_in};
+
     /// Reads the line with this number.
-    pub fn read(alloc: Global, number: usize, bytes: &[u8]) -> Result<Line, Refusal> {
-        let mut words = Words::of(bytes);
-        let count = words.count();
-        let Some(kind) = words.next_word() else {
-            return Ok(Line::Nothing);
-        };
-        if let [b'#', ..] = kind {
+    #[tactic(auto, unfolding(crate::specs::Lines::line_words))]
+    pub fn read(alloc: Global, number: usize, line: &Words<'_>) -> Result<Line, Refusal>
+        ensures { Returns line_said result (line_of number line.now.line.now) }
+    {
+        if line.count() == 0 {
             return Ok(Line::Nothing);
         }
-        let line = match first_word(bytes, kind, count)? {
-            Verb::SetUp(verb) => {
-                Line::SetUp(SetUpLine::read(alloc, number, verb, count, &mut words)?)
-            }
-            Verb::Excp => Line::Excp(excp(number, &mut words)),
-            Verb::Purge => Line::Command(purge(number, &mut words)),
-            Verb::PurgeTask => Line::Command(purge_task(number, &mut words)),
-            Verb::Close => Line::Command(close(number, &mut words)),
-            Verb::Reset => Line::Command(reset(number, &mut words)),
-            Verb::Wait => Line::Command(wait(number, &mut words)),
+        let first = line.word(0);
+        if is_comment(first) {
+            return Ok(Line::Nothing);
+        }
+        if !line.is_printable() {
+            return Err(Refusal::Caused(not_printable(line.line)));
+        }
+        let Some(verb) = Verb::of(first) else {
+            return Err(Refusal::Caused(Cause::new(FaultName::Words, UNKNOWN, &[1])));
         };
-        match words.refused() {
-            Some(cause) => Err(Refusal::Caused(cause)),
-            None => Ok(line),
+        Line::by_verb(alloc, number, verb, line)
+    }
+
+    /// Reads a line of this kind.
+    #[tactic(auto, unfolding(crate::specs::Lines::by_verb))]
+    fn by_verb(alloc: Global, number: usize, verb: Verb, line: &Words<'_>) -> Result<Line, Refusal>
+        ensures { Returns line_said result (by_verb verb number (words_in line.now)) }
+    {
+        match verb {
+            Verb::SetUp(verb) => {
+                let read = SetUpLine::read(alloc, number, verb, line)?;
+                Ok(Line::SetUp(read))
+            }
+            Verb::Excp => Ok(Line::Excp(excp(number, line)?)),
+            Verb::Purge => Ok(Line::Command(purge(number, line)?)),
+            Verb::PurgeTask => Ok(Line::Command(purge_task(number, line)?)),
+            Verb::Close => Ok(Line::Command(close(number, line)?)),
+            Verb::Reset => Ok(Line::Command(reset(number, line)?)),
+            Verb::Wait => Ok(Line::Command(wait(number, line)?)),
         }
     }
 }
 
 impl SetUpLine {
-    /// Reads the words behind the first one of so many.
+    ghost use Rattle.job_script.specs.Lines.{set_up_line};
+    ghost use Rattle.job_script.specs.LineViews.{set_up_line_said};
+    ghost use Rattle.job_script.specs.Outcomes.{Returns, words_in};
+
+    /// Reads a set-up line of this kind.
+    #[tactic(auto, unfolding(crate::specs::Lines::set_up_line))]
     fn read(
         alloc: Global,
         number: usize,
         verb: SetUpVerb,
-        count: usize,
-        words: &mut Words<'_>,
-    ) -> Result<SetUpLine, AllocError> {
-        let rest = count.saturating_sub(3);
-        let line = match verb {
-            SetUpVerb::Record => return record(alloc, words),
-            SetUpVerb::Block => return block(alloc, words),
-            SetUpVerb::Open => return opening(alloc, number, words, rest),
-            SetUpVerb::Area => return area(alloc, words, rest),
-            SetUpVerb::Tasks => tasks(words),
-            SetUpVerb::Disk => disk(alloc, number, words),
-            SetUpVerb::Tape => tape(alloc, number, words),
-            SetUpVerb::Printer => printer(alloc, number, words),
-            SetUpVerb::Mark => mark(words),
-            SetUpVerb::Fault => fault(words),
-        };
-        Ok(line)
+        line: &Words<'_>,
+    ) -> Result<SetUpLine, Refusal>
+        ensures { Returns set_up_line_said result (set_up_line verb number (words_in line.now)) }
+    {
+        match verb {
+            SetUpVerb::Tasks => tasks(line),
+            SetUpVerb::Disk => disk(alloc, number, line),
+            SetUpVerb::Tape => tape(alloc, number, line),
+            SetUpVerb::Printer => printer(alloc, number, line),
+            SetUpVerb::Record => record(alloc, line),
+            SetUpVerb::Block => block(alloc, line),
+            SetUpVerb::Mark => mark(line),
+            SetUpVerb::Fault => fault(line),
+            SetUpVerb::Open => opening(alloc, number, line),
+            SetUpVerb::Area => area(alloc, line),
+        }
     }
 }
 
-/// What the first word of a line says, where its bytes and the number of its words may be so.
-fn first_word(bytes: &[u8], kind: &[u8], count: usize) -> Result<Verb, Cause> {
-    if let Some(message) = unprintable(bytes) {
-        let name = FaultName::Words;
-        return Err(Cause { name, message });
+/// That a line has a byte that is not printable.
+fn not_printable(bytes: &[u8]) -> Cause
+    ensures { result.name ≡ names.Words }
+{
+    match unprintable(bytes) {
+        Some(message) => Cause {
+            name: FaultName::Words,
+            message,
+        },
+        None => Cause::new(FaultName::Words, "", &[]),
     }
-    let Some(verb) = Verb::of(kind) else {
-        return Err(Cause::new(FaultName::Words, UNKNOWN, &[1]));
-    };
-    verb.takes(count)?;
-    Ok(verb)
 }
 
 /// Which byte of a line is first no printable ASCII character, if one is, and what would be right.

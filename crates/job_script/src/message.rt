@@ -1,6 +1,6 @@
 //! What is told of a line: a text, and the numbers and words that stand in it.
 
-use crate::words::Words;
+use script_words::{after_words, next_word};
 use std::fmt;
 
 /// The most bytes of a word that are told.
@@ -75,12 +75,11 @@ fn write_number<W: fmt::Write>(
 
 /// The word of a line with this number, from 1; none has no bytes.
 fn word_at(line: &[u8], number: u64) -> &[u8] {
-    let mut words = Words::of(line);
-    let mut word: &[u8] = &[];
-    for _ in 0..number {
-        word = words.word();
+    let before = number.saturating_sub(1) as usize;
+    match next_word(after_words(line, before)) {
+        Some((word, _)) => word,
+        None => &[],
     }
-    word
 }
 
 /// Writes a word of printable ASCII characters, or how a long one begins.

@@ -2,14 +2,16 @@
 
 ghost use Rattle.std.specs.Prelude.{◌≡◌, ◌≤◌, Contains, IfOk, vec_len};
 ghost use Rattle.job_script.specs.Commands.{NamesUnits, most, requests_of, requests_to};
+ghost use Rattle.job_script.specs.Outcomes.{IsNamed};
 ghost use Rattle.job_script.specs.declared.command.Command.{Command as OneCommand};
+ghost use Rattle.job_script.specs.declared.fault.FaultName.TheVariants as names;
 
 use crate::cause::{Cause, Refusal};
 use crate::command::Command;
 use crate::fault::{Fault, FaultName};
-use crate::line::{ExcpLine, Line};
+use crate::line::Line;
 use crate::set_up::SetUp;
-use memchr::memchr;
+use script_words::Words;
 use std::alloc::Global;
 
 /// That no line declares the tasks, or a unit.
@@ -27,9 +29,16 @@ pub struct Script {
 }
 
 impl Script {
+    ghost use Rattle.job_script.specs.Adding.{add_command, add_line};
+    ghost use Rattle.job_script.specs.Grammar.{lacks, script_of, with_line};
+    ghost use Rattle.job_script.specs.LineViews.{line_said};
+    ghost use Rattle.job_script.specs.Outcomes.{Gives, Leads, LeadsAt};
+    ghost use Rattle.job_script.specs.Views.{command_said, said};
+
     /// Reads the lines of a script, first to last; the first fault ends it. A script without tasks or units has a fault
     /// at line 0.
     pub fn parse(alloc: Global, text: &[u8]) -> Result<Self, Fault>
+        ensures grammar { Gives said result (script_of text.now) }
         ensures tasks { IfOk result (λ script. (1 ≤ script.set_up.tasks) × (script.set_up.tasks ≤ 64)) }
         ensures units { IfOk result (λ script. (1 ≤ vec_len script.set_up.units) × (vec_len script.set_up.units ≤ 64)) }
     {
@@ -37,60 +46,77 @@ impl Script {
             set_up: SetUp::new(alloc),
             commands: Vec::new(alloc),
         };
-        let mut rest = text;
+        let mut left = Some(text);
         let mut number: usize = 1;
-        while let Some(end) = memchr(b'\n', rest) {
-            let (bytes, others) = rest.split_at(end);
-            script.read_line(alloc, number, bytes)?;
-            number = number.saturating_add(1);
-            rest = &others[1..];
+        'lines: while let Some(text) = left {
+            let (line, after) = Words::scan(text);
+            if let Err(fault) = script.numbered_line(alloc, number, &line) {
+                return Err(fault);
+            }
+            number += 1;
+            left = after;
         }
-        script.read_line(alloc, number, rest)?;
-        if script.set_up.tasks == 0 {
-            return Err(NO_LINE);
-        }
-        if script.set_up.units.is_empty() {
+        if script.lacks() {
             return Err(NO_LINE);
         }
         Ok(script)
     }
 
-    /// Adds what the line with this number says. An EXCP in its form takes a short way.
-    fn read_line(&mut self, alloc: Global, number: usize, bytes: &[u8]) -> Result<(), Fault> {
-        let read = match ExcpLine::of(number, bytes) {
-            Some(excp) => self.add_excp(excp),
-            None => self.read_any_line(alloc, number, bytes),
-        };
-        match read {
+    /// No line declares the tasks, or no line declares a unit.
+    fn lacks(&self) -> bool
+        ensures { result ≡ lacks (said self.now) }
+    {
+        self.set_up.tasks == 0 || self.set_up.units.is_empty()
+    }
+
+    /// Adds what the line with this number says, and names the line in a fault.
+    fn numbered_line(&mut self, alloc: Global, number: usize, line: &Words<'_>) -> Result<(), Fault>
+        ensures { LeadsAt number result (said self.new) (with_line number line.now.line.now (said self.old)) }
+    {
+        match self.read_line(alloc, number, line) {
             Ok(()) => Ok(()),
-            Err(refusal) => Err(refusal.at(number)),
+            Err(Refusal::Caused(cause)) => Err(Fault::Line {
+                line: number,
+                name: cause.name,
+            }),
+            Err(Refusal::NoMemory) => Err(Fault::NoMemory),
         }
     }
 
-    /// Adds what a line of any kind says.
-    #[inline(never)]
-    fn read_any_line(&mut self, alloc: Global, number: usize, bytes: &[u8]) -> Result<(), Refusal> {
-        match Line::read(alloc, number, bytes)? {
+    /// Adds what the line with this number says.
+    fn read_line(&mut self, alloc: Global, number: usize, line: &Words<'_>) -> Result<(), Refusal>
+        ensures { Leads result (said self.new) (with_line number line.now.line.now (said self.old)) }
+    {
+        let read = Line::read(alloc, number, line)?;
+        self.add_line(alloc, number, read)
+    }
+
+    /// Adds what a line says.
+    #[tactic(auto, unfolding(crate::specs::Adding::add_line))]
+    fn add_line(&mut self, alloc: Global, number: usize, line: Line) -> Result<(), Refusal>
+        ensures { Leads result (said self.new) (add_line (line_said line) (said self.old)) }
+    {
+        match line {
             Line::Nothing => Ok(()),
             Line::SetUp(line) => {
-                if let Some(first) = self.commands.first() {
-                    return Err(late(first.line));
+                if !self.commands.is_empty() {
+                    return Err(late(self.commands[0].line));
                 }
                 self.set_up.add(alloc, number, line)
             }
-            Line::Excp(excp) => self.add_excp(excp),
+            Line::Excp(line) => {
+                let command = self.set_up.excp(line)?;
+                self.add_command(command)
+            }
             Line::Command(command) => self.add_command(command),
         }
     }
 
-    /// Adds the command of an EXCP, with its area.
-    fn add_excp(&mut self, line: ExcpLine) -> Result<(), Refusal> {
-        let command = self.set_up.excp(line)?;
-        self.add_command(command)
-    }
-
-    /// Adds a command, where all that it names is declared.
-    fn add_command(&mut self, command: Command) -> Result<(), Refusal> {
+    /// Adds a command, if all that it names is declared.
+    #[tactic(auto, unfolding(crate::specs::Adding::add_command))]
+    fn add_command(&mut self, command: Command) -> Result<(), Refusal>
+        ensures { Leads result (said self.new) (add_command (command_said command) (said self.old)) }
+    {
         self.set_up.names(&command)?;
         self.commands.push(command)?;
         Ok(())
@@ -140,7 +166,9 @@ impl Script {
 }
 
 /// That a set-up line stands behind the first command, which has this line.
-pub(crate) fn late(command: usize) -> Refusal {
+pub(crate) fn late(command: usize) -> Refusal
+    ensures { IsNamed names.Order result }
+{
     let text = "a set-up line stands before the first command, which is line {n}";
     Refusal::Caused(Cause::new(FaultName::Order, text, &[command as u64]))
 }

@@ -3,8 +3,11 @@
 
 mod assumed;
 
-ghost use Rattle.std.specs.Prelude.{◌≤◌, ◌<◌, OnOk, vec_len};
+ghost use Rattle.std.specs.Prelude.{◌≡◌, ◌≤◌, ◌<◌, OnOk, vec_len};
+ghost use Rattle.std.specs.Arc.{arc_value};
 ghost use Rattle.job_script.specs.Commands.{NamesUnits};
+ghost use Rattle.job_script.specs.Outcomes.{IsNamed, IsNoArea, MakesArea};
+ghost use Rattle.job_script.specs.declared.fault.FaultName.TheVariants as names;
 
 use crate::cause::{Cause, Refusal};
 use crate::command::{Action, Command, DcbName};
@@ -65,8 +68,18 @@ pub struct SetUp {
 }
 
 impl SetUp {
+    ghost use Rattle.job_script.specs.Adding.{add_area, add_set_up, add_tasks, add_unit, excp_of, names_command, is_dcb, is_task};
+    ghost use Rattle.job_script.specs.Adding.{add_fault, add_item, add_opening, add_record, change_unit, numbered};
+    ghost use Rattle.job_script.specs.LineViews.{set_up_line_said};
+    ghost use Rattle.job_script.specs.Outcomes.{Leads, Reads, Returns};
+    ghost use Rattle.job_script.specs.Said.{nothing};
+    ghost use Rattle.job_script.specs.Views.{command_said, opening_said, record_said, set_up_said, unit_said};
+    ghost use Rattle.tape_unit.specs.Mount.{initial};
+
     /// Nothing is declared.
-    pub fn new(alloc: Global) -> Self {
+    pub fn new(alloc: Global) -> Self
+        ensures { set_up_said result ≡ nothing.set_up }
+    {
         SetUp {
             tasks: 0,
             units: Vec::new(alloc),
@@ -76,36 +89,37 @@ impl SetUp {
 
     /// A unit has this DCB.
     fn names_dcb(&self, dcb: DcbName) -> Result<(), Cause>
-        ensures { OnOk result (dcb.unit < vec_len self.now.units) }
+        ensures read { Reads result (is_dcb dcb (set_up_said self.now)) }
+        ensures unit { OnOk result (dcb.unit < vec_len self.now.units) }
     {
-        let DcbName { unit, number } = dcb;
-        let Some(declared) = self.units.get(usize::from(unit)) else {
+        let unit = usize::from(dcb.unit);
+        if unit >= self.units.len() {
             return Err(self.no_unit(unit));
-        };
-        let count = declared.openings.len();
-        if usize::from(number) > count {
-            let text = "DCB {n} of {n} of unit {n}, which count from 1";
-            let numbers = [u64::from(number), count as u64, u64::from(unit)];
-            return Err(Cause::new(FaultName::Name, text, &numbers));
+        }
+        let declared = &self.units[unit];
+        if usize::from(dcb.number) > declared.openings.len() {
+            return Err(no_dcb(dcb.number, declared.openings.len(), dcb.unit));
         }
         Ok(())
     }
 
     /// A task has this number.
-    fn names_task(&self, number: u16) -> Result<(), Cause> {
+    fn names_task(&self, number: u16) -> Result<(), Cause>
+        ensures { Reads result (is_task number (set_up_said self.now)) }
+    {
         let count = self.tasks;
         if number < count {
             Ok(())
         } else {
-            let text = "task {n} of {n}, which count from 0";
-            let numbers = [u64::from(number), u64::from(count)];
-            Err(Cause::new(FaultName::Name, text, &numbers))
+            Err(no_task(number, count))
         }
     }
 
     /// All that a command names is declared: its task, and a DCB or another task.
+    #[tactic(auto, unfolding(crate::specs::Adding::names_command))]
     pub(crate) fn names(&self, command: &Command) -> Result<(), Cause>
-        ensures { OnOk result (NamesUnits (vec_len self.now.units) command.now) }
+        ensures read { Reads result (names_command (command_said command.now) (set_up_said self.now)) }
+        ensures units { OnOk result (NamesUnits (vec_len self.now.units) command.now) }
     {
         self.names_task(command.task)?;
         match &command.action {
@@ -117,19 +131,21 @@ impl SetUp {
     }
 
     /// The area with this number.
-    fn area(&self, number: u64) -> Result<Arc<Area, Global>, Refusal> {
-        match self.areas.get(number as usize) {
-            Some(area) => Ok(Arc::try_clone(area)?),
-            None => {
-                let text = "area {n} of {n}, which count from 0";
-                let numbers = [number, self.areas.len() as u64];
-                Err(Refusal::Caused(Cause::new(FaultName::Name, text, &numbers)))
-            }
+    fn area(&self, number: u64) -> Result<Arc<Area, Global>, Refusal>
+        ensures { Returns arc_value result (numbered number (set_up_said self.now).areas) }
+    {
+        if number >= self.areas.len() as u64 {
+            return Err(Refusal::Caused(no_area_has(number, self.areas.len())));
         }
+        let area = &self.areas[number as usize];
+        Ok(Arc::try_clone(area)?)
     }
 
     /// The command of an EXCP, with its area.
-    pub(crate) fn excp(&self, line: ExcpLine) -> Result<Command, Refusal> {
+    #[tactic(auto, unfolding(crate::specs::Adding::excp_of))]
+    pub(crate) fn excp(&self, line: ExcpLine) -> Result<Command, Refusal>
+        ensures { Returns command_said result (excp_of line (set_up_said self.now)) }
+    {
         let area = self.area(line.area)?;
         Ok(Command {
             line: line.line,
@@ -139,25 +155,31 @@ impl SetUp {
     }
 
     /// Adds what the line with this number says, in the order of the faults that it may have.
+    #[tactic(auto, unfolding(crate::specs::Adding::add_set_up))]
     pub(crate) fn add(
         &mut self,
         alloc: Global,
         number: usize,
         line: SetUpLine,
-    ) -> Result<(), Refusal> {
+    ) -> Result<(), Refusal>
+        ensures { Leads result (set_up_said self.new) (add_set_up (set_up_line_said line) (set_up_said self.old)) }
+    {
         match line {
             SetUpLine::Tasks(line) => self.add_tasks(line),
             SetUpLine::Unit(line) => self.add_unit(line),
-            SetUpLine::Record(unit, record) => self.add_record(unit, number, record),
-            SetUpLine::Item(unit, item) => self.add_item(unit, number, item),
-            SetUpLine::Fault(unit, fault) => self.add_fault(unit, number, fault),
-            SetUpLine::Opening(unit, opening) => self.add_opening(unit, opening),
+            SetUpLine::Record(unit, record) => self.add_record(usize::from(unit), number, record),
+            SetUpLine::Item(unit, item) => self.add_item(usize::from(unit), number, item),
+            SetUpLine::Fault(unit, fault) => self.add_fault(usize::from(unit), number, fault),
+            SetUpLine::Opening(unit, opening) => self.add_opening(usize::from(unit), opening),
             SetUpLine::Area(area) => self.add_area(alloc, area),
         }
     }
 
     /// The tasks are declared once.
-    fn add_tasks(&mut self, line: TasksLine) -> Result<(), Refusal> {
+    #[tactic(auto, unfolding(crate::specs::Adding::add_tasks))]
+    fn add_tasks(&mut self, line: TasksLine) -> Result<(), Refusal>
+        ensures { Leads result (set_up_said self.new) (add_tasks line.tasks (set_up_said self.old)) }
+    {
         if self.tasks != 0 {
             return Err(order("the number of tasks is declared once", &[]));
         }
@@ -166,7 +188,10 @@ impl SetUp {
     }
 
     /// A unit has the next number.
-    fn add_unit(&mut self, line: UnitLine) -> Result<(), Refusal> {
+    #[tactic(auto, unfolding(crate::specs::Adding::add_unit))]
+    fn add_unit(&mut self, line: UnitLine) -> Result<(), Refusal>
+        ensures { Leads result (set_up_said self.new) (add_unit line.number (unit_said line.unit) (set_up_said self.old)) }
+    {
         let UnitLine { number, unit } = line;
         if usize::from(number) != self.units.len() {
             let numbers = [u64::from(number), self.units.len() as u64];
@@ -177,90 +202,185 @@ impl SetUp {
     }
 
     /// A record lies on a disk.
-    fn add_record(
-        &mut self,
-        number: u16,
-        line: usize,
-        record: InitialRecord,
-    ) -> Result<(), Refusal> {
-        let unit = self.unit(number)?;
-        match &mut unit.medium {
-            Medium::Disk(_, records) => records.push(record)?,
-            _ => return Err(kind("unit {n} is no disk", number)),
+    fn add_record(&mut self, place: usize, line: usize, added: InitialRecord) -> Result<(), Refusal>
+        ensures { Leads result (set_up_said self.new) (change_unit place (add_record (record_said added)) (set_up_said self.old)) }
+    {
+        if place >= self.units.len() {
+            return Err(Refusal::Caused(self.no_unit(place)));
         }
-        unit.content_lines.push(line)?;
-        Ok(())
+        let unit = &mut self.units[place];
+        unit.add_record(place, line, added)
     }
 
     /// A block or a mark lies on a tape.
-    fn add_item(&mut self, number: u16, line: usize, item: InitialItem) -> Result<(), Refusal> {
-        let unit = self.unit(number)?;
-        match &mut unit.medium {
-            Medium::Tape(_, items) => items.push(item)?,
-            _ => return Err(kind("unit {n} is no tape", number)),
+    fn add_item(&mut self, place: usize, line: usize, item: InitialItem) -> Result<(), Refusal>
+        ensures { Leads result (set_up_said self.new) (change_unit place (add_item (initial item)) (set_up_said self.old)) }
+    {
+        if place >= self.units.len() {
+            return Err(Refusal::Caused(self.no_unit(place)));
         }
-        unit.content_lines.push(line)?;
-        Ok(())
+        let unit = &mut self.units[place];
+        unit.add_item(place, line, item)
     }
 
     /// A unit meets a fault.
-    fn add_fault(&mut self, number: u16, line: usize, fault: DeviceFault) -> Result<(), Refusal> {
-        let unit = self.unit(number)?;
-        unit.faults.push(fault)?;
-        unit.fault_lines.push(line)?;
-        Ok(())
+    fn add_fault(&mut self, place: usize, line: usize, fault: DeviceFault) -> Result<(), Refusal>
+        ensures { Leads result (set_up_said self.new) (change_unit place (add_fault fault) (set_up_said self.old)) }
+    {
+        if place >= self.units.len() {
+            return Err(Refusal::Caused(self.no_unit(place)));
+        }
+        let unit = &mut self.units[place];
+        unit.add_fault(line, fault)
     }
 
     /// A DCB has the next number of its unit.
-    fn add_opening(&mut self, unit: u16, opening: Opening) -> Result<(), Refusal> {
-        self.unit(unit)?.openings.push(opening)?;
-        Ok(())
+    fn add_opening(&mut self, place: usize, opening: Opening) -> Result<(), Refusal>
+        ensures { Leads result (set_up_said self.new) (change_unit place (add_opening (opening_said opening)) (set_up_said self.old)) }
+    {
+        if place >= self.units.len() {
+            return Err(Refusal::Caused(self.no_unit(place)));
+        }
+        let unit = &mut self.units[place];
+        unit.add_opening(opening)
     }
 
     /// An area has the next number.
-    fn add_area(&mut self, alloc: Global, line: AreaLine) -> Result<(), Refusal> {
+    #[tactic(auto, unfolding(crate::specs::Adding::add_area))]
+    fn add_area(&mut self, alloc: Global, line: AreaLine) -> Result<(), Refusal>
+        ensures { Leads result (set_up_said self.new) (add_area line.number (record { base = line.base; bytes = line.bytes.items }) (set_up_said self.old)) }
+    {
         let expected = self.areas.len() as u64;
         if line.number != expected {
             return Err(order("area {n}, expected {n}", &[line.number, expected]));
         }
-        match Area::new(alloc, line.base, &line.bytes) {
-            Ok(area) => {
-                self.areas.push(Arc::new(alloc, area)?)?;
-                Ok(())
-            }
-            Err(error) => Err(no_area(error, line.base, line.bytes.len())),
-        }
-    }
-
-    /// The unit with this number.
-    fn unit(&mut self, number: u16) -> Result<&mut UnitSetup, Cause> {
-        let place = usize::from(number);
-        if place >= self.units.len() {
-            return Err(self.no_unit(number));
-        }
-        Ok(&mut self.units[place])
+        let area = new_area(alloc, line.base, &line.bytes)?;
+        self.areas.push(Arc::new(alloc, area)?)?;
+        Ok(())
     }
 
     /// That a unit with this number is not declared.
-    fn no_unit(&self, number: u16) -> Cause {
+    fn no_unit(&self, number: usize) -> Cause
+        ensures { result.name ≡ names.Name }
+    {
         let text = "unit {n} of {n}, which count from 0";
-        let numbers = [u64::from(number), self.units.len() as u64];
+        let numbers = [number as u64, self.units.len() as u64];
         Cause::new(FaultName::Name, text, &numbers)
     }
 }
 
+impl UnitSetup {
+    ghost use Rattle.job_script.specs.Adding.{add_fault, add_item, add_opening, add_record};
+    ghost use Rattle.job_script.specs.Outcomes.{Leads};
+    ghost use Rattle.job_script.specs.Views.{opening_said, record_said, unit_said};
+    ghost use Rattle.tape_unit.specs.Mount.{initial};
+
+    /// A record of the line lies on it, if it is a disk. Its number serves the message.
+    fn add_record(
+        &mut self,
+        number: usize,
+        line: usize,
+        added: InitialRecord,
+    ) -> Result<(), Refusal>
+        ensures { Leads result (unit_said self.new) (add_record (record_said added) (unit_said self.old)) }
+    {
+        match &mut self.medium {
+            Medium::Disk(_, records) => records.push(added)?,
+            Medium::Tape(_, _) => return Err(kind("unit {n} is no disk", number)),
+            Medium::Printer { .. } => return Err(kind("unit {n} is no disk", number)),
+        }
+        self.content_lines.push(line)?;
+        Ok(())
+    }
+
+    /// An item of the line lies on it, if it is a tape. Its number serves the message.
+    fn add_item(&mut self, number: usize, line: usize, item: InitialItem) -> Result<(), Refusal>
+        ensures { Leads result (unit_said self.new) (add_item (initial item) (unit_said self.old)) }
+    {
+        match &mut self.medium {
+            Medium::Tape(_, items) => items.push(item)?,
+            Medium::Disk(_, _) => return Err(kind("unit {n} is no tape", number)),
+            Medium::Printer { .. } => return Err(kind("unit {n} is no tape", number)),
+        }
+        self.content_lines.push(line)?;
+        Ok(())
+    }
+
+    /// It meets a fault of the line.
+    fn add_fault(&mut self, line: usize, fault: DeviceFault) -> Result<(), Refusal>
+        ensures { Leads result (unit_said self.new) (add_fault fault (unit_said self.old)) }
+    {
+        self.faults.push(fault)?;
+        self.fault_lines.push(line)?;
+        Ok(())
+    }
+
+    /// It has one more DCB.
+    fn add_opening(&mut self, opening: Opening) -> Result<(), Refusal>
+        ensures { Leads result (unit_said self.new) (add_opening (opening_said opening) (unit_said self.old)) }
+    {
+        self.openings.push(opening)?;
+        Ok(())
+    }
+}
+
+/// That a unit has fewer DCBs.
+fn no_dcb(number: u16, count: usize, unit: u16) -> Cause
+    ensures { result.name ≡ names.Name }
+{
+    let text = "DCB {n} of {n} of unit {n}, which count from 1";
+    let numbers = [u64::from(number), count as u64, u64::from(unit)];
+    Cause::new(FaultName::Name, text, &numbers)
+}
+
+/// That there are fewer tasks.
+fn no_task(number: u16, count: u16) -> Cause
+    ensures { result.name ≡ names.Name }
+{
+    let text = "task {n} of {n}, which count from 0";
+    Cause::new(
+        FaultName::Name,
+        text,
+        &[u64::from(number), u64::from(count)],
+    )
+}
+
+/// That there are fewer areas.
+fn no_area_has(number: u64, count: usize) -> Cause
+    ensures { result.name ≡ names.Name }
+{
+    let text = "area {n} of {n}, which count from 0";
+    Cause::new(FaultName::Name, text, &[number, count as u64])
+}
+
 /// That a line stands out of its order.
-fn order(text: &'static str, numbers: &[u64]) -> Refusal {
+fn order(text: &'static str, numbers: &[u64]) -> Refusal
+    ensures { IsNamed names.Order result }
+{
     Refusal::Caused(Cause::new(FaultName::Order, text, numbers))
 }
 
 /// That a unit is not of the kind that a line is for.
-fn kind(text: &'static str, unit: u16) -> Refusal {
-    Refusal::Caused(Cause::new(FaultName::Kind, text, &[u64::from(unit)]))
+fn kind(text: &'static str, unit: usize) -> Refusal
+    ensures { IsNamed names.Kind result }
+{
+    Refusal::Caused(Cause::new(FaultName::Kind, text, &[unit as u64]))
+}
+
+/// The area of these bytes from `base`.
+fn new_area(alloc: Global, base: u32, bytes: &[u8]) -> Result<Area, Refusal>
+    ensures { MakesArea (record { base = base; bytes = bytes.now }) result }
+{
+    match Area::new(alloc, base, bytes) {
+        Ok(area) => Ok(area),
+        Err(error) => Err(no_area(error, base, bytes.len())),
+    }
 }
 
 /// Why an area of so many bytes is none.
-fn no_area(error: AreaError, base: u32, len: usize) -> Refusal {
+fn no_area(error: AreaError, base: u32, len: usize) -> Refusal
+    ensures { IsNoArea error result }
+{
     let base = u64::from(base);
     let len = len as u64;
     let (text, numbers) = match error {

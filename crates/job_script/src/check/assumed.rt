@@ -3,7 +3,7 @@
 use super::Check;
 use super::notes::AreaUse;
 use crate::line::{SetUpLine, SetUpVerb, Verb};
-use crate::words::Words;
+use script_words::{Words, decimal, decimal_in};
 use std::alloc::{AllocError, Global};
 
 /// Whether what a line declares is only assumed.
@@ -17,13 +17,12 @@ impl<'a> Check<'a> {
         &mut self,
         alloc: Global,
         line: usize,
-        bytes: &[u8],
+        words: &Words<'_>,
     ) -> Result<(), AllocError> {
-        let mut words = Words::of(bytes);
-        let verb = match Verb::of(words.word()) {
+        let verb = match Verb::of(words.word(0)) {
             Some(Verb::SetUp(verb)) => verb,
             Some(Verb::Excp) => {
-                self.assume_use(&mut words);
+                self.assume_use(words);
                 return Ok(());
             }
             _ => return Ok(()),
@@ -32,20 +31,17 @@ impl<'a> Check<'a> {
         match verb {
             SetUpVerb::Tasks => set_up.assume_tasks(),
             SetUpVerb::Disk | SetUpVerb::Tape | SetUpVerb::Printer => {
-                let number = words.index();
-                if words.refused().is_none() {
+                if let Some(number) = decimal_in(words.word(1), 0, 63) {
                     set_up.assume_units(alloc, line, number)?;
                 }
             }
             SetUpVerb::Open => {
-                let number = words.index();
-                if words.refused().is_none() {
+                if let Some(number) = decimal_in(words.word(1), 0, 63) {
                     set_up.assume_dcb(alloc, line, number)?;
                 }
             }
             SetUpVerb::Area => {
-                let number = words.number();
-                if words.refused().is_none() {
+                if let Some(number) = decimal(words.word(1)) {
                     set_up.assume_areas(alloc, number)?;
                 }
             }
@@ -55,13 +51,9 @@ impl<'a> Check<'a> {
         self.count_areas(line)
     }
 
-    /// The area of an EXCP is used: its number stands behind a task, a unit, a DCB and the address of an IOB.
-    fn assume_use(&mut self, words: &mut Words<'_>) {
-        for _ in 0..4 {
-            words.word();
-        }
-        let area = words.number();
-        if words.refused().is_none() {
+    /// The area of an EXCP is used: its number comes after a task, a unit, a DCB and the address of an IOB.
+    fn assume_use(&mut self, words: &Words<'_>) {
+        if let Some(area) = decimal(words.word(5)) {
             self.use_area(area);
         }
     }

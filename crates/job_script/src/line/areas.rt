@@ -1,40 +1,40 @@
 //! Lines on tasks, DCBs and areas.
 
+ghost use Rattle.std.specs.Prelude.{◌≡◌};
+ghost use Rattle.job_script.specs.LineViews.{set_up_line_said};
+ghost use Rattle.job_script.specs.Lines.{area_line, open_line, tasks_line};
+ghost use Rattle.job_script.specs.Outcomes.{Returns, words_in};
+
 use super::{AreaLine, SetUpLine, TasksLine};
+use crate::cause::Refusal;
+use crate::forms::{
+    address, extents, has, has_least, index, input_of, joined_bytes, number, number_in,
+};
 use crate::set_up::Opening;
-use crate::words::Words;
-use io_images::Extent;
-use std::alloc::{AllocError, Global};
+use script_words::Words;
+use std::alloc::Global;
 
 /// `tasks N`
-pub fn tasks(words: &mut Words<'_>) -> SetUpLine {
-    let tasks = words.number_in(1, 64);
-    SetUpLine::Tasks(TasksLine { tasks })
+#[tactic(auto, unfolding(crate::specs::Lines::tasks_line))]
+pub fn tasks(line: &Words<'_>) -> Result<SetUpLine, Refusal>
+    ensures { Returns set_up_line_said result (tasks_line (words_in line.now)) }
+{
+    has(line, 2)?;
+    let tasks = number_in(line, 1, 1, 64)?;
+    Ok(SetUpLine::Tasks(TasksLine { tasks }))
 }
 
 /// `open U in EXTENT ...` or `open U out EXTENT ...`
-pub fn opening(
-    alloc: Global,
-    line: usize,
-    words: &mut Words<'_>,
-    count: usize,
-) -> Result<SetUpLine, AllocError> {
-    let unit = words.index();
-    let input = match words.word() {
-        b"in" => true,
-        b"out" => false,
-        _ => {
-            words.refuse("word {n}, '{w}': in or out is wanted");
-            false
-        }
-    };
-    let mut extents = Vec::new(alloc);
-    for _ in 0..count {
-        let image = words.sixteen_bytes();
-        extents.push(Extent::read(&image))?;
-    }
+#[tactic(auto, unfolding(crate::specs::Lines::open_line))]
+pub fn opening(alloc: Global, at: usize, line: &Words<'_>) -> Result<SetUpLine, Refusal>
+    ensures { Returns set_up_line_said result (open_line at (words_in line.now)) }
+{
+    has_least(line, 3)?;
+    let unit = index(line, 1)?;
+    let input = input_of(line, 2)?;
+    let extents = extents(alloc, line)?;
     let opening = Opening {
-        line,
+        line: at,
         input,
         extents,
     };
@@ -42,13 +42,14 @@ pub fn opening(
 }
 
 /// `area A ADDR HEX ...`
-pub fn area(alloc: Global, words: &mut Words<'_>, count: usize) -> Result<SetUpLine, AllocError> {
-    let number = words.number();
-    let base = words.address();
-    let mut bytes = Vec::new(alloc);
-    for _ in 0..count {
-        words.bytes(&mut bytes)?;
-    }
+#[tactic(auto, unfolding(crate::specs::Lines::area_line))]
+pub fn area(alloc: Global, line: &Words<'_>) -> Result<SetUpLine, Refusal>
+    ensures { Returns set_up_line_said result (area_line (words_in line.now)) }
+{
+    has_least(line, 3)?;
+    let number = number(line, 1)?;
+    let base = address(line, 2)?;
+    let bytes = joined_bytes(alloc, line)?;
     Ok(SetUpLine::Area(AreaLine {
         number,
         base,

@@ -1,73 +1,93 @@
 //! Lines of commands.
 
+ghost use Rattle.std.specs.Prelude.{◌≡◌};
+ghost use Rattle.job_script.specs.Lines.{close_line, excp_line, purge_line, purgetask_line, reset_line, wait_line};
+ghost use Rattle.job_script.specs.Outcomes.{Reads, ReadsAs, words_in};
+ghost use Rattle.job_script.specs.Views.{command_said};
+
 use super::ExcpLine;
-use crate::command::{Action, Command, DcbName};
-use crate::words::Words;
-use unit_book::Mode;
+use crate::cause::Cause;
+use crate::command::{Action, Command};
+use crate::forms::{address, dcb_of, has, index, mode_of, number};
+use script_words::Words;
 
 /// `excp T U DCB IOB A SHOW LEN`
-pub fn excp(line: usize, words: &mut Words<'_>) -> ExcpLine {
-    ExcpLine {
-        line,
-        task: words.index(),
-        dcb: dcb_name(words),
-        iob: words.address(),
-        area: words.number(),
-        show: words.address(),
-        len: words.number(),
-    }
+#[tactic(auto, unfolding(crate::specs::Lines::excp_line))]
+pub fn excp(at: usize, line: &Words<'_>) -> Result<ExcpLine, Cause>
+    ensures { Reads result (excp_line at (words_in line.now)) }
+{
+    has(line, 8)?;
+    Ok(ExcpLine {
+        line: at,
+        task: index(line, 1)?,
+        dcb: dcb_of(line, 2, 3)?,
+        iob: address(line, 4)?,
+        area: number(line, 5)?,
+        show: address(line, 6)?,
+        len: number(line, 7)?,
+    })
 }
 
 /// `purge T U DCB MODE`
-pub fn purge(line: usize, words: &mut Words<'_>) -> Command {
-    let task = words.index();
-    let action = Action::Purge(dcb_name(words), mode(words));
-    Command { line, task, action }
+#[tactic(auto, unfolding(crate::specs::Lines::purge_line))]
+pub fn purge(at: usize, line: &Words<'_>) -> Result<Command, Cause>
+    ensures { ReadsAs command_said result (purge_line at (words_in line.now)) }
+{
+    has(line, 5)?;
+    let task = index(line, 1)?;
+    let dcb = dcb_of(line, 2, 3)?;
+    let mode = mode_of(line, 4)?;
+    Ok(command(at, task, Action::Purge(dcb, mode)))
 }
 
 /// `purgetask T X MODE`
-pub fn purge_task(line: usize, words: &mut Words<'_>) -> Command {
-    let task = words.index();
-    let action = Action::PurgeTask(words.index(), mode(words));
-    Command { line, task, action }
+#[tactic(auto, unfolding(crate::specs::Lines::purgetask_line))]
+pub fn purge_task(at: usize, line: &Words<'_>) -> Result<Command, Cause>
+    ensures { ReadsAs command_said result (purgetask_line at (words_in line.now)) }
+{
+    has(line, 4)?;
+    let task = index(line, 1)?;
+    let other = index(line, 2)?;
+    let mode = mode_of(line, 3)?;
+    Ok(command(at, task, Action::PurgeTask(other, mode)))
 }
 
 /// `close T U DCB`
-pub fn close(line: usize, words: &mut Words<'_>) -> Command {
-    let task = words.index();
-    let action = Action::Close(dcb_name(words));
-    Command { line, task, action }
+#[tactic(auto, unfolding(crate::specs::Lines::close_line))]
+pub fn close(at: usize, line: &Words<'_>) -> Result<Command, Cause>
+    ensures { ReadsAs command_said result (close_line at (words_in line.now)) }
+{
+    has(line, 4)?;
+    let task = index(line, 1)?;
+    let dcb = dcb_of(line, 2, 3)?;
+    Ok(command(at, task, Action::Close(dcb)))
 }
 
 /// `reset T U DCB`
-pub fn reset(line: usize, words: &mut Words<'_>) -> Command {
-    let task = words.index();
-    let action = Action::Reset(dcb_name(words));
-    Command { line, task, action }
+#[tactic(auto, unfolding(crate::specs::Lines::reset_line))]
+pub fn reset(at: usize, line: &Words<'_>) -> Result<Command, Cause>
+    ensures { ReadsAs command_said result (reset_line at (words_in line.now)) }
+{
+    has(line, 4)?;
+    let task = index(line, 1)?;
+    let dcb = dcb_of(line, 2, 3)?;
+    Ok(command(at, task, Action::Reset(dcb)))
 }
 
 /// `wait T`
-pub fn wait(line: usize, words: &mut Words<'_>) -> Command {
-    let task = words.index();
-    let action = Action::Wait;
+#[tactic(auto, unfolding(crate::specs::Lines::wait_line))]
+pub fn wait(at: usize, line: &Words<'_>) -> Result<Command, Cause>
+    ensures { ReadsAs command_said result (wait_line at (words_in line.now)) }
+{
+    has(line, 2)?;
+    let task = index(line, 1)?;
+    Ok(command(at, task, Action::Wait))
+}
+
+/// A command of a task.
+#[inline(always)]
+fn command(line: usize, task: u16, action: Action) -> Command
+    ensures { result ≡ record { line = line; task = task; action = action } }
+{
     Command { line, task, action }
-}
-
-/// `U DCB`; a DCB has a number of at least 1.
-fn dcb_name(words: &mut Words<'_>) -> DcbName {
-    let unit = words.index();
-    let number = words.number_in(1, u16::MAX);
-    DcbName { unit, number }
-}
-
-/// `quiesce` or `halt`
-fn mode(words: &mut Words<'_>) -> Mode {
-    match words.word() {
-        b"quiesce" => Mode::Quiesce,
-        b"halt" => Mode::Halt,
-        _ => {
-            words.refuse("word {n}, '{w}': quiesce or halt is wanted");
-            Mode::Quiesce
-        }
-    }
 }

@@ -1,54 +1,78 @@
 //! Lines on units: what they are, what lies on their media, and the faults that they meet.
 
-ghost use Rattle.std.specs.Prelude.{◌≤◌};
+ghost use Rattle.std.specs.Prelude.{◌≡◌, ◌≤◌};
+ghost use Rattle.job_script.specs.LineViews.{set_up_line_said};
+ghost use Rattle.job_script.specs.Lines.{block_line, disk_line, fault_line, mark_line, new_unit, printer_line, record_line, tape_line};
+ghost use Rattle.job_script.specs.Outcomes.{Returns, words_in};
+ghost use Rattle.job_script.specs.Views.{medium_said, unit_said};
 
 use super::{SetUpLine, UnitLine};
+use crate::cause::Refusal;
+use crate::forms::{byte, bytes, halfword, has, index, number, small_number, subclass, two_bytes};
 use crate::set_up::{Medium, UnitSetup};
-use crate::words::Words;
 use ckd_disk::{Geometry, InitialRecord};
 use device_port::Fault;
 use io_images::{SubStatus, UnitStatus};
-use std::alloc::{AllocError, Global};
+use script_words::Words;
+use std::alloc::Global;
 use tape_unit::InitialItem;
 
 /// `disk U ISC CYLS HEADS BYTES`
-pub fn disk(alloc: Global, line: usize, words: &mut Words<'_>) -> SetUpLine {
-    let number = words.index();
-    let isc = words.number_to(7);
+#[tactic(auto, unfolding(crate::specs::Lines::disk_line))]
+pub fn disk(alloc: Global, at: usize, line: &Words<'_>) -> Result<SetUpLine, Refusal>
+    ensures { Returns set_up_line_said result (disk_line at (words_in line.now)) }
+{
+    has(line, 6)?;
+    let unit_number = index(line, 1)?;
+    let isc = subclass(line, 2)?;
     let geometry = Geometry {
-        cylinders: words.number(),
-        heads: words.number(),
-        track_bytes: words.number(),
+        cylinders: number(line, 3)?,
+        heads: number(line, 4)?,
+        track_bytes: number(line, 5)?,
     };
     let medium = Medium::Disk(geometry, Vec::new(alloc));
-    let unit = unit(alloc, line, isc, medium);
-    SetUpLine::Unit(UnitLine { number, unit })
+    Ok(SetUpLine::Unit(UnitLine {
+        number: unit_number,
+        unit: new_unit(alloc, at, isc, medium),
+    }))
 }
 
 /// `tape U ISC BYTES`
-pub fn tape(alloc: Global, line: usize, words: &mut Words<'_>) -> SetUpLine {
-    let number = words.index();
-    let isc = words.number_to(7);
-    let medium = Medium::Tape(words.number(), Vec::new(alloc));
-    let unit = unit(alloc, line, isc, medium);
-    SetUpLine::Unit(UnitLine { number, unit })
+#[tactic(auto, unfolding(crate::specs::Lines::tape_line))]
+pub fn tape(alloc: Global, at: usize, line: &Words<'_>) -> Result<SetUpLine, Refusal>
+    ensures { Returns set_up_line_said result (tape_line at (words_in line.now)) }
+{
+    has(line, 4)?;
+    let unit_number = index(line, 1)?;
+    let isc = subclass(line, 2)?;
+    let medium = Medium::Tape(number(line, 3)?, Vec::new(alloc));
+    Ok(SetUpLine::Unit(UnitLine {
+        number: unit_number,
+        unit: new_unit(alloc, at, isc, medium),
+    }))
 }
 
 /// `printer U ISC LINES PAGES`
-pub fn printer(alloc: Global, line: usize, words: &mut Words<'_>) -> SetUpLine {
-    let number = words.index();
-    let isc = words.number_to(7);
-    let medium = Medium::Printer {
-        lines: words.number(),
-        pages: words.number(),
-    };
-    let unit = unit(alloc, line, isc, medium);
-    SetUpLine::Unit(UnitLine { number, unit })
+#[tactic(auto, unfolding(crate::specs::Lines::printer_line))]
+pub fn printer(alloc: Global, at: usize, line: &Words<'_>) -> Result<SetUpLine, Refusal>
+    ensures { Returns set_up_line_said result (printer_line at (words_in line.now)) }
+{
+    has(line, 5)?;
+    let unit_number = index(line, 1)?;
+    let isc = subclass(line, 2)?;
+    let lines = number(line, 3)?;
+    let pages = number(line, 4)?;
+    let medium = Medium::Printer { lines, pages };
+    Ok(SetUpLine::Unit(UnitLine {
+        number: unit_number,
+        unit: new_unit(alloc, at, isc, medium),
+    }))
 }
 
 /// A unit with this medium, which is to meet no fault and has no DCB.
-fn unit(alloc: Global, line: usize, isc: u8, medium: Medium) -> UnitSetup
+fn new_unit(alloc: Global, line: usize, isc: u8, medium: Medium) -> UnitSetup
     requires { isc ≤ 7 }
+    ensures { unit_said result ≡ new_unit line isc (medium_said medium) }
 {
     UnitSetup {
         line,
@@ -62,41 +86,60 @@ fn unit(alloc: Global, line: usize, isc: u8, medium: Medium) -> UnitSetup
 }
 
 /// `rec U CC HH R KEY HEX`
-pub fn record(alloc: Global, words: &mut Words<'_>) -> Result<SetUpLine, AllocError> {
-    let unit = words.index();
-    let mut record = InitialRecord {
-        cylinder: words.halfword(),
-        head: words.halfword(),
-        number: words.number_to(255),
-        key: Vec::new(alloc),
-        content: Vec::new(alloc),
+#[tactic(auto, unfolding(crate::specs::Lines::record_line))]
+pub fn record(alloc: Global, line: &Words<'_>) -> Result<SetUpLine, Refusal>
+    ensures { Returns set_up_line_said result (record_line (words_in line.now)) }
+{
+    has(line, 7)?;
+    let unit = index(line, 1)?;
+    let cylinder = halfword(line, 2)?;
+    let head = halfword(line, 3)?;
+    let number = small_number(line, 4)?;
+    let key = bytes(alloc, line, 5)?;
+    let content = bytes(alloc, line, 6)?;
+    let initial = InitialRecord {
+        cylinder,
+        head,
+        number,
+        key,
+        content,
     };
-    words.bytes(&mut record.key)?;
-    words.bytes(&mut record.content)?;
-    Ok(SetUpLine::Record(unit, record))
+    Ok(SetUpLine::Record(unit, initial))
 }
 
 /// `block U HEX`
-pub fn block(alloc: Global, words: &mut Words<'_>) -> Result<SetUpLine, AllocError> {
-    let unit = words.index();
-    let mut bytes = Vec::new(alloc);
-    words.bytes(&mut bytes)?;
-    Ok(SetUpLine::Item(unit, InitialItem::Block(bytes)))
+#[tactic(auto, unfolding(crate::specs::Lines::block_line))]
+pub fn block(alloc: Global, line: &Words<'_>) -> Result<SetUpLine, Refusal>
+    ensures { Returns set_up_line_said result (block_line (words_in line.now)) }
+{
+    has(line, 3)?;
+    let unit = index(line, 1)?;
+    let content = bytes(alloc, line, 2)?;
+    Ok(SetUpLine::Item(unit, InitialItem::Block(content)))
 }
 
 /// `mark U`
-pub fn mark(words: &mut Words<'_>) -> SetUpLine {
-    SetUpLine::Item(words.index(), InitialItem::Mark)
+#[tactic(auto, unfolding(crate::specs::Lines::mark_line))]
+pub fn mark(line: &Words<'_>) -> Result<SetUpLine, Refusal>
+    ensures { Returns set_up_line_said result (mark_line (words_in line.now)) }
+{
+    has(line, 2)?;
+    let unit = index(line, 1)?;
+    Ok(SetUpLine::Item(unit, InitialItem::Mark))
 }
 
 /// `fault U ORDINAL UU SS XXXX`
-pub fn fault(words: &mut Words<'_>) -> SetUpLine {
-    let unit = words.index();
+#[tactic(auto, unfolding(crate::specs::Lines::fault_line))]
+pub fn fault(line: &Words<'_>) -> Result<SetUpLine, Refusal>
+    ensures { Returns set_up_line_said result (fault_line (words_in line.now)) }
+{
+    has(line, 6)?;
+    let unit = index(line, 1)?;
     let fault = Fault {
-        ordinal: words.number(),
-        unit: UnitStatus::new(words.byte()),
-        sub: SubStatus::new(words.byte()),
-        sense: words.two_bytes(),
+        ordinal: number(line, 2)?,
+        unit: UnitStatus::new(byte(line, 3)?),
+        sub: SubStatus::new(byte(line, 4)?),
+        sense: two_bytes(line, 5)?,
     };
-    SetUpLine::Fault(unit, fault)
+    Ok(SetUpLine::Fault(unit, fault))
 }

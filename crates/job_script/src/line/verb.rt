@@ -1,7 +1,7 @@
-//! The first word of a line, and how many words stand in the line.
+//! The first word of a line.
 
-use crate::cause::Cause;
-use crate::fault::FaultName;
+ghost use Rattle.std.specs.Prelude.{◌≡◌};
+ghost use Rattle.job_script.specs.Verbs.{verb_of};
 
 /// The first word of a line.
 #[derive(Clone, Copy)]
@@ -30,75 +30,61 @@ pub enum SetUpVerb {
     Area,
 }
 
-/// Each first word, and what it says.
-static VERBS: [(&str, Verb); 16] = [
-    ("excp", Verb::Excp),
-    ("purge", Verb::Purge),
-    ("purgetask", Verb::PurgeTask),
-    ("close", Verb::Close),
-    ("reset", Verb::Reset),
-    ("wait", Verb::Wait),
-    ("tasks", Verb::SetUp(SetUpVerb::Tasks)),
-    ("disk", Verb::SetUp(SetUpVerb::Disk)),
-    ("tape", Verb::SetUp(SetUpVerb::Tape)),
-    ("printer", Verb::SetUp(SetUpVerb::Printer)),
-    ("rec", Verb::SetUp(SetUpVerb::Record)),
-    ("block", Verb::SetUp(SetUpVerb::Block)),
-    ("mark", Verb::SetUp(SetUpVerb::Mark)),
-    ("fault", Verb::SetUp(SetUpVerb::Fault)),
-    ("open", Verb::SetUp(SetUpVerb::Open)),
-    ("area", Verb::SetUp(SetUpVerb::Area)),
-];
-
 impl Verb {
-    /// What a first word says.
-    pub fn of(word: &[u8]) -> Option<Verb> {
-        for (name, verb) in &VERBS {
-            if name.as_bytes() == word {
-                return Some(*verb);
-            }
+    /// What a first word says. The words of long scripts come first.
+    #[tactic(auto, unfolding(crate::specs::Verbs::verb_of))]
+    pub fn of(word: &[u8]) -> Option<Verb>
+        ensures { result ≡ verb_of word.now }
+    {
+        if word == b"excp".as_slice() {
+            return Some(Verb::Excp);
+        }
+        if word == b"wait".as_slice() {
+            return Some(Verb::Wait);
+        }
+        if word == b"fault".as_slice() {
+            return Some(Verb::SetUp(SetUpVerb::Fault));
+        }
+        if word == b"rec".as_slice() {
+            return Some(Verb::SetUp(SetUpVerb::Record));
+        }
+        if word == b"area".as_slice() {
+            return Some(Verb::SetUp(SetUpVerb::Area));
+        }
+        if word == b"open".as_slice() {
+            return Some(Verb::SetUp(SetUpVerb::Open));
+        }
+        if word == b"purge".as_slice() {
+            return Some(Verb::Purge);
+        }
+        if word == b"purgetask".as_slice() {
+            return Some(Verb::PurgeTask);
+        }
+        if word == b"close".as_slice() {
+            return Some(Verb::Close);
+        }
+        if word == b"reset".as_slice() {
+            return Some(Verb::Reset);
+        }
+        if word == b"block".as_slice() {
+            return Some(Verb::SetUp(SetUpVerb::Block));
+        }
+        if word == b"mark".as_slice() {
+            return Some(Verb::SetUp(SetUpVerb::Mark));
+        }
+        if word == b"disk".as_slice() {
+            return Some(Verb::SetUp(SetUpVerb::Disk));
+        }
+        if word == b"tape".as_slice() {
+            return Some(Verb::SetUp(SetUpVerb::Tape));
+        }
+        if word == b"printer".as_slice() {
+            return Some(Verb::SetUp(SetUpVerb::Printer));
+        }
+        if word == b"tasks".as_slice() {
+            return Some(Verb::SetUp(SetUpVerb::Tasks));
         }
         None
-    }
-
-    /// A line that begins with it may have so many words.
-    pub fn takes(self, count: usize) -> Result<(), Cause> {
-        let wanted = self.words();
-        let is_open = matches!(self, Verb::SetUp(SetUpVerb::Open | SetUpVerb::Area));
-        if count == wanted || is_open && count > wanted {
-            return Ok(());
-        }
-        let text = if is_open {
-            "the line has {n} word{s}, {n} or more are wanted"
-        } else {
-            "the line has {n} word{s}, {n} are wanted"
-        };
-        Err(Cause::new(FaultName::Words, text, &[count as u64, wanted as u64]))
-    }
-
-    /// How many words a line has that begins with it, or how many at least.
-    fn words(self) -> usize {
-        match self {
-            Verb::SetUp(verb) => verb.words(),
-            Verb::Excp => 8,
-            Verb::Purge => 5,
-            Verb::PurgeTask | Verb::Close | Verb::Reset => 4,
-            Verb::Wait => 2,
-        }
-    }
-}
-
-impl SetUpVerb {
-    /// How many words a line has that begins with it, or how many at least.
-    fn words(self) -> usize {
-        match self {
-            SetUpVerb::Tasks | SetUpVerb::Mark => 2,
-            SetUpVerb::Block | SetUpVerb::Open | SetUpVerb::Area => 3,
-            SetUpVerb::Tape => 4,
-            SetUpVerb::Printer => 5,
-            SetUpVerb::Disk | SetUpVerb::Fault => 6,
-            SetUpVerb::Record => 7,
-        }
     }
 }
 

@@ -1,0 +1,41 @@
+use Rattle.std.proofs.Common.{◌≡◌, ◌+◌, length, Some, arith, ◌∙◌, sym, refl}
+use Rattle.std.specs.Prelude.{option_copied}
+use Rattle.script_words.specs.Text.{bytes_left}
+use Rattle.job_script.specs.Views.{said}
+use Rattle.job_script.proofs.Parsing.{goes_on, stops, ends}
+use Rattle.job_script.proofs.script.Script.parse.Goals as goal
+
+pub lines-preserved : goal.lines-preserved
+lines-preserved c =
+    let text = c.in-Some.text.now in
+    let is : option_copied c.lines.left ≡ Some text = rw c.in-Some.is refl in
+    let size : bytes_left (option_copied c.lines.left) ≡ length text + 1 = rw is refl in
+    record {
+      read = goes_on c.lines.number (said c.lines.script) (said c.numbered_line.new.self) (option_copied c.lines.left) (option_copied c.scan.result.1) text
+          c.scan.result.0.line.now _ is c.scan.ensures.line c.in_default-numbered_line.ensures c.lines.invariant.read;
+      few = omega (arith, size, c.scan.ensures.shorter, c.lines.invariant.few);
+    }
+
+pub lines-smaller : goal.lines-smaller
+lines-smaller c =
+    let text = c.in-Some.text.now in
+    let is : option_copied c.lines.left ≡ Some text = rw c.in-Some.is refl in
+    let size : bytes_left (option_copied c.lines.left) ≡ length text + 1 = rw is refl in
+    omega (arith, size, c.scan.ensures.shorter)
+
+pub returns-in-Err-clause-grammar : goal.returns-in-Err-clause-grammar
+returns-in-Err-clause-grammar c =
+    let text = c.in-Some.text.now in
+    let is : option_copied c.lines.left ≡ Some text = rw c.in-Some.is refl in
+    stops _ c.lines.number (said c.lines.script) (said c.numbered_line.new.self) (option_copied c.lines.left) (option_copied c.scan.result.1) text
+    c.scan.result.0.line.now c.args.text.now is c.scan.ensures.line c.in-Err.ensures c.lines.invariant.read
+
+pub returns-then-lacks-clause-grammar : goal.returns-then-lacks-clause-grammar
+returns-then-lacks-clause-grammar c =
+    ends c.lines.number (said c.lines.script) (option_copied c.lines.left) c.args.text.now (rw c.in_default.is refl) c.lines.invariant.read
+    ∙ rw (sym c.lacks.ensures, c.if-lacks.true) refl
+
+pub returns-clause-grammar : goal.returns-clause-grammar
+returns-clause-grammar c =
+    ends c.lines.number (said c.lines.script) (option_copied c.lines.left) c.args.text.now (rw c.in_default.is refl) c.lines.invariant.read
+    ∙ rw (sym c.lacks.ensures, c.if-lacks.false) refl

@@ -1,0 +1,24 @@
+-- WHAT ONE LINE SAYS, as values without their places.
+use Rattle.tape_unit.specs.Mount.{initial}
+use Rattle.job_script.specs.declared.line.Line.{Line}
+use Rattle.job_script.specs.declared.line.Line.TheVariants as lines
+use Rattle.job_script.specs.declared.line.SetUpLine.{SetUpLine}
+use Rattle.job_script.specs.declared.line.SetUpLine.TheVariants as set_up_lines
+use Rattle.job_script.specs.Said.{LineSaid, SetUpLineSaid, says_area, says_fault, says_item, says_opening, says_record, says_tasks, says_unit}
+use Rattle.job_script.specs.Said.{says_command, says_excp, says_nothing, says_set_up}
+use Rattle.job_script.specs.Views.{command_said, opening_said, record_said, unit_said}
+
+abbrev pub set_up_line_said : SetUpLine → SetUpLineSaid
+set_up_line_said (set_up_lines.Tasks t) = says_tasks t.tasks
+set_up_line_said (set_up_lines.Unit u) = says_unit u.number (unit_said u.unit)
+set_up_line_said (set_up_lines.Record n r) = says_record n (record_said r)
+set_up_line_said (set_up_lines.Item n i) = says_item n (initial i)
+set_up_line_said (set_up_lines.Fault n fault) = says_fault n fault
+set_up_line_said (set_up_lines.Opening n o) = says_opening n (opening_said o)
+set_up_line_said (set_up_lines.Area a) = says_area a.number (record { base = a.base; bytes = a.bytes.items })
+
+abbrev pub line_said : Line → LineSaid
+line_said lines.Nothing = says_nothing
+line_said (lines.SetUp l) = says_set_up (set_up_line_said l)
+line_said (lines.Excp e) = says_excp e
+line_said (lines.Command c) = says_command (command_said c)

@@ -1,0 +1,90 @@
+-- WHAT A CALL RETURNS OR LEAVES, by the grammar. The cause of a fault has its name; a call that runs out of memory may return nothing else.
+use Rattle.std.specs.Prelude.{◌≡◌, List, ℕ, Result, Ok, Err}
+use Rattle.script_words.specs.Text.{words}
+use Rattle.script_words.specs.declared.words.Words.{Words}
+use Rattle.io_area.specs.Storage.{Storage}
+use Rattle.io_area.specs.declared.error.AreaError.{AreaError}
+use Rattle.io_area.specs.declared.error.AreaError.TheVariants as area_errors
+use Rattle.job_script.specs.Adding.{is_area}
+use Rattle.job_script.specs.declared.cause.Cause.{Cause}
+use Rattle.job_script.specs.declared.cause.Refusal.{Refusal}
+use Rattle.job_script.specs.declared.cause.Refusal.TheVariants.{Caused, NoMemory}
+use Rattle.job_script.specs.Grammar.{FaultAt}
+use Rattle.job_script.specs.declared.fault.Fault.{Fault}
+use Rattle.job_script.specs.declared.fault.Fault.TheVariants as faults
+use Rattle.job_script.specs.declared.fault.FaultName.{FaultName}
+use Rattle.job_script.specs.declared.fault.FaultName.TheVariants as names
+use Rattle.script_words.specs.declared.forms.FormError.{FormError}
+use Rattle.script_words.specs.declared.forms.FormError.TheVariants.{NotOfForm, OutOfMemory}
+
+-- the words of a line that was scanned
+abbrev pub words_in : Words → List (List ℕ)
+words_in line = words line.line.now
+
+-- a call that takes no memory returned what was to be read
+abbrev pub Reads : {X : Type 0} → Result X Cause → Result X FaultName → Type 0
+Reads (Ok x) read = read ≡ Ok x
+Reads (Err cause) read = read ≡ Err cause.name
+
+-- the same of a value that says something
+abbrev pub ReadsAs : {X Y : Type 0} → (X → Y) → Result X Cause → Result Y FaultName → Type 0
+ReadsAs view (Ok x) read = read ≡ Ok (view x)
+ReadsAs view (Err cause) read = read ≡ Err cause.name
+
+-- a call returned a value that says what was to be read, out of memory apart
+abbrev pub Returns : {X Y : Type 0} → (X → Y) → Result X Refusal → Result Y FaultName → Type 0
+Returns view (Ok x) read = read ≡ Ok (view x)
+Returns view (Err (Caused cause)) read = read ≡ Err cause.name
+Returns view (Err NoMemory) read = Unit {0}
+
+-- a call left what was to be read, out of memory apart
+abbrev pub Leads : {S : Type 0} → Result (Unit {0}) Refusal → S → Result S FaultName → Type 0
+Leads (Ok x) new read = read ≡ Ok new
+Leads (Err (Caused cause)) new read = read ≡ Err cause.name
+Leads (Err NoMemory) new read = Unit {0}
+
+-- why a word gives no bytes
+abbrev pub IsNoBytes : FormError → Refusal → Type 0
+IsNoBytes NotOfForm (Caused cause) = cause.name ≡ names.Number
+IsNoBytes NotOfForm NoMemory = ⊥
+IsNoBytes OutOfMemory refusal = refusal ≡ NoMemory
+
+-- a line is refused with a fault of this name
+abbrev pub IsNamed : FaultName → Refusal → Type 0
+IsNamed fault (Caused cause) = cause.name ≡ fault
+IsNamed fault NoMemory = ⊥
+
+-- why there is no area
+abbrev pub IsNoArea : AreaError → Refusal → Type 0
+IsNoArea area_errors.NoMemory refusal = refusal ≡ NoMemory
+IsNoArea area_errors.Misaligned refusal = IsNamed names.Area refusal
+IsNoArea area_errors.TooLong refusal = IsNamed names.Area refusal
+IsNoArea area_errors.PastTop refusal = IsNamed names.Area refusal
+
+-- a call returned this storage as an area, if it is one, out of memory apart
+abbrev pub MakesArea : Storage → Result Storage Refusal → Type 0
+MakesArea storage (Ok area) = (is_area storage ≡ Ok tt) × (area ≡ storage)
+MakesArea storage (Err (Caused cause)) = is_area storage ≡ Err cause.name
+MakesArea storage (Err NoMemory) = Unit {0}
+
+-- a call left what the line with this number says, out of memory apart
+abbrev pub LeadsAt : {S : Type 0} → ℕ → Result (Unit {0}) Fault → S → Result S FaultName → Type 0
+LeadsAt line (Ok x) new read = read ≡ Ok new
+LeadsAt line (Err (faults.Line at n)) new read = (at ≡ line) × (read ≡ Err n)
+LeadsAt line (Err faults.NoMemory) new read = Unit {0}
+LeadsAt line (Err faults.TooLong) new read = ⊥
+LeadsAt line (Err faults.Unreadable) new read = ⊥
+LeadsAt line (Err faults.NotWritten) new read = ⊥
+LeadsAt line (Err faults.Unmatched) new read = ⊥
+LeadsAt line (Err faults.NoThread) new read = ⊥
+
+-- a call returned a value that says what the grammar gives, or its first fault with its line, out of memory apart
+abbrev pub Gives : {X S : Type 0} → (X → S) → Result X Fault → Result S FaultAt → Type 0
+Gives view (Ok x) read = read ≡ Ok (view x)
+Gives view (Err (faults.Line line n)) read = read ≡ Err (record { line = line; name = n })
+Gives view (Err faults.NoMemory) read = Unit {0}
+Gives view (Err faults.TooLong) read = ⊥
+Gives view (Err faults.Unreadable) read = ⊥
+Gives view (Err faults.NotWritten) read = ⊥
+Gives view (Err faults.Unmatched) read = ⊥
+Gives view (Err faults.NoThread) read = ⊥

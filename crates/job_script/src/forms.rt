@@ -1,0 +1,304 @@
+//! The words of a line in the forms that a script has, or why a word is not of its form.
+
+ghost use Rattle.std.specs.Prelude.{◌≡◌, ◌<◌, ◌≤◌, IfOk};
+ghost use Rattle.std.specs.Prelude.{drop};
+ghost use Rattle.job_script.specs.Forms.{address, bytes, dcb_of, digits, extent, extents, has, has_least, index, input_of, joined_bytes, mode_of, number, number_in, subclass, word};
+ghost use Rattle.job_script.specs.Lines.{is_comment};
+ghost use Rattle.job_script.specs.Outcomes.{IsNoBytes, Reads, Returns, words_in};
+ghost use Rattle.job_script.specs.declared.fault.FaultName.TheVariants as names;
+
+use crate::cause::{Cause, Refusal};
+use crate::command::DcbName;
+use crate::fault::FaultName;
+use io_images::Extent;
+use script_words::{FormError, Words};
+use std::alloc::Global;
+use unit_book::Mode;
+
+/// The line has `count` words.
+#[inline(always)]
+pub fn has(line: &Words<'_>, count: usize) -> Result<(), Cause>
+    ensures { Reads result (has count (words_in line.now)) }
+{
+    if line.count() == count {
+        Ok(())
+    } else {
+        Err(wrong_count(
+            line.count(),
+            count,
+            "the line has {n} word{s}, {n} are wanted",
+        ))
+    }
+}
+
+/// The line has at least `count` words.
+#[inline(always)]
+pub fn has_least(line: &Words<'_>, count: usize) -> Result<(), Cause>
+    ensures { Reads result (has_least count (words_in line.now)) }
+{
+    if line.count() >= count {
+        Ok(())
+    } else {
+        Err(wrong_count(
+            line.count(),
+            count,
+            "the line has {n} word{s}, {n} or more are wanted",
+        ))
+    }
+}
+
+/// That the line does not have the words that it should have.
+#[inline(never)]
+fn wrong_count(count: usize, wanted: usize, text: &'static str) -> Cause
+    ensures { result.name ≡ names.Words }
+{
+    Cause::new(FaultName::Words, text, &[count as u64, wanted as u64])
+}
+
+/// That a word is not of its form. The text tells of it with its number from 1, the word itself, and two numbers.
+#[inline(never)]
+fn malformed(place: usize, text: &'static str, first: u64, second: u64) -> Cause
+    ensures { result.name ≡ names.Number }
+{
+    let number = (place as u64).saturating_add(1);
+    Cause::new(FaultName::Number, text, &[number, number, first, second])
+}
+
+/// Reads a decimal number of 1 to 10 digits.
+#[inline(always)]
+pub fn number(line: &Words<'_>, place: usize) -> Result<u64, Cause>
+    requires { place < 8 }
+    ensures { Reads result (number (word place (words_in line.now))) }
+{
+    match script_words::decimal(line.word(place)) {
+        Some(number) => Ok(number),
+        None => {
+            let text = "word {n}, '{w}': a decimal number of 1 to 10 digits is wanted";
+            Err(malformed(place, text, 0, 0))
+        }
+    }
+}
+
+/// Reads a decimal number from `least` to `most`.
+#[inline(always)]
+pub fn number_in(line: &Words<'_>, place: usize, least: u16, most: u16) -> Result<u16, Cause>
+    requires { place < 8 }
+    ensures value { Reads result (number_in least most (word place (words_in line.now))) }
+    ensures low { IfOk result (λ n. least ≤ n) }
+    ensures high { IfOk result (λ n. n ≤ most) }
+{
+    match script_words::decimal_in(line.word(place), least, most) {
+        Some(number) => Ok(number),
+        None => {
+            let text = "word {n}, '{w}': a number from {n} to {n} is wanted";
+            Err(malformed(place, text, u64::from(least), u64::from(most)))
+        }
+    }
+}
+
+/// Reads the number of a task or a unit, below 64.
+#[inline(always)]
+pub fn index(line: &Words<'_>, place: usize) -> Result<u16, Cause>
+    requires { place < 8 }
+    ensures value { Reads result (index (word place (words_in line.now))) }
+    ensures high { IfOk result (λ n. n < 64) }
+{
+    number_in(line, place, 0, 63)
+}
+
+/// Reads an interruption subclass, 0 to 7.
+#[inline(always)]
+pub fn subclass(line: &Words<'_>, place: usize) -> Result<u8, Cause>
+    requires { place < 8 }
+    ensures value { Reads result (subclass (word place (words_in line.now))) }
+    ensures high { IfOk result (λ n. n ≤ 7) }
+{
+    let number = number_in(line, place, 0, 7)?;
+    Ok(number as u8)
+}
+
+/// Reads a number of 16 bits.
+#[inline(always)]
+pub fn halfword(line: &Words<'_>, place: usize) -> Result<u16, Cause>
+    requires { place < 8 }
+    ensures { Reads result (number_in 0 65535 (word place (words_in line.now))) }
+{
+    number_in(line, place, 0, 65535)
+}
+
+/// Reads a number of 8 bits.
+#[inline(always)]
+pub fn small_number(line: &Words<'_>, place: usize) -> Result<u8, Cause>
+    requires { place < 8 }
+    ensures { Reads result (number_in 0 255 (word place (words_in line.now))) }
+{
+    let number = number_in(line, place, 0, 255)?;
+    Ok(number as u8)
+}
+
+/// That a word is not of `count` hexadecimal digits.
+fn wrong_digits(place: usize, count: u64) -> Cause
+    ensures { result.name ≡ names.Number }
+{
+    let text = "word {n}, '{w}': a word of {n} hexadecimal digits is wanted";
+    malformed(place, text, count, 0)
+}
+
+/// Reads an address of 6 hexadecimal digits.
+#[inline(always)]
+pub fn address(line: &Words<'_>, place: usize) -> Result<u32, Cause>
+    requires { place < 8 }
+    ensures { Reads result (address (word place (words_in line.now))) }
+{
+    match script_words::hexadecimal(line.word(place), 6) {
+        Some(address) => Ok(address),
+        None => Err(wrong_digits(place, 6)),
+    }
+}
+
+/// Reads a byte of 2 hexadecimal digits.
+#[inline(always)]
+pub fn byte(line: &Words<'_>, place: usize) -> Result<u8, Cause>
+    requires { place < 8 }
+    ensures { Reads result (digits 2 (word place (words_in line.now))) }
+{
+    match script_words::byte(line.word(place)) {
+        Some(byte) => Ok(byte),
+        None => Err(wrong_digits(place, 2)),
+    }
+}
+
+/// Reads two bytes of 4 hexadecimal digits.
+#[inline(always)]
+pub fn two_bytes(line: &Words<'_>, place: usize) -> Result<u16, Cause>
+    requires { place < 8 }
+    ensures { Reads result (digits 4 (word place (words_in line.now))) }
+{
+    match script_words::two_bytes(line.word(place)) {
+        Some(number) => Ok(number),
+        None => Err(wrong_digits(place, 4)),
+    }
+}
+
+/// Reads bytes as an even number of hexadecimal digits, or `-` for no byte.
+pub fn bytes(alloc: Global, line: &Words<'_>, place: usize) -> Result<Vec<u8>, Refusal>
+    requires { place < 8 }
+    ensures { Returns (λ v. v.items) result (bytes (word place (words_in line.now))) }
+{
+    match script_words::bytes_of(alloc, line.word(place)) {
+        Ok(bytes) => Ok(bytes),
+        Err(error) => Err(no_bytes(error, place)),
+    }
+}
+
+/// Why a word gives no bytes.
+fn no_bytes(error: FormError, place: usize) -> Refusal
+    ensures { IsNoBytes error result }
+{
+    match error {
+        FormError::NotOfForm => {
+            let text = "word {n}, '{w}': an even number of hexadecimal digits, or -, is wanted";
+            Refusal::Caused(malformed(place, text, 0, 0))
+        }
+        FormError::OutOfMemory => Refusal::NoMemory,
+    }
+}
+
+/// Reads the bytes of the words after the first three, joined.
+pub fn joined_bytes(alloc: Global, line: &Words<'_>) -> Result<Vec<u8>, Refusal>
+    ensures { Returns (λ v. v.items) result (joined_bytes (drop 3 (words_in line.now))) }
+{
+    let mut bytes = Vec::new(alloc);
+    let mut left = script_words::after_words(line.line, 3);
+    let mut place: usize = 3;
+    'words: while let Some((word, rest)) = script_words::next_word(left) {
+        if let Err(error) = script_words::push_bytes(&mut bytes, word) {
+            return Err(no_bytes(error, place));
+        }
+        place = place.saturating_add(1);
+        left = rest;
+    }
+    Ok(bytes)
+}
+
+/// Reads an extent from each word after the first three.
+pub fn extents(alloc: Global, line: &Words<'_>) -> Result<Vec<Extent>, Refusal>
+    ensures { Returns (λ v. v.items) result (extents (drop 3 (words_in line.now))) }
+{
+    let mut extents = Vec::new(alloc);
+    let mut left = script_words::after_words(line.line, 3);
+    let mut place: usize = 3;
+    'words: while let Some((word, rest)) = script_words::next_word(left) {
+        let Some(extent) = extent(word) else {
+            return Err(Refusal::Caused(wrong_digits(place, 32)));
+        };
+        extents.push(extent)?;
+        place = place.saturating_add(1);
+        left = rest;
+    }
+    Ok(extents)
+}
+
+/// Reads an extent of 32 hexadecimal digits.
+fn extent(word: &[u8]) -> Option<Extent>
+    ensures { result ≡ extent word.now }
+{
+    let image = script_words::sixteen_bytes(word)?;
+    Some(Extent::read(&image))
+}
+
+/// Reads the number of a unit and of one of its DCBs, at least 1.
+#[inline(always)]
+#[tactic(auto, unfolding(crate::specs::Forms::dcb_of))]
+pub fn dcb_of(line: &Words<'_>, unit: usize, dcb: usize) -> Result<DcbName, Cause>
+    requires unit { unit < 8 }
+    requires dcb { dcb < 8 }
+    ensures { Reads result (dcb_of (word unit (words_in line.now)) (word dcb (words_in line.now))) }
+{
+    let unit = index(line, unit)?;
+    let number = number_in(line, dcb, 1, 65535)?;
+    Ok(DcbName { unit, number })
+}
+
+/// Reads `in` or `out`: whether a DCB is for input.
+#[tactic(auto, unfolding(crate::specs::Forms::input_of))]
+pub fn input_of(line: &Words<'_>, place: usize) -> Result<bool, Cause>
+    requires { place < 8 }
+    ensures { Reads result (input_of (word place (words_in line.now))) }
+{
+    let word = line.word(place);
+    if word == b"in".as_slice() {
+        return Ok(true);
+    }
+    if word == b"out".as_slice() {
+        return Ok(false);
+    }
+    Err(malformed(place, "word {n}, '{w}': in or out is wanted", 0, 0))
+}
+
+/// Reads `quiesce` or `halt`.
+#[tactic(auto, unfolding(crate::specs::Forms::mode_of))]
+pub fn mode_of(line: &Words<'_>, place: usize) -> Result<Mode, Cause>
+    requires { place < 8 }
+    ensures { Reads result (mode_of (word place (words_in line.now))) }
+{
+    let word = line.word(place);
+    if word == b"quiesce".as_slice() {
+        return Ok(Mode::Quiesce);
+    }
+    if word == b"halt".as_slice() {
+        return Ok(Mode::Halt);
+    }
+    Err(malformed(place, "word {n}, '{w}': quiesce or halt is wanted", 0, 0))
+}
+
+/// Whether a word begins with `#`.
+#[inline(always)]
+pub fn is_comment(word: &[u8]) -> bool
+    ensures { result ≡ is_comment word.now }
+{
+    match word {
+        [first, ..] => *first == b'#',
+        [] => false,
+    }
+}
