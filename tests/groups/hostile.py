@@ -1,12 +1,14 @@
 """Hostile scripts, each run to its end: what they print is what docs/SPECIFICATION.md says of them.
 
 They are: cut samples; sizes and counts of ten digits; programs that overwrite themselves or run off; as many tasks, units,
-requests, DCBs and extents as there may be, and one more; and samples with each byte replaced in turn.
+requests, DCBs, extents and bytes as there may be, and one more; and samples with each byte replaced in turn. `check` rejects
+what a run rejects of the smaller sample.
 """
 
 import os
 import re
 import resource
+import tempfile
 
 from harness import TOP, Case, expect, require, run, side_by_side
 
@@ -29,19 +31,36 @@ def ends_so(setup, script, end):
     expect(setup.run("run", *words, script=script), way)
 
 
-def is_plain(setup, script):
-    """The run if it ended badly: it is to print posts and their number, or to report the fault of a line and print nothing."""
-    ran = setup.run("run", script=script)
+def is_plain(ran):
+    """Whether a run printed posts and their number, or reported the fault of a line and printed nothing."""
     if ran.status == 1:
-        return None if ran.out == "" and FAULT.fullmatch(ran.err) else ran
+        return ran.out == "" and FAULT.fullmatch(ran.err)
     *posts, last = ran.out.splitlines() or [""]
-    is_well = ran.status == 0 and ran.err == "" and last == f"end {len(posts)}" and all(map(POST.fullmatch, posts))
-    return None if is_well else ran
+    return ran.status == 0 and ran.err == "" and last == f"end {len(posts)}" and all(map(POST.fullmatch, posts))
+
+
+def bad_run(setup, script):
+    """The run if it ended badly."""
+    ran = setup.run("run", script=script)
+    return None if is_plain(ran) else ran
+
+
+def bad_judgement(setup, script):
+    """The run if it ended badly, or the check if it takes what the run rejects, or rejects what the run takes."""
+    ran, checked = (setup.run(word, script=script) for word in ("run", "check"))
+    if not is_plain(ran):
+        return ran
+    return None if (checked.status, checked.err) == (ran.status, "") else checked
 
 
 def are_plain(setup, scripts):
-    bad = [it for it in side_by_side(lambda script: is_plain(setup, script), scripts, 2) if it]
+    bad = [it for it in side_by_side(lambda script: bad_run(setup, script), scripts, 2) if it]
     require(not bad, f"{len(bad)} of {len(scripts)} runs ended neither with posts nor with the fault of a line", *bad[:1])
+
+
+def are_judged_alike(setup, scripts):
+    bad = [it for it in side_by_side(lambda script: bad_judgement(setup, script), scripts, 2) if it]
+    require(not bad, f"{len(bad)} of {len(scripts)} runs ended badly, or a check judged the script differently", *bad[:1])
 
 
 def cuts(script):
@@ -116,6 +135,16 @@ def with_area(size):
     return lines(*TAPE, "open 0 in", area(0, 1, rest=size - 0x38), excp)
 
 
+def with_block(size):
+    """A tape that has room for a block of so many bytes."""
+    return lines("tasks 1", "tape 0 0 100000", f"block 0 {'C1' * size}")
+
+
+def fills(end):
+    """A script of the most bytes, with this end after a comment."""
+    return b"#" * (LIMIT - len(end) - 1) + b"\n" + end
+
+
 EVERYONE = [f"post {task} {unit} 1 {NO_OPERATION}" for task in range(64) for unit in range(64)]
 LOOP = "03000000600000010800103000000000"
 ALL = ["--channels", "16", "--handlers", "8"]
@@ -136,9 +165,12 @@ ROWS = [
     ("no byte", b"", ends("line 0: Order")),
     ("as many bytes of # as a script has", b"#" * LIMIT, ends("line 0: Order")),
     ("one byte of # more", b"#" * (LIMIT + 1), ends("script too long")),
+    ("a script of the most bytes", fills(b"tasks 1\ntape 0 0 4"), ends([])),
     ("as many LF as a script has bytes", b"\n" * LIMIT, ends("line 0: Order")),
     ("a geometry of ten digits", sample(("1 1 40", "9999999999 9999999999 9999999999")), ends("line 2: Medium")),
     ("a tape of ten digits", lines("tasks 1", "tape 0 0 9999999999"), ends("line 2: Medium")),
+    ("a block of 65,535 bytes", with_block(65_535), ends([])),
+    ("a block of 65,536 bytes", with_block(65_536), ends("line 2: Medium")),
     ("a printer of ten digits", lines("tasks 1", "printer 0 0 9999999999 9999999999"), ends("line 2: Medium")),
     ("eleven digits", sample(("1 1 40", "1 1 00000000040")), ends("line 2: Number")),
     ("bytes of ten digits that are shown", sample((CALL, "excp 0 0 1 001000 0 001060 9999999999")), ends("line 6: Request")),
@@ -181,6 +213,17 @@ SWEEPS = [
 ]
 
 
+def is_read_no_further(setup):
+    """Of a script that is too long one byte past the limit is read, and no more."""
+    with tempfile.TemporaryFile() as file:
+        file.write(b"#" * (LIMIT + 9))
+        file.seek(0)
+        ran = run([setup.program, "run"], stdin=file)
+        expect(ran, (1, "", "excp_job: script too long\n"))
+        place = os.lseek(file.fileno(), 0, os.SEEK_CUR)
+    require(place == LIMIT + 1, f"{place} bytes were read, {LIMIT + 1} are wanted", ran)
+
+
 def with_folder(setup):
     """A standard input that cannot be read, as a folder cannot."""
     folder = os.open(TOP, os.O_RDONLY)
@@ -209,8 +252,9 @@ def cases(setup):
 
     for name, script, end in ROWS:
         yield case(name, ends_so, script, end)
+    yield case("no more than a byte past the limit is read", is_read_no_further)
     yield case("a folder as input", with_folder)
     yield case("a full output", with_full_output)
     yield case("a limit of memory", with_limit)
     for name, scripts in SWEEPS:
-        yield case(name, are_plain, scripts)
+        yield case(name, are_judged_alike if name.startswith("the sample") else are_plain, scripts)

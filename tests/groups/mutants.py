@@ -5,6 +5,8 @@ line says what rejects it:
 
     rejected by: check                 `rt check` of the crate does not prove it
     rejected by: test CRATE NAME       the test of that crate fails; nothing is proved, as by `rt try --test`
+    rejected by: run GROUP CASE ..     the cases of tests/run with these words in their names, which pass on the program, fail on
+                                       one that is made with the edit; nothing is proved, as by `./excp --try`
 
 Kept work is what `rt check` or `rt lib` leaves in crates/CRATE/out; the crates below have to be built too. An edit that
 cannot be read, applied or compiled fails as BAD EDIT, and is not counted as rejected.
@@ -100,6 +102,29 @@ def rejected_by_test(name, edit, tests, test):
     return f"{name}/{os.path.basename(edit)}: rejected: {test} of {tests} fails"
 
 
+def rejected_by_run(name, edit, group, case, program):
+    """The cases pass on the program, and fail on one with the edit."""
+    rt = loaded()
+    texts, why = rt.read_edit(edit, f"{TOP}/crates/{name}")
+    require(not why, f"BAD EDIT: {why}")
+    words = [f"{TOP}/tests/run", group, "--case", case, "--jobs", "1", "--program"]
+    before = run([*words, program], timeout=SECONDS, stdin=subprocess.DEVNULL)
+    require(before.status == 0, f"BAD EDIT: {group}: {case}: does not pass with no edit", before)
+    with tempfile.TemporaryDirectory(prefix="mutants-") as room:
+        for file in ("crates.txt", "HANDLES"):
+            shutil.copy(f"{TOP}/{file}", room)
+        for folder in ("crates", "tools"):
+            shutil.copytree(f"{TOP}/{folder}", f"{room}/{folder}", ignore=shutil.ignore_patterns("out", "must-fail"))
+        for path, text in texts.items():
+            with open(f"{room}/crates/{name}/{path}", "w", encoding="utf-8") as it:
+                it.write(text)
+        built = run(["python3", f"{room}/tools/prove.py", "try"], timeout=SECONDS, stdin=subprocess.DEVNULL)
+        require(built.status == 0, "BAD EDIT: the program with it is not built", built)
+        after = run([*words, f"{room}/out/tried/excp_job"], timeout=SECONDS, stdin=subprocess.DEVNULL)
+    require(after.status == 1 and f"FAILED: {group}: " in after.out, f"NOT REJECTED: {group}: {case}: passes", after)
+    return f"{name}/{os.path.basename(edit)}: rejected: {group}: {case}: fails"
+
+
 def still_proved(name):
     """The crate is proved over the work that its mutants left, so each of them was rejected for its edit alone."""
     rt = loaded()
@@ -126,7 +151,11 @@ def cases(setup):
                 yield Case(title, lambda n=name, e=edit: rejected_by_check(n, e), origin, name)
             elif first[:3] == ["rejected", "by:", "test"] and len(first) == 5:
                 yield Case(title, lambda n=name, e=edit, f=first: rejected_by_test(n, e, f[3], f[4]), origin)
+            elif first[:3] == ["rejected", "by:", "run"] and len(first) > 4:
+                case = " ".join(first[4:])
+                yield Case(title, lambda n=name, e=edit, g=first[3], c=case: rejected_by_run(n, e, g, c, setup.program), origin)
             else:
-                yield Case(title, lambda: require(False, "BAD EDIT: line 1 is no `rejected by: check` or `test CRATE NAME`"), origin)
+                what = "BAD EDIT: line 1 is no `rejected by: check`, `test CRATE NAME` or `run GROUP CASE ..`"
+                yield Case(title, lambda w=what: require(False, w), origin)
         if by_check:
             yield Case(f"{name}: proved after its mutants", lambda n=name: still_proved(n), "tests/groups/mutants.py", name)

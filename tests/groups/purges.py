@@ -1,7 +1,7 @@
 """Purges beside programs that run and requests that wait, and the reasons that histories give.
 
-Each post is one of a few, whatever the interleaving. The reason that a history gives, if a request was not started, is
-that of the entries before it. A test of job_tests covers what a purge meets for certain.
+Each post is one of a few, whatever the interleaving, and among a few runs is one in which the purge met all that it is to
+meet. The reason that a history gives, if a request was not started, is that of the entries before it.
 """
 
 import re
@@ -11,14 +11,16 @@ from harness import Case, require
 IOB = "4200000000001028 0000000000000000 0000103000000001 0000000000000000 0000000000000001 0000000000000000"
 OTHER = IOB.replace("0000103000000001", "0000103000000002")
 
-# Two tasks, and two disks on subclasses 3 and 6, the first with two DCBs. Areas 0 and 1, for DCBs 1 and 2, are a
+# Two tasks, and three disks on subclasses 3, 6 and 3, the first with two DCBs. Areas 0 and 1, for DCBs 1 and 2, are a
 # no-operation and a transfer back to it, up to the fetch limit; area 2 does a third more commands.
 LOOPS = f"""tasks 2
 disk 0 3 1 1 40
 disk 1 6 1 1 40
+disk 2 3 1 1 40
 open 0 out 18000000000000000000000000000001
 open 0 out 18000000000000000000000000000001
 open 1 out 18000000000000000000000000000001
+open 2 out 18000000000000000000000000000001
 area 0 001000 {IOB} 0300000060000001 0800103000000000
 area 1 001000 {OTHER} 0300000060000001 0800103000000000
 area 2 001000 {IOB} 0300000060000001 0300000060000001 0800103000000000
@@ -27,10 +29,20 @@ area 2 001000 {IOB} 0300000060000001 0300000060000001 0800103000000000
 # How often each DCB of unit 0 is used.
 PAIRS = 20
 
-# How a request is printed that was not purged, that waited, and that was halted.
-ENDED = "41 001038 0020 0000 0000 -"
-WAITED = "48 000000 0000 0000 0000 -"
-HALTED = ["48 001038 0C00 0001 0000 -", "48 001030 0C00 0000 0000 -"]
+# How a request is printed that came to its end, that waited, and that was halted after a command or before its first one, each
+# with its ECB, and a letter for it.
+ENDS = {
+    "41 001038 0020 0000 0000 41000000": "E",
+    "48 000000 0000 0000 0000 48000000": "W",
+    "48 001038 0C00 0001 0000 48000000": "H",
+    "48 001030 0C00 0000 0000 48000000": "B",
+}
+
+# How the requests of a task to a unit end, in their order, if a purge with halt, one with quiesce, or none covers them: what
+# ended before it, what it halted, what waited, and what had not arrived.
+HALTING = re.compile("E*[HB]?W*E*")
+QUIESCING = re.compile("E*W*E*")
+UNTOUCHED = re.compile("E*")
 
 # A disk with R1, of which task 1 reads twice, while task 0 purges its requests.
 TWO_READS = f"""tasks 2
@@ -99,28 +111,53 @@ def printed(setup, script, channels, handlers, word="run"):
 
 
 def loops(purge):
-    """Task 1 issues requests to unit 0, for DCBs 2 and 1 in turn, and waits for them. Task 0, on a thread of its own, issues
-    one to unit 1, waits for it, and purges: by then the second request of task 1 may be under way."""
-    pair = "excp 1 0 2 001000 1 001000 0\nexcp 1 0 1 001000 0 001000 0\n"
-    return f"{LOOPS}{pair * PAIRS}wait 1\nexcp 0 1 1 001000 2 001000 0\nwait 0\n{purge}\n"
+    """Task 1 issues requests to unit 0, for DCBs 2 and 1 in turn, and to unit 2, and waits for them. Task 0, on a thread of its
+    own, issues one to unit 1, waits for it, issues one to unit 0 for DCB 1, and purges: by then the second request of task 1 may
+    be under way."""
+    pair = "excp 1 0 2 001000 1 001028 4\nexcp 1 0 1 001000 0 001028 4\nexcp 1 2 1 001000 0 001028 4\n"
+    last = "excp 0 0 1 001000 0 001028 4\n"
+    return f"{LOOPS}{pair * PAIRS}wait 1\nexcp 0 1 1 001000 2 001000 0\nwait 0\n{last}{purge}\n"
 
 
-def meets(setup, purge, both, halts):
-    """Each request of ten runs ends as it may, if the purge meets those of DCB 1, or of both, and halts or not. The purge
-    does not cover the request of task 0."""
-    def may(number, end):
-        met = both or number % 2 == 0
-        return end == ENDED or met and (end == WAITED or halts and end in HALTED)
+def ends_of(ran, lines):
+    """The ends of the requests of each task to each unit of `loops`, as letters in the order of their numbers."""
+    *posts, last = lines
+    require(last == f"end {3 * PAIRS + 2}" and len(posts) == 3 * PAIRS + 2, "another number of posts", ran)
+    require(posts.pop(1) == "post 0 1 1 41 001040 0020 0000 0000 -", "another post of unit 1", ran)
+    names = ["0 0 1", *(f"1 0 {n}" for n in range(1, 2 * PAIRS + 1)), *(f"1 2 {n}" for n in range(1, PAIRS + 1))]
+    letters = ""
+    for name, line in zip(names, posts):
+        end = ENDS.get(line.removeprefix(f"post {name} "))
+        require(end, f"this post may not be: {line}", ran)
+        letters += end
+    return letters[0], letters[1 : 2 * PAIRS + 1], letters[2 * PAIRS + 1 :]
 
-    for _ in range(10):
+
+def meets(setup, purge, both, covered, wanted):
+    """Each request of ten runs ends as it may, if the purge covers task 0's and task 1's of DCB 1 of unit 0, or all of task 1.
+    Forty runs at most show all that is wanted: a request that was halted after a command, before one that waited; one that
+    waited; one that waited at unit 2; and one of task 0 that had not arrived when others waited."""
+    met = set()
+    for count in range(40):
+        if count >= 10 and wanted <= met:
+            return
         ran, lines = printed(setup, loops(purge), 1, 1)
-        require(len(lines) == 2 * PAIRS + 2, "another number of posts", ran)
-        first, *ends, last = lines
-        require(first == "post 0 1 1 41 001040 0020 0000 0000 -", "another post of task 0", ran)
-        require(last == f"end {2 * PAIRS + 1}", "another end", ran)
-        for number, end in enumerate(ends, 1):
-            start = f"post 1 0 {number} "
-            require(end.startswith(start) and may(number, end.removeprefix(start)), f"this post may not be: {end}", ran)
+        own, first, other = ends_of(ran, lines)
+        of_dcb_2, of_dcb_1 = first[::2], first[1::2]
+        if both:
+            fit = (own, UNTOUCHED), (first, covered), (other, covered)
+        else:
+            fit = (own, covered), (of_dcb_2, UNTOUCHED), (of_dcb_1, covered), (other, UNTOUCHED)
+        for letters, ends in fit:
+            require(ends.fullmatch(letters), f"the requests may not end so: {letters}", ran)
+        facts = {
+            "halted": "HW" in (first if both else of_dcb_1),
+            "waited": "W" in first,
+            "elsewhere": "W" in other,
+            "not arrived": "W" in first and own == "E",
+        }
+        met |= {name for name, is_so in facts.items() if is_so}
+    require(wanted <= met, f"no purge met {wanted - met}")
 
 
 def are_two_reads(setup, channels, handlers):
@@ -264,10 +301,11 @@ def cases(setup):
     def case(name, judge, *given):
         return Case(name, lambda: judge(setup, *given), "tests/groups/purges.py, by docs/SPECIFICATION.md")
 
-    yield case("purges_of_long_programs: halt", meets, "purge 0 0 1 halt", False, True)
-    yield case("purges_of_long_programs: quiesce", meets, "purge 0 0 1 quiesce", False, False)
-    yield case("purges_of_long_programs: a task, halt", meets, "purgetask 0 1 halt", True, True)
-    yield case("purges_of_long_programs: a task, quiesce", meets, "purgetask 0 1 quiesce", True, False)
+    both, halted = {"waited", "elsewhere", "not arrived"}, {"halted", "waited", "not arrived"}
+    yield case("purges_of_long_programs: halt", meets, "purge 0 0 1 halt", False, HALTING, halted)
+    yield case("purges_of_long_programs: quiesce", meets, "purge 0 0 1 quiesce", False, QUIESCING, halted - {"halted"})
+    yield case("purges_of_long_programs: a task, halt", meets, "purgetask 0 1 halt", True, HALTING, both | halted)
+    yield case("purges_of_long_programs: a task, quiesce", meets, "purgetask 0 1 quiesce", True, QUIESCING, both)
     for channels, handlers in (1, 1), (2, 3), (4, 2), (16, 8):
         yield case(f"a_task_purges_another: {channels} and {handlers} workers", are_two_reads, channels, handlers)
     yield case("reasons: a purge with halt", gives_reasons, loops("purge 0 0 1 halt"), {(PURGED, True)})

@@ -111,20 +111,23 @@ pub fn late_fault() -> Fault {
     }
 }
 
-/// Faults whose numbers are the first, the last that a command may have, and the last that there is are taken, but no
-/// two of the same number. The first command meets its fault; the next ones meet none, and those of a copy neither.
+/// Faults whose numbers are the first two, the last that a command may have, and the last that there is are taken, but
+/// no two of the same number. The first two commands meet their faults, also where a copy does the second one; the next
+/// ones meet none.
 #[test]
 fn faults_with_the_first_and_last_numbers(rt: HostRuntime) -> Result<(), Fail> {
     let last = unit_check(u64::MAX, 0x0800);
     assert!(rt; !is_script(&[last, last]));
     let first = unit_check(1, 0x1000);
-    let faults = [first, unit_check(u64::MAX - 1, 0x0800), last];
+    let second = unit_check(2, 0x0800);
+    let faults = [first, second, unit_check(u64::MAX - 1, 0x0800), last];
     if !is_script(&faults) {
         return Err(Fail::from("not taken"));
     }
     let mut script = FaultScript::new(rt.alloc(), &faults)?;
     assert!(rt; script.count() == Some(first));
     let mut copied = script.copy()?;
+    assert!(rt; script.count() == Some(second) && copied.count() == Some(second));
     for _ in 0..1000 {
         assert!(rt; script.count().is_none() && copied.count().is_none());
     }

@@ -7,8 +7,6 @@
 #[cfg(test)]
 mod areas;
 #[cfg(test)]
-mod chains;
-#[cfg(test)]
 mod devices;
 #[cfg(test)]
 mod disks;

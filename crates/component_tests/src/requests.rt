@@ -1,9 +1,9 @@
-//! Places of the control blocks, what a request says, and what a post writes.
+//! What a request says, and requests without memory. Where its control blocks may be is in tests/cases/mistakes, what a
+//! post writes in tests/cases/scripts/posted_areas.posts.
 
 use crate::memory::TWICE;
 use io_area::Area;
-use io_images::{Address, Code, Csw, SubStatus, UnitStatus};
-use request_piece::{Name, Posted, Request, RequestError, Scope};
+use request_piece::{Name, Request, RequestError, Scope};
 use std::process::Abort;
 use std::sync::Arc;
 use std::test::Fail;
@@ -34,26 +34,6 @@ fn issued(
             assert_eq!(rt; area.get(0x1000, bytes.len()), Some(bytes));
             Err(error)
         }
-    }
-}
-
-#[test]
-fn request_places(rt: HostRuntime) {
-    let cases = [
-        (0x1048, 7, 0x28, RequestError::IobPlace),
-        (0x1002, 7, 0x28, RequestError::IobPlace),
-        (0x1000, 7, 0x29, RequestError::EcbPlace),
-        (0x1000, 7, 0x24, RequestError::EcbPlace),
-        (0x1000, 19, 0x68, RequestError::ProgramPlace),
-        (0x1000, 19, 0x34, RequestError::ProgramPlace),
-        (0x1000, 23, 2, RequestError::DcbMismatch),
-        (0x1000, 21, 1, RequestError::DcbMismatch),
-    ];
-    for (iob, place, byte, error) in cases {
-        let mut bytes = fixture();
-        bytes[place] = byte;
-        let found = issued(&rt, rt.alloc(), &bytes, iob).err();
-        assert_eq!(rt; found, Some(error));
     }
 }
 
@@ -117,31 +97,5 @@ fn request_shares_what_it_is_made_over(rt: HostRuntime) -> Result<(), Fail> {
     let (issued, _) = request.into_parts();
     assert!(rt; Arc::strong_count(&area) == 2);
     assert!(rt; issued.area().get(0x1000, 104) == Some(fixture().as_slice()));
-    Ok(())
-}
-
-/// The fixture's storage behind a post with this status.
-fn posted_bytes() -> [u8; 104] {
-    let mut bytes = fixture();
-    bytes[..8].copy_from_slice(&[0x06, 0, 0x00, 0x08, 0x41, 0x00, 0x10, 0x28]);
-    bytes[8..16].copy_from_slice(&[0, 0x00, 0x10, 0x38, 0x0E, 0x00, 0x00, 0x05]);
-    bytes[40] = 0x41;
-    bytes
-}
-
-#[test]
-fn post_writes_iob_and_ecb(rt: HostRuntime) -> Result<(), Fail> {
-    let (_, work) = issued(&rt, rt.alloc(), &fixture(), 0x1000)?.into_parts();
-    let csw = Csw {
-        address: Address::new(0x1038),
-        unit: UnitStatus::new(0x0E),
-        sub: SubStatus::new(0x00),
-        residual: 5,
-    };
-    let posted = Posted::new(work, Code::PermanentError, csw, 0x0008);
-    assert!(rt; posted.area().get(0x1000, 104) == Some(posted_bytes().as_slice()));
-    assert!(rt; posted.name() == NAME && posted.code() == Code::PermanentError);
-    assert!(rt; posted.unit() == 7 && posted.dcb() == 1 && posted.sense() == 8);
-    assert!(rt; posted.csw().residual == 5);
     Ok(())
 }

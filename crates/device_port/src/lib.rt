@@ -1,7 +1,7 @@
 //! What a channel and a device are to each other: the commands that a device acts on, the bytes that they
 //! move between a program's data areas and the device, and the faults that a device shows.
 //!
-//! Tests: component_tests (`chains`, `devices`).
+//! Tests: component_tests (`devices`), tests/cases/histories/tapes.steps.
 #![tactic(auto)]
 
 mod answer;

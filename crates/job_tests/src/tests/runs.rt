@@ -1,5 +1,5 @@
 //! Runs on rows and books of one, runs whose tasks wait for their posts or do not, runs in which a worker or a task met
-//! want of memory and nobody takes a status, one in which a task ends early, and purges of what is under way.
+//! want of memory and nobody takes a status, and one in which a task ends early.
 
 ghost use Rattle.std.specs.Prelude.{◌≡◌, ◌<◌, ◌≤◌, All, IfOk, vec_len};
 ghost use Rattle.excp_system.specs.Opening.{AreBooks, AreFresh, site_of};
@@ -7,7 +7,6 @@ ghost use Rattle.job_script.specs.Commands.{CanBeDone};
 ghost use Rattle.job_run.specs.Complete.{IsComplete};
 
 mod not_awaited;
-mod purges;
 
 use excp_system::{Gate, IscTaker, Point, Rows, Site, System};
 use job_run::{Lines, Output, ScriptTasks, ended, run_on, write};
@@ -114,8 +113,6 @@ enum Way {
     Unawaited,
     /// The same, and there is no worker: all is left to its end.
     Left,
-    /// The same, but what task 0 issued arrives before task 1 begins, and one command of the first is done.
-    Begun,
     /// Until its tasks have ended.
     Tasks,
     /// And no handler takes a status, so that nothing is posted, and a worker meets want of memory before such a call.
@@ -199,7 +196,7 @@ fn unawaited<R: Threads + Wait + Sync + AllocGlobal>(
     requires requests { All CanBeDone script.now.commands.items }
 {
     let alloc = rt.alloc();
-    let program = NotAwaited::new(script, false);
+    let program = NotAwaited::new(script);
     let done = run_program(rt, alloc, rows, books, two_of_each(), &program);
     let Ok((report, outcomes)) = done else {
         return Err(Fault::NoMemory);
@@ -214,7 +211,6 @@ fn left<S: Site + Send + Sync, R: Threads + Wait + Sync + AllocGlobal>(
     rows: &mut Rows,
     books: Vec<UnitBook<UnitDevice>>,
     script: &Script,
-    begins: bool,
 ) -> Result<Outcome, Fault>
     requires site { S.rows ≡ site_of rows.old }
     requires fresh { AreFresh rows.old }
@@ -231,7 +227,7 @@ fn left<S: Site + Send + Sync, R: Threads + Wait + Sync + AllocGlobal>(
         channels: Vec::new(alloc),
         handlers: Vec::new(alloc),
     };
-    let program = NotAwaited::new(script, begins);
+    let program = NotAwaited::new(script);
     let runners = run_beside(rt, alloc, &system, &alarm, &alarm, crew, runners, &program).or(Err(
         Fault::NoMemory,
     ))?;
@@ -405,8 +401,7 @@ fn run<R: Threads + Wait + Sync + AllocGlobal>(
             printed(alloc, &run.lines)
         }
         Way::Unawaited => unawaited(rt, rows, books, &script),
-        Way::Left => left::<Brand, R>(rt, &mut rows, books, &script, false),
-        Way::Begun => left::<Brand, R>(rt, &mut rows, books, &script, true),
+        Way::Left => left::<Brand, R>(rt, &mut rows, books, &script),
         _ => tasks_alone::<Brand, R>(rt, &mut rows, books, &script, way),
     }
 }

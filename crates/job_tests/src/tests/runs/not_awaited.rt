@@ -3,47 +3,27 @@
 ghost use Rattle.std.specs.Prelude.{◌≡◌, ℕ, All, vec_len};
 ghost use Rattle.job_script.specs.Commands.{CanBeDone};
 
-use super::purges::begin;
 use excp_system::{Site, System};
 use job_run::{Job, Lines};
 use job_script::{Fault, Script};
 use std::alloc::Global;
 use std::sync::Wait;
-use std::sync::atomic::{AtomicBool, Ordering};
-use std::thread;
 use system_threads::{Alarm, Client, Program};
 use unit_device::UnitDevice;
 
-/// Each task leaves what is printed of its requests. What task 0 issued may begin before task 1 does.
+/// Each task leaves what is printed of its requests.
 #[derive(Drop)]
 pub struct NotAwaited<'a> {
     script: &'a Script,
-    begins: bool,
-    first_ended: AtomicBool,
     ghost requests_can_be_made: { All CanBeDone script.now.commands.items },
 }
 
 impl<'a> NotAwaited<'a> {
-    pub fn new(script: &'a Script, begins: bool) -> NotAwaited<'a>
+    pub fn new(script: &'a Script) -> NotAwaited<'a>
         requires { All CanBeDone script.now.commands.items }
         ensures { result.script.now ≡ script.now }
     {
-        NotAwaited {
-            script,
-            begins,
-            first_ended: AtomicBool::new(false),
-        }
-    }
-
-    /// Waits until task 0 has ended.
-    fn await_first<R: Wait>(&self, rt: &R) {
-        for _ in rt.forever() {
-            if self.first_ended.load(Ordering::SeqCst) {
-                return;
-            }
-            thread::yield_now();
-        }
-        unreachable!()
+        NotAwaited { script }
     }
 
     /// Does the commands of a task.
@@ -77,14 +57,6 @@ impl<'a> Program<UnitDevice> for NotAwaited<'a> {
         alarm: &Alarm,
         client: &mut Client<'_, S>,
     ) -> Result<Lines, Fault> {
-        if self.begins && client.number() == 1 {
-            self.await_first(rt);
-            begin(rt, system, self.script.set_up.units.len());
-        }
-        let done = self.commands(rt, alloc, system, alarm, client);
-        if client.number() == 0 {
-            self.first_ended.store(true, Ordering::SeqCst);
-        }
-        done
+        self.commands(rt, alloc, system, alarm, client)
     }
 }
