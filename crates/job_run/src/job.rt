@@ -1,7 +1,8 @@
 //! What one task does of a script.
 
-ghost use Rattle.std.specs.Prelude.{◌≡◌, ◌<◌, All, vec_len};
+ghost use Rattle.std.specs.Prelude.{◌≡◌, ◌<◌, All, OnErr, OnOk, vec_len};
 ghost use Rattle.job_script.specs.Commands.{CanBeDone, CanIssue, NamesUnits};
+ghost use Rattle.job_run.specs.Sending.{StopsIn, sends, sends_all, sends_excp};
 
 use crate::lines::Lines;
 use crate::unit_calls::{close, purge, purge_task, reset};
@@ -45,7 +46,8 @@ impl<'a, 'r, S: Site> Job<'a, 'r, S> {
         }
     }
 
-    /// Does the commands of a task, in order, up to the first fault.
+    /// Does the commands of a task, in order, up to the first fault. Whatever other threads do, the task sends exactly
+    /// the requests of its commands, in their order.
     pub fn commands<R: Wait>(
         &self,
         rt: &R,
@@ -53,12 +55,16 @@ impl<'a, 'r, S: Site> Job<'a, 'r, S> {
         client: &mut Client<'_, S>,
         lines: &mut Lines,
     ) -> Result<(), Fault>
-        ensures { client.new.number ≡ client.old.number }
+        ensures number { client.new.number ≡ client.old.number }
+        ensures sent { OnOk result (client.new.sent ≡ sends_all client.old.number self.now.script.now.commands.items client.old.sent) }
+        ensures stopped { OnErr result (StopsIn client.old.number self.now.script.now.commands.items client.old.sent client.new.sent) }
     {
-        for place in self.script.places_of(client.number()) {
-            let command = &self.script.commands[*place];
-            if let Err(fault) = self.command(rt, alloc, client, lines, command) {
-                return Err(fault.at(command.line));
+        let number = client.number();
+        for command in &self.script.commands {
+            if command.task == number {
+                if let Err(fault) = self.command(rt, alloc, client, lines, command) {
+                    return Err(fault.at(command.line));
+                }
             }
         }
         Ok(())
@@ -75,7 +81,9 @@ impl<'a, 'r, S: Site> Job<'a, 'r, S> {
     ) -> Result<(), LineFault>
         requires units { NamesUnits S.rows.units command.now }
         requires request { CanBeDone command.now }
-        ensures { client.new.number ≡ client.old.number }
+        ensures number { client.new.number ≡ client.old.number }
+        ensures sent { OnOk result (client.new.sent ≡ sends client.old.number command.now.action client.old.sent) }
+        ensures stopped { OnErr result (client.new.sent ≡ client.old.sent) }
     {
         match &command.action {
             Action::Excp(excp) => self.issue(rt, alloc, client, lines, excp)?,
@@ -100,7 +108,9 @@ impl<'a, 'r, S: Site> Job<'a, 'r, S> {
     ) -> Result<(), LineFault>
         requires unit { excp.now.dcb.unit < S.rows.units }
         requires request { CanIssue excp.now }
-        ensures { client.new.number ≡ client.old.number }
+        ensures number { client.new.number ≡ client.old.number }
+        ensures sent { OnOk result (client.new.sent ≡ sends_excp client.old.number excp.now client.old.sent) }
+        ensures stopped { OnErr result (client.new.sent ≡ client.old.sent) }
     {
         let Some(name) = client.name(excp.dcb.unit) else {
             return Err(LineFault::Named(FaultName::Request));
@@ -132,7 +142,8 @@ impl<'a, 'r, S: Site> Job<'a, 'r, S> {
         client: &mut Client<'_, S>,
         lines: &mut Lines,
     ) -> Result<(), AllocError>
-        ensures { client.new.number ≡ client.old.number }
+        ensures number { client.new.number ≡ client.old.number }
+        ensures sent { client.new.sent ≡ client.old.sent }
     {
         for _ in rt.forever() {
             match client.next_post(rt, self.alarm)? {

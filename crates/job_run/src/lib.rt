@@ -13,6 +13,7 @@
 #![tactic(auto)]
 
 mod job;
+mod late;
 mod lines;
 mod output;
 mod rooms;
