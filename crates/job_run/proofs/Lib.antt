@@ -1,3 +1,2 @@
--- The books of a script, and what its commands send.
+-- The books of a script.
 pub mod Books
-pub mod Sent

@@ -1,5 +1,3 @@
--- How large rows and books are, what a task sends, when all that it prints is known, and when nothing was written.
+-- How large rows and books are, and when all that a task prints is known.
 pub mod Complete
 pub mod Rooms
-pub mod Sending
-pub mod Written

@@ -1,8 +1,7 @@
 //! What one task does of a script.
 
-ghost use Rattle.std.specs.Prelude.{◌≡◌, ◌<◌, All, OnErr, OnOk, vec_len};
+ghost use Rattle.std.specs.Prelude.{◌≡◌, ◌<◌, All, vec_len};
 ghost use Rattle.job_script.specs.Commands.{CanBeDone, CanIssue, NamesUnits};
-ghost use Rattle.job_run.specs.Sending.{StopsIn, sends, sends_all, sends_excp};
 
 use crate::lines::Lines;
 use crate::unit_calls::{close, purge, purge_task, reset};
@@ -46,8 +45,7 @@ impl<'a, 'r, S: Site> Job<'a, 'r, S> {
         }
     }
 
-    /// Does the commands of a task, in order, up to the first fault. Whatever other threads do, the task sends exactly
-    /// the requests of its commands, in their order.
+    /// Does the commands of a task, in order, up to the first fault.
     pub fn commands<R: Wait>(
         &self,
         rt: &R,
@@ -55,9 +53,7 @@ impl<'a, 'r, S: Site> Job<'a, 'r, S> {
         client: &mut Client<'_, S>,
         lines: &mut Lines,
     ) -> Result<(), Fault>
-        ensures number { client.new.number ≡ client.old.number }
-        ensures sent { OnOk result (client.new.sent ≡ sends_all client.old.number self.now.script.now.commands.items client.old.sent) }
-        ensures stopped { OnErr result (StopsIn client.old.number self.now.script.now.commands.items client.old.sent client.new.sent) }
+        ensures { client.new.number ≡ client.old.number }
     {
         let number = client.number();
         for command in &self.script.commands {
@@ -81,9 +77,7 @@ impl<'a, 'r, S: Site> Job<'a, 'r, S> {
     ) -> Result<(), LineFault>
         requires units { NamesUnits S.rows.units command.now }
         requires request { CanBeDone command.now }
-        ensures number { client.new.number ≡ client.old.number }
-        ensures sent { OnOk result (client.new.sent ≡ sends client.old.number command.now.action client.old.sent) }
-        ensures stopped { OnErr result (client.new.sent ≡ client.old.sent) }
+        ensures { client.new.number ≡ client.old.number }
     {
         match &command.action {
             Action::Excp(excp) => self.issue(rt, alloc, client, lines, excp)?,
@@ -108,9 +102,7 @@ impl<'a, 'r, S: Site> Job<'a, 'r, S> {
     ) -> Result<(), LineFault>
         requires unit { excp.now.dcb.unit < S.rows.units }
         requires request { CanIssue excp.now }
-        ensures number { client.new.number ≡ client.old.number }
-        ensures sent { OnOk result (client.new.sent ≡ sends_excp client.old.number excp.now client.old.sent) }
-        ensures stopped { OnErr result (client.new.sent ≡ client.old.sent) }
+        ensures { client.new.number ≡ client.old.number }
     {
         let Some(name) = client.name(excp.dcb.unit) else {
             return Err(LineFault::Named(FaultName::Request));
@@ -142,8 +134,7 @@ impl<'a, 'r, S: Site> Job<'a, 'r, S> {
         client: &mut Client<'_, S>,
         lines: &mut Lines,
     ) -> Result<(), AllocError>
-        ensures number { client.new.number ≡ client.old.number }
-        ensures sent { client.new.sent ≡ client.old.sent }
+        ensures { client.new.number ≡ client.old.number }
     {
         for _ in rt.forever() {
             match client.next_post(rt, self.alarm)? {

@@ -13,7 +13,6 @@
 #![tactic(auto)]
 
 mod job;
-mod late;
 mod lines;
 mod output;
 mod rooms;

@@ -1,12 +1,10 @@
 //! The lines that a run prints: one for each post, and their number; and behind them, in a report, what the run left
 //! behind.
 
-ghost use Rattle.std.specs.Prelude.{◌≡◌, ◌≤◌, All, IfErr, length};
+ghost use Rattle.std.specs.Prelude.{◌≤◌, All, length};
 ghost use Rattle.job_run.specs.Complete.{IsComplete, IsWhole};
-ghost use Rattle.job_run.specs.Written.{IsUnwritten};
 
 use crate::lines::{End, Line, Lines};
-use crate::late::Late;
 use job_report::{OpenDcbs, put_decimal, put_digits, write_bytes, write_units};
 use job_script::{Fault, SetUp};
 use std::alloc::Global;
@@ -30,60 +28,36 @@ pub enum Output<'a> {
 }
 
 /// Writes what the requests of each task were posted with, in order of tasks, units and numbers, each with its shown
-/// bytes, and then how many there are; and what else is to be printed. If there is no memory to begin, nothing is written.
-pub fn write<W: Write>(
+/// bytes, and then how many there are; and what else is to be printed.
+pub fn write<W: Write + Drop>(
     alloc: Global,
     lines: &[Lines],
     output: Output<'_>,
-    writer: &mut W,
+    writer: W,
 ) -> Result<(), Fault>
     requires { All IsComplete lines.now }
 {
+    let Ok(mut out) = BufWriter::new(alloc, writer) else {
+        return Err(Fault::NoMemory);
+    };
     match output {
-        Output::Posts => write_posts(alloc, lines, writer),
+        Output::Posts => write_posts(&mut out, lines)?,
         Output::Report {
             set_up,
             books,
             steps,
         } => {
+            // before anything is written, so that where there is no memory for it nothing is
             let mut open = OpenDcbs::of_units(alloc, books)?;
-            let mut out = BufWriter::new(alloc, Late::new()).or(Err(Fault::NoMemory))?;
-            out.get_mut().set(writer);
-            write_lines_of_all(&mut out, lines)?;
+            write_posts(&mut out, lines)?;
             write_units(&mut out, set_up, books, steps, &mut open)?;
-            out.flush().or(Err(Fault::NotWritten))
         }
     }
-}
-
-/// Writes the posts alone. A fault but that of a write leaves the writer as it was.
-pub(crate) fn write_posts<W: Write>(
-    alloc: Global,
-    lines: &[Lines],
-    writer: &mut W,
-) -> Result<(), Fault>
-    requires { All IsComplete lines.now }
-    ensures { IfErr result (λ fault. IsUnwritten fault writer.old writer.new) }
-{
-    let Ok(mut out) = BufWriter::new(alloc, Late::new()) else {
-        return Err(Fault::NoMemory);
-    };
-    out.get_mut().set(writer);
-    write_to_end(&mut out, lines)
-}
-
-/// Writes the lines, and what is left in the buffer.
-fn write_to_end<W: Write>(out: &mut W, lines: &[Lines]) -> Result<(), Fault>
-    requires { All IsComplete lines.now }
-    ensures { IfErr result (λ fault. fault ≡ Fault.NotWritten) }
-{
-    write_lines_of_all(out, lines)?;
     out.flush().or(Err(Fault::NotWritten))
 }
 
-fn write_lines_of_all<W: Write>(out: &mut W, lines: &[Lines]) -> Result<(), Fault>
+fn write_posts<W: Write>(out: &mut W, lines: &[Lines]) -> Result<(), Fault>
     requires { All IsComplete lines.now }
-    ensures { IfErr result (λ fault. fault ≡ Fault.NotWritten) }
 {
     write_all_lines(out, lines).or(Err(Fault::NotWritten))
 }

@@ -1,16 +1,15 @@
 //! The run of a script: its tasks on threads of their own, beside channel workers and interruption handlers.
 
-ghost use Rattle.std.specs.Prelude.{◌≡◌, ◌≤◌, ◌<◌, ◌+◌, All, IfErr, IfOk, length, vec_len};
+ghost use Rattle.std.specs.Prelude.{◌≡◌, ◌≤◌, ◌<◌, ◌+◌, All, IfOk, length, vec_len};
 ghost use Rattle.job_script.specs.Commands.{CanBeDone};
 ghost use Rattle.job_script.specs.Reading.{ReadsAtMost};
 ghost use Rattle.job_run.specs.Complete.{IsComplete};
-ghost use Rattle.job_run.specs.Written.{IsUnwritten};
 ghost use Rattle.excp_system.specs.Opening.{AreBooks, AreFresh};
 ghost use Rattle.post_ledger.specs.Report.{IsFor};
 ghost use Rattle.post_ledger.specs.Work.{lists_of};
 
 use crate::lines::Lines;
-use crate::output::{Output, write, write_posts};
+use crate::output::{Output, write};
 use crate::rooms::rows_and_books;
 use crate::script_tasks::ScriptTasks;
 use excp_system::Rows;
@@ -33,20 +32,18 @@ pub struct Finished {
 }
 
 /// Reads a script, at most 1,048,576 bytes and one more, runs its tasks beside so many channel workers and interruption
-/// handlers, and writes what its requests were posted with, or returns why not. Nothing is written but then, so a fault
-/// but that of a write leaves the output empty.
-pub fn run_script<R: Threads + Wait + Sync, I: Read, W: Write>(
+/// handlers, and writes what its requests were posted with, or tells why not.
+pub fn run_script<R: Threads + Wait + Sync, I: Read, W: Write + Drop>(
     rt: &R,
     alloc: Global,
     reader: &mut I,
-    writer: &mut W,
+    writer: W,
     workers: Workers,
 ) -> Result<(), Fault>
-    ensures bounded { ReadsAtMost (LIMIT + 1) (I.remaining reader.old) (I.remaining reader.new) }
-    ensures unwritten { IfErr result (λ fault. IsUnwritten fault writer.old writer.new) }
+    ensures { ReadsAtMost (LIMIT + 1) (I.remaining reader.old) (I.remaining reader.new) }
 {
     match read_and_run(rt, alloc, reader, workers) {
-        Ok((_, run)) => write_posts(alloc, &run.lines, writer),
+        Ok((_, run)) => write(alloc, &run.lines, Output::Posts, writer),
         // one text for both causes (profile)
         Err(Fault::NoThread) => Err(Fault::NoMemory),
         Err(fault) => Err(fault),
@@ -55,11 +52,11 @@ pub fn run_script<R: Threads + Wait + Sync, I: Read, W: Write>(
 
 /// Does so, and writes behind that, for each unit, its history, with `steps` every command of it too, and its medium:
 /// all of that is again text of a script, comments and set-up lines.
-pub fn report_script<R: Threads + Wait + Sync, I: Read, W: Write>(
+pub fn report_script<R: Threads + Wait + Sync, I: Read, W: Write + Drop>(
     rt: &R,
     alloc: Global,
     reader: &mut I,
-    writer: &mut W,
+    writer: W,
     workers: Workers,
     steps: bool,
 ) -> Result<(), Fault>

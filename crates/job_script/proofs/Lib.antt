@@ -1,6 +1,5 @@
--- Lemmas on bytes that are read piece after piece, on joined words, on one changed unit, on lines one after the other, and on the commands of a task.
+-- Lemmas on bytes that are read piece after piece, on joined words, on one changed unit, and on lines one after the other.
 pub mod Changing
 pub mod Consuming
-pub mod Grouping
 pub mod Joining
 pub mod Parsing

@@ -1,5 +1,6 @@
--- The grammar of a script, how far a script is read, and what its commands name.
+-- The grammar of a script, how far a script is read, what its commands name, and what the books of its units begin with.
 pub mod Adding
+pub mod Books
 pub mod Commands
 pub mod Forms
 pub mod Grammar
@@ -10,6 +11,5 @@ pub mod Reading
 pub mod Runs
 pub mod Said
 pub mod Steps
-pub mod Tasks
 pub mod Verbs
 pub mod Views

@@ -105,8 +105,7 @@ impl SetUp {
 
     /// A task has this number.
     fn names_task(&self, number: u16) -> Result<(), Cause>
-        ensures read { Reads result (is_task number (set_up_said self.now)) }
-        ensures below { OnOk result (number < self.now.tasks) }
+        ensures { Reads result (is_task number (set_up_said self.now)) }
     {
         let count = self.tasks;
         if number < count {
@@ -120,7 +119,6 @@ impl SetUp {
     #[tactic(auto, unfolding(crate::specs::Adding::names_command))]
     pub(crate) fn names(&self, command: &Command) -> Result<(), Cause>
         ensures read { Reads result (names_command (command_said command.now) (set_up_said self.now)) }
-        ensures task { OnOk result (command.now.task < self.now.tasks) }
         ensures units { OnOk result (NamesUnits (vec_len self.now.units) command.now) }
     {
         self.names_task(command.task)?;

@@ -2,7 +2,4 @@ use Rattle.std.proofs.Common.{◌≡◌}
 use Rattle.job_run.proofs.job.Job.collect.Given as goal
 
 abbrev pub invariant-loop : goal.invariant-loop
-invariant-loop g l = record {
-  number : l.client.number ≡ l.fn.client.number;
-  sent : l.client.sent ≡ l.fn.client.sent;
-}
+invariant-loop g l = l.client.number ≡ l.fn.client.number
