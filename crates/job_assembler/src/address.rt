@@ -2,7 +2,7 @@
 
 ghost use Rattle.std.specs.Prelude.{◌≤◌, IfOk};
 
-use crate::digits::{TOP, hexadecimal, value_of};
+use crate::numbers::{TOP, hexadecimal, value_of};
 use crate::finding::Wrong;
 use crate::labels::{Labels, is_label};
 

@@ -3,7 +3,7 @@
 ghost use Rattle.std.specs.Prelude.{◌≡◌, ◌≤◌, vec_len, OnOk};
 
 use crate::address::{NOT_EARLIER, UNDEFINED, address};
-use crate::digits::TOP;
+use crate::numbers::TOP;
 use crate::finding::{Finding, Refusal, Wrong};
 use crate::labels::Labels;
 use std::alloc::{AllocError, Global};

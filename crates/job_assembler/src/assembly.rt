@@ -4,7 +4,7 @@ ghost use Rattle.std.specs.Prelude.{◌+◌};
 ghost use Rattle.job_script.specs.Reading.{ReadsAtMost};
 
 use crate::area::Area;
-use crate::digits::{put_digits, value_of};
+use crate::numbers::{put_digits, value_of};
 use crate::excp::put_excp;
 use crate::finding::{Finding, Refusal, Wrong, note};
 use crate::labels::Labels;

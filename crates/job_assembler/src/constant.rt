@@ -1,10 +1,10 @@
 //! Constants.
 
 use crate::area::Area;
-use crate::digits::hexadecimal;
+use crate::numbers::hexadecimal;
 use crate::finding::{Refusal, Wrong};
 use crate::line::parts_operands;
-use job_script::byte_of;
+use script_words::byte;
 
 const NO_CONSTANT: &str =
     "no constant: X'DIGITS' or C'TEXT' is wanted, an apostrophe in a text twice";
@@ -71,11 +71,7 @@ fn put_digits<'a>(
         return Err(Refusal::Wrong(Wrong::of(constant, NO_DIGITS)));
     }
     for pair in digits.chunks(2) {
-        let byte = match pair {
-            [high, low] => byte_of(*high, *low),
-            _ => None,
-        };
-        match byte {
+        match byte(pair) {
             Some(byte) => area.put(&[byte])?,
             None => return Err(Refusal::Wrong(Wrong::of(constant, NO_DIGITS))),
         }

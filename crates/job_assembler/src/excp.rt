@@ -1,10 +1,10 @@
 //! Lines of requests that name places of their area by labels.
 
 use crate::address::{UNDEFINED, address};
-use crate::digits::{put_digits, value_of};
+use crate::numbers::{put_digits, value_of};
 use crate::finding::{Refusal, Wrong};
 use crate::labels::Labels;
-use job_script::digit_value;
+use digits::digit;
 
 const WORDS: &str = "an excp line has 8 words: excp T U DCB IOB A SHOW LEN";
 
@@ -92,6 +92,6 @@ fn is_plain(word: &[u8], labels: Option<&Labels>) -> bool {
         Some(first) => first.is_ascii_digit(),
         None => true,
     };
-    let has_six_digits = word.len() == 6 && word.iter().all(|byte| digit_value(*byte).is_some());
+    let has_six_digits = word.len() == 6 && word.iter().all(|byte| digit(*byte) < 16);
     begins_with_digit || (has_six_digits && !is_label)
 }

@@ -13,7 +13,7 @@ mod area;
 mod assembly;
 mod constant;
 mod control_block;
-mod digits;
+mod numbers;
 mod excp;
 mod finding;
 mod labels;

@@ -1,12 +1,11 @@
 //! The units of a run, one after another.
 
-use crate::history::write_history;
 use crate::medium::write_medium;
-use crate::open_dcbs::OpenDcbs;
 use job_script::{Fault, SetUp};
 use std::io::Write;
 use unit_book::UnitBook;
 use unit_device::UnitDevice;
+use unit_history::{HistoryError, OpenDcbs, write_history};
 
 /// Writes of each unit of a script its history, with `steps` each command of it too, and its medium, as its book has
 /// them at the end of a run. The books are in the order of the units' numbers, and the table has room for the DCBs of
@@ -20,7 +19,11 @@ pub fn write_units<W: Write>(
 ) -> Result<(), Fault> {
     for (number, (unit, book)) in set_up.units.iter().zip(books).enumerate() {
         let faults = steps.then_some(unit.faults.as_slice());
-        write_history(out, number, book, faults, open)?;
+        match write_history(out, number, book, faults, open) {
+            Ok(()) => {}
+            Err(HistoryError::NoMemory) => return Err(Fault::NoMemory),
+            Err(HistoryError::NotWritten) => return Err(Fault::NotWritten),
+        }
         if write_medium(out, number, unit, book.device()).is_err() {
             return Err(Fault::NotWritten);
         }

@@ -5,7 +5,8 @@ ghost use Rattle.std.specs.Prelude.{◌≤◌, All, length};
 ghost use Rattle.job_run.specs.Complete.{IsComplete, IsWhole};
 
 use crate::lines::{End, Line, Lines};
-use job_report::{OpenDcbs, put_decimal, put_digits, write_bytes, write_units};
+use digits::{put_decimal, put_digits, write_bytes};
+use job_report::write_units;
 use job_script::{Fault, SetUp};
 use std::alloc::Global;
 use std::io;

@@ -10,7 +10,6 @@
 mod cause;
 mod check;
 mod command;
-mod digits;
 mod fault;
 mod forms;
 mod line;
@@ -24,7 +23,6 @@ mod units;
 
 pub use check::check_script;
 pub use command::{Action, Command, DcbName, Excp};
-pub use digits::{byte_of, digit_value, digits_of};
 pub use fault::{Fault, FaultName, LineFault};
 pub use line::{begins_line, unprintable};
 pub use message::{Message, write_word};

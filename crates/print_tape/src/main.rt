@@ -14,7 +14,6 @@ mod copy;
 use anyhow::Result;
 use copy::{CopyTape, PRINTER};
 use excp_system::Rows;
-use job_report::Text;
 use line_printer::Printer;
 use std::alloc::Global;
 use std::io::Write;
@@ -22,6 +21,7 @@ use system_threads::{Workers, run_program};
 use tape_unit::{InitialItem, Tape};
 use unit_book::UnitBook;
 use unit_device::UnitDevice;
+use unit_history::Text;
 
 /// The blocks of the tape, in EBCDIC; the file `stdout` of this crate has them as they are printed.
 static BLOCKS: [&[u8]; 3] = [

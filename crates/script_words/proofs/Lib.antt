@@ -3,4 +3,3 @@ pub mod Joining
 pub mod Numbers
 pub mod Scanning
 pub mod Scans
-pub mod Table

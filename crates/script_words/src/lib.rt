@@ -6,7 +6,6 @@
 //! Tests: component_tests (`words`), tests/cases/scripts, tests/cases/mistakes.
 #![tactic(auto)]
 
-mod digits;
 mod forms;
 mod text;
 mod words;

@@ -1,9 +1,9 @@
 //! The records of a disk.
 
 use super::Unit;
-use crate::digits::write_bytes;
 use ckd_disk::{Disk, Geometry, Stored};
 use device_port::Device;
+use digits::write_bytes;
 use std::io;
 use std::io::Write;
 

@@ -1,10 +1,10 @@
 //! The pages of a printer.
 
 use super::Unit;
-use crate::characters::Text;
 use line_printer::Printer;
 use std::io;
 use std::io::Write;
+use unit_history::Text;
 
 /// Writes the line of a printer, and as comments what it has printed, each line behind the numbers of its page and
 /// line, and where the paper stands.

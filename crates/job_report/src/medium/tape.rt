@@ -1,7 +1,7 @@
 //! The items of a tape.
 
 use super::Unit;
-use crate::digits::write_bytes;
+use digits::write_bytes;
 use std::io;
 use std::io::Write;
 use tape_unit::{Stored, Tape};

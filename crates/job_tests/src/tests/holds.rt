@@ -9,7 +9,6 @@ use excp_system::{Rows, Site, System, Task};
 use fifo_row::Full;
 use io_area::Area;
 use io_images::{Code, Ecb, Iob};
-use job_report::{OpenDcbs, write_history};
 use job_script::Script;
 use look::Look;
 use request_piece::{Posted, Request};
@@ -20,6 +19,7 @@ use std::sync::Wait;
 use std::test::Fail;
 use unit_book::{Mode, UnitBook};
 use unit_device::UnitDevice;
+use unit_history::{OpenDcbs, write_history};
 use unit_steps::{by_control, by_worker};
 
 mod cases;

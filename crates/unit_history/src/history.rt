@@ -3,12 +3,12 @@
 ghost use Rattle.std.specs.Prelude.{◌<◌, length};
 
 use crate::doom::Dooms;
+use crate::error::HistoryError;
 use crate::open_dcbs::OpenDcbs;
 use crate::steps::Steps;
 use crate::words::{Count, Request, end_in_words};
-use device_port::{Device, Fault as DeviceFault, Kind};
+use device_port::{Device, Fault, Kind};
 use io_images::{Code, Csw};
-use job_script::Fault;
 use request_piece::{Issued, Name, Scope};
 use std::io;
 use std::io::Write;
@@ -74,17 +74,15 @@ pub fn write_history<W: Write, D: Device>(
     out: &mut W,
     unit: usize,
     book: &UnitBook<D>,
-    faults: Option<&[DeviceFault]>,
+    faults: Option<&[Fault]>,
     open: &mut OpenDcbs,
-) -> Result<(), Fault> {
+) -> Result<(), HistoryError> {
     let steps = match faults {
         Some(faults) => Some(Steps::of(book, faults)?),
         None => None,
     };
-    match write_heading(out, unit, book) {
-        Ok(()) => write_entries(out, book.trace(), steps, Past::new(open)),
-        Err(_) => Err(Fault::NotWritten),
-    }
+    write_heading(out, unit, book)?;
+    write_entries(out, book.trace(), steps, Past::new(open))
 }
 
 fn write_heading<W: Write, D: Device>(
@@ -112,13 +110,11 @@ fn write_entries<W: Write, D: Device>(
     trace: &[Entry],
     steps: Option<Steps<'_, D>>,
     past: Past<'_>,
-) -> Result<(), Fault> {
+) -> Result<(), HistoryError> {
     let mut past = past;
     let mut steps = steps;
     for place in 0..trace.len() {
-        if write_numbered(out, trace, place, &past).is_err() {
-            return Err(Fault::NotWritten);
-        }
+        write_numbered(out, trace, place, &past)?;
         if let Some(steps) = &mut steps {
             steps.write_entry(out, &trace[place])?;
         }

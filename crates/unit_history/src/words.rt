@@ -1,6 +1,6 @@
 //! The words of a history: requests, numbers of things, and how a request ended.
 
-use crate::digits::put_digits;
+use digits::put_digits;
 use io_images::{Code, Csw};
 use request_piece::Name;
 use std::fmt;

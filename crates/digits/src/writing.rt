@@ -1,16 +1,34 @@
-//! Numbers as text: in decimal, and bytes in hexadecimal.
+//! Numbers in decimal and bytes in hexadecimal, as text.
 
-ghost use Rattle.std.specs.Prelude.{◌+◌, ◌*◌, ◌≤◌, length};
+ghost use Rattle.std.specs.Prelude.{◌≡◌, ◌+◌, ◌*◌, ◌≤◌, [], ◌∷◌, ◌++◌, length, take, drop};
+ghost use Rattle.std.specs.Fmt.{decimal};
+ghost use Rattle.digits.specs.Digits.{in_digits};
 
 use itoa::write_digits;
-use job_script::digits_of;
 use std::io;
 use std::io::Write;
+
+/// The hexadecimal digits.
+const DIGITS: [u8; 16] = *b"0123456789ABCDEF";
+
+/// A byte as two hexadecimal digits.
+#[inline(always)]
+pub fn digits_of(byte: u8) -> [u8; 2]
+    ensures { result ≡ in_digits (byte ∷ []) }
+{
+    [
+        DIGITS[usize::from(byte / 16)],
+        DIGITS[usize::from(byte % 16)],
+    ]
+}
 
 /// Puts a number in decimal into a text, up to this place, and gives the place of its first digit.
 pub fn put_decimal(text: &mut [u8], end: usize, number: usize) -> usize
     requires { (20 ≤ end) × (end ≤ length text.old) }
-    ensures { (end ≤ result + 20) × (result ≤ end) }
+    ensures start { result + length (decimal number) ≡ end }
+    ensures few { end ≤ result + 20 }
+    ensures written { drop result text.new ≡ decimal number ++ drop end text.old }
+    ensures before { take result text.new ≡ take result text.old }
 {
     write_digits(number as u64, text, end)
 }

@@ -1,6 +1,6 @@
 //! Digits: the values of those that a line has, and bytes as digits.
 
-use job_script::{digit_value, digits_of};
+use digits::{digit, digits_of};
 use std::alloc::AllocError;
 
 /// The highest number of a statement: the highest address of storage.
@@ -13,14 +13,13 @@ pub fn value_of(digits: &[u8], base: u8) -> Option<u32> {
     }
     let mut value: u32 = 0;
     for byte in digits {
-        match digit_value(*byte) {
-            Some(digit) if digit < base => {
-                value = value
-                    .saturating_mul(u32::from(base))
-                    .saturating_add(u32::from(digit));
-            }
-            _ => return None,
+        let next = digit(*byte);
+        if next >= base {
+            return None;
         }
+        value = value
+            .saturating_mul(u32::from(base))
+            .saturating_add(u32::from(next));
     }
     Some(value)
 }

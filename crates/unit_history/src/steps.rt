@@ -1,16 +1,16 @@
 //! The commands of a unit's programs, replayed from its trace: each with its CCWs, the first of the bytes that it
 //! moved, and how it ended.
 
-use crate::digits::write_bytes;
+use crate::error::HistoryError;
 use crate::names::{SENSE, STATUS};
 use crate::words::Count;
 use ccw_programs::{Context, Link, Listing, Refusal, State, Workspace};
 use ccw_trace::Replay;
 use command_names::{CCW_FLAGS, command_name};
-use device_port::{Device, Fault as DeviceFault, Flow, Kind, Segment};
+use device_port::{Device, Fault, Flow, Kind, Segment};
+use digits::write_bytes;
 use io_area::Area;
 use io_images::Csw;
-use job_script::Fault;
 use std::alloc::AllocError;
 use std::io;
 use std::io::Write;
@@ -26,7 +26,7 @@ pub(crate) struct Steps<'t, D: Device> {
     /// Where the next command is put together.
     listed: Workspace,
     kind: Kind,
-    faults: &'t [DeviceFault],
+    faults: &'t [Fault],
     /// How many of the faults were met.
     met: usize,
     /// How many commands the device did: those whose CCWs kept the rules.
@@ -35,10 +35,7 @@ pub(crate) struct Steps<'t, D: Device> {
 
 impl<'t, D: Device> Steps<'t, D> {
     /// Nothing is replayed.
-    pub fn of(
-        book: &'t UnitBook<D>,
-        faults: &'t [DeviceFault],
-    ) -> Result<Steps<'t, D>, AllocError> {
+    pub fn of(book: &'t UnitBook<D>, faults: &'t [Fault]) -> Result<Steps<'t, D>, AllocError> {
         Ok(Steps {
             replay: Replay::of(book)?,
             listed: Workspace::new(),
@@ -50,7 +47,11 @@ impl<'t, D: Device> Steps<'t, D> {
     }
 
     /// Replays the next entry, which is this one, and writes its commands if it has any.
-    pub fn write_entry<W: Write>(&mut self, out: &mut W, entry: &Entry) -> Result<(), Fault> {
+    pub fn write_entry<W: Write>(
+        &mut self,
+        out: &mut W,
+        entry: &Entry,
+    ) -> Result<(), HistoryError> {
         let Entry::Ran(_, commands) = entry else {
             self.replay.step()?;
             return Ok(());
@@ -63,7 +64,7 @@ impl<'t, D: Device> Steps<'t, D> {
 
     /// Replays the next command, and writes it: what is listed of it before, and where its program and its storage
     /// stand behind it.
-    fn write_command<W: Write>(&mut self, out: &mut W) -> Result<(), Fault> {
+    fn write_command<W: Write>(&mut self, out: &mut W) -> Result<(), HistoryError> {
         let Some(listing) = self.replay.next_command(&mut self.listed) else {
             return write_idle(out);
         };
@@ -75,22 +76,21 @@ impl<'t, D: Device> Steps<'t, D> {
             return write_idle(out);
         };
         let fault = met_by(&listing, self.faults, &mut self.met, &mut self.acted);
-        match write_told(out, self.kind, &listing, context, area, fault) {
-            Ok(()) => Ok(()),
-            Err(_) => Err(Fault::NotWritten),
-        }
+        write_told(out, self.kind, &listing, context, area, fault)?;
+        Ok(())
     }
 }
 
 /// Writes that no program runs where the trace counts a command.
-fn write_idle<W: Write>(out: &mut W) -> Result<(), Fault> {
-    writeln!(out, "#         no program runs here").or(Err(Fault::NotWritten))
+fn write_idle<W: Write>(out: &mut W) -> Result<(), HistoryError> {
+    writeln!(out, "#         no program runs here")?;
+    Ok(())
 }
 
 /// The number of the fault that a command met, from 1, if it met one.
 fn met_by(
     listing: &Listing<'_>,
-    faults: &[DeviceFault],
+    faults: &[Fault],
     met: &mut usize,
     acted: &mut u64,
 ) -> Option<usize> {

@@ -1,0 +1,2 @@
+-- A table of values.
+pub mod Table
