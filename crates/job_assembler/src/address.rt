@@ -2,9 +2,9 @@
 
 ghost use Rattle.std.specs.Prelude.{◌≤◌, IfOk};
 
-use crate::numbers::{TOP, hexadecimal, value_of};
 use crate::finding::Wrong;
 use crate::labels::{Labels, is_label};
+use crate::numbers::{TOP, hexadecimal, value_of};
 
 const NO_ADDRESS: &str =
     "no address: a label, * or a number is wanted, with +N or -N behind it or without";

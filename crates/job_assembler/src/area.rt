@@ -3,9 +3,9 @@
 ghost use Rattle.std.specs.Prelude.{◌≡◌, ◌≤◌, vec_len, OnOk};
 
 use crate::address::{NOT_EARLIER, UNDEFINED, address};
-use crate::numbers::TOP;
 use crate::finding::{Finding, Refusal, Wrong};
 use crate::labels::Labels;
+use crate::numbers::TOP;
 use std::alloc::{AllocError, Global};
 
 /// The most bytes of an area (docs/SPECIFICATION.md, "Limits").

@@ -4,11 +4,11 @@ ghost use Rattle.std.specs.Prelude.{◌+◌};
 ghost use Rattle.job_script.specs.Reading.{ReadsAtMost};
 
 use crate::area::Area;
-use crate::numbers::{put_digits, value_of};
 use crate::excp::put_excp;
 use crate::finding::{Finding, Refusal, Wrong, note};
 use crate::labels::Labels;
 use crate::line::{Operands, first_word, is_printable, without_comment};
+use crate::numbers::{put_digits, value_of};
 use crate::statement::put_statement;
 use job_script::{Fault, LIMIT, Message, Source, begins_line, read_script, write_findings};
 use std::alloc::{AllocError, Global};

@@ -1,9 +1,9 @@
 //! Constants.
 
 use crate::area::Area;
-use crate::numbers::hexadecimal;
 use crate::finding::{Refusal, Wrong};
 use crate::line::parts_operands;
+use crate::numbers::hexadecimal;
 use script_words::byte;
 
 const NO_CONSTANT: &str =

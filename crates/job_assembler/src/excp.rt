@@ -1,9 +1,9 @@
 //! Lines of requests that name places of their area by labels.
 
 use crate::address::{UNDEFINED, address};
-use crate::numbers::{put_digits, value_of};
 use crate::finding::{Refusal, Wrong};
 use crate::labels::Labels;
+use crate::numbers::{put_digits, value_of};
 use digits::digit;
 
 const WORDS: &str = "an excp line has 8 words: excp T U DCB IOB A SHOW LEN";

@@ -13,6 +13,7 @@ use std::io;
 use std::io::{BufWriter, Write};
 use unit_book::UnitBook;
 use unit_device::UnitDevice;
+use unit_history::OpenDcbs;
 
 /// What a run prints.
 #[derive(Drop)]
