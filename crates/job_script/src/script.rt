@@ -223,8 +223,8 @@ fn lengthen(alloc: Global, lists: &mut Vec<Vec<usize>>, number: usize) -> Result
     Ok(())
 }
 
-/// That a set-up line stands behind the first command, which has this line.
-pub(crate) fn late(command: usize) -> Refusal
+/// Why a set-up line after the first command, which has this line, is refused.
+pub fn late(command: usize) -> Refusal
     ensures { IsNamed names.Order result }
 {
     let text = "a set-up line stands before the first command, which is line {n}";

@@ -1,8 +1,6 @@
 //! What the set-up lines of a script declare: its tasks, units, DCBs and areas; and the faults of such lines: of their
 //! order, of names, of kinds and of areas.
 
-mod assumed;
-
 ghost use Rattle.std.specs.Prelude.{◌≡◌, ◌≤◌, ◌<◌, OnOk, vec_len};
 ghost use Rattle.std.specs.Arc.{arc_value};
 ghost use Rattle.job_script.specs.Commands.{NamesUnits};
@@ -118,7 +116,7 @@ impl SetUp {
 
     /// All that a command names is declared: its task, and a DCB or another task.
     #[tactic(auto, unfolding(crate::specs::Adding::names_command))]
-    pub(crate) fn names(&self, command: &Command) -> Result<(), Cause>
+    pub fn names(&self, command: &Command) -> Result<(), Cause>
         ensures read { Reads result (names_command (command_said command.now) (set_up_said self.now)) }
         ensures task { OnOk result (command.now.task < self.now.tasks) }
         ensures units { OnOk result (NamesUnits (vec_len self.now.units) command.now) }
@@ -145,7 +143,7 @@ impl SetUp {
 
     /// The command of an EXCP, with its area.
     #[tactic(auto, unfolding(crate::specs::Adding::excp_of))]
-    pub(crate) fn excp(&self, line: ExcpLine) -> Result<Command, Refusal>
+    pub fn excp(&self, line: ExcpLine) -> Result<Command, Refusal>
         ensures { Returns command_said result (excp_of line (set_up_said self.now)) }
     {
         let area = self.area(line.area)?;
@@ -158,7 +156,7 @@ impl SetUp {
 
     /// Adds what the line with this number says, in the order of the faults that it may have.
     #[tactic(auto, unfolding(crate::specs::Adding::add_set_up))]
-    pub(crate) fn add(
+    pub fn add(
         &mut self,
         alloc: Global,
         number: usize,

@@ -3,15 +3,13 @@
 ghost use Rattle.std.specs.Prelude.{◌≡◌};
 ghost use Rattle.ccw_programs.specs.declared.context.State.{State};
 
-use super::assumed::is_assumed;
-use super::finding::{Finding, Told, add};
-use crate::command::Excp;
-use crate::message::Message;
-use crate::set_up::{Opening, UnitSetup};
+use crate::assumed::is_assumed;
+use crate::finding::{Finding, Told, add};
 use ccw_programs::{Context, Link, Listing, Rule, Workspace, look};
 use device_port::{Device, Flow, Kind};
 use io_area::Area;
 use io_images::{Address, FileMask, Iob, Seek};
+use job_script::{Excp, Message, Opening, UnitSetup};
 use std::alloc::AllocError;
 use unit_book::{extents_refusal, passes_check};
 use unit_device::UnitDevice;
@@ -56,58 +54,54 @@ pub fn note_requests(
 ) -> Result<(), AllocError> {
     let mut workspace = Workspace::new();
     for request in requests {
-        let Some(opening) = unit.opening_of(number, &request.excp) else {
+        let Some(opening) = opening_of(unit, number, &request.excp) else {
             continue;
         };
         if is_assumed(assumed, opening.line) {
             continue;
         }
-        if let Some(told) = request.excp.fails(opening, device, &mut workspace) {
+        if let Some(told) = sure_failure(&request.excp, opening, device, &mut workspace) {
             add(findings, request.line, told)?;
         }
     }
     Ok(())
 }
 
-impl UnitSetup {
-    /// The DCB of an EXCP to this unit, which has this number.
-    fn opening_of(&self, number: usize, excp: &Excp) -> Option<&Opening> {
-        if usize::from(excp.dcb.unit) != number {
-            return None;
-        }
-        let place = usize::from(excp.dcb.number).checked_sub(1)?;
-        self.openings.get(place)
+/// The DCB of an EXCP, if it is to this unit, which has this number.
+fn opening_of<'a>(unit: &'a UnitSetup, number: usize, excp: &Excp) -> Option<&'a Opening> {
+    if usize::from(excp.dcb.unit) != number {
+        return None;
     }
+    let place = usize::from(excp.dcb.number).checked_sub(1)?;
+    unit.openings.get(place)
 }
 
-impl Excp {
-    /// Why its request is sure to fail on a device, if it is: its disk address is outside the extents, or a CCW ends
-    /// its program.
-    fn fails(
-        &self,
-        opening: &Opening,
-        device: &UnitDevice,
-        workspace: &mut Workspace,
-    ) -> Option<Told> {
-        let mut image = [0; 40];
-        image.copy_from_slice(self.area.get(self.iob, 40)?);
-        let iob = Iob::read(&image);
-        let kind = device.kind();
-        let extents = opening.extents.as_slice();
-        if extents_refusal(kind, device.cylinders(), device.heads(), extents).is_some() {
-            return None;
-        }
-        if !passes_check(kind, device.heads(), extents, &iob.seek) {
-            return Some(violated(&iob.seek));
-        }
-        let mut walk = Walk {
-            device,
-            area: &self.area,
-            is_masked: kind == Kind::Disk && opening.mask().inhibits_seeks(),
-            reads: Reads { from: 0, to: 0 },
-        };
-        walk.first_note(iob.start, workspace)
+/// Why the request of an EXCP is sure to fail on a device, if it is: its disk address is outside the extents, or a CCW
+/// ends its program.
+fn sure_failure(
+    excp: &Excp,
+    opening: &Opening,
+    device: &UnitDevice,
+    workspace: &mut Workspace,
+) -> Option<Told> {
+    let mut image = [0; 40];
+    image.copy_from_slice(excp.area.get(excp.iob, 40)?);
+    let iob = Iob::read(&image);
+    let kind = device.kind();
+    let extents = opening.extents.as_slice();
+    if extents_refusal(kind, device.cylinders(), device.heads(), extents).is_some() {
+        return None;
     }
+    if !passes_check(kind, device.heads(), extents, &iob.seek) {
+        return Some(violated(&iob.seek));
+    }
+    let mut walk = Walk {
+        device,
+        area: &excp.area,
+        is_masked: kind == Kind::Disk && mask_of(opening).inhibits_seeks(),
+        reads: Reads { from: 0, to: 0 },
+    };
+    walk.first_note(iob.start, workspace)
 }
 
 /// That a seek address is in no extent of the DCB.
@@ -121,14 +115,12 @@ fn violated(seek: &Seek) -> Told {
     Told::Note(Message::new(VIOLATED, &numbers))
 }
 
-impl Opening {
-    /// The file mask that the supervisor sets for the DCB.
-    fn mask(&self) -> FileMask {
-        if self.input {
-            FileMask::INPUT
-        } else {
-            FileMask::OUTPUT
-        }
+/// The file mask that the supervisor sets for a DCB.
+fn mask_of(opening: &Opening) -> FileMask {
+    if opening.input {
+        FileMask::INPUT
+    } else {
+        FileMask::OUTPUT
     }
 }
 

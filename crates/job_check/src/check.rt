@@ -1,27 +1,18 @@
-//! What is wrong with a script: every fault with its cause, and notes on what runs but is hardly meant.
-
-mod assumed;
-mod finding;
-mod media;
-mod notes;
-mod programs;
-mod requests;
+//! How a script is checked: line by line, and then as a whole.
 
 ghost use Rattle.std.specs.Prelude.{◌+◌};
 ghost use Rattle.job_script.specs.Reading.{ReadsAtMost};
 
-use crate::cause::{Cause, Refusal};
-use crate::command::{Action, Command, DcbName};
-use crate::fault::{Fault, FaultName};
-use crate::line::{ExcpLine, Line};
-use crate::reading::{LIMIT, read_script};
-use crate::script::late;
-use crate::set_up::SetUp;
+use crate::finding::{Finding, SCRIPT, Told, add, tell};
+use crate::media::check_unit;
+use crate::notes::{AreaUse, early, note_doubles, note_unused};
+use crate::programs::{Issued, note_requests};
+use crate::requests::refused;
 use crate::telling::{Found, Source, write_findings};
-use finding::{Finding, SCRIPT, Told, add, tell};
-use media::check_unit;
-use notes::{AreaUse, early, note_doubles, note_unused};
-use programs::{Issued, note_requests};
+use job_script::{
+    Action, Cause, Command, DcbName, ExcpLine, Fault, FaultName, LIMIT, Line, Refusal, SetUp, late,
+    read_script,
+};
 use script_words::{Words, next_word};
 use std::alloc::{AllocError, Global};
 use std::io::{Read, Write};
@@ -108,17 +99,17 @@ fn lack(text: &'static str) -> Cause {
 /// What a script declares as far as it was read, and what was found in it. A line with a fault says nothing, but what
 /// it was to declare counts as declared, so that no other line has a fault for that.
 #[derive(Drop)]
-struct Check<'a> {
-    set_up: SetUp,
+pub(crate) struct Check<'a> {
+    pub(crate) set_up: SetUp,
     /// The line of the first command.
     first_command: Option<usize>,
     findings: Vec<Finding<'a>>,
     /// The requests that can be made.
     requests: Vec<Issued>,
     /// The lines whose units, DCBs and areas are only assumed, in order.
-    assumed: Vec<usize>,
+    pub(crate) assumed: Vec<usize>,
     /// Where each area of the script is declared, and whether it is used.
-    areas: Vec<AreaUse>,
+    pub(crate) areas: Vec<AreaUse>,
     /// The DCB of the last request that each task has issued since it last waited.
     unwaited: [Option<DcbName>; 64],
 }
@@ -186,7 +177,7 @@ impl<'a> Check<'a> {
         if is_assumed {
             return Ok(());
         }
-        if let Some(cause) = excp.refused() {
+        if let Some(cause) = refused(&excp) {
             return Err(Refusal::Caused(cause));
         }
         self.requests.push(Issued { line, excp })?;

@@ -1,10 +1,8 @@
 //! What is told of a line.
 
-use crate::cause::Cause;
-use crate::fault::FaultName;
-use crate::message::Message;
 use crate::telling::Found;
 use ccw_programs::Refusal as BrokenRule;
+use job_script::{Cause, FaultName, Message};
 use std::alloc::AllocError;
 use std::fmt;
 

@@ -1,10 +1,8 @@
 //! Notes on what runs but is hardly meant: areas that no EXCP uses, records of one name, and commands that do not wait.
 
-use super::assumed::is_assumed;
-use super::finding::{Finding, Told, add};
-use crate::command::{Action, Command, DcbName};
-use crate::message::Message;
-use crate::set_up::{Medium, UnitSetup};
+use crate::assumed::is_assumed;
+use crate::finding::{Finding, Told, add};
+use job_script::{Action, Command, DcbName, Medium, Message, UnitSetup};
 use std::alloc::{AllocError, Global};
 
 /// A task resets a DCB before it has waited for its request.

@@ -1,12 +1,10 @@
 //! Why a unit cannot be mounted, and its DCBs not opened.
 
-use super::assumed::is_assumed;
-use super::finding::{Finding, tell};
-use crate::cause::Cause;
-use crate::fault::FaultName;
-use crate::set_up::{Medium, UnitSetup};
+use crate::assumed::is_assumed;
+use crate::finding::{Finding, tell};
 use ckd_disk::{Geometry, GeometryRefusal, InitialRecord, RecordRefusal, first_overfull};
 use device_port::{Fault, Kind, MountError, is_script};
+use job_script::{Cause, FaultName, Medium, UnitSetup};
 use line_printer::{PaperRefusal, paper_refusal};
 use std::alloc::{AllocError, Global};
 use tape_unit::{InitialItem, overrun_of};
@@ -287,7 +285,7 @@ fn tell_track(
         "track {n} {n} holds {n} byte{s}, its records need {n}",
         &numbers,
     );
-    tell(findings, unit.content_line(full.record), cause)
+    tell(findings, content_line(unit, full.record), cause)
 }
 
 /// Tells what is wrong with the items of a tape of so many bytes.
@@ -308,7 +306,7 @@ fn tell_tape(
     };
     let text = "the tape holds {n} byte{s}, its items need {n}";
     let cause = medium(text, &[bytes, overrun.needed]);
-    tell(findings, unit.content_line(overrun.item), cause)
+    tell(findings, content_line(unit, overrun.item), cause)
 }
 
 /// Tells which number of a printer is outside its range.
@@ -326,12 +324,10 @@ fn tell_printer(
     tell(findings, unit.line, cause)
 }
 
-impl UnitSetup {
-    /// The line of the record or item at this place.
-    fn content_line(&self, place: usize) -> usize {
-        match self.content_lines.get(place) {
-            Some(line) => *line,
-            None => self.line,
-        }
+/// The line of the record or item of a unit at this place.
+fn content_line(unit: &UnitSetup, place: usize) -> usize {
+    match unit.content_lines.get(place) {
+        Some(line) => *line,
+        None => unit.line,
     }
 }
