@@ -104,12 +104,7 @@ fn assume_tasks(alloc: Global, line: usize, set_up: &mut SetUp) -> Result<(), Al
 }
 
 /// The units up to this one are declared, each as a printer.
-fn assume_units(
-    alloc: Global,
-    line: usize,
-    set_up: &mut SetUp,
-    last: u16,
-) -> Result<(), AllocError>
+fn assume_units(alloc: Global, line: usize, set_up: &mut SetUp, last: u16) -> Result<(), AllocError>
     requires { last < 64 }
 {
     for number in set_up.units.len() as u16..=last {

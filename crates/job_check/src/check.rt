@@ -21,8 +21,8 @@ use std::io::{Read, Write};
 const SYMBOLIC: &str =
     "a symbolic area ends here, assemble the script first and check what comes out";
 
-/// Reads a script, at most 1,048,576 bytes and one more, and writes every fault and note that is found, in the order of
-/// lines, each with its place in the source. Returns whether a run would reject the script.
+/// Reads a script, at most 1,048,576 bytes and one more. Writes every fault and note, in the order of lines, each with
+/// its place in the source. Returns whether a run would reject the script.
 pub fn check_script<R: Read, W: Write + Drop>(
     alloc: Global,
     reader: &mut R,
@@ -37,7 +37,8 @@ pub fn check_script<R: Read, W: Write + Drop>(
     Ok(refuses(&findings))
 }
 
-/// What is found in the text of a script, in the order of lines. Of one with symbolic areas that alone is told.
+/// What is found in the text of a script, in the order of lines. A script with symbolic areas has one finding, which says
+/// that.
 fn findings(alloc: Global, text: &[u8]) -> Result<Vec<Finding<'_>>, AllocError> {
     if let Some(line) = end_of_symbolic(text) {
         let mut findings = Vec::new(alloc);
@@ -57,8 +58,7 @@ fn findings(alloc: Global, text: &[u8]) -> Result<Vec<Finding<'_>>, AllocError> 
     Ok(findings)
 }
 
-/// The first line that ends a symbolic area, if there is one: it begins with `endarea`, as no line of a plain script
-/// does.
+/// The first line that ends a symbolic area, if one does. It begins with `endarea`, as no line of a plain script does.
 fn end_of_symbolic(text: &[u8]) -> Option<usize> {
     for (place, bytes) in text.split(|byte| *byte == b'\n').enumerate() {
         if let Some((first, _)) = next_word(bytes) {
@@ -70,7 +70,7 @@ fn end_of_symbolic(text: &[u8]) -> Option<usize> {
     None
 }
 
-/// Whether a run refuses the script for what was found.
+/// Whether a run rejects the script for what was found.
 fn refuses(findings: &[Finding<'_>]) -> bool {
     for finding in findings {
         if finding.is_fault() {
@@ -80,7 +80,7 @@ fn refuses(findings: &[Finding<'_>]) -> bool {
     false
 }
 
-/// Tells what no line declares.
+/// Adds a finding for the tasks, and for the units, if no line declares them.
 fn tell_lacks(set_up: &SetUp, findings: &mut Vec<Finding<'_>>) -> Result<(), AllocError> {
     if set_up.tasks == 0 {
         tell(findings, SCRIPT, lack("no line declares the tasks"))?;
@@ -91,12 +91,12 @@ fn tell_lacks(set_up: &SetUp, findings: &mut Vec<Finding<'_>>) -> Result<(), All
     Ok(())
 }
 
-/// That no line declares something.
+/// The fault that no line declares something.
 fn lack(text: &'static str) -> Cause {
     Cause::new(FaultName::Order, text, &[])
 }
 
-/// What a script declares as far as it was read, and what was found in it. A line with a fault says nothing, but what
+/// What a script declares as far as it was read, and what was found in it. A line with a fault adds nothing, but what
 /// it was to declare counts as declared, so that no other line has a fault for that.
 #[derive(Drop)]
 pub(crate) struct Check<'a> {
@@ -165,7 +165,7 @@ impl<'a> Check<'a> {
         }
     }
 
-    /// Adds an EXCP, and tries its request where its area is not only assumed.
+    /// Adds an EXCP, and tries its request unless its area is only assumed.
     fn add_excp(&mut self, excp: ExcpLine) -> Result<(), Refusal> {
         let is_assumed = self.use_area(excp.area);
         let command = self.set_up.excp(excp)?;
@@ -184,7 +184,7 @@ impl<'a> Check<'a> {
         Ok(())
     }
 
-    /// Adds a command, where all that it names is declared.
+    /// Adds a command, if all that it names is declared.
     fn add_command(&mut self, command: &Command) -> Result<(), Refusal> {
         self.set_up.names(command)?;
         if self.first_command.is_none() {
@@ -206,7 +206,7 @@ impl<'a> Check<'a> {
         Ok(())
     }
 
-    /// Tells what only the whole script shows, and gives all that was found.
+    /// Adds what only the whole script shows, and returns all that was found.
     fn end(self, alloc: Global) -> Result<Vec<Finding<'a>>, AllocError> {
         let Check {
             set_up,

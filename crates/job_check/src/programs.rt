@@ -1,4 +1,4 @@
-//! Notes on requests that are made and are sure to fail: by their disk address, or by a CCW of their channel program.
+//! Notes on requests that can be made and are sure to fail, by their disk address or by a CCW of their channel program.
 
 ghost use Rattle.std.specs.Prelude.{◌≡◌};
 ghost use Rattle.ccw_programs.specs.declared.context.State.{State};
@@ -42,8 +42,8 @@ pub struct Issued {
     pub excp: Excp,
 }
 
-/// Notes why requests to a unit, which has this number and is mounted as this device, are sure to fail. Of a DCB that
-/// is only assumed nothing is told.
+/// Notes why requests to a unit, which has this number and is mounted as this device, are sure to fail. Notes nothing of
+/// a DCB that is only assumed.
 pub fn note_requests(
     number: usize,
     unit: &UnitSetup,
@@ -104,7 +104,7 @@ fn sure_failure(
     walk.first_note(iob.start, workspace)
 }
 
-/// That a seek address is in no extent of the DCB.
+/// The note that a seek address is in no extent of the DCB.
 fn violated(seek: &Seek) -> Told {
     let numbers = [
         u64::from(seek.extent),
@@ -124,7 +124,7 @@ fn mask_of(opening: &Opening) -> FileMask {
     }
 }
 
-/// A walk through the commands of a program as its CCWs stand, none of which is done.
+/// A walk through the commands of a program as its CCWs are now. No command is done.
 #[derive(Drop)]
 struct Walk<'a> {
     device: &'a UnitDevice,
@@ -134,17 +134,17 @@ struct Walk<'a> {
     reads: Reads,
 }
 
-/// What a command of a program comes to.
+/// Where a command of a program leads.
 #[derive(Clone, Copy)]
 enum Step {
-    /// The walk ends here, with what is told of it.
+    /// The walk ends, with a note or without.
     Ends(Option<Told>),
-    /// The program goes on at an address, and a search that finds its record one CCW further.
+    /// The program goes on at an address. A search that finds its record goes on one CCW further.
     GoesOn { next: u32, searches: bool },
 }
 
 impl<'a> Walk<'a> {
-    /// What is told of the first CCW that ends the program where it comes to it.
+    /// The note on the first CCW that ends the program if the program comes to it.
     fn first_note(&mut self, start: Address, workspace: &mut Workspace) -> Option<Told> {
         let mut next = None;
         for _ in 0..MOST_COMMANDS {
@@ -168,7 +168,8 @@ impl<'a> Walk<'a> {
         None
     }
 
-    /// Looks at the command at an address, or at the first one. What earlier commands may have read over says nothing.
+    /// Looks at the command at an address, or at the first one. A CCW that earlier commands may have read over has no
+    /// note.
     fn step(&mut self, start: Address, next: Option<u32>, workspace: &mut Workspace) -> Step {
         let context = standing(start, next);
         let listing = look(&context, self.device, self.area, workspace);
@@ -196,7 +197,7 @@ impl<'a> Walk<'a> {
         }
     }
 
-    /// What is told of a command that the file mask forbids.
+    /// The note on a command that the file mask forbids.
     fn masked(&self, first: &Link) -> Option<Message> {
         let text = match first.ccw.command {
             SEEK if self.is_masked => SOUGHT,
@@ -206,7 +207,7 @@ impl<'a> Walk<'a> {
         Some(Message::new(text, &[u64::from(first.at)]))
     }
 
-    /// Whether a command leaves out the next CCW where it finds its record.
+    /// Whether a command skips the next CCW if it finds its record.
     fn is_search(&self, command: u8) -> bool {
         self.device.kind() == Kind::Disk && (command == SEARCH_ID || command == SEARCH_KEY)
     }
@@ -268,7 +269,7 @@ impl Reads {
         }
     }
 
-    /// Adds so many bytes from an address on.
+    /// Adds `count` bytes from an address on.
     fn add_part(&mut self, from: u32, count: u16) {
         let to = from.saturating_add(u32::from(count));
         if self.is_empty() {

@@ -3,8 +3,8 @@
 use job_script::{Cause, Excp, FaultName};
 use request_piece::{Misplaced, Request, RequestRefusal};
 
-/// What is told of a control block or a channel program at an address: that it is not on its boundary, that it does not
-/// lie in its area, and that it overlaps the IOB.
+/// The texts on a control block or a channel program at an address: it is not on its boundary, it does not lie in its
+/// area, it overlaps the IOB.
 type Texts = [&'static str; 3];
 
 const IOB: Texts = [
@@ -51,7 +51,7 @@ pub fn refused(excp: &Excp) -> Option<Cause> {
     Some(cause)
 }
 
-/// What is wrong with what stands at this address of the area.
+/// What is wrong with what begins at this address of the area.
 fn misplaced(excp: &Excp, texts: Texts, at: u32, wrong: Misplaced) -> Cause {
     let [unaligned, outside, over] = texts;
     let text = match wrong {

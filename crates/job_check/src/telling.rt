@@ -1,4 +1,4 @@
-//! How what is found in a script is written: a line for each finding, which begins with its place.
+//! How findings are written: a line for each, which begins with its place.
 
 use job_script::Fault;
 use std::alloc::Global;

@@ -1,5 +1,5 @@
-//! Scripts of EXCP requests: how a script is read and checked, the faults that it may have, and the books of the units
-//! that it declares (profile).
+//! Scripts of EXCP requests: the grammar, the parsed script or its first fault, and the books of the units that it
+//! declares (profile).
 //!
 //! A script has at most 1,048,576 bytes. Its lines end with LF; words are separated by spaces; a line that is empty or
 //! whose first word begins with `#` says nothing. Set-up lines stand before the first command.
@@ -24,8 +24,10 @@ pub use cause::{Cause, Refusal};
 pub use command::{Action, Command, DcbName, Excp};
 pub use digits::{byte_of, digit_value, digits_of};
 pub use fault::{Fault, FaultName, LineFault};
-pub use line::{AreaLine, ExcpLine, Line, SetUpLine, TasksLine, UnitLine};
-pub use line::{SetUpVerb, Verb, begins_line, unprintable};
+pub use line::{
+    AreaLine, ExcpLine, Line, SetUpLine, SetUpVerb, TasksLine, UnitLine, Verb, begins_line,
+    unprintable,
+};
 pub use message::{Message, write_word};
 pub use reading::{LIMIT, read_script};
 pub use runs::worked_runs;

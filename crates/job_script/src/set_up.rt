@@ -156,12 +156,7 @@ impl SetUp {
 
     /// Adds what the line with this number says, in the order of the faults that it may have.
     #[tactic(auto, unfolding(crate::specs::Adding::add_set_up))]
-    pub fn add(
-        &mut self,
-        alloc: Global,
-        number: usize,
-        line: SetUpLine,
-    ) -> Result<(), Refusal>
+    pub fn add(&mut self, alloc: Global, number: usize, line: SetUpLine) -> Result<(), Refusal>
         ensures { Leads result (set_up_said self.new) (add_set_up (set_up_line_said line) (set_up_said self.old)) }
     {
         match line {
