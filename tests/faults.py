@@ -40,11 +40,12 @@ def place_of(line, name, words):
     """Where a run comes to a fault of `check`, the least of these being the first one; and the line that it reports."""
     if name in OF_LINES:
         return ((0, line), line) if line else ((1, 0), 0)
+    stage = 2 + OF_SCRIPTS.index(name)
     if name != "Medium":
-        return (2 + OF_SCRIPTS.index(name), line), line
+        return (stage, line), line
     unit = int(words[line][1])
     declared = next(at for at, them in words.items() if them[0] in UNITS and int(them[1]) == unit)
-    return (2, unit), declared
+    return (stage, unit), declared
 
 
 def due(findings, script):
@@ -74,10 +75,10 @@ def is_due(ran, findings, script):
     return findings == [(end, "Words")] and reported and 1 <= int(reported[1]) <= end
 
 
-def require_alike(setup, script):
-    """Fails unless `check` finds no fault in a script exactly if a run has none, and else the one that the run reports first.
+def require_alike(setup, script, ran=None):
+    """Fails unless `check` finds no fault in a script exactly if a run has none, and else first the one that the run reports.
     Returns the name of the run's fault, or nothing."""
-    ran = setup.run("run", "--channels", "1", "--handlers", "1", script=script)
+    ran = ran or setup.run("run", "--channels", "1", "--handlers", "1", script=script)
     checked = setup.run("check", script=script)
 
     def fail(what):
