@@ -1,8 +1,8 @@
 """Hostile scripts, each run to its end: what they print is what docs/SPECIFICATION.md says of them.
 
 They are: cut samples; sizes and counts of ten digits; programs that overwrite themselves or run off; as many tasks, units,
-requests, DCBs, extents and bytes as there may be, and one more; and samples with each byte replaced in turn. `check` and
-a run agree on the first fault of the smaller sample.
+requests, DCBs, extents and bytes as there may be, and one more; and samples with each byte replaced in turn. `check` and a
+run agree on the first fault of each, but for the larger sample.
 """
 
 import os
@@ -29,7 +29,9 @@ def ends(due, words=()):
 
 def ends_so(setup, script, end):
     words, way = end
-    expect(setup.run("run", *words, script=script), way)
+    ran = setup.run("run", *words, script=script)
+    expect(ran, way)
+    require_alike(setup, script, ran)
 
 
 def is_plain(ran):
