@@ -9,9 +9,10 @@ mod screen;
 mod words;
 
 use job_assembler::assemble_script;
+use job_check::{Source, check_script};
 use job_options::{Counts, Order, Words};
 use job_run::{Workers, report_script, run_script};
-use job_script::{Fault, Source, check_script};
+use job_script::Fault;
 use screen::Screen;
 use std::cell::Cell;
 use std::env;

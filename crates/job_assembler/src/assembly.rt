@@ -10,7 +10,8 @@ use crate::labels::Labels;
 use crate::line::{Operands, first_word, is_printable, without_comment};
 use crate::numbers::{put_digits, value_of};
 use crate::statement::put_statement;
-use job_script::{Fault, LIMIT, Message, Source, begins_line, read_script, write_findings};
+use job_check::{Source, write_findings};
+use job_script::{Fault, LIMIT, Message, begins_line, read_script};
 use std::alloc::{AllocError, Global};
 use std::io::{Read, Write};
 

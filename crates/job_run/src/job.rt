@@ -55,12 +55,10 @@ impl<'a, 'r, S: Site> Job<'a, 'r, S> {
     ) -> Result<(), Fault>
         ensures { client.new.number ≡ client.old.number }
     {
-        let number = client.number();
-        for command in &self.script.commands {
-            if command.task == number {
-                if let Err(fault) = self.command(rt, alloc, client, lines, command) {
-                    return Err(fault.at(command.line));
-                }
+        for place in self.script.places_of(client.number()) {
+            let command = &self.script.commands[*place];
+            if let Err(fault) = self.command(rt, alloc, client, lines, command) {
+                return Err(fault.at(command.line));
             }
         }
         Ok(())

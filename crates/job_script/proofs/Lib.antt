@@ -1,5 +1,6 @@
--- Lemmas on bytes that are read piece after piece, on joined words, on one changed unit, and on lines one after the other.
+-- Lemmas on bytes that are read piece after piece, on joined words, on one changed unit, on lines one after the other, and on the commands of a task.
 pub mod Changing
 pub mod Consuming
+pub mod Grouping
 pub mod Joining
 pub mod Parsing

@@ -11,5 +11,6 @@ pub mod Reading
 pub mod Runs
 pub mod Said
 pub mod Steps
+pub mod Tasks
 pub mod Verbs
 pub mod Views

@@ -1,18 +1,19 @@
 //! A script: its set-up and its commands, as its lines say, and the first fault of its lines.
 
-ghost use Rattle.std.specs.Prelude.{◌≡◌, ◌≤◌, Contains, IfOk, vec_len};
+ghost use Rattle.std.specs.Prelude.{◌≡◌, ◌<◌, ◌≤◌, ◌==◌, ◌++◌, ◌∷◌, [], ℕ, All, Contains, IfOk, OnErr, OnOk, get_or, if◌then◌else◌, vec_len};
 ghost use Rattle.job_script.specs.Commands.{NamesUnits, most, requests_of, requests_to};
 ghost use Rattle.job_script.specs.Outcomes.{IsNamed};
+ghost use Rattle.job_script.specs.Tasks.{list_of, places_of};
 ghost use Rattle.job_script.specs.declared.command.Command.{Command as OneCommand};
 ghost use Rattle.job_script.specs.declared.fault.FaultName.TheVariants as names;
 
 use crate::cause::{Cause, Refusal};
-use crate::command::Command;
+use crate::command::{Action, Command};
 use crate::fault::{Fault, FaultName};
 use crate::line::Line;
 use crate::set_up::SetUp;
 use script_words::Words;
-use std::alloc::Global;
+use std::alloc::{AllocError, Global};
 
 /// That no line declares the tasks, or a unit.
 const NO_LINE: Fault = Fault::Line {
@@ -20,12 +21,17 @@ const NO_LINE: Fault = Fault::Line {
     name: FaultName::Order,
 };
 
-/// What a script says. The units that its commands name are declared.
+/// What a script says. The tasks of its commands, and the units that they name, are declared.
 #[derive(Drop)]
 pub struct Script {
     pub set_up: SetUp,
+    /// The commands, in the order of their lines.
     pub commands: Vec<Command>,
+    /// For each task, the places of its commands in `commands`, in their order.
+    places: Vec<Vec<usize>>,
     ghost declared: { (command : OneCommand) → Contains commands.items command → NamesUnits (vec_len set_up.units) command },
+    ghost of_tasks: { (command : OneCommand) → Contains commands.items command → command.task < set_up.tasks },
+    ghost grouped: { (task : ℕ) → list_of places.items task ≡ places_of task commands.items },
 }
 
 impl Script {
@@ -45,6 +51,7 @@ impl Script {
         let mut script = Script {
             set_up: SetUp::new(alloc),
             commands: Vec::new(alloc),
+            places: Vec::new(alloc),
         };
         let mut left = Some(text);
         let mut number: usize = 1;
@@ -106,67 +113,118 @@ impl Script {
             }
             Line::Excp(line) => {
                 let command = self.set_up.excp(line)?;
-                self.add_command(command)
+                self.add_command(alloc, command)
             }
-            Line::Command(command) => self.add_command(command),
+            Line::Command(command) => self.add_command(alloc, command),
         }
     }
 
     /// Adds a command, if all that it names is declared.
     #[tactic(auto, unfolding(crate::specs::Adding::add_command))]
-    fn add_command(&mut self, command: Command) -> Result<(), Refusal>
+    fn add_command(&mut self, alloc: Global, command: Command) -> Result<(), Refusal>
         ensures { Leads result (said self.new) (add_command (command_said command) (said self.old)) }
     {
         self.set_up.names(&command)?;
+        // Makes room first, so that the command and its place are added together.
+        self.commands.reserve(1)?;
+        let place = self.commands.len();
+        add_place(alloc, &mut self.places, usize::from(command.task), place)?;
         self.commands.push(command)?;
         Ok(())
+    }
+
+    /// The places of a task's commands in `commands`, in the order of their lines.
+    pub fn places_of(&self, task: u16) -> &[usize]
+        ensures value { result.now ≡ places_of task self.now.commands.items }
+        ensures inside { All (λ place. place < vec_len self.now.commands) result.now }
+    {
+        let task = usize::from(task);
+        if task >= self.places.len() {
+            return &[];
+        }
+        let places = &self.places[task];
+        places
     }
 
     /// The largest number of requests that it issues to one unit.
     pub fn most_to_a_unit(&self) -> usize
         ensures { result ≡ most (requests_to self.now.commands.items) (vec_len self.now.set_up.units) }
     {
+        let counts = self.requests_to_units();
         let mut largest = 0;
         for unit in 0..self.set_up.units.len() {
-            largest = largest.max(self.requests_to(unit as u16));
+            largest = largest.max(counts[unit]);
         }
         largest
+    }
+
+    /// For each unit, how many requests it issues to the unit.
+    fn requests_to_units(&self) -> [usize; 64]
+        ensures { (unit : ℕ) → unit < 64 → get_or result unit 0 ≡ requests_to self.now.commands.items unit }
+    {
+        let mut counts = [0; 64];
+        for command in &self.commands {
+            if let Action::Excp(excp) = &command.action {
+                counts[usize::from(excp.dcb.unit)] += 1;
+            }
+        }
+        counts
     }
 
     /// The largest number of requests that one of its tasks issues.
     pub fn most_of_a_task(&self) -> usize
         ensures { result ≡ most (requests_of self.now.commands.items) self.now.set_up.tasks }
     {
+        let counts = self.requests_of_tasks();
         let mut largest = 0;
-        for task in 0..self.set_up.tasks {
-            largest = largest.max(self.requests_of(task));
+        for task in 0..usize::from(self.set_up.tasks) {
+            largest = largest.max(counts[task]);
         }
         largest
     }
 
-    /// How many requests it issues to the unit.
-    fn requests_to(&self, unit: u16) -> usize
-        ensures { result ≡ requests_to self.now.commands.items unit }
+    /// For each task, how many requests it issues.
+    fn requests_of_tasks(&self) -> [usize; 64]
+        ensures { (task : ℕ) → task < 64 → get_or result task 0 ≡ requests_of self.now.commands.items task }
     {
-        self.commands
-            .iter()
-            .filter(|command| command.issues_to(unit))
-            .count()
-    }
-
-    /// How many requests the task issues.
-    fn requests_of(&self, task: u16) -> usize
-        ensures { result ≡ requests_of self.now.commands.items task }
-    {
-        self.commands
-            .iter()
-            .filter(|command| command.issues_of(task))
-            .count()
+        let mut counts = [0; 64];
+        for command in &self.commands {
+            if let Action::Excp(_) = &command.action {
+                counts[usize::from(command.task)] += 1;
+            }
+        }
+        counts
     }
 }
 
-/// That a set-up line stands behind the first command, which has this line.
-pub(crate) fn late(command: usize) -> Refusal
+/// Adds a place to the list with this number, after the places that are there.
+fn add_place(
+    alloc: Global,
+    lists: &mut Vec<Vec<usize>>,
+    number: usize,
+    place: usize,
+) -> Result<(), AllocError>
+    ensures added { OnOk result ((k : ℕ) → list_of lists.new.items k ≡ list_of lists.old.items k ++ (if number == k then place ∷ [] else [])) }
+    ensures same { OnErr result ((k : ℕ) → list_of lists.new.items k ≡ list_of lists.old.items k) }
+{
+    lengthen(alloc, lists, number)?;
+    lists[number].push(place)?;
+    Ok(())
+}
+
+/// Adds empty lists until one has this number.
+fn lengthen(alloc: Global, lists: &mut Vec<Vec<usize>>, number: usize) -> Result<(), AllocError>
+    ensures same { (k : ℕ) → list_of lists.new.items k ≡ list_of lists.old.items k }
+    ensures there { OnOk result (number < vec_len lists.new) }
+{
+    for _ in lists.len()..=number {
+        lists.push(Vec::new(alloc))?;
+    }
+    Ok(())
+}
+
+/// Why a set-up line after the first command, which has this line, is refused.
+pub fn late(command: usize) -> Refusal
     ensures { IsNamed names.Order result }
 {
     let text = "a set-up line stands before the first command, which is line {n}";

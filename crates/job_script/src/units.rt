@@ -74,7 +74,7 @@ impl UnitSetup {
     }
 
     /// Its device, just mounted, with the faults that it is to meet.
-    pub(crate) fn mounted(&self, alloc: Global) -> Result<UnitDevice, MountError> {
+    pub fn mounted(&self, alloc: Global) -> Result<UnitDevice, MountError> {
         match &self.medium {
             Medium::Disk(geometry, records) => {
                 Disk::mount(alloc, *geometry, records, &self.faults).map(UnitDevice::Disk)
@@ -127,7 +127,7 @@ impl Command {
 
 impl Excp {
     /// A request can be made of its area, in which the bytes that are shown lie.
-    pub(crate) fn check(&self) -> Result<(), LineFault>
+    pub fn check(&self) -> Result<(), LineFault>
         ensures { OnOk result (CanIssue self.now) }
     {
         Request::check(self.dcb.number, self.iob, &self.area)?;

@@ -1,9 +1,18 @@
-use Rattle.std.proofs.Common.{◌≡◌, ◌+◌, length, Some, arith, ◌∙◌, sym, refl}
-use Rattle.std.specs.Prelude.{option_copied}
+use Rattle.std.proofs.Common.{◌≡◌, ◌<◌, ◌+◌, length, Some, arith, ◌∙◌, sym, refl}
+use Rattle.std.specs.Prelude.{option_copied, vec_len}
 use Rattle.script_words.specs.Text.{bytes_left}
 use Rattle.job_script.specs.Views.{said}
 use Rattle.job_script.proofs.Parsing.{goes_on, stops, ends}
+use Rattle.job_script.specs.Commands.{NamesUnits}
+use Rattle.job_script.proofs.Grouping.{grouped_none, no_command}
 use Rattle.job_script.proofs.script.Script.parse.Goals as goal
+
+pub invariant_of-script : goal.invariant_of-script
+invariant_of-script c = record {
+  declared = rw c.new-2.ensures.items (no_command (NamesUnits (vec_len c.new.result.units)));
+  of_tasks = rw c.new-2.ensures.items (no_command (λ x. x.task < c.new.result.tasks));
+  grouped = rw (c.new-2.ensures.items, c.new-3.ensures.items) grouped_none;
+}
 
 pub lines-preserved : goal.lines-preserved
 lines-preserved c =

@@ -1,6 +1,6 @@
-//! How what is found in a script is written: a line for each finding, which begins with its place.
+//! How findings are written: a line for each, which begins with its place.
 
-use crate::fault::Fault;
+use job_script::Fault;
 use std::alloc::Global;
 use std::io::{BufWriter, Write};
 use std::{fmt, io};

@@ -1,17 +1,15 @@
-//! What is told of a line.
+//! A finding: a fault or a note, with its line.
 
-use crate::cause::Cause;
-use crate::fault::FaultName;
-use crate::message::Message;
 use crate::telling::Found;
 use ccw_programs::Refusal as BrokenRule;
+use job_script::{Cause, FaultName, Message};
 use std::alloc::AllocError;
 use std::fmt;
 
-/// The number that stands for the script as a whole in the place of a line: it is behind all of them.
+/// The script as a whole in place of the number of a line. It sorts after all lines.
 pub const SCRIPT: usize = usize::MAX;
 
-/// What is told: a fault, which has a name, or a note.
+/// What is found: a fault, which has a name, or a note.
 #[derive(Clone, Copy)]
 pub enum Told {
     Fault(FaultName, Message),
@@ -20,7 +18,7 @@ pub enum Told {
     Broken(BrokenRule),
 }
 
-/// What is told of the line with this number, whose bytes are here where words of it are told.
+/// What is found in the line with this number. Its bytes are kept if the text has words of it.
 #[derive(Clone, Copy)]
 pub struct Finding<'a> {
     pub line: usize,
@@ -38,13 +36,13 @@ impl<'a> Found for Finding<'a> {
     }
 }
 
-/// Tells why a line is refused; no word of it is told.
+/// Adds why a line is refused, in a text without words of the line.
 pub fn tell(findings: &mut Vec<Finding<'_>>, line: usize, cause: Cause) -> Result<(), AllocError> {
     let told = Told::Fault(cause.name, cause.message);
     add(findings, line, told)
 }
 
-/// Adds what is told of a line, with no word of it.
+/// Adds a finding in a line, in a text without words of the line.
 pub fn add(findings: &mut Vec<Finding<'_>>, line: usize, told: Told) -> Result<(), AllocError> {
     let bytes = &[];
     findings.push(Finding { line, bytes, told })?;

@@ -1,10 +1,9 @@
-//! Notes on what runs but is hardly meant: areas that no EXCP uses, records of one name, and commands that do not wait.
+//! Notes on what runs but is a likely mistake: areas that no EXCP uses, records of one number, and commands that do not
+//! wait.
 
-use super::assumed::is_assumed;
-use super::finding::{Finding, Told, add};
-use crate::command::{Action, Command, DcbName};
-use crate::message::Message;
-use crate::set_up::{Medium, UnitSetup};
+use crate::assumed::is_assumed;
+use crate::finding::{Finding, Told, add};
+use job_script::{Action, Command, DcbName, Medium, Message, UnitSetup};
 use std::alloc::{AllocError, Global};
 
 /// A task resets a DCB before it has waited for its request.
@@ -29,7 +28,7 @@ pub struct AreaUse {
     pub used: bool,
 }
 
-/// Notes the areas that are declared, not only assumed, and not used.
+/// Notes the areas that are declared, and not only assumed, but not used.
 pub fn note_unused(
     areas: &[AreaUse],
     assumed: &[usize],
@@ -44,7 +43,7 @@ pub fn note_unused(
     Ok(())
 }
 
-/// Notes the records of a disk whose track has a record of their number by an earlier line.
+/// Notes each record of a disk whose track has a record of the same number by an earlier line.
 pub fn note_doubles(
     alloc: Global,
     unit: &UnitSetup,
@@ -79,8 +78,8 @@ pub fn note_doubles(
     Ok(())
 }
 
-/// The note on a command of a task that has not waited since it issued a request by this DCB: the request may come
-/// before the command or behind it.
+/// The note on a command of a task that has not waited since it issued a request by this DCB. The request may come
+/// before the command or after it.
 pub fn early(command: &Command, issued: DcbName) -> Option<Message> {
     let text = match &command.action {
         Action::Reset(dcb) if *dcb == issued => EARLY_RESET,

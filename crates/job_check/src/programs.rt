@@ -1,17 +1,15 @@
-//! Notes on requests that are made and are sure to fail: by their disk address, or by a CCW of their channel program.
+//! Notes on requests that can be made and are sure to fail, by their disk address or by a CCW of their channel program.
 
 ghost use Rattle.std.specs.Prelude.{◌≡◌};
 ghost use Rattle.ccw_programs.specs.declared.context.State.{State};
 
-use super::assumed::is_assumed;
-use super::finding::{Finding, Told, add};
-use crate::command::Excp;
-use crate::message::Message;
-use crate::set_up::{Opening, UnitSetup};
+use crate::assumed::is_assumed;
+use crate::finding::{Finding, Told, add};
 use ccw_programs::{Context, Link, Listing, Rule, Workspace, look};
 use device_port::{Device, Flow, Kind};
 use io_area::Area;
 use io_images::{Address, FileMask, Iob, Seek};
+use job_script::{Excp, Message, Opening, UnitSetup};
 use std::alloc::AllocError;
 use unit_book::{extents_refusal, passes_check};
 use unit_device::UnitDevice;
@@ -44,8 +42,8 @@ pub struct Issued {
     pub excp: Excp,
 }
 
-/// Notes why requests to a unit, which has this number and is mounted as this device, are sure to fail. Of a DCB that
-/// is only assumed nothing is told.
+/// Notes why requests to a unit, which has this number and is mounted as this device, are sure to fail. Notes nothing of
+/// a DCB that is only assumed.
 pub fn note_requests(
     number: usize,
     unit: &UnitSetup,
@@ -56,61 +54,57 @@ pub fn note_requests(
 ) -> Result<(), AllocError> {
     let mut workspace = Workspace::new();
     for request in requests {
-        let Some(opening) = unit.opening_of(number, &request.excp) else {
+        let Some(opening) = opening_of(unit, number, &request.excp) else {
             continue;
         };
         if is_assumed(assumed, opening.line) {
             continue;
         }
-        if let Some(told) = request.excp.fails(opening, device, &mut workspace) {
+        if let Some(told) = sure_failure(&request.excp, opening, device, &mut workspace) {
             add(findings, request.line, told)?;
         }
     }
     Ok(())
 }
 
-impl UnitSetup {
-    /// The DCB of an EXCP to this unit, which has this number.
-    fn opening_of(&self, number: usize, excp: &Excp) -> Option<&Opening> {
-        if usize::from(excp.dcb.unit) != number {
-            return None;
-        }
-        let place = usize::from(excp.dcb.number).checked_sub(1)?;
-        self.openings.get(place)
+/// The DCB of an EXCP, if it is to this unit, which has this number.
+fn opening_of<'a>(unit: &'a UnitSetup, number: usize, excp: &Excp) -> Option<&'a Opening> {
+    if usize::from(excp.dcb.unit) != number {
+        return None;
     }
+    let place = usize::from(excp.dcb.number).checked_sub(1)?;
+    unit.openings.get(place)
 }
 
-impl Excp {
-    /// Why its request is sure to fail on a device, if it is: its disk address is outside the extents, or a CCW ends
-    /// its program.
-    fn fails(
-        &self,
-        opening: &Opening,
-        device: &UnitDevice,
-        workspace: &mut Workspace,
-    ) -> Option<Told> {
-        let mut image = [0; 40];
-        image.copy_from_slice(self.area.get(self.iob, 40)?);
-        let iob = Iob::read(&image);
-        let kind = device.kind();
-        let extents = opening.extents.as_slice();
-        if extents_refusal(kind, device.cylinders(), device.heads(), extents).is_some() {
-            return None;
-        }
-        if !passes_check(kind, device.heads(), extents, &iob.seek) {
-            return Some(violated(&iob.seek));
-        }
-        let mut walk = Walk {
-            device,
-            area: &self.area,
-            is_masked: kind == Kind::Disk && opening.mask().inhibits_seeks(),
-            reads: Reads { from: 0, to: 0 },
-        };
-        walk.first_note(iob.start, workspace)
+/// Why the request of an EXCP is sure to fail on a device, if it is: its disk address is outside the extents, or a CCW
+/// ends its program.
+fn sure_failure(
+    excp: &Excp,
+    opening: &Opening,
+    device: &UnitDevice,
+    workspace: &mut Workspace,
+) -> Option<Told> {
+    let mut image = [0; 40];
+    image.copy_from_slice(excp.area.get(excp.iob, 40)?);
+    let iob = Iob::read(&image);
+    let kind = device.kind();
+    let extents = opening.extents.as_slice();
+    if extents_refusal(kind, device.cylinders(), device.heads(), extents).is_some() {
+        return None;
     }
+    if !passes_check(kind, device.heads(), extents, &iob.seek) {
+        return Some(violated(&iob.seek));
+    }
+    let mut walk = Walk {
+        device,
+        area: &excp.area,
+        is_masked: kind == Kind::Disk && mask_of(opening).inhibits_seeks(),
+        reads: Reads { from: 0, to: 0 },
+    };
+    walk.first_note(iob.start, workspace)
 }
 
-/// That a seek address is in no extent of the DCB.
+/// The note that a seek address is in no extent of the DCB.
 fn violated(seek: &Seek) -> Told {
     let numbers = [
         u64::from(seek.extent),
@@ -121,18 +115,16 @@ fn violated(seek: &Seek) -> Told {
     Told::Note(Message::new(VIOLATED, &numbers))
 }
 
-impl Opening {
-    /// The file mask that the supervisor sets for the DCB.
-    fn mask(&self) -> FileMask {
-        if self.input {
-            FileMask::INPUT
-        } else {
-            FileMask::OUTPUT
-        }
+/// The file mask that the supervisor sets for a DCB.
+fn mask_of(opening: &Opening) -> FileMask {
+    if opening.input {
+        FileMask::INPUT
+    } else {
+        FileMask::OUTPUT
     }
 }
 
-/// A walk through the commands of a program as its CCWs stand, none of which is done.
+/// A walk through the commands of a program as its CCWs are now. No command is done.
 #[derive(Drop)]
 struct Walk<'a> {
     device: &'a UnitDevice,
@@ -142,17 +134,17 @@ struct Walk<'a> {
     reads: Reads,
 }
 
-/// What a command of a program comes to.
+/// Where a command of a program leads.
 #[derive(Clone, Copy)]
 enum Step {
-    /// The walk ends here, with what is told of it.
+    /// The walk ends, with a note or without.
     Ends(Option<Told>),
-    /// The program goes on at an address, and a search that finds its record one CCW further.
+    /// The program goes on at an address. A search that finds its record goes on one CCW further.
     GoesOn { next: u32, searches: bool },
 }
 
 impl<'a> Walk<'a> {
-    /// What is told of the first CCW that ends the program where it comes to it.
+    /// The note on the first CCW that ends the program if the program comes to it.
     fn first_note(&mut self, start: Address, workspace: &mut Workspace) -> Option<Told> {
         let mut next = None;
         for _ in 0..MOST_COMMANDS {
@@ -176,7 +168,8 @@ impl<'a> Walk<'a> {
         None
     }
 
-    /// Looks at the command at an address, or at the first one. What earlier commands may have read over says nothing.
+    /// Looks at the command at an address, or at the first one. A CCW that earlier commands may have read over has no
+    /// note.
     fn step(&mut self, start: Address, next: Option<u32>, workspace: &mut Workspace) -> Step {
         let context = standing(start, next);
         let listing = look(&context, self.device, self.area, workspace);
@@ -204,7 +197,7 @@ impl<'a> Walk<'a> {
         }
     }
 
-    /// What is told of a command that the file mask forbids.
+    /// The note on a command that the file mask forbids.
     fn masked(&self, first: &Link) -> Option<Message> {
         let text = match first.ccw.command {
             SEEK if self.is_masked => SOUGHT,
@@ -214,7 +207,7 @@ impl<'a> Walk<'a> {
         Some(Message::new(text, &[u64::from(first.at)]))
     }
 
-    /// Whether a command leaves out the next CCW where it finds its record.
+    /// Whether a command skips the next CCW if it finds its record.
     fn is_search(&self, command: u8) -> bool {
         self.device.kind() == Kind::Disk && (command == SEARCH_ID || command == SEARCH_KEY)
     }
@@ -276,7 +269,7 @@ impl Reads {
         }
     }
 
-    /// Adds so many bytes from an address on.
+    /// Adds `count` bytes from an address on.
     fn add_part(&mut self, from: u32, count: u16) {
         let to = from.saturating_add(u32::from(count));
         if self.is_empty() {

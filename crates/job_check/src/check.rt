@@ -1,27 +1,18 @@
-//! What is wrong with a script: every fault with its cause, and notes on what runs but is hardly meant.
-
-mod assumed;
-mod finding;
-mod media;
-mod notes;
-mod programs;
-mod requests;
+//! How a script is checked: line by line, and then as a whole.
 
 ghost use Rattle.std.specs.Prelude.{◌+◌};
 ghost use Rattle.job_script.specs.Reading.{ReadsAtMost};
 
-use crate::cause::{Cause, Refusal};
-use crate::command::{Action, Command, DcbName};
-use crate::fault::{Fault, FaultName};
-use crate::line::{ExcpLine, Line};
-use crate::reading::{LIMIT, read_script};
-use crate::script::late;
-use crate::set_up::SetUp;
+use crate::finding::{Finding, SCRIPT, Told, add, tell};
+use crate::media::check_unit;
+use crate::notes::{AreaUse, early, note_doubles, note_unused};
+use crate::programs::{Issued, note_requests};
+use crate::requests::refused;
 use crate::telling::{Found, Source, write_findings};
-use finding::{Finding, SCRIPT, Told, add, tell};
-use media::check_unit;
-use notes::{AreaUse, early, note_doubles, note_unused};
-use programs::{Issued, note_requests};
+use job_script::{
+    Action, Cause, Command, DcbName, ExcpLine, Fault, FaultName, LIMIT, Line, Refusal, SetUp, late,
+    read_script,
+};
 use script_words::{Words, next_word};
 use std::alloc::{AllocError, Global};
 use std::io::{Read, Write};
@@ -30,8 +21,8 @@ use std::io::{Read, Write};
 const SYMBOLIC: &str =
     "a symbolic area ends here, assemble the script first and check what comes out";
 
-/// Reads a script, at most 1,048,576 bytes and one more, and writes every fault and note that is found, in the order of
-/// lines, each with its place in the source. Returns whether a run would reject the script.
+/// Reads a script, at most 1,048,576 bytes and one more. Writes every fault and note, in the order of lines, each with
+/// its place in the source. Returns whether a run would reject the script.
 pub fn check_script<R: Read, W: Write + Drop>(
     alloc: Global,
     reader: &mut R,
@@ -46,7 +37,8 @@ pub fn check_script<R: Read, W: Write + Drop>(
     Ok(refuses(&findings))
 }
 
-/// What is found in the text of a script, in the order of lines. Of one with symbolic areas that alone is told.
+/// What is found in the text of a script, in the order of lines. A script with symbolic areas has one finding, which says
+/// that.
 fn findings(alloc: Global, text: &[u8]) -> Result<Vec<Finding<'_>>, AllocError> {
     if let Some(line) = end_of_symbolic(text) {
         let mut findings = Vec::new(alloc);
@@ -66,8 +58,7 @@ fn findings(alloc: Global, text: &[u8]) -> Result<Vec<Finding<'_>>, AllocError> 
     Ok(findings)
 }
 
-/// The first line that ends a symbolic area, if there is one: it begins with `endarea`, as no line of a plain script
-/// does.
+/// The first line that ends a symbolic area, if one does. It begins with `endarea`, as no line of a plain script does.
 fn end_of_symbolic(text: &[u8]) -> Option<usize> {
     for (place, bytes) in text.split(|byte| *byte == b'\n').enumerate() {
         if let Some((first, _)) = next_word(bytes) {
@@ -79,7 +70,7 @@ fn end_of_symbolic(text: &[u8]) -> Option<usize> {
     None
 }
 
-/// Whether a run refuses the script for what was found.
+/// Whether a run rejects the script for what was found.
 fn refuses(findings: &[Finding<'_>]) -> bool {
     for finding in findings {
         if finding.is_fault() {
@@ -89,7 +80,7 @@ fn refuses(findings: &[Finding<'_>]) -> bool {
     false
 }
 
-/// Tells what no line declares.
+/// Adds a finding for the tasks, and for the units, if no line declares them.
 fn tell_lacks(set_up: &SetUp, findings: &mut Vec<Finding<'_>>) -> Result<(), AllocError> {
     if set_up.tasks == 0 {
         tell(findings, SCRIPT, lack("no line declares the tasks"))?;
@@ -100,25 +91,25 @@ fn tell_lacks(set_up: &SetUp, findings: &mut Vec<Finding<'_>>) -> Result<(), All
     Ok(())
 }
 
-/// That no line declares something.
+/// The fault that no line declares something.
 fn lack(text: &'static str) -> Cause {
     Cause::new(FaultName::Order, text, &[])
 }
 
-/// What a script declares as far as it was read, and what was found in it. A line with a fault says nothing, but what
+/// What a script declares as far as it was read, and what was found in it. A line with a fault adds nothing, but what
 /// it was to declare counts as declared, so that no other line has a fault for that.
 #[derive(Drop)]
-struct Check<'a> {
-    set_up: SetUp,
+pub(crate) struct Check<'a> {
+    pub(crate) set_up: SetUp,
     /// The line of the first command.
     first_command: Option<usize>,
     findings: Vec<Finding<'a>>,
     /// The requests that can be made.
     requests: Vec<Issued>,
     /// The lines whose units, DCBs and areas are only assumed, in order.
-    assumed: Vec<usize>,
+    pub(crate) assumed: Vec<usize>,
     /// Where each area of the script is declared, and whether it is used.
-    areas: Vec<AreaUse>,
+    pub(crate) areas: Vec<AreaUse>,
     /// The DCB of the last request that each task has issued since it last waited.
     unwaited: [Option<DcbName>; 64],
 }
@@ -174,7 +165,7 @@ impl<'a> Check<'a> {
         }
     }
 
-    /// Adds an EXCP, and tries its request where its area is not only assumed.
+    /// Adds an EXCP, and tries its request unless its area is only assumed.
     fn add_excp(&mut self, excp: ExcpLine) -> Result<(), Refusal> {
         let is_assumed = self.use_area(excp.area);
         let command = self.set_up.excp(excp)?;
@@ -186,14 +177,14 @@ impl<'a> Check<'a> {
         if is_assumed {
             return Ok(());
         }
-        if let Some(cause) = excp.refused() {
+        if let Some(cause) = refused(&excp) {
             return Err(Refusal::Caused(cause));
         }
         self.requests.push(Issued { line, excp })?;
         Ok(())
     }
 
-    /// Adds a command, where all that it names is declared.
+    /// Adds a command, if all that it names is declared.
     fn add_command(&mut self, command: &Command) -> Result<(), Refusal> {
         self.set_up.names(command)?;
         if self.first_command.is_none() {
@@ -215,7 +206,7 @@ impl<'a> Check<'a> {
         Ok(())
     }
 
-    /// Tells what only the whole script shows, and gives all that was found.
+    /// Adds what only the whole script shows, and returns all that was found.
     fn end(self, alloc: Global) -> Result<Vec<Finding<'a>>, AllocError> {
         let Check {
             set_up,

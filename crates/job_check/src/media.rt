@@ -1,24 +1,22 @@
-//! Why a unit cannot be mounted, and its DCBs not opened.
+//! Why a unit cannot be mounted, and why its DCBs cannot be opened.
 
-use super::assumed::is_assumed;
-use super::finding::{Finding, tell};
-use crate::cause::Cause;
-use crate::fault::FaultName;
-use crate::set_up::{Medium, UnitSetup};
+use crate::assumed::is_assumed;
+use crate::finding::{Finding, tell};
 use ckd_disk::{Geometry, GeometryRefusal, InitialRecord, RecordRefusal, first_overfull};
 use device_port::{Fault, Kind, MountError, is_script};
+use job_script::{Cause, FaultName, Medium, UnitSetup};
 use line_printer::{PaperRefusal, paper_refusal};
 use std::alloc::{AllocError, Global};
 use tape_unit::{InitialItem, overrun_of};
 use unit_book::{ExtentRefusal, ExtentsRefusal, extents_refusal};
 use unit_device::UnitDevice;
 
-/// What a device shows.
+/// The status and sense bytes that a fault may have.
 const STATUS: &str =
     "a device shows 0E 00 with any sense bytes, or 00 with 02, 04 or 08 and sense bytes 0000";
 
-/// Tells why a unit cannot be mounted, and of each of its DCBs why it cannot be opened; and gives its device, where it
-/// can be mounted. Of what is only assumed nothing is told, nor of the DCBs of a unit that has no geometry.
+/// Reports why a unit cannot be mounted, and why each of its DCBs cannot be opened. Returns its device if it can be
+/// mounted. Reports nothing of what is only assumed, nor of the DCBs of a unit whose geometry is refused.
 pub fn check_unit(
     alloc: Global,
     unit: &UnitSetup,
@@ -44,7 +42,7 @@ pub fn check_unit(
     }
 }
 
-/// Tells of each DCB of a unit why it cannot be opened: a unit has at most 65,535.
+/// Reports why each DCB of a unit cannot be opened. A unit has at most 65,535.
 fn tell_openings(
     unit: &UnitSetup,
     assumed: &[usize],
@@ -70,7 +68,7 @@ fn tell_openings(
     Ok(())
 }
 
-/// The kind of a unit, and the cylinders and heads of a disk, which are at most 65,535 where it can be mounted.
+/// The kind of a unit, and the cylinders and heads of a disk, which are at most 65,535 if it can be mounted.
 fn shape(medium: &Medium) -> (Kind, u16, u16) {
     match medium {
         Medium::Disk(geometry, _) => (
@@ -83,7 +81,7 @@ fn shape(medium: &Medium) -> (Kind, u16, u16) {
     }
 }
 
-/// Why a device with so many cylinders and heads does not take the extents of a DCB, which are so many.
+/// Why a device with `cylinders` and `heads` does not take the `count` extents of a DCB.
 fn extents_cause(refusal: ExtentsRefusal, count: usize, cylinders: u16, heads: u16) -> Cause {
     match refusal {
         ExtentsRefusal::NotOfDisk => extent("a DCB of a tape or a printer has no extent", &[]),
@@ -104,8 +102,7 @@ fn extents_cause(refusal: ExtentsRefusal, count: usize, cylinders: u16, heads: u
     }
 }
 
-/// Why an extent that says so many tracks is none of a disk of so many cylinders and heads. Extents have numbers from
-/// 1.
+/// Why an extent with this number, from 1, which says `told` tracks, is not one of a disk of `cylinders` and `heads`.
 fn extent_cause(
     number: u64,
     told: u16,
@@ -130,7 +127,7 @@ fn extent(text: &'static str, numbers: &[u64]) -> Cause {
     Cause::new(FaultName::Extent, text, numbers)
 }
 
-/// Tells why a unit cannot be mounted, which is refused by `error`: each cause with the line that does it.
+/// Reports why mounting a unit fails with `error`: each cause at the line that has it.
 fn tell_medium(
     alloc: Global,
     unit: &UnitSetup,
@@ -164,15 +161,15 @@ fn medium(text: &'static str, numbers: &[u64]) -> Cause {
     Cause::new(FaultName::Medium, text, numbers)
 }
 
-/// Tells what is wrong with the faults that a unit is to meet.
+/// Reports what is wrong with the faults that a unit is to meet.
 fn tell_faults(unit: &UnitSetup, findings: &mut Vec<Finding<'_>>) -> Result<(), AllocError> {
     for (fault, line) in unit.faults.chunks(1).zip(unit.fault_lines.iter()) {
         if !is_script(fault) {
             tell(findings, *line, fault_cause(fault))?;
         }
     }
-    let behind = unit.fault_lines.iter().skip(1);
-    for (pair, line) in unit.faults.windows(2).zip(behind) {
+    let seconds = unit.fault_lines.iter().skip(1);
+    for (pair, line) in unit.faults.windows(2).zip(seconds) {
         if let Some(cause) = order_cause(pair) {
             tell(findings, *line, cause)?;
         }
@@ -188,7 +185,7 @@ fn fault_cause(fault: &[Fault]) -> Cause {
     }
 }
 
-/// Why two faults one behind another are no fault script, where each by itself is one.
+/// Why two faults, one after the other, are no fault script, if each by itself is one.
 fn order_cause(pair: &[Fault]) -> Option<Cause> {
     let [first, second] = pair else {
         return None;
@@ -202,7 +199,7 @@ fn order_cause(pair: &[Fault]) -> Option<Cause> {
     ))
 }
 
-/// Tells what is wrong with the geometry of a disk, or with its records.
+/// Reports what is wrong with the geometry of a disk, or with its records.
 fn tell_disk(
     alloc: Global,
     unit: &UnitSetup,
@@ -263,7 +260,7 @@ fn record_cause(geometry: Geometry, refusal: RecordRefusal) -> Cause {
     medium(text, &[number])
 }
 
-/// Tells the track that is first too small for its records.
+/// Reports the track that is first too small for its records.
 fn tell_track(
     alloc: Global,
     unit: &UnitSetup,
@@ -287,10 +284,10 @@ fn tell_track(
         "track {n} {n} holds {n} byte{s}, its records need {n}",
         &numbers,
     );
-    tell(findings, unit.content_line(full.record), cause)
+    tell(findings, content_line(unit, full.record), cause)
 }
 
-/// Tells what is wrong with the items of a tape of so many bytes.
+/// Reports what is wrong with the items of a tape of this many bytes.
 fn tell_tape(
     unit: &UnitSetup,
     bytes: u64,
@@ -308,10 +305,10 @@ fn tell_tape(
     };
     let text = "the tape holds {n} byte{s}, its items need {n}";
     let cause = medium(text, &[bytes, overrun.needed]);
-    tell(findings, unit.content_line(overrun.item), cause)
+    tell(findings, content_line(unit, overrun.item), cause)
 }
 
-/// Tells which number of a printer is outside its range.
+/// Reports which number of a printer is outside its range.
 fn tell_printer(
     unit: &UnitSetup,
     lines: u64,
@@ -326,12 +323,10 @@ fn tell_printer(
     tell(findings, unit.line, cause)
 }
 
-impl UnitSetup {
-    /// The line of the record or item at this place.
-    fn content_line(&self, place: usize) -> usize {
-        match self.content_lines.get(place) {
-            Some(line) => *line,
-            None => self.line,
-        }
+/// The line of the record or item of a unit at this place.
+fn content_line(unit: &UnitSetup, place: usize) -> usize {
+    match unit.content_lines.get(place) {
+        Some(line) => *line,
+        None => unit.line,
     }
 }
