@@ -75,8 +75,8 @@ joined_one found done (Err line) rest = one_fault found done line rest
 after_one : (capacity : ℕ) (found : Option ℕ) (done : Books) (unit : UnitSaid) (others : List UnitSaid) (device : UnitDevice)
     (devices : Result (List UnitDevice) FaultAt)
     → ((devices >>= λ ds. Ok (device ∷ ds)) >>= λ ds. at_extent (joined found done (opened capacity (unit ∷ others) ds)))
-      ≡ (devices >>= λ ds. at_extent (joined (one_unit found done (open_all (opening device unit.isc capacity) unit.openings)).0
-        (one_unit found done (open_all (opening device unit.isc capacity) unit.openings)).1 (opened capacity others ds)))
+    ≡ (devices >>= λ ds. at_extent (joined (one_unit found done (open_all (opening device unit.isc capacity) unit.openings)).0
+    (one_unit found done (open_all (opening device unit.isc capacity) unit.openings)).1 (opened capacity others ds)))
 unfolding opened
 after_one capacity found done unit others device (Ok ds) =
     ap (λ (r : Result Books ℕ). at_extent r) (joined_one found done (open_all (opening device unit.isc capacity) unit.openings) (opened capacity others ds))
@@ -98,14 +98,14 @@ unfolding after devices_of
 no_unit capacity found done unit others fault e = rw e refl
 
 -- no unit is mounted yet
+unjoined : (r : Result Books ℕ) → joined None [] r ≡ r
+unfolding joined
+unjoined (Ok books) = refl
+unjoined (Err line) = refl
+
 first : (capacity : ℕ) (units : List UnitSaid) (devices : Result (List UnitDevice) FaultAt)
     → (devices >>= λ ds. at_extent (joined None [] (opened capacity units ds))) ≡ (devices >>= λ ds. at_extent (opened capacity units ds))
 first capacity units (Ok ds) = ap (λ (r : Result Books ℕ). at_extent r) (unjoined (opened capacity units ds))
-where
-  unjoined : (r : Result Books ℕ) → joined None [] r ≡ r
-  unfolding joined
-  unjoined (Ok books) = refl
-  unjoined (Err line) = refl
 first capacity units (Err fault) = refl
 
 pub no_unit_yet : (capacity : ℕ) (units : List UnitSaid) → after capacity None [] units ≡ units_with capacity units
@@ -186,17 +186,17 @@ units_at_fault capacity line books units k whole over so_far =
     ∙ one_not_opened capacity line (map known books)
 
 -- one DCB is opened
+one_more_dcb : (old new : Book UnitDevice) (dcb : ℕ) (o : OpeningSaid) → OpensBook unit_device old dcb o.input o.extents new
+    → with_dcb (known old) o ≡ known new
+one_more_dcb old new dcb o h =
+    ap (λ (n : ℕ). record (known old) { trace = Opened n o.input o.extents ∷ old.trace }) (sym h.fits.next) ∙ sym (ap known h.adds)
+
 one_opened : (old new : Book UnitDevice) (dcb : ℕ) (o : OpeningSaid) (others : List OpeningSaid)
     → OpensBook unit_device old dcb o.input o.extents new → open_all (known old) (o ∷ others) ≡ open_all (known new) others
 unfolding open_all
 one_opened old new dcb o others h =
     let few : nat_lt (opened_count old.trace) 65535 ≡ true = grind (arith, nat_tests, h.fits.next, h.fits.few) in
-    rw (few, h.fits.taken) (ap (λ (b : Book UnitDevice). open_all b others) (opens old new dcb o h))
-where
-  opens : (old new : Book UnitDevice) (dcb : ℕ) (o : OpeningSaid) → OpensBook unit_device old dcb o.input o.extents new
-      → with_dcb (known old) o ≡ known new
-  opens old new dcb o h =
-      ap (λ (n : ℕ). record (known old) { trace = Opened n o.input o.extents ∷ old.trace }) (sym h.fits.next) ∙ sym (ap known h.adds)
+    rw (few, h.fits.taken) (ap (λ (b : Book UnitDevice). open_all b others) (one_more_dcb old new dcb o h))
 
 -- one DCB cannot be opened
 one_refused : (old : Book UnitDevice) (o : OpeningSaid) (others : List OpeningSaid) (e : OpenError)
