@@ -1,4 +1,8 @@
-use Rattle.std.proofs.Common.{sym}
+use Rattle.std.proofs.Common.{sym, subst, Err}
+use Rattle.job_script.specs.declared.set_up.Medium.{Medium}
+use Rattle.job_script.specs.Views.{medium_said}
+use Rattle.job_mount.specs.Devices.{mounted}
+use Rattle.job_mount.specs.Outcomes.{Mounts}
 use Rattle.job_mount.proofs.Devices.{disk_mounted, disk_refused, tape_mounted, tape_refused}
 use Rattle.job_mount.proofs.device.mounted.Goals as goal
 
@@ -6,22 +10,22 @@ pub returns-in-Ok : goal.returns-in-Ok
 returns-in-Ok c =
     rw c.in-Disk.is
     (disk_mounted c.in-Disk.geometry c.in-Disk.records.items c.args.unit.now.faults.items c.in-Ok.disk
-    (rw (sym c.deref.ensures.value, sym c.deref-in-Disk.ensures.value) (c.in-Ok.ensures tt)))
+    (rw (sym c.deref.ensures.value, sym c.deref-in-Disk.ensures.value) (c.in-Ok.ensures)))
 
 pub returns-in-Err : goal.returns-in-Err
 returns-in-Err c =
-    rw c.in-Disk.is
+    subst (λ (m : Medium). Mounts (mounted (medium_said m) c.args.unit.now.faults.items) (Err c.in-Err.error)) (sym c.in-Disk.is)
     (disk_refused c.in-Disk.geometry c.in-Disk.records.items c.args.unit.now.faults.items c.in-Err.error
-    (rw (sym c.deref.ensures.value, sym c.deref-in-Disk.ensures.value) (c.in-Err.ensures tt)))
+    (rw (sym c.deref.ensures.value, sym c.deref-in-Disk.ensures.value) (c.in-Err.ensures)))
 
 pub returns-in-Ok-mount : goal.returns-in-Ok-mount
 returns-in-Ok-mount c =
     rw c.in-Tape.is
     (tape_mounted c.in-Tape.bytes c.in-Tape.items.items c.args.unit.now.faults.items c.in-Ok-mount.tape
-    (rw (sym c.deref-in-Tape.ensures.value, sym c.deref-in-Tape-2.ensures.value) (c.in-Ok-mount.ensures tt)))
+    (rw (sym c.deref-in-Tape.ensures.value, sym c.deref-in-Tape-2.ensures.value) (c.in-Ok-mount.ensures)))
 
 pub returns-in-Err-mount : goal.returns-in-Err-mount
 returns-in-Err-mount c =
-    rw c.in-Tape.is
+    subst (λ (m : Medium). Mounts (mounted (medium_said m) c.args.unit.now.faults.items) (Err c.in-Err-mount.error)) (sym c.in-Tape.is)
     (tape_refused c.in-Tape.bytes c.in-Tape.items.items c.args.unit.now.faults.items c.in-Err-mount.error
-    (rw (sym c.deref-in-Tape.ensures.value, sym c.deref-in-Tape-2.ensures.value) (c.in-Err-mount.ensures tt)))
+    (rw (sym c.deref-in-Tape.ensures.value, sym c.deref-in-Tape-2.ensures.value) (c.in-Err-mount.ensures)))
