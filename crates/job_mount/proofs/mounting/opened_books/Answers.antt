@@ -1,9 +1,13 @@
-use Rattle.std.proofs.Common.{◌≡◌, ◌≤◌, ℕ, List, length, map, drop, Option, None, Some, rules, arith, sym, subst}
+use Rattle.std.proofs.Common.{◌≡◌, ◌≤◌, ℕ, List, length, map, drop, Option, None, Some, Ok, Err, rules, arith, sym, subst, ◌∙◌}
+use Rattle.std.proofs.lemmas.List.Elements.{All-push}
 use Rattle.unit_book.specs.Book.{Book}
 use Rattle.unit_device.specs.declared.device.UnitDevice.{UnitDevice}
-use Rattle.job_script.specs.Views.{unit_said}
+use Rattle.job_script.specs.declared.set_up.Opening.{Opening}
+use Rattle.job_script.specs.Views.{opening_said, unit_said}
+use Rattle.job_mount.specs.Books.{HasRoom, IsFresh}
 use Rattle.job_mount.specs.Mounting.{units_with}
-use Rattle.job_mount.specs.Outcomes.{all_known, known}
+use Rattle.job_mount.specs.Openings.{open_all}
+use Rattle.job_mount.specs.Outcomes.{Opens, all_known, known}
 use Rattle.job_mount.proofs.Openings.{after, no_unit_yet, unit_at_fault, unit_opened, unit_refused, units_at_fault, units_opened}
 use Rattle.job_mount.proofs.mounting.opened_books.Goals as goal
 use Rattle.job_mount.proofs.mounting.opened_books.Goals.{in-None+in_ok-push-in-None, in-Some}
@@ -23,16 +27,46 @@ pub returns-in_err-book-clause-exact : goal.returns-in_err-book-clause-exact
 returns-in_err-book-clause-exact c =
     let h = c.from_residual.ensures in
     let refused = unit_refused c.args.capacity c.loop-unit.first c.loop-unit.books.items c.args.units.now c.loop-unit.unit-index c.unit-item.result
-        c.in_err-book.field-0 _ c.loop-unit-test.true c.unit-item.is c.in_err-book.ensures.exact c.loop-unit.invariant.exact in
+        c.in_err-book.field-0.0 _ c.loop-unit-test.true c.unit-item.is c.in_err-book.ensures.exact c.loop-unit.invariant.exact in
     ?
 
 pub loop-unit-preserved : goal.loop-unit-preserved
-loop-unit-preserved c = elim c.match-branch-3.branch [
-    in-None+in_ok-push-in-None w ↦
-      let none = w.in-None in let books = w.books-is in let first = w.first-is in let pushed = w.in_ok-push-in-None in let opens = c.in_ok-open_dcbs.ensures.exact in ?
-  | in-Some w ↦
-      let some = w.in-Some in let books = w.books-is in let first = w.first-is in let least = w.earlier in let opens = c.in_ok-open_dcbs.ensures.exact in ?
-  ]
+loop-unit-preserved c =
+    let units = c.args.units.now in
+    let index = c.loop-unit.unit-index in
+    let unit = c.unit-item.result in
+    let mounted = c.in_ok-book.book in
+    let book = c.open_dcbs.new.book in
+    let so_far = c.loop-unit.invariant in
+    elim c.match-branch-3.branch [
+      in-None+in_ok-push-in-None w ↦
+        let opens = subst (λ (openings : List Opening). open_all (known mounted) (map opening_said openings) ≡ Ok (known book)) c.deref.ensures.value
+            (subst (λ (at_fault : Option ℕ). Opens mounted (map opening_said c.deref.result.now) (Ok at_fault) book) w.in-None.is
+            c.in_ok-open_dcbs.ensures.exact) in
+        let items = w.in_ok-push-in-None.ensures.items in
+        record {
+          exact = rw (w.books-is, w.first-is, items)
+              (unit_opened c.args.capacity c.loop-unit.first c.loop-unit.books.items units index unit mounted book _ c.loop-unit-test.true c.unit-item.is
+              c.in_ok-book.ensures.exact opens so_far.exact);
+          count = λ none. rw w.books-is (omega (arith, w.in_ok-push-in-None.ensures.len, so_far.count (sym w.first-is ∙ none)));
+          fresh = rw (w.books-is, items) (All-push IsFresh c.loop-unit.books.items book so_far.fresh c.open_dcbs.ensures.fresh);
+          room = rw (w.books-is, items)
+              (All-push (HasRoom c.args.capacity) c.loop-unit.books.items book so_far.room (c.open_dcbs.ensures.room ∙ c.in_ok-book.ensures.room));
+        }
+    | in-Some w ↦
+        let line = w.in-Some.line in
+        let opens = subst (λ (openings : List Opening). open_all (known mounted) (map opening_said openings) ≡ Err line) c.deref.ensures.value
+            (subst (λ (at_fault : Option ℕ). Opens mounted (map opening_said c.deref.result.now) (Ok at_fault) book) w.in-Some.is
+            c.in_ok-open_dcbs.ensures.exact) in
+        record {
+          exact = rw (w.books-is, w.first-is, w.earlier.ensures)
+              (unit_at_fault c.args.capacity c.loop-unit.first c.loop-unit.books.items units index unit mounted line _ c.loop-unit-test.true
+              c.unit-item.is c.in_ok-book.ensures.exact opens so_far.exact);
+          count = λ none. search rules;
+          fresh = rw w.books-is so_far.fresh;
+          room = rw w.books-is so_far.room;
+        }
+    ]
 
 pub returns-in-None-first-clause-exact : goal.returns-in-None-first-clause-exact
 returns-in-None-first-clause-exact c =
