@@ -1,7 +1,12 @@
-use Rattle.std.proofs.Common.{◌≡◌, ◌≤◌, ℕ, List, length, map, drop, Option, None, Some, Ok, Err, rules, arith, sym, subst, ◌∙◌}
+use Rattle.std.proofs.Common.{◌≡◌, ◌≤◌, ℕ, List, length, map, drop, Option, None, Some, Result, Ok, Err, rules, arith, sym, subst, ◌∙◌}
+use Rattle.std.specs.Result.{IsErr, IsErrAnd}
+use Rattle.std.proofs.lemmas.Bool.{false≢true}
 use Rattle.std.proofs.lemmas.List.Elements.{All-push}
 use Rattle.unit_book.specs.Book.{Book}
 use Rattle.unit_device.specs.declared.device.UnitDevice.{UnitDevice}
+use Rattle.job_script.specs.declared.fault.Fault.{Fault}
+use Rattle.job_script.specs.Grammar.{FaultAt}
+use Rattle.job_script.specs.Outcomes.{Gives}
 use Rattle.job_script.specs.declared.set_up.Opening.{Opening}
 use Rattle.job_script.specs.Views.{opening_said, unit_said}
 use Rattle.job_mount.specs.Books.{HasRoom, IsFresh}
@@ -23,12 +28,16 @@ loop-unit-init c =
       room = search rules;
     }
 
+gives_as : {X S : Type 0} (view : X → S) (r : Result X Fault) (fault : Fault) (read : Result S FaultAt) → IsErr r → IsErrAnd r (λ e. e ≡ fault)
+    → Gives view (Err fault) read → Gives view r read
+gives_as view (Ok x) fault read is_err same given = absurd (false≢true is_err)
+gives_as view (Err e) fault read is_err same given = subst (λ (f : Fault). Gives view (Err f) read) (sym same) given
+
 pub returns-in_err-book-clause-exact : goal.returns-in_err-book-clause-exact
 returns-in_err-book-clause-exact c =
-    let h = c.from_residual.ensures in
     let refused = unit_refused c.args.capacity c.loop-unit.first c.loop-unit.books.items c.args.units.now c.loop-unit.unit-index c.unit-item.result
         c.in_err-book.field-0.0 _ c.loop-unit-test.true c.unit-item.is c.in_err-book.ensures.exact c.loop-unit.invariant.exact in
-    ?
+    gives_as all_known c.from_residual.result c.in_err-book.field-0.0 _ c.from_residual.ensures.0 c.from_residual.ensures.1 refused
 
 pub loop-unit-preserved : goal.loop-unit-preserved
 loop-unit-preserved c =
