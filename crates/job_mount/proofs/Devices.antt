@@ -1,5 +1,5 @@
 -- What mounting makes of a medium is the device that the lines of the unit say.
-use Rattle.std.proofs.Common.{◌≡◌, ℕ, Bool, true, false, nat_le, ◌&&◌, cond, ◌+◌, ◌*◌, ◌/◌, ◌%◌, List, [], ◌∷◌, map, Result, Ok, Err, refl, sym, ap, ◌∙◌}
+use Rattle.std.proofs.Common.{◌≡◌, ℕ, Bool, true, false, nat_le, ◌&&◌, cond, ◌+◌, ◌*◌, ◌/◌, ◌%◌, List, [], ◌∷◌, map, Ok, Err, refl, sym, ap, ◌∙◌}
 use Rattle.std.specs.List.{filter, list_all, range_with_len}
 use Rattle.std.proofs.lemmas.List.Folds.{list_all-map}
 use Rattle.device_port.specs.declared.device.MountError.{MountError}
@@ -11,7 +11,7 @@ use Rattle.ckd_disk.specs.declared.mount.InitialRecord.{InitialRecord}
 use Rattle.ckd_disk.specs.Record.{Record}
 use Rattle.ckd_disk.specs.Track.{TrackState, bytes_of as bytes_of_records}
 use Rattle.ckd_disk.specs.Disk.{DiskState, at_start}
-use Rattle.ckd_disk.specs.Mount.{initial, is_geometry, is_initial, opening, opening_records, opening_track, stands_on, track_count, track_descriptor}
+use Rattle.ckd_disk.specs.Mount.{initial, is_geometry, opening, opening_records, opening_track, stands_on, track_count, track_descriptor}
 use Rattle.ckd_disk.specs.Mount.{has_room as has_room_on, is_medium, Mounts as MountsDisk}
 use Rattle.tape_unit.specs.declared.mount.InitialItem.{InitialItem}
 use Rattle.tape_unit.specs.Item.{is_item}
@@ -22,7 +22,7 @@ use Rattle.line_printer.specs.Printer.{PrinterState}
 use Rattle.line_printer.specs.Mount.{is_paper, opening as opening_printer, Mounts as MountsPrinter}
 use Rattle.unit_device.specs.declared.device.UnitDevice.{UnitDevice}
 use Rattle.unit_device.specs.declared.device.UnitDevice.TheVariants.{Disk, Tape, Printer}
-use Rattle.job_script.specs.Said.{RecordSaid, disk, printer, tape}
+use Rattle.job_script.specs.Said.{disk, printer, tape}
 use Rattle.job_script.specs.Views.{record_said}
 use Rattle.job_mount.specs.Devices.{disk_with, fits_disk, fits_tape, has_room, if_mountable, is_record, lies_on, mounted, record_on}
 use Rattle.job_mount.specs.Devices.{records_on, tape_with, track_with}

@@ -1,12 +1,12 @@
 -- Mounting units and opening their DCBs one unit after another gives what mounting all and then opening all gives.
-use Rattle.std.proofs.Common.{◌≡◌, ◌≤◌, ◌<◌, ℕ, ◌+◌, Bool, true, false, nat_lt, nat_le, ◌&&◌, cond, min, refl, sym, ap, subst, ◌∙◌, arith}
+use Rattle.std.proofs.Common.{◌≡◌, ◌≤◌, ◌<◌, ℕ, ◌+◌, true, false, nat_lt, min, refl, sym, ap, subst, ◌∙◌, arith}
 use Rattle.std.proofs.Common.{List, [], ◌∷◌, ◌++◌, Option, Some, None, Result, Ok, Err, length, map, get_or, drop}
 use Rattle.std.proofs.lemmas.Bool.Decides.{nat_tests}
 use Rattle.std.proofs.lemmas.List.{append_assoc, append-nil, drop_all, drop_more, map-append}
 use Rattle.unit_book.specs.declared.answer.OpenError.{OpenError}
 use Rattle.unit_book.specs.declared.answer.OpenError.TheVariants as opening_errors
 use Rattle.unit_book.specs.declared.entry.Entry.TheVariants.{Opened}
-use Rattle.unit_book.specs.Answers.{OpensBook, OpenRefused, takes}
+use Rattle.unit_book.specs.Answers.{OpensBook, OpenRefused}
 use Rattle.unit_book.specs.Book.{Book, opening}
 use Rattle.unit_book.specs.Dcbs.{opened_count}
 use Rattle.unit_device.specs.declared.device.UnitDevice.{UnitDevice}
@@ -22,11 +22,11 @@ use Rattle.job_mount.specs.Requests.{is_doable}
 use Rattle.job_mount.proofs.Trying.{all_tried, one_tried, one_untried}
 use Rattle.job_script.specs.Grammar.{FaultAt}
 use Rattle.job_script.specs.Outcomes.{Gives}
-use Rattle.job_script.specs.Said.{CommandSaid, OpeningSaid, UnitSaid}
+use Rattle.job_script.specs.Said.{OpeningSaid, UnitSaid}
 use Rattle.job_mount.specs.Devices.{device_of}
 use Rattle.job_mount.specs.Mounting.{◌>>=◌, at, at_extent, devices_of, opened, tried, units_with}
-use Rattle.job_mount.specs.Openings.{beside, can_open, earlier, open_all, with_dcb}
-use Rattle.job_mount.specs.Outcomes.{MountsBook, Refuses, all_known, known}
+use Rattle.job_mount.specs.Openings.{beside, earlier, open_all, with_dcb}
+use Rattle.job_mount.specs.Outcomes.{MountsBook, all_known, known}
 
 abbrev Books : Type 0
 Books = List (Book UnitDevice)

@@ -1,6 +1,5 @@
-use Rattle.std.proofs.Common.{◌≡◌, rules, arith, sym, subst, List}
+use Rattle.std.proofs.Common.{rules, arith, subst, List}
 use Rattle.io_images.specs.declared.extent.Extent.{Extent}
-use Rattle.unit_book.specs.declared.answer.OpenError.TheVariants as opening_errors
 use Rattle.unit_book.specs.Answers.{OpensBook, OpenRefused}
 use Rattle.unit_device.specs.Devices.{unit_device}
 use Rattle.job_mount.proofs.Openings.{dcb_opened, dcb_refused, dcbs_opened}

@@ -1,7 +1,6 @@
-use Rattle.std.proofs.Common.{◌≡◌, ◌<◌, ◌≤◌, true, false, length, rules, arith, sym, ◌∙◌}
+use Rattle.std.proofs.Common.{◌≡◌, ◌≤◌, true, false, length, rules, arith}
 use Rattle.std.proofs.lemmas.List.Elements.{All-from_all_within, AllWithin-more, AllWithin-upto, at_read}
-use Rattle.job_script.specs.Views.{action_said, command_said}
-use Rattle.job_mount.specs.Mounting.{tried}
+use Rattle.job_script.specs.Views.{action_said}
 use Rattle.job_mount.specs.Requests.{CanBeDone, is_doable}
 use Rattle.job_mount.proofs.Openings.{command_tried, command_untried, commands_tried}
 use Rattle.job_mount.proofs.mounting.try_requests.Goals as goal
