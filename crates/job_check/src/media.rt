@@ -4,6 +4,7 @@ use crate::assumed::is_assumed;
 use crate::finding::{Finding, tell};
 use ckd_disk::{Geometry, GeometryRefusal, InitialRecord, RecordRefusal, first_overfull};
 use device_port::{Fault, Kind, MountError, is_script};
+use job_mount::mounted;
 use job_script::{Cause, FaultName, Medium, UnitSetup};
 use line_printer::{PaperRefusal, paper_refusal};
 use std::alloc::{AllocError, Global};
@@ -26,7 +27,7 @@ pub fn check_unit(
     if is_assumed(assumed, unit.line) {
         return Ok(None);
     }
-    match unit.mounted(alloc) {
+    match mounted(alloc, unit) {
         Ok(device) => {
             tell_openings(unit, assumed, findings)?;
             Ok(Some(device))

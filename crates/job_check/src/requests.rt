@@ -1,5 +1,6 @@
 //! Why a request cannot be made.
 
+use job_mount::can_issue;
 use job_script::{Cause, Excp, FaultName};
 use request_piece::{Misplaced, Request, RequestRefusal};
 
@@ -31,7 +32,7 @@ const SHOWN: &str =
 /// Why the request of an EXCP is refused, if it is. If nothing else is wrong, the bytes that are shown do not lie in its
 /// area.
 pub fn refused(excp: &Excp) -> Option<Cause> {
-    if excp.check().is_ok() {
+    if can_issue(excp) {
         return None;
     }
     let dcb = excp.dcb.number;

@@ -1,5 +1,8 @@
 //! What ends a run: the faults of a script, with their names, texts and exit statuses.
 
+ghost use Rattle.std.specs.Prelude.{◌≡◌};
+ghost use Rattle.job_script.specs.declared.fault.Fault.TheVariants as faults;
+
 use request_piece::RequestError;
 use std::alloc::{AllocError, AllocFailed};
 use std::fmt;
@@ -131,12 +134,16 @@ impl Fault {
 }
 
 impl From<AllocError> for Fault {
+    ghost from_gives = { λ _ e. e ≡ faults.NoMemory };
+
     fn from(_error: AllocError) -> Self {
         Fault::NoMemory
     }
 }
 
 impl<T: Drop> From<AllocFailed<T>> for Fault {
+    ghost from_gives = { λ _ e. e ≡ faults.NoMemory };
+
     fn from(_error: AllocFailed<T>) -> Self {
         Fault::NoMemory
     }

@@ -17,7 +17,6 @@ mod reading;
 mod runs;
 mod script;
 mod set_up;
-mod units;
 
 pub use cause::{Cause, Refusal};
 pub use command::{Action, Command, DcbName, Excp};

@@ -3,12 +3,13 @@
 
 ghost use Rattle.std.specs.Prelude.{◌≡◌, ◌<◌, ◌≤◌, All, IfOk, vec_len};
 ghost use Rattle.excp_system.specs.Opening.{AreBooks, AreFresh, site_of};
-ghost use Rattle.job_script.specs.Commands.{CanBeDone};
+ghost use Rattle.job_mount.specs.Requests.{CanBeDone};
 ghost use Rattle.job_run.specs.Complete.{IsComplete};
 
 mod not_awaited;
 
 use excp_system::{Gate, IscTaker, Point, Rows, Site, System};
+use job_mount::books;
 use job_run::{Lines, Output, ScriptTasks, ended, run_on, write};
 use job_script::{Fault, FaultName, Script};
 use not_awaited::NotAwaited;
@@ -363,7 +364,7 @@ fn rows_and_books(
     ensures fresh { IfOk result (λ made. AreFresh made.0) }
     ensures books { IfOk result (λ made. AreBooks (vec_len script.now.set_up.units) made.1.items) }
 {
-    let books = script.books(alloc, room)?;
+    let books = books(alloc, script, room)?;
     let units = script.set_up.units.len() as u16;
     let rows = Rows::new(alloc, script.set_up.tasks, units, room, room)?;
     Ok((rows, books))
@@ -390,7 +391,7 @@ fn run<R: Threads + Wait + Sync + AllocGlobal>(
     }
     let script = Script::parse(alloc, &text)?;
     // its requests can be made
-    script.books(alloc, room)?;
+    books(alloc, &script, room)?;
     if script.set_up.units.len() != mounted.set_up.units.len() {
         return Err(Fault::Unmatched);
     }

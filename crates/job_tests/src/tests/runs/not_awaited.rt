@@ -1,7 +1,7 @@
 //! Tasks that do their commands of a script and do not wait for their posts.
 
 ghost use Rattle.std.specs.Prelude.{◌≡◌, ℕ, All, vec_len};
-ghost use Rattle.job_script.specs.Commands.{CanBeDone};
+ghost use Rattle.job_mount.specs.Requests.{CanBeDone};
 
 use excp_system::{Site, System};
 use job_run::{Job, Lines};

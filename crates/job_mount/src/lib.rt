@@ -1,0 +1,13 @@
+//! The units of a script mounted, its DCBs opened, and its requests tried: exactly what the script says, or its first
+//! fault. All units are mounted first, then all DCBs are opened, then all requests are tried (profile).
+//!
+//! Tests: tests/cases/scripts/broken.posts, tests/mutants/job_mount.
+#![tactic(auto)]
+
+mod device;
+mod mounting;
+mod requests;
+
+pub use device::mounted;
+pub use mounting::books;
+pub use requests::{can_issue, request};
