@@ -1,6 +1,6 @@
 //! The history of a unit: the entries of its trace in words, each on a line with its number.
 
-ghost use Rattle.std.specs.Prelude.{◌<◌, length};
+ghost use Rattle.std.specs.Prelude.{◌≡◌, ◌<◌, IfErr, None, length};
 
 use crate::doom::Dooms;
 use crate::open_dcbs::OpenDcbs;
@@ -76,7 +76,9 @@ pub fn write_history<W: Write, D: Device>(
     book: &UnitBook<D>,
     faults: Option<&[DeviceFault]>,
     open: &mut OpenDcbs,
-) -> Result<(), Fault> {
+) -> Result<(), Fault>
+    ensures { faults ≡ None → IfErr result (λ fault. fault ≡ Fault.NotWritten) }
+{
     let steps = match faults {
         Some(faults) => Some(Steps::of(book, faults)?),
         None => None,
@@ -112,7 +114,9 @@ fn write_entries<W: Write, D: Device>(
     trace: &[Entry],
     steps: Option<Steps<'_, D>>,
     past: Past<'_>,
-) -> Result<(), Fault> {
+) -> Result<(), Fault>
+    ensures { steps ≡ None → IfErr result (λ fault. fault ≡ Fault.NotWritten) }
+{
     let mut past = past;
     let mut steps = steps;
     for place in 0..trace.len() {

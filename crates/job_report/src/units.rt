@@ -1,5 +1,7 @@
 //! The units of a run, one after another.
 
+ghost use Rattle.std.specs.Prelude.{◌≡◌, IfErr, false};
+
 use crate::history::write_history;
 use crate::medium::write_medium;
 use crate::open_dcbs::OpenDcbs;
@@ -17,7 +19,9 @@ pub fn write_units<W: Write>(
     books: &[UnitBook<UnitDevice>],
     steps: bool,
     open: &mut OpenDcbs,
-) -> Result<(), Fault> {
+) -> Result<(), Fault>
+    ensures { steps ≡ false → IfErr result (λ fault. fault ≡ Fault.NotWritten) }
+{
     for (number, (unit, book)) in set_up.units.iter().zip(books).enumerate() {
         let faults = steps.then_some(unit.faults.as_slice());
         write_history(out, number, book, faults, open)?;
