@@ -17,7 +17,7 @@ fault_at NoMemory line = faults.NoMemory
 -- every fault but that of a write leaves the writer as it was
 abbrev pub LeavesWriter : {W : Type 0} → Fault → W → W → Type 0
 LeavesWriter faults.NotWritten old new = Unit {0}
-LeavesWriter (faults.Line line n) old new = new ≡ old
+LeavesWriter (faults.Line _ _) old new = new ≡ old
 LeavesWriter faults.TooLong old new = new ≡ old
 LeavesWriter faults.Unreadable old new = new ≡ old
 LeavesWriter faults.Unmatched old new = new ≡ old

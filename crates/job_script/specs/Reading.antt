@@ -23,7 +23,7 @@ abbrev pub ReadFault : ℕ → Option (List ℕ) → Option (List ℕ) → Fault
 ReadFault n old new faults.TooLong = ReadsMore n old new
 ReadFault n old new faults.Unreadable = ReadsAtMost n old new
 ReadFault n old new faults.NoMemory = Unit {0}
-ReadFault n old new (faults.Line line n) = ⊥
+ReadFault n old new (faults.Line _ _) = ⊥
 ReadFault n old new faults.NotWritten = ⊥
 ReadFault n old new faults.Unmatched = ⊥
 ReadFault n old new faults.NoThread = ⊥
