@@ -77,7 +77,7 @@ pub fn write_history<W: Write, D: Device>(
     faults: Option<&[DeviceFault]>,
     open: &mut OpenDcbs,
 ) -> Result<(), Fault>
-    ensures { faults ≡ None → IfErr result (λ fault. fault ≡ Fault.NotWritten) }
+    ensures { faults.entry ≡ None → IfErr result (λ fault. fault ≡ Fault.NotWritten) }
 {
     let steps = match faults {
         Some(faults) => Some(Steps::of(book, faults)?),
@@ -115,7 +115,7 @@ fn write_entries<W: Write, D: Device>(
     steps: Option<Steps<'_, D>>,
     past: Past<'_>,
 ) -> Result<(), Fault>
-    ensures { steps ≡ None → IfErr result (λ fault. fault ≡ Fault.NotWritten) }
+    ensures { steps.entry ≡ None → IfErr result (λ fault. fault ≡ Fault.NotWritten) }
 {
     let mut past = past;
     let mut steps = steps;

@@ -39,7 +39,7 @@ pub fn write<W: Write>(
     writer: &mut W,
 ) -> Result<(), Fault>
     requires { All IsComplete lines.now }
-    ensures { has_steps output ≡ false → IfErr result (λ fault. LeavesWriter fault writer.old writer.new) }
+    ensures { has_steps output.entry ≡ false → IfErr result (λ fault. LeavesWriter fault writer.old writer.new) }
 {
     match output {
         Output::Posts => write_posts(alloc, lines, writer),
