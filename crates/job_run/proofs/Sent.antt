@@ -1,6 +1,6 @@
 -- What the commands of a script send, from one place of a task's commands to the next.
-use Rattle.std.proofs.Common.{◌≡◌, ◌+◌, ◌==◌, ℕ, Bool, true, false, List, [], ◌∷◌, ◌++◌, length, get_or, cond, refl, sym, subst, ap, ◌∙◌, arith, append_assoc, length-append}
-use Rattle.std.proofs.lemmas.List.{append-nil}
+use Rattle.std.proofs.Common.{◌≡◌, ◌<◌, ◌≤◌, ◌+◌, suc, drop, drop-cons, Result, Ok, Err, OnOk, OnErr, IfErr, ◌==◌, ℕ, Bool, true, false, List, [], ◌∷◌, ◌++◌, length, get_or, cond, refl, sym, subst, ap, ◌∙◌, arith, append_assoc, length-append}
+use Rattle.std.proofs.lemmas.List.{append-nil, drop_all}
 use Rattle.std.proofs.Math.Seq.{get_or-append_seam}
 use Rattle.std.proofs.lemmas.Bool.{eq-eqb, eqb-true}
 use Rattle.request_piece.specs.declared.piece.Piece.{Piece}
@@ -113,7 +113,8 @@ next task commands old place places sent command r at =
     let before = r.before ++ n.before in
     let whole : commands ≡ before ++ n.command ∷ n.others = r.split ∙ ap (λ l. r.before ++ l) n.split ∙ sym (append_assoc r.before n.before (n.command ∷ n.others)) in
     let place_is : place ≡ length before = n.place_is ∙ sym (length-append r.before n.before) in
-    let same : command ≡ n.command = at ∙ rw (whole, place_is) (get_or-append_seam before n.command n.others command) in
+    let same : command ≡ n.command = at ∙ ap (λ (l : List Command). get_or l place command) whole
+        ∙ ap (λ (k : ℕ). get_or (before ++ n.command ∷ n.others) k command) place_is ∙ get_or-append_seam before n.command n.others command in
     record {
       before = before;
       others = n.others;
@@ -122,6 +123,19 @@ next task commands old place places sent command r at =
       left = n.left ∙ ap (λ k. places_from task (k + 1) n.others) place_is;
       sent_is = sym n.silent ∙ ap (sends_all task n.before) r.sent_is ∙ sym (sends_all-append task r.before n.before old);
     }
+
+-- the command at the place with this number among those of the task
+pub at_place : (task number : ℕ) (commands : List Command) (old sent : List (List Piece)) (places : List ℕ) (i : ℕ) (command : Command)
+    → places ≡ places_of number commands → number ≡ task → i < length places → Reached task commands old (drop i (places_of task commands)) sent
+    → command ≡ get_or commands (get_or places i 0) command → IsNext task commands old command (drop (i + 1) (places_of task commands)) sent
+at_place task number commands old sent places i command value same within reached at =
+    let all = places_of task commands in
+    let is : places ≡ all = value ∙ ap (λ (n : ℕ). places_of n commands) same in
+    let inside : i < length all = subst (λ (l : List ℕ). i < length l) is within in
+    let here : command ≡ get_or commands (get_or all i 0) command = at ∙ ap (λ (l : List ℕ). get_or commands (get_or l i 0) command) is in
+    let plus : suc i ≡ i + 1 = omega arith in
+    let step : drop i all ≡ get_or all i 0 ∷ drop (i + 1) all = drop-cons all i 0 inside ∙ ap (λ (k : ℕ). get_or all i 0 ∷ drop k all) plus in
+    next task commands old (get_or all i 0) (drop (i + 1) all) sent command (subst (λ (l : List ℕ). Reached task commands old l sent) step reached) here
 
 -- the command is done
 pub goes_on : (task : ℕ) (commands : List Command) (old : List (List Piece)) (command : Command) (places : List ℕ) (sent new : List (List Piece))
@@ -153,19 +167,30 @@ stops task commands old command places sent new cause fault n unsent fails named
 }
 
 -- no place is left
-pub ends : (task : ℕ) (commands : List Command) (old : List (List Piece)) (sent : List (List Piece)) → Reached task commands old [] sent
-    → sent ≡ sends_all task commands old
-ends task commands old sent r =
+none_left : (task : ℕ) (commands : List Command) (old sent : List (List Piece)) → Reached task commands old [] sent → sent ≡ sends_all task commands old
+none_left task commands old sent r =
     rw r.split (sym (sends_all-append task r.before r.others old ∙ idle task (length r.before) r.others (sends_all task r.before old) (sym r.left) ∙ sym r.sent_is))
+
+pub ends : (task number : ℕ) (commands : List Command) (old sent : List (List Piece)) (places : List ℕ) (i : ℕ) → places ≡ places_of number commands
+    → number ≡ task → length places ≤ i → Reached task commands old (drop i (places_of task commands)) sent → sent ≡ sends_all task commands old
+ends task number commands old sent places i value same past reached =
+    let all = places_of task commands in
+    let is : places ≡ all = value ∙ ap (λ (n : ℕ). places_of n commands) same in
+    let over : length all ≤ i = subst (λ (l : List ℕ). length l ≤ i) is past in
+    none_left task commands old sent (subst (λ (l : List ℕ). Reached task commands old l sent) (drop_all i all over) reached)
 
 -- a task that stops has sent what the commands before send; so has one that does none, or all
 pub sends_none : (task : ℕ) (commands : List Command) (sent : List (List Piece)) → SendsFirst task commands sent sent
 unfolding sends_all
 sends_none task commands sent = record { before = []; others = commands; split = refl; sent = refl }
 
-pub sends_some : (task : ℕ) (commands : List Command) (old new : List (List Piece)) (fault : Fault) → StopsAt task commands old new fault
-    → SendsFirst task commands old new
-sends_some task commands old new fault s = record { before = s.before; others = s.command ∷ s.others; split = s.split; sent = s.sent }
+pub sends_some : (task : ℕ) (commands : List Command) (old new : List (List Piece)) (done : Result (Unit {0}) Fault)
+    → OnOk done (new ≡ sends_all task commands old) → IfErr done (StopsAt task commands old new) → SendsFirst task commands old new
+sends_some task commands old new (Ok x) all stopped = record { before = commands; others = []; split = sym (append-nil commands); sent = all }
+sends_some task commands old new (Err fault) all stopped =
+    record { before = stopped.before; others = stopped.command ∷ stopped.others; split = stopped.split; sent = stopped.sent }
 
-pub sends_whole : (task : ℕ) (commands : List Command) (old new : List (List Piece)) → new ≡ sends_all task commands old → SendsFirst task commands old new
-sends_whole task commands old new e = record { before = commands; others = []; split = sym (append-nil commands); sent = e }
+-- what holds anyhow holds of an error
+pub on_err : {A E : Type 0} (r : Result A E) (P : Type 0) → P → OnErr r P
+on_err (Ok x) P p = tt
+on_err (Err e) P p = p

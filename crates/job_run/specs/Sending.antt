@@ -2,6 +2,7 @@
 use Rattle.std.specs.Prelude.{◌≡◌, ◌≤◌, ◌+◌, ◌-◌, ◌^◌, ◌==◌, ℕ, List, [], ◌∷◌, ◌++◌, length, slice_index_or, slice_set, if◌then◌else◌}
 use Rattle.std.specs.Arc.{arc_value}
 use Rattle.request_piece.specs.Requests.{request_of}
+use Rattle.request_piece.specs.declared.piece.Name.{Name}
 use Rattle.request_piece.specs.declared.piece.Piece.{Piece}
 use Rattle.job_script.specs.declared.command.Action.{Action}
 use Rattle.job_script.specs.declared.command.Action.TheVariants.{Excp, Purge, PurgeTask, Close, Reset, Wait}
@@ -16,7 +17,7 @@ use Rattle.job_run.specs.Faults.{fault_at}
 abbrev pub sends_excp : ℕ → OneExcp → List (List Piece) → List (List Piece)
 sends_excp task e sent =
     let before = slice_index_or sent e.dcb.unit [] in
-    let name = record { task = task; seq = length before + 1 } in
+    let name : Name = record { task = task; seq = length before + 1 } in
     slice_set sent e.dcb.unit (before ++ request_of name e.dcb.unit e.dcb.number e.iob (arc_value e.area) ∷ [])
 
 -- no other command sends a request
