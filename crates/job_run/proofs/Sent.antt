@@ -114,7 +114,7 @@ next task commands old place places sent command r at =
     let whole : commands ≡ before ++ n.command ∷ n.others = r.split ∙ ap (λ l. r.before ++ l) n.split ∙ sym (append_assoc r.before n.before (n.command ∷ n.others)) in
     let place_is : place ≡ length before = n.place_is ∙ sym (length-append r.before n.before) in
     let same : command ≡ n.command = at ∙ ap (λ (l : List Command). get_or l place command) whole
-        ∙ ap (λ (k : ℕ). get_or (before ++ n.command ∷ n.others) k command) place_is ∙ get_or-append_seam before n.command n.others command in
+    ∙ ap (λ (k : ℕ). get_or (before ++ n.command ∷ n.others) k command) place_is ∙ get_or-append_seam before n.command n.others command in
     record {
       before = before;
       others = n.others;

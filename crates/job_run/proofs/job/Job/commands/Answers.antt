@@ -32,7 +32,7 @@ loop-place-preserved g c =
     let number = c.loop-place.invariant.number in
     let done = rw c.in_default.is at c.command.ensures.sent in
     let n = at_place task c.number.result commands old sent c.places_of-place-items.result.now i command c.places_of-place-items.ensures.value c.number.ensures
-        c.loop-place-test.true c.loop-place.invariant.reached c.index-command.ensures in
+    c.loop-place-test.true c.loop-place.invariant.reached c.index-command.ensures in
     record {
       number = c.command.ensures.number ∙ number;
       reached = goes_on task commands old command (drop (i + 1) (places_of task commands)) sent c.command.new.client.sent n
@@ -57,7 +57,7 @@ returns-in-Err g c =
     let sent = c.loop-place.client.sent in
     let command = c.index-command.result.now in
     let n = at_place task c.number.result commands old sent c.places_of-place-items.result.now i command c.places_of-place-items.ensures.value c.number.ensures
-        c.loop-place-test.true c.loop-place.invariant.reached c.index-command.ensures in
+    c.loop-place-test.true c.loop-place.invariant.reached c.index-command.ensures in
     record {
       number = c.command.ensures.number ∙ c.loop-place.invariant.number;
       sent = tt;
