@@ -111,7 +111,7 @@ fn run<R: Threads + Wait + Sync, I: Read>(
     input: &mut I,
     counts: Counts,
 ) -> Result<u8, Fault> {
-    run_script(threads, rt.alloc(), input, rt.stdout(), workers(counts))?;
+    run_script(threads, rt.alloc(), input, &mut rt.stdout(), workers(counts))?;
     Ok(0)
 }
 
@@ -124,8 +124,8 @@ fn report<R: Threads + Wait + Sync, I: Read>(
     steps: bool,
     is_broken: &Cell<bool>,
 ) -> Result<u8, Fault> {
-    let screen = Screen::new(rt.stdout(), takes_colour(rt, rt.stdout()), is_broken);
-    report_script(threads, rt.alloc(), input, screen, workers(counts), steps)?;
+    let mut screen = Screen::new(rt.stdout(), takes_colour(rt, rt.stdout()), is_broken);
+    report_script(threads, rt.alloc(), input, &mut screen, workers(counts), steps)?;
     Ok(0)
 }
 

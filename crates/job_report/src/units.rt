@@ -1,5 +1,7 @@
 //! The units of a run, one after another.
 
+ghost use Rattle.std.specs.Prelude.{◌≡◌, IfErr, false};
+
 use crate::medium::write_medium;
 use job_script::{Fault, SetUp};
 use std::io::Write;
@@ -16,7 +18,9 @@ pub fn write_units<W: Write>(
     books: &[UnitBook<UnitDevice>],
     steps: bool,
     open: &mut OpenDcbs,
-) -> Result<(), Fault> {
+) -> Result<(), Fault>
+    ensures { steps ≡ false → IfErr result (λ fault. fault ≡ Fault.NotWritten) }
+{
     for (number, (unit, book)) in set_up.units.iter().zip(books).enumerate() {
         let faults = steps.then_some(unit.faults.as_slice());
         match write_history(out, number, book, faults, open) {

@@ -1,9 +1,10 @@
 //! The run of a script: its tasks on threads of their own, beside channel workers and interruption handlers.
 
-ghost use Rattle.std.specs.Prelude.{◌≡◌, ◌≤◌, ◌<◌, ◌+◌, All, IfOk, length, vec_len};
+ghost use Rattle.std.specs.Prelude.{◌≡◌, ◌≤◌, ◌<◌, ◌+◌, All, IfErr, IfOk, false, length, vec_len};
 ghost use Rattle.job_script.specs.Commands.{CanBeDone};
 ghost use Rattle.job_script.specs.Reading.{ReadsAtMost};
 ghost use Rattle.job_run.specs.Complete.{IsComplete};
+ghost use Rattle.job_run.specs.Faults.{LeavesWriter};
 ghost use Rattle.excp_system.specs.Opening.{AreBooks, AreFresh};
 ghost use Rattle.post_ledger.specs.Report.{IsFor};
 ghost use Rattle.post_ledger.specs.Work.{lists_of};
@@ -32,15 +33,17 @@ pub struct Finished {
 }
 
 /// Reads a script, at most 1,048,576 bytes and one more, runs its tasks beside so many channel workers and interruption
-/// handlers, and writes what its requests were posted with, or tells why not.
-pub fn run_script<R: Threads + Wait + Sync, I: Read, W: Write + Drop>(
+/// handlers, and writes what its requests were posted with, or returns why not. It writes only after the run, so every
+/// fault but that of a write leaves the writer as it was.
+pub fn run_script<R: Threads + Wait + Sync, I: Read, W: Write>(
     rt: &R,
     alloc: Global,
     reader: &mut I,
-    writer: W,
+    writer: &mut W,
     workers: Workers,
 ) -> Result<(), Fault>
-    ensures { ReadsAtMost (LIMIT + 1) (I.remaining reader.old) (I.remaining reader.new) }
+    ensures bounded { ReadsAtMost (LIMIT + 1) (I.remaining reader.old) (I.remaining reader.new) }
+    ensures unwritten { IfErr result (λ fault. LeavesWriter fault writer.old writer.new) }
 {
     match read_and_run(rt, alloc, reader, workers) {
         Ok((_, run)) => write(alloc, &run.lines, Output::Posts, writer),
@@ -50,17 +53,18 @@ pub fn run_script<R: Threads + Wait + Sync, I: Read, W: Write + Drop>(
     }
 }
 
-/// Does so, and writes behind that, for each unit, its history, with `steps` every command of it too, and its medium:
-/// all of that is again text of a script, comments and set-up lines.
-pub fn report_script<R: Threads + Wait + Sync, I: Read, W: Write + Drop>(
+/// Does so, and then writes of each unit its history, with `steps` every command of it too, and its medium: all of that is
+/// again text of a script, comments and set-up lines. With `steps`, memory may run out after a part was written.
+pub fn report_script<R: Threads + Wait + Sync, I: Read, W: Write>(
     rt: &R,
     alloc: Global,
     reader: &mut I,
-    writer: W,
+    writer: &mut W,
     workers: Workers,
     steps: bool,
 ) -> Result<(), Fault>
-    ensures { ReadsAtMost (LIMIT + 1) (I.remaining reader.old) (I.remaining reader.new) }
+    ensures bounded { ReadsAtMost (LIMIT + 1) (I.remaining reader.old) (I.remaining reader.new) }
+    ensures unwritten { steps ≡ false → IfErr result (λ fault. LeavesWriter fault writer.old writer.new) }
 {
     let (script, run) = read_and_run(rt, alloc, reader, workers)?;
     let output = Output::Report {

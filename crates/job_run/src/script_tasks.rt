@@ -43,11 +43,6 @@ impl<'a> Program<UnitDevice> for ScriptTasks<'a> {
         alarm: &Alarm,
         client: &mut Client<'_, S>,
     ) -> Result<Lines, Fault> {
-        let mut lines = Lines::of_task(alloc, self.script, client.number())?;
-        let job = Job::new(self.script, system, alarm);
-        let done = job.commands(rt, alloc, client, &mut lines);
-        job.collect(rt, client, &mut lines)?;
-        done?;
-        Ok(lines)
+        Job::new(self.script, system, alarm).task(rt, alloc, client)
     }
 }

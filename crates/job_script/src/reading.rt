@@ -1,8 +1,7 @@
 //! How a script is read.
 
-ghost use Rattle.std.specs.Prelude.{◌≡◌, ◌<◌, ◌+◌, ℕ, List, IfOk, length};
-ghost use Rattle.std.specs.Io.KnownBytes.{Consumes};
-ghost use Rattle.job_script.specs.Reading.{ReadsAtMost, ReadsAll};
+ghost use Rattle.std.specs.Prelude.{◌+◌, IfErr, IfOk};
+ghost use Rattle.job_script.specs.Reading.{ReadFault, ReadsAll, ReadsAtMost};
 
 use crate::fault::Fault;
 use std::alloc::Global;
@@ -15,7 +14,7 @@ pub const LIMIT: usize = 1_048_576;
 pub fn read_script<R: Read>(alloc: Global, reader: &mut R) -> Result<Vec<u8>, Fault>
     ensures bounded { ReadsAtMost (LIMIT + 1) (R.remaining reader.old) (R.remaining reader.new) }
     ensures whole { IfOk result (λ text. ReadsAll LIMIT (R.remaining reader.old) (R.remaining reader.new) text.items) }
-    ensures long { (result ≡ Err Fault.TooLong) → (bytes : List ℕ) × Consumes (R.remaining reader.old) (R.remaining reader.new) bytes × (LIMIT < length bytes) }
+    ensures fault { IfErr result (ReadFault LIMIT (R.remaining reader.old) (R.remaining reader.new)) }
 {
     let mut text = Vec::new(alloc);
     let mut buffer = [0; 8192];

@@ -52,9 +52,9 @@ impl Write for Full {
 fn output_is_not_written(rt: HostRuntime) {
     let text = "tasks 1\ndisk 0 0 1 1 40\n".as_bytes();
     let mut reader = text;
-    let done = run_script(&rt, rt.alloc(), &mut reader, Full, ONE_OF_EACH);
+    let done = run_script(&rt, rt.alloc(), &mut reader, &mut Full, ONE_OF_EACH);
     assert_eq!(rt; done, Err(Fault::NotWritten));
     let mut reader = text;
-    let done = report_script(&rt, rt.alloc(), &mut reader, Full, ONE_OF_EACH, false);
+    let done = report_script(&rt, rt.alloc(), &mut reader, &mut Full, ONE_OF_EACH, false);
     assert_eq!(rt; done, Err(Fault::NotWritten));
 }
