@@ -10,8 +10,8 @@ use crate::programs::{Issued, note_requests};
 use crate::requests::refused;
 use crate::telling::{Found, Source, write_findings};
 use job_script::{
-    Action, Cause, Command, DcbName, ExcpLine, Fault, FaultName, LIMIT, Line, Refusal, SetUp, late,
-    read_script,
+    Action, Cause, Command, DcbName, ExcpLine, FaultName, JobError, LIMIT, Line, Refusal, SetUp,
+    late, read_script,
 };
 use script_words::{Words, next_word};
 use std::alloc::{AllocError, Global};
@@ -28,7 +28,7 @@ pub fn check_script<R: Read, W: Write + Drop>(
     reader: &mut R,
     source: Source<'_>,
     writer: W,
-) -> Result<bool, Fault>
+) -> Result<bool, JobError>
     ensures { ReadsAtMost (LIMIT + 1) (R.remaining reader.old) (R.remaining reader.new) }
 {
     let text = read_script(alloc, reader)?;

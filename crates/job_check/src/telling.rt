@@ -1,6 +1,6 @@
 //! How findings are written: a line for each, which begins with its place.
 
-use job_script::Fault;
+use job_script::JobError;
 use std::alloc::Global;
 use std::io::{BufWriter, Write};
 use std::{fmt, io};
@@ -36,13 +36,13 @@ pub fn write_findings<F: Found, W: Write + Drop>(
     source: Source<'_>,
     findings: &[F],
     writer: W,
-) -> Result<(), Fault> {
+) -> Result<(), JobError> {
     let Ok(mut out) = BufWriter::new(alloc, writer) else {
-        return Err(Fault::NoMemory);
+        return Err(JobError::NoMemory);
     };
     match write_all(&mut out, source, findings) {
         Ok(()) => Ok(()),
-        Err(_) => Err(Fault::NotWritten),
+        Err(_) => Err(JobError::NotWritten),
     }
 }
 

@@ -11,8 +11,8 @@ use Rattle.unit_book.specs.Book.{Book, opening}
 use Rattle.unit_book.specs.Dcbs.{opened_count}
 use Rattle.unit_device.specs.declared.device.UnitDevice.{UnitDevice}
 use Rattle.unit_device.specs.Devices.{unit_device}
-use Rattle.job_script.specs.declared.fault.Fault.{Fault}
-use Rattle.job_script.specs.declared.fault.Fault.TheVariants as faults
+use Rattle.job_script.specs.declared.fault.JobError.{JobError}
+use Rattle.job_script.specs.declared.fault.JobError.TheVariants as faults
 use Rattle.job_script.specs.declared.fault.FaultName.TheVariants as names
 use Rattle.job_script.specs.declared.command.Command.{Command}
 use Rattle.job_script.specs.declared.set_up.Opening.{Opening}
@@ -159,7 +159,7 @@ unit_at_fault capacity found books units k unit mounted line whole within is (de
     sym next ∙ ap (after capacity found (map known books)) (sym left) ∙ so_far
 
 -- a unit cannot be mounted
-pub unit_refused : (capacity : ℕ) (found : Option ℕ) (books : Books) (units : List UnitSetup) (k : ℕ) (unit : UnitSetup) (fault : Fault)
+pub unit_refused : (capacity : ℕ) (found : Option ℕ) (books : Books) (units : List UnitSetup) (k : ℕ) (unit : UnitSetup) (fault : JobError)
     (whole : Result Books FaultAt) → k < length units → unit ≡ get_or units k unit → MountsBook capacity (unit_said unit) (Err fault)
     → after capacity found (map known books) (map unit_said (drop k units)) ≡ whole → Gives all_known (Err fault) whole
 unit_refused capacity found books units k unit (faults.Line line name) whole within is refused so_far =

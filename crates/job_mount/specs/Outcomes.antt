@@ -6,8 +6,8 @@ use Rattle.device_port.specs.declared.device.MountError.{MountError}
 use Rattle.device_port.specs.declared.device.MountError.TheVariants.{BadGeometry, BadMedium, NoMemory}
 use Rattle.unit_book.specs.Book.{Book, opening}
 use Rattle.unit_device.specs.declared.device.UnitDevice.{UnitDevice}
-use Rattle.job_script.specs.declared.fault.Fault.{Fault}
-use Rattle.job_script.specs.declared.fault.Fault.TheVariants as faults
+use Rattle.job_script.specs.declared.fault.JobError.{JobError}
+use Rattle.job_script.specs.declared.fault.JobError.TheVariants as faults
 use Rattle.job_script.specs.declared.fault.FaultName.{FaultName}
 use Rattle.job_script.specs.declared.fault.FaultName.TheVariants as names
 use Rattle.job_script.specs.Grammar.{FaultAt}
@@ -32,7 +32,7 @@ Mounts read (Err BadMedium) = read ≡ Err names.Medium
 Mounts read (Err NoMemory) = Unit {0}
 
 -- a call ended with the fault that was to be read, out of memory apart
-abbrev pub Refuses : {X : Type 0} → Result X FaultAt → Fault → Type 0
+abbrev pub Refuses : {X : Type 0} → Result X FaultAt → JobError → Type 0
 Refuses read (faults.Line line name) = read ≡ Err (record { line = line; name = name })
 Refuses read faults.NoMemory = Unit {0}
 Refuses read faults.TooLong = ⊥
@@ -42,7 +42,7 @@ Refuses read faults.Unmatched = ⊥
 Refuses read faults.NoThread = ⊥
 
 -- a call made the book of a unit, without a DCB, or found that the unit cannot be mounted
-abbrev pub MountsBook : ℕ → UnitSaid → Result (Book UnitDevice) Fault → Type 0
+abbrev pub MountsBook : ℕ → UnitSaid → Result (Book UnitDevice) JobError → Type 0
 MountsBook capacity unit (Ok book) = (device_of unit ≡ Ok book.mounted) × (known book ≡ opening book.mounted unit.isc capacity)
 MountsBook capacity unit (Err fault) = Refuses (at unit.line (device_of unit)) fault
 
@@ -53,6 +53,6 @@ Opens old openings (Ok (Some line)) new = open_all (known old) openings ≡ Err 
 Opens old openings (Err e) new = Unit {0}
 
 -- a call found that each request can be made, or the first that cannot
-abbrev pub Tries : Result (Unit {0}) Fault → Result (Unit {0}) FaultAt → Type 0
+abbrev pub Tries : Result (Unit {0}) JobError → Result (Unit {0}) FaultAt → Type 0
 Tries (Ok x) read = read ≡ Ok tt
 Tries (Err fault) read = Refuses read fault

@@ -12,7 +12,7 @@ ghost use Rattle.job_script.specs.Views.{command_said, opening_said, said, unit_
 use crate::device::mounted;
 use crate::requests::can_be_done;
 use device_port::MountError;
-use job_script::{Command, Fault, FaultName, Opening, Script, UnitSetup};
+use job_script::{Command, FaultName, JobError, Opening, Script, UnitSetup};
 use std::alloc::{AllocError, Global};
 use unit_book::{OpenError, UnitBook};
 use unit_device::UnitDevice;
@@ -25,7 +25,7 @@ pub fn books(
     alloc: Global,
     script: &Script,
     capacity: usize,
-) -> Result<Vec<UnitBook<UnitDevice>>, Fault>
+) -> Result<Vec<UnitBook<UnitDevice>>, JobError>
     requires some { 1 ≤ capacity }
     requires few { capacity ≤ 65536 }
     ensures exact { Gives all_known result (books_of capacity (said script.now)) }
@@ -44,7 +44,7 @@ fn opened_books(
     alloc: Global,
     units: &[UnitSetup],
     capacity: usize,
-) -> Result<Vec<UnitBook<UnitDevice>>, Fault>
+) -> Result<Vec<UnitBook<UnitDevice>>, JobError>
     requires some { 1 ≤ capacity }
     requires few { capacity ≤ 65536 }
     ensures exact { Gives all_known result (units_with capacity (map unit_said units.now)) }
@@ -63,7 +63,7 @@ fn opened_books(
     }
     match first {
         None => Ok(books),
-        Some(line) => Err(Fault::Line {
+        Some(line) => Err(JobError::Line {
             line,
             name: FaultName::Extent,
         }),
@@ -75,7 +75,7 @@ fn mounted_book(
     alloc: Global,
     unit: &UnitSetup,
     capacity: usize,
-) -> Result<UnitBook<UnitDevice>, Fault>
+) -> Result<UnitBook<UnitDevice>, JobError>
     requires some { 1 ≤ capacity }
     requires few { capacity ≤ 65536 }
     ensures exact { MountsBook capacity (unit_said unit.now) result }
@@ -84,8 +84,8 @@ fn mounted_book(
 {
     match mounted(alloc, unit) {
         Ok(device) => Ok(UnitBook::new(alloc, device, unit.isc, capacity)?),
-        Err(MountError::NoMemory) => Err(Fault::NoMemory),
-        Err(_) => Err(Fault::Line {
+        Err(MountError::NoMemory) => Err(JobError::NoMemory),
+        Err(_) => Err(JobError::Line {
             line: unit.line,
             name: FaultName::Medium,
         }),
@@ -123,13 +123,13 @@ fn earlier(found: Option<usize>, line: usize) -> usize
 }
 
 /// Tries each request in the order of their lines.
-fn try_requests(commands: &[Command]) -> Result<(), Fault>
+fn try_requests(commands: &[Command]) -> Result<(), JobError>
     ensures exact { Tries result (tried (map command_said commands.now)) }
     ensures each { OnOk result (All CanBeDone commands.now) }
 {
     for command in commands {
         if !can_be_done(command) {
-            return Err(Fault::Line {
+            return Err(JobError::Line {
                 line: command.line,
                 name: FaultName::Request,
             });

@@ -5,7 +5,7 @@ use Rattle.std.proofs.Math.Seq.{get_or-append_seam}
 use Rattle.std.proofs.lemmas.Bool.{eq-eqb, eqb-true}
 use Rattle.request_piece.specs.declared.piece.Piece.{Piece}
 use Rattle.job_script.specs.declared.command.Command.{Command}
-use Rattle.job_script.specs.declared.fault.Fault.{Fault}
+use Rattle.job_script.specs.declared.fault.JobError.{JobError}
 use Rattle.job_script.specs.Tasks.{places_from, places_of}
 use Rattle.job_run.specs.Faults.{fault_at}
 use Rattle.job_run.specs.Sending.{Fails, SendsFirst, StopsAt, sends, sends_all}
@@ -151,7 +151,7 @@ goes_on task commands old command places sent new n does =
     }
 
 -- the command fails
-pub stops : (task : ℕ) (commands : List Command) (old : List (List Piece)) (command : Command) (places : List ℕ) (sent new : List (List Piece)) (cause : CommandFault) (fault : Fault)
+pub stops : (task : ℕ) (commands : List Command) (old : List (List Piece)) (command : Command) (places : List ℕ) (sent new : List (List Piece)) (cause : CommandFault) (fault : JobError)
     → IsNext task commands old command places sent → new ≡ sent → Fails command.action sent cause → fault ≡ fault_at cause command.line
     → StopsAt task commands old new fault
 stops task commands old command places sent new cause fault n unsent fails named = record {
@@ -184,7 +184,7 @@ pub sends_none : (task : ℕ) (commands : List Command) (sent : List (List Piece
 unfolding sends_all
 sends_none task commands sent = record { before = []; others = commands; split = refl; sent = refl }
 
-pub sends_some : (task : ℕ) (commands : List Command) (old new : List (List Piece)) (done : Result (Unit {0}) Fault)
+pub sends_some : (task : ℕ) (commands : List Command) (old new : List (List Piece)) (done : Result (Unit {0}) JobError)
     → OnOk done (new ≡ sends_all task commands old) → IfErr done (StopsAt task commands old new) → SendsFirst task commands old new
 sends_some task commands old new (Ok x) all stopped = record { before = commands; others = []; split = sym (append-nil commands); sent = all }
 sends_some task commands old new (Err fault) all stopped =

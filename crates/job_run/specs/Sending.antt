@@ -8,7 +8,7 @@ use Rattle.job_script.specs.declared.command.Action.{Action}
 use Rattle.job_script.specs.declared.command.Action.TheVariants.{Excp, Purge, PurgeTask, Close, Reset, Wait}
 use Rattle.job_script.specs.declared.command.Command.{Command}
 use Rattle.job_script.specs.declared.command.Excp.{Excp as OneExcp}
-use Rattle.job_script.specs.declared.fault.Fault.{Fault}
+use Rattle.job_script.specs.declared.fault.JobError.{JobError}
 use Rattle.job_run.specs.declared.command_fault.CommandFault.{CommandFault}
 use Rattle.job_run.specs.declared.command_fault.CommandFault.TheVariants.{NoNumber, NotOpen, NoMemory}
 use Rattle.job_run.specs.Faults.{fault_at}
@@ -58,7 +58,7 @@ Fails Wait sent fault = fault ≡ NoMemory
 
 -- a task stops at one of its commands, which fails: it has sent what the commands before send, and the fault names the
 -- command's line
-pub record StopsAt (task : ℕ) (commands : List Command) (old new : List (List Piece)) (fault : Fault) : Type 0 where
+pub record StopsAt (task : ℕ) (commands : List Command) (old new : List (List Piece)) (fault : JobError) : Type 0 where
   pub before : List Command
   pub command : Command
   pub others : List Command

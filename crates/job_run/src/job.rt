@@ -1,7 +1,8 @@
 //! What one task does of a script.
 
 ghost use Rattle.std.specs.Prelude.{◌≡◌, ◌<◌, All, IfErr, OnErr, OnOk, vec_len};
-ghost use Rattle.job_script.specs.Commands.{CanBeDone, CanIssue, NamesUnits};
+ghost use Rattle.job_mount.specs.Requests.{CanBeDone, CanIssue};
+ghost use Rattle.job_script.specs.Commands.{NamesUnits};
 ghost use Rattle.job_run.specs.Sending.{ExcpFails, Fails, SendsFirst, StopsAt, sends, sends_all, sends_excp};
 
 use crate::command_fault::CommandFault;
@@ -10,7 +11,7 @@ use crate::unit_calls::{close, purge, purge_task, reset};
 use crossbeam_utils::Backoff;
 use excp_system::{Site, System};
 use fifo_row::Full;
-use job_script::{Action, Command, Excp, Fault, Script};
+use job_script::{Action, Command, Excp, JobError, Script};
 use std::alloc::{AllocError, Global};
 use std::sync::Wait;
 use system_threads::{Alarm, Client};
@@ -54,7 +55,7 @@ impl<'a, 'r, S: Site> Job<'a, 'r, S> {
         rt: &R,
         alloc: Global,
         client: &mut Client<'_, S>,
-    ) -> Result<Lines, Fault>
+    ) -> Result<Lines, JobError>
         ensures number { client.new.number ≡ client.old.number }
         ensures sent { OnOk result (client.new.sent ≡ sends_all client.old.number self.now.script.now.commands.items client.old.sent) }
         ensures stopped { OnErr result (SendsFirst client.old.number self.now.script.now.commands.items client.old.sent client.new.sent) }
@@ -74,7 +75,7 @@ impl<'a, 'r, S: Site> Job<'a, 'r, S> {
         alloc: Global,
         client: &mut Client<'_, S>,
         lines: &mut Lines,
-    ) -> Result<(), Fault>
+    ) -> Result<(), JobError>
         ensures number { client.new.number ≡ client.old.number }
         ensures sent { OnOk result (client.new.sent ≡ sends_all client.old.number self.now.script.now.commands.items client.old.sent) }
         ensures stopped { IfErr result (StopsAt client.old.number self.now.script.now.commands.items client.old.sent client.new.sent) }
@@ -135,7 +136,7 @@ impl<'a, 'r, S: Site> Job<'a, 'r, S> {
         let Some(name) = client.name(excp.dcb.unit) else {
             return Err(CommandFault::NoNumber);
         };
-        let mut request = excp.request(alloc, name)?;
+        let mut request = request(alloc, excp, name)?;
         let idle = Backoff::new();
         for _ in rt.forever() {
             if client.awaited() < MOST_UNDER_WAY {

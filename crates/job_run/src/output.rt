@@ -9,7 +9,7 @@ use crate::late_writer::LateWriter;
 use crate::lines::{End, Line, Lines};
 use digits::{put_decimal, put_digits, write_bytes};
 use job_report::write_units;
-use job_script::{Fault, SetUp};
+use job_script::{JobError, SetUp};
 use std::alloc::Global;
 use std::io;
 use std::io::{BufWriter, Write};
@@ -39,7 +39,7 @@ pub fn write<W: Write>(
     lines: &[Lines],
     output: Output<'_>,
     writer: &mut W,
-) -> Result<(), Fault>
+) -> Result<(), JobError>
     requires { All IsComplete lines.now }
     ensures { has_steps output.entry ≡ false → IfErr result (λ fault. LeavesWriter fault writer.old writer.new) }
 {
@@ -54,16 +54,16 @@ pub fn write<W: Write>(
 }
 
 /// Writes the posts alone.
-fn write_posts<W: Write>(alloc: Global, lines: &[Lines], writer: &mut W) -> Result<(), Fault>
+fn write_posts<W: Write>(alloc: Global, lines: &[Lines], writer: &mut W) -> Result<(), JobError>
     requires { All IsComplete lines.now }
     ensures { IfErr result (λ fault. LeavesWriter fault writer.old writer.new) }
 {
     let Ok(mut out) = BufWriter::new(alloc, LateWriter::new()) else {
-        return Err(Fault::NoMemory);
+        return Err(JobError::NoMemory);
     };
     out.get_mut().set(writer);
     put_posts(&mut out, lines)?;
-    out.flush().or(Err(Fault::NotWritten))
+    out.flush().or(Err(JobError::NotWritten))
 }
 
 /// Writes the posts, and what the run left behind.
@@ -74,25 +74,25 @@ fn write_report<W: Write>(
     books: &[UnitBook<UnitDevice>],
     steps: bool,
     writer: &mut W,
-) -> Result<(), Fault>
+) -> Result<(), JobError>
     requires { All IsComplete lines.now }
     ensures { steps ≡ false → IfErr result (λ fault. LeavesWriter fault writer.old writer.new) }
 {
     let mut open = OpenDcbs::of_units(alloc, books)?;
     let Ok(mut out) = BufWriter::new(alloc, LateWriter::new()) else {
-        return Err(Fault::NoMemory);
+        return Err(JobError::NoMemory);
     };
     out.get_mut().set(writer);
     put_posts(&mut out, lines)?;
     write_units(&mut out, set_up, books, steps, &mut open)?;
-    out.flush().or(Err(Fault::NotWritten))
+    out.flush().or(Err(JobError::NotWritten))
 }
 
-fn put_posts<W: Write>(out: &mut W, lines: &[Lines]) -> Result<(), Fault>
+fn put_posts<W: Write>(out: &mut W, lines: &[Lines]) -> Result<(), JobError>
     requires { All IsComplete lines.now }
-    ensures { IfErr result (λ fault. fault ≡ Fault.NotWritten) }
+    ensures { IfErr result (λ fault. fault ≡ JobError.NotWritten) }
 {
-    write_all_lines(out, lines).or(Err(Fault::NotWritten))
+    write_all_lines(out, lines).or(Err(JobError::NotWritten))
 }
 
 fn write_all_lines<W: Write>(out: &mut W, lines: &[Lines]) -> io::Result<()>

@@ -1,7 +1,7 @@
 //! The run of a script: its tasks on threads of their own, beside channel workers and interruption handlers.
 
 ghost use Rattle.std.specs.Prelude.{◌≡◌, ◌≤◌, ◌<◌, ◌+◌, All, IfErr, IfOk, false, length, vec_len};
-ghost use Rattle.job_script.specs.Commands.{CanBeDone};
+ghost use Rattle.job_mount.specs.Requests.{CanBeDone};
 ghost use Rattle.job_script.specs.Reading.{ReadsAtMost};
 ghost use Rattle.job_run.specs.Complete.{IsComplete};
 ghost use Rattle.job_run.specs.Faults.{LeavesWriter};
@@ -14,7 +14,7 @@ use crate::output::{Output, write};
 use crate::rooms::rows_and_books;
 use crate::script_tasks::ScriptTasks;
 use excp_system::Rows;
-use job_script::{Fault, LIMIT, Script, read_script};
+use job_script::{JobError, LIMIT, Script, read_script};
 use post_ledger::Report;
 use std::alloc::Global;
 use std::io::{Read, Write};
@@ -41,14 +41,14 @@ pub fn run_script<R: Threads + Wait + Sync, I: Read, W: Write>(
     reader: &mut I,
     writer: &mut W,
     workers: Workers,
-) -> Result<(), Fault>
+) -> Result<(), JobError>
     ensures bounded { ReadsAtMost (LIMIT + 1) (I.remaining reader.old) (I.remaining reader.new) }
     ensures unwritten { IfErr result (λ fault. LeavesWriter fault writer.old writer.new) }
 {
     match read_and_run(rt, alloc, reader, workers) {
         Ok((_, run)) => write(alloc, &run.lines, Output::Posts, writer),
         // one text for both causes (profile)
-        Err(Fault::NoThread) => Err(Fault::NoMemory),
+        Err(JobError::NoThread) => Err(JobError::NoMemory),
         Err(fault) => Err(fault),
     }
 }
@@ -62,7 +62,7 @@ pub fn report_script<R: Threads + Wait + Sync, I: Read, W: Write>(
     writer: &mut W,
     workers: Workers,
     steps: bool,
-) -> Result<(), Fault>
+) -> Result<(), JobError>
     ensures bounded { ReadsAtMost (LIMIT + 1) (I.remaining reader.old) (I.remaining reader.new) }
     ensures unwritten { steps ≡ false → IfErr result (λ fault. LeavesWriter fault writer.old writer.new) }
 {
@@ -81,7 +81,7 @@ fn read_and_run<R: Threads + Wait + Sync, I: Read>(
     alloc: Global,
     reader: &mut I,
     workers: Workers,
-) -> Result<(Script, Finished), Fault>
+) -> Result<(Script, Finished), JobError>
     ensures { ReadsAtMost (LIMIT + 1) (I.remaining reader.old) (I.remaining reader.new) }
 {
     let text = read_script(alloc, reader)?;
@@ -100,7 +100,7 @@ pub fn run_on<R: Threads + Wait + Sync>(
     books: Vec<UnitBook<UnitDevice>>,
     script: &Script,
     workers: Workers,
-) -> Result<Finished, Fault>
+) -> Result<Finished, JobError>
     requires fresh { AreFresh rows }
     requires books { AreBooks rows.units books.items }
     requires units { vec_len script.now.set_up.units ≡ rows.units }
@@ -110,8 +110,8 @@ pub fn run_on<R: Threads + Wait + Sync>(
     let tasks = ScriptTasks::new(script);
     match run_program(rt, alloc, rows, books, workers, &tasks) {
         Ok((report, outcomes)) => ended(alloc, report, outcomes),
-        Err(RunError::NoThread) => Err(Fault::NoThread),
-        Err(_) => Err(Fault::NoMemory),
+        Err(RunError::NoThread) => Err(JobError::NoThread),
+        Err(_) => Err(JobError::NoMemory),
     }
 }
 
@@ -121,8 +121,8 @@ pub fn run_on<R: Threads + Wait + Sync>(
 pub fn ended(
     alloc: Global,
     report: Report<UnitDevice>,
-    outcomes: Vec<Result<Lines, Fault>>,
-) -> Result<Finished, Fault>
+    outcomes: Vec<Result<Lines, JobError>>,
+) -> Result<Finished, JobError>
     requires lists { IsFor (length report.books) (length outcomes.items) report }
     requires few_units { length report.books ≤ 64 }
     requires few_tasks { length outcomes.items ≤ 64 }
@@ -131,17 +131,17 @@ pub fn ended(
     let mut lines = lines_of(alloc, outcomes)?;
     add_rest(&mut lines, &report);
     if !lines.iter().all(|of_task| of_task.is_complete()) {
-        return Err(Fault::Unmatched);
+        return Err(JobError::Unmatched);
     }
     Ok(Finished { lines, report })
 }
 
 /// What is printed of the requests of each task; or want of memory, if a task ended for it, or the first fault.
-fn lines_of(alloc: Global, outcomes: Vec<Result<Lines, Fault>>) -> Result<Vec<Lines>, Fault>
+fn lines_of(alloc: Global, outcomes: Vec<Result<Lines, JobError>>) -> Result<Vec<Lines>, JobError>
     ensures { IfOk result (λ lines. length lines.items ≡ length outcomes.items) }
 {
     if outcomes.iter().any(wants_memory) {
-        return Err(Fault::NoMemory);
+        return Err(JobError::NoMemory);
     }
     let mut lines = Vec::with_capacity(alloc, outcomes.len())?;
     for outcome in outcomes {
@@ -151,8 +151,8 @@ fn lines_of(alloc: Global, outcomes: Vec<Result<Lines, Fault>>) -> Result<Vec<Li
 }
 
 /// Whether a task ended for want of memory.
-fn wants_memory(outcome: &Result<Lines, Fault>) -> bool {
-    matches!(outcome, Err(Fault::NoMemory))
+fn wants_memory(outcome: &Result<Lines, JobError>) -> bool {
+    matches!(outcome, Err(JobError::NoMemory))
 }
 
 /// Adds what the report of a run lists to the lines of each task.

@@ -1,8 +1,8 @@
 -- HOW FAR A READER IS READ, and why a script is not read whole.
 use Rattle.std.specs.Prelude.{ℕ, ◌<◌, ◌≤◌, List, Option, length}
 use Rattle.std.specs.Io.KnownBytes.{Consumes, IsAtEnd}
-use Rattle.job_script.specs.declared.fault.Fault.{Fault}
-use Rattle.job_script.specs.declared.fault.Fault.TheVariants as faults
+use Rattle.job_script.specs.declared.fault.JobError.{JobError}
+use Rattle.job_script.specs.declared.fault.JobError.TheVariants as faults
 
 -- at most n bytes were read
 abbrev pub ReadsAtMost : ℕ → Option (List ℕ) → Option (List ℕ) → Type 0
@@ -19,7 +19,7 @@ pub record ReadsAll (n : ℕ) (old new : Option (List ℕ)) (bytes : List ℕ) :
   pub few : length bytes ≤ n
 
 -- why a script of at most n bytes was not read whole: it has more; a read failed before that; or memory ran out
-abbrev pub ReadFault : ℕ → Option (List ℕ) → Option (List ℕ) → Fault → Type 0
+abbrev pub ReadFault : ℕ → Option (List ℕ) → Option (List ℕ) → JobError → Type 0
 ReadFault n old new faults.TooLong = ReadsMore n old new
 ReadFault n old new faults.Unreadable = ReadsAtMost n old new
 ReadFault n old new faults.NoMemory = Unit {0}

@@ -4,7 +4,7 @@
 ghost use Rattle.std.specs.Prelude.{◌≡◌};
 ghost use Rattle.job_script.specs.declared.cause.Refusal.TheVariants as refusals;
 
-use crate::fault::{Fault, FaultName};
+use crate::fault::{FaultName, JobError};
 use crate::message::Message;
 use std::alloc::{AllocError, AllocFailed};
 
@@ -34,13 +34,13 @@ pub enum Refusal {
 
 impl Refusal {
     /// The fault of the line with this number.
-    pub fn at(self, line: usize) -> Fault {
+    pub fn at(self, line: usize) -> JobError {
         match self {
-            Refusal::Caused(cause) => Fault::Line {
+            Refusal::Caused(cause) => JobError::Line {
                 line,
                 name: cause.name,
             },
-            Refusal::NoMemory => Fault::NoMemory,
+            Refusal::NoMemory => JobError::NoMemory,
         }
     }
 }

@@ -20,7 +20,7 @@ mod set_up;
 
 pub use cause::{Cause, Refusal};
 pub use command::{Action, Command, DcbName, Excp};
-pub use fault::{Fault, FaultName, LineFault};
+pub use fault::{FaultName, JobError};
 pub use line::{
     AreaLine, ExcpLine, Line, SetUpLine, SetUpVerb, TasksLine, UnitLine, Verb, begins_line,
     unprintable,

@@ -9,14 +9,14 @@ ghost use Rattle.job_script.specs.declared.fault.FaultName.TheVariants as names;
 
 use crate::cause::{Cause, Refusal};
 use crate::command::{Action, Command};
-use crate::fault::{Fault, FaultName};
+use crate::fault::{FaultName, JobError};
 use crate::line::Line;
 use crate::set_up::SetUp;
 use script_words::Words;
 use std::alloc::{AllocError, Global};
 
 /// That no line declares the tasks, or a unit.
-const NO_LINE: Fault = Fault::Line {
+const NO_LINE: JobError = JobError::Line {
     line: 0,
     name: FaultName::Order,
 };
@@ -43,7 +43,7 @@ impl Script {
 
     /// Reads the lines of a script, first to last; the first fault ends it. A script without tasks or units has a fault
     /// at line 0.
-    pub fn parse(alloc: Global, text: &[u8]) -> Result<Self, Fault>
+    pub fn parse(alloc: Global, text: &[u8]) -> Result<Self, JobError>
         ensures grammar { Gives said result (script_of text.now) }
         ensures tasks { IfOk result (λ script. (1 ≤ script.set_up.tasks) × (script.set_up.tasks ≤ 64)) }
         ensures units { IfOk result (λ script. (1 ≤ vec_len script.set_up.units) × (vec_len script.set_up.units ≤ 64)) }
@@ -77,16 +77,21 @@ impl Script {
     }
 
     /// Adds what the line with this number says, and names the line in a fault.
-    fn numbered_line(&mut self, alloc: Global, number: usize, line: &Words<'_>) -> Result<(), Fault>
+    fn numbered_line(
+        &mut self,
+        alloc: Global,
+        number: usize,
+        line: &Words<'_>,
+    ) -> Result<(), JobError>
         ensures { LeadsAt number result (said self.new) (with_line number line.now.line.now (said self.old)) }
     {
         match self.read_line(alloc, number, line) {
             Ok(()) => Ok(()),
-            Err(Refusal::Caused(cause)) => Err(Fault::Line {
+            Err(Refusal::Caused(cause)) => Err(JobError::Line {
                 line: number,
                 name: cause.name,
             }),
-            Err(Refusal::NoMemory) => Err(Fault::NoMemory),
+            Err(Refusal::NoMemory) => Err(JobError::NoMemory),
         }
     }
 

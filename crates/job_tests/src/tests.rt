@@ -4,7 +4,7 @@
 
 use job_mount::books;
 use job_run::{Workers, report_script, run_script};
-use job_script::{Fault, Script};
+use job_script::{JobError, Script};
 use std::alloc::AllocError;
 use std::io;
 use std::io::Write;
@@ -53,8 +53,8 @@ fn output_is_not_written(rt: HostRuntime) {
     let text = "tasks 1\ndisk 0 0 1 1 40\n".as_bytes();
     let mut reader = text;
     let done = run_script(&rt, rt.alloc(), &mut reader, &mut Full, ONE_OF_EACH);
-    assert_eq!(rt; done, Err(Fault::NotWritten));
+    assert_eq!(rt; done, Err(JobError::NotWritten));
     let mut reader = text;
     let done = report_script(&rt, rt.alloc(), &mut reader, &mut Full, ONE_OF_EACH, false);
-    assert_eq!(rt; done, Err(Fault::NotWritten));
+    assert_eq!(rt; done, Err(JobError::NotWritten));
 }

@@ -4,7 +4,7 @@ use Rattle.std.proofs.lemmas.Bool.{false≢true}
 use Rattle.std.proofs.lemmas.List.Elements.{All-push}
 use Rattle.unit_book.specs.Book.{Book}
 use Rattle.unit_device.specs.declared.device.UnitDevice.{UnitDevice}
-use Rattle.job_script.specs.declared.fault.Fault.{Fault}
+use Rattle.job_script.specs.declared.fault.JobError.{JobError}
 use Rattle.job_script.specs.Grammar.{FaultAt}
 use Rattle.job_script.specs.Outcomes.{Gives}
 use Rattle.job_script.specs.declared.set_up.Opening.{Opening}
@@ -28,10 +28,10 @@ loop-unit-init c =
       room = search rules;
     }
 
-gives_as : {X S : Type 0} (view : X → S) (r : Result X Fault) (fault : Fault) (read : Result S FaultAt) → IsErr r → IsErrAnd r (λ e. e ≡ fault)
+gives_as : {X S : Type 0} (view : X → S) (r : Result X JobError) (fault : JobError) (read : Result S FaultAt) → IsErr r → IsErrAnd r (λ e. e ≡ fault)
     → Gives view (Err fault) read → Gives view r read
 gives_as view (Ok x) fault read is_err same given = absurd (false≢true is_err)
-gives_as view (Err e) fault read is_err same given = subst (λ (f : Fault). Gives view (Err f) read) (sym same) given
+gives_as view (Err e) fault read is_err same given = subst (λ (f : JobError). Gives view (Err f) read) (sym same) given
 
 pub returns-in_err-book-clause-exact : goal.returns-in_err-book-clause-exact
 returns-in_err-book-clause-exact c =

@@ -1,6 +1,6 @@
 use Rattle.std.proofs.Common.{◌≡◌, ◌<◌, ◌+◌, length, rules, get_or, drop, refl, subst, sym, ap, ◌∙◌}
 use Rattle.std.proofs.lemmas.List.Elements.{All-get_or}
-use Rattle.job_script.specs.Commands.{CanBeDone}
+use Rattle.job_mount.specs.Requests.{CanBeDone}
 use Rattle.job_script.specs.Tasks.{places_of}
 use Rattle.job_run.specs.Sending.{sends}
 use Rattle.job_run.proofs.Sent.{at_place, begins, ends, goes_on, stops}
