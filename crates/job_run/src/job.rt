@@ -11,6 +11,7 @@ use crate::unit_calls::{close, purge, purge_task, reset};
 use crossbeam_utils::Backoff;
 use excp_system::{Site, System};
 use fifo_row::Full;
+use job_mount::request;
 use job_script::{Action, Command, Excp, JobError, Script};
 use std::alloc::{AllocError, Global};
 use std::sync::Wait;

@@ -15,7 +15,7 @@ use crate::command::{Command, DcbName, Excp};
 use crate::fault::FaultName;
 use crate::forms::is_comment;
 use crate::message::Message;
-use crate::set_up::{Opening, UnitSetup};
+use crate::set_up::{Medium, Opening};
 use areas::{area, opening, tasks};
 use ckd_disk::InitialRecord;
 use commands::{close, excp, purge, purge_task, reset, wait};
@@ -53,12 +53,16 @@ pub struct TasksLine {
     ghost few: { tasks ≤ 64 },
 }
 
-/// A line that declares a unit: its number, 0 to 63, and what it is.
+/// A line that declares a unit: its number, 0 to 63, the number of the line, the unit's interruption subclass, 0 to 7, and
+/// its medium, with nothing on it.
 #[derive(Drop)]
 pub struct UnitLine {
     pub number: u16,
-    pub unit: UnitSetup,
+    pub line: usize,
+    pub isc: u8,
+    pub medium: Medium,
     ghost few: { number < 64 },
+    ghost subclass: { isc ≤ 7 },
 }
 
 /// A line that declares an area: its number, the address of its first byte, and its bytes.
@@ -175,7 +179,7 @@ impl SetUpLine {
             SetUpVerb::Tasks => tasks(line),
             SetUpVerb::Disk => disk(alloc, number, line),
             SetUpVerb::Tape => tape(alloc, number, line),
-            SetUpVerb::Printer => printer(alloc, number, line),
+            SetUpVerb::Printer => printer(number, line),
             SetUpVerb::Record => record(alloc, line),
             SetUpVerb::Block => block(alloc, line),
             SetUpVerb::Mark => mark(line),

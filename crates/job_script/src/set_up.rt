@@ -68,7 +68,7 @@ pub struct SetUp {
 impl SetUp {
     ghost use Rattle.job_script.specs.Adding.{add_area, add_set_up, add_tasks, add_unit, excp_of, names_command, is_dcb, is_task};
     ghost use Rattle.job_script.specs.Adding.{add_fault, add_item, add_opening, add_record, change_unit, numbered};
-    ghost use Rattle.job_script.specs.LineViews.{set_up_line_said};
+    ghost use Rattle.job_script.specs.LineViews.{set_up_line_said, unit_line_said};
     ghost use Rattle.job_script.specs.Outcomes.{Leads, Reads, Returns};
     ghost use Rattle.job_script.specs.Said.{nothing};
     ghost use Rattle.job_script.specs.Views.{command_said, opening_said, record_said, set_up_said, unit_said};
@@ -161,7 +161,7 @@ impl SetUp {
     {
         match line {
             SetUpLine::Tasks(line) => self.add_tasks(line),
-            SetUpLine::Unit(line) => self.add_unit(line),
+            SetUpLine::Unit(line) => self.add_unit(alloc, line),
             SetUpLine::Record(unit, record) => self.add_record(usize::from(unit), number, record),
             SetUpLine::Item(unit, item) => self.add_item(usize::from(unit), number, item),
             SetUpLine::Fault(unit, fault) => self.add_fault(usize::from(unit), number, fault),
@@ -184,15 +184,14 @@ impl SetUp {
 
     /// A unit has the next number.
     #[tactic(auto, unfolding(crate::specs::Adding::add_unit))]
-    fn add_unit(&mut self, line: UnitLine) -> Result<(), Refusal>
-        ensures { Leads result (set_up_said self.new) (add_unit line.number (unit_said line.unit) (set_up_said self.old)) }
+    fn add_unit(&mut self, alloc: Global, line: UnitLine) -> Result<(), Refusal>
+        ensures { Leads result (set_up_said self.new) (add_unit line.number (unit_line_said line) (set_up_said self.old)) }
     {
-        let UnitLine { number, unit } = line;
-        if usize::from(number) != self.units.len() {
-            let numbers = [u64::from(number), self.units.len() as u64];
+        if usize::from(line.number) != self.units.len() {
+            let numbers = [u64::from(line.number), self.units.len() as u64];
             return Err(order("unit {n}, expected {n}", &numbers));
         }
-        self.units.push(unit)?;
+        self.units.push(UnitSetup::new(alloc, line))?;
         Ok(())
     }
 
@@ -266,9 +265,25 @@ impl SetUp {
 
 impl UnitSetup {
     ghost use Rattle.job_script.specs.Adding.{add_fault, add_item, add_opening, add_record};
+    ghost use Rattle.job_script.specs.LineViews.{unit_line_said};
     ghost use Rattle.job_script.specs.Outcomes.{Leads};
     ghost use Rattle.job_script.specs.Views.{opening_said, record_said, unit_said};
     ghost use Rattle.tape_unit.specs.Mount.{initial};
+
+    /// The unit that a line declares. It is to meet no fault and has no DCB.
+    fn new(alloc: Global, line: UnitLine) -> Self
+        ensures { unit_said result ≡ unit_line_said line }
+    {
+        UnitSetup {
+            line: line.line,
+            isc: line.isc,
+            medium: line.medium,
+            content_lines: Vec::new(alloc),
+            faults: Vec::new(alloc),
+            fault_lines: Vec::new(alloc),
+            openings: Vec::new(alloc),
+        }
+    }
 
     /// A record of the line lies on it, if it is a disk. Its number serves the message.
     fn add_record(
