@@ -5,3 +5,4 @@ pub mod Mounting
 pub mod Openings
 pub mod Outcomes
 pub mod Requests
+pub mod Runs

@@ -1,5 +1,4 @@
-//! Scripts of EXCP requests: the grammar, the parsed script or its first fault, and the books of the units that it
-//! declares (profile).
+//! Scripts of EXCP requests: the grammar, and the parsed script or its first fault (profile).
 //!
 //! A script has at most 1,048,576 bytes. Its lines end with LF; words are separated by spaces; a line that is empty or
 //! whose first word begins with `#` says nothing. Set-up lines stand before the first command.
