@@ -29,7 +29,7 @@ const NO_SEEK: &str = "seek=CYLINDER,HEAD,RECORD has three numbers";
 struct Operands<'a> {
     ecb: Option<&'a [u8]>,
     start: Option<&'a [u8]>,
-    dcb: Option<Address>,
+    dcb: Option<u16>,
     extent: Option<u8>,
     is_related: Option<bool>,
     seek: SeekAddress,
@@ -94,7 +94,7 @@ impl<'a> Operands<'a> {
         let mut iob = Iob::read(image);
         iob.command_chaining = true;
         iob.unrelated = self.is_related != Some(true);
-        iob.dcb = dcb;
+        iob.dcb = Address::new(u32::from(dcb));
         iob.seek.extent = self.extent.unwrap_or(0);
         iob.seek.cylinder = self.seek.cylinder.unwrap_or(0);
         iob.seek.head = self.seek.head.unwrap_or(0);
@@ -151,7 +151,8 @@ impl<'a> Operands<'a> {
             }
             b"dcb" => {
                 once(self.dcb.is_some(), operand)?;
-                self.dcb = Some(dcb_number(value)?);
+                let dcb = dcb_number(value)?;
+                self.dcb = Some(dcb);
             }
             b"seek" => {
                 once(self.seek.is_given, operand)?;
@@ -160,11 +161,16 @@ impl<'a> Operands<'a> {
             }
             b"extent" => {
                 once(self.extent.is_some(), operand)?;
-                self.extent = Some(number_to(value, 255, NO_EXTENT)? as u8);
+                let extent = number_to(value, 255, NO_EXTENT)?;
+                self.extent = Some(extent as u8);
             }
-            b"related" | b"unrelated" if value.is_empty() => {
+            b"related" if value.is_empty() => {
                 once(self.is_related.is_some(), operand)?;
-                self.is_related = Some(name == b"related".as_slice());
+                self.is_related = Some(true);
+            }
+            b"unrelated" if value.is_empty() => {
+                once(self.is_related.is_some(), operand)?;
+                self.is_related = Some(false);
             }
             _ => return Err(Wrong::of(operand, NO_OPERAND)),
         }
@@ -200,10 +206,10 @@ fn once(is_given: bool, operand: &[u8]) -> Result<(), Wrong<'_>> {
     }
 }
 
-fn dcb_number(value: &[u8]) -> Result<Address, Wrong<'_>> {
+fn dcb_number(value: &[u8]) -> Result<u16, Wrong<'_>> {
     let number = number_to(value, 65535, NO_DCB)?;
     if number == 0 {
         return Err(Wrong::of(value, NO_DCB));
     }
-    Ok(Address::new(number))
+    Ok(number as u16)
 }
