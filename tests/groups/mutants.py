@@ -8,8 +8,9 @@ line says what rejects it:
     rejected by: run GROUP CASE ..     the cases of tests/run with these words in their names, which pass on the program, fail on
                                        one that is made with the edit; nothing is proved, as by `./excp --try`
 
-Kept work is what `rt check` or `rt lib` leaves in crates/CRATE/out; the crates below have to be built too. An edit that
-cannot be read, applied or compiled fails as BAD EDIT, and is not counted as rejected.
+Kept work is what `rt check` or `rt lib` leaves in crates/CRATE/out. If a crate has none, as after `rt ci` in a new clone,
+the crate is proved first. The crates below have to be built by `rt lib`. An edit that cannot be read, applied or compiled
+fails as BAD EDIT, and is not counted as rejected.
 """
 
 import glob
@@ -54,12 +55,15 @@ def crate_of(rt, name):
 
 
 def kept_work(rt, crate):
-    """A copy of the work that the crate's out/ keeps, over which the crate is proved with nothing changed."""
+    """A copy of the work that the crate's out/ keeps, over which the crate is proved with nothing changed. If out/ keeps
+    none, that proof makes it."""
     if crate.name not in KEPT:
         source = f"{crate.folder}/out/incremental"
-        require(os.path.isdir(source), f"crates/{crate.name}/out has no kept work; `rt check` in its folder makes it")
         room = tempfile.TemporaryDirectory(prefix="mutants-")
-        subprocess.run(["cp", "-a", "--reflink=auto", source, f"{room.name}/kept"], check=True)
+        if os.path.isdir(source):
+            subprocess.run(["cp", "-a", "--reflink=auto", source, f"{room.name}/kept"], check=True)
+        else:
+            os.mkdir(f"{room.name}/kept")
         KEPT[crate.name] = room
         require_proved(rt, crate, f"{room.name}/kept")
     return f"{KEPT[crate.name].name}/kept"
