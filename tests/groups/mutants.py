@@ -30,6 +30,12 @@ MUTANTS = f"{TOP}/tests/mutants"
 # The most seconds that a build of tests with nothing proved may take.
 SECONDS = 900
 
+# What to do if no program is there to pass the cases of a mutant with no edit.
+NO_PROGRAM = (
+    "no program {}: `./excp --build` proves and builds crates/excp_job/out/excp_job; `tools/prove.py try` builds"
+    " out/tried/excp_job with nothing proved, in two minutes, for `--program out/tried/excp_job`"
+)
+
 # What a worker keeps of a crate from one mutant to the next: the copy of its kept work.
 KEPT = {}
 
@@ -64,8 +70,8 @@ def kept_work(rt, crate):
             subprocess.run(["cp", "-a", "--reflink=auto", source, f"{room.name}/kept"], check=True)
         else:
             os.mkdir(f"{room.name}/kept")
-        KEPT[crate.name] = room
         require_proved(rt, crate, f"{room.name}/kept")
+        KEPT[crate.name] = room
     return f"{KEPT[crate.name].name}/kept"
 
 
@@ -111,9 +117,11 @@ def rejected_by_run(name, edit, group, case, program):
     rt = loaded()
     texts, why = rt.read_edit(edit, f"{TOP}/crates/{name}")
     require(not why, f"BAD EDIT: {why}")
+    require(os.access(program, os.X_OK), NO_PROGRAM.format(program.removeprefix(f"{TOP}/")))
     words = [f"{TOP}/tests/run", group, "--case", case, "--jobs", "1", "--program"]
     before = run([*words, program], timeout=SECONDS, stdin=subprocess.DEVNULL)
-    require(before.status == 0, f"BAD EDIT: {group}: {case}: does not pass with no edit", before)
+    passes = before.status == 0 and re.search(r"^[1-9]\d* passed, 0 failed", before.out, re.M)
+    require(passes, f"BAD EDIT: {group}: {case}: does not pass with no edit", before)
     with tempfile.TemporaryDirectory(prefix="mutants-") as room:
         for file in ("crates.txt", "HANDLES"):
             shutil.copy(f"{TOP}/{file}", room)
@@ -125,7 +133,7 @@ def rejected_by_run(name, edit, group, case, program):
         built = run(["python3", f"{room}/tools/prove.py", "try"], timeout=SECONDS, stdin=subprocess.DEVNULL)
         require(built.status == 0, "BAD EDIT: the program with it is not built", built)
         after = run([*words, f"{room}/out/tried/excp_job"], timeout=SECONDS, stdin=subprocess.DEVNULL)
-    require(after.status == 1 and f"FAILED: {group}: " in after.out, f"NOT REJECTED: {group}: {case}: passes", after)
+    require(after.status == 1 and f"FAILED: {group}: " in after.out, f"NOT REJECTED: {group}: {case}: passes or is skipped", after)
     return f"{name}/{os.path.basename(edit)}: rejected: {group}: {case}: fails"
 
 
