@@ -129,7 +129,8 @@ impl<'a> Check<'a> {
 
     /// Reads the line with this number.
     fn line(&mut self, alloc: Global, line: usize, bytes: &'a [u8]) -> Result<(), AllocError> {
-        let (words, _) = Words::scan(bytes);
+        let mut words = Words::new();
+        words.scan(bytes);
         let added = match Line::read(alloc, line, &words) {
             Ok(read) => self.add(alloc, line, read),
             Err(refusal) => Err(refusal),

@@ -10,7 +10,10 @@ ghost use Rattle.job_script.specs.declared.fault.FaultName.TheVariants as names;
 use crate::cause::{Cause, Refusal};
 use crate::command::{Action, Command};
 use crate::fault::{FaultName, JobError};
-use crate::line::Line;
+use crate::line::areas::{area, opening, tasks};
+use crate::line::commands::{close, excp, purge, purge_task, reset, wait};
+use crate::line::units::{block, disk, fault, mark, printer, record, tape};
+use crate::line::{SetUpLine, SetUpVerb, Verb};
 use crate::set_up::SetUp;
 use script_words::Words;
 use std::alloc::{AllocError, Global};
@@ -36,9 +39,11 @@ pub struct Script {
 
 impl Script {
     ghost use Rattle.job_script.specs.Adding.{add_command, add_line};
-    ghost use Rattle.job_script.specs.Grammar.{lacks, script_of, with_line};
-    ghost use Rattle.job_script.specs.LineViews.{line_said};
-    ghost use Rattle.job_script.specs.Outcomes.{Gives, Leads, LeadsAt};
+    ghost use Rattle.job_script.specs.Grammar.{adds, adds_set_up, lacks, script_of, with_line};
+    ghost use Rattle.job_script.specs.LineViews.{set_up_line_said};
+    ghost use Rattle.job_script.specs.Outcomes.{Gives, Leads, LeadsAt, words_in};
+    ghost use Rattle.job_script.specs.Lines.{by_verb, set_up_line};
+    ghost use Rattle.job_script.specs.Said.{says_set_up};
     ghost use Rattle.job_script.specs.Views.{command_said, said};
 
     /// Reads the lines of a script, first to last; the first fault ends it. A script without tasks or units has a fault
@@ -55,8 +60,9 @@ impl Script {
         };
         let mut left = Some(text);
         let mut number: usize = 1;
+        let mut line = Words::new();
         'lines: while let Some(text) = left {
-            let (line, after) = Words::scan(text);
+            let after = line.scan(text);
             if let Err(fault) = script.numbered_line(alloc, number, &line) {
                 return Err(fault);
             }
@@ -96,35 +102,82 @@ impl Script {
     }
 
     /// Adds what the line with this number says.
+    #[tactic(auto, unfolding(crate::specs::Adding::add_line))]
     fn read_line(&mut self, alloc: Global, number: usize, line: &Words<'_>) -> Result<(), Refusal>
         ensures { Leads result (said self.new) (with_line number line.now.line.now (said self.old)) }
     {
-        let read = Line::read(alloc, number, line)?;
-        self.add_line(alloc, number, read)
-    }
-
-    /// Adds what a line says.
-    #[tactic(auto, unfolding(crate::specs::Adding::add_line))]
-    fn add_line(&mut self, alloc: Global, number: usize, line: Line) -> Result<(), Refusal>
-        ensures { Leads result (said self.new) (add_line (line_said line) (said self.old)) }
-    {
-        match line {
-            Line::Nothing => Ok(()),
-            Line::SetUp(line) => {
-                if !self.commands.is_empty() {
-                    return Err(late(self.commands[0].line));
-                }
-                self.set_up.add(alloc, number, line)
-            }
-            Line::Excp(line) => {
-                let command = self.set_up.excp(line)?;
-                self.add_command(alloc, command)
-            }
-            Line::Command(command) => self.add_command(alloc, command),
+        match Verb::of_line(line)? {
+            None => Ok(()),
+            Some(verb) => self.by_verb(alloc, number, verb, line),
         }
     }
 
+    /// Adds what a line of this kind says. Each kind is added where it is read, so that no line is moved.
+    #[inline(always)]
+    #[tactic(auto, unfolding(crate::specs::Lines::by_verb, crate::specs::Adding::add_line))]
+    fn by_verb(
+        &mut self,
+        alloc: Global,
+        number: usize,
+        verb: Verb,
+        line: &Words<'_>,
+    ) -> Result<(), Refusal>
+        ensures { Leads result (said self.new) (adds (by_verb verb number (words_in line.now)) (said self.old)) }
+    {
+        match verb {
+            Verb::SetUp(verb) => self.set_up_line(alloc, number, verb, line),
+            Verb::Excp => {
+                let command = self.set_up.excp(excp(number, line)?)?;
+                self.add_command(alloc, command)
+            }
+            Verb::Purge => self.add_command(alloc, purge(number, line)?),
+            Verb::PurgeTask => self.add_command(alloc, purge_task(number, line)?),
+            Verb::Close => self.add_command(alloc, close(number, line)?),
+            Verb::Reset => self.add_command(alloc, reset(number, line)?),
+            Verb::Wait => self.add_command(alloc, wait(number, line)?),
+        }
+    }
+
+    /// Adds what a set-up line of this kind says.
+    #[inline(always)]
+    #[tactic(auto, unfolding(crate::specs::Lines::set_up_line))]
+    fn set_up_line(
+        &mut self,
+        alloc: Global,
+        number: usize,
+        verb: SetUpVerb,
+        line: &Words<'_>,
+    ) -> Result<(), Refusal>
+        ensures { Leads result (said self.new) (adds_set_up (set_up_line verb number (words_in line.now)) (said self.old)) }
+    {
+        match verb {
+            SetUpVerb::Tasks => self.add_set_up(alloc, number, tasks(line)?),
+            SetUpVerb::Disk => self.add_set_up(alloc, number, disk(alloc, number, line)?),
+            SetUpVerb::Tape => self.add_set_up(alloc, number, tape(alloc, number, line)?),
+            SetUpVerb::Printer => self.add_set_up(alloc, number, printer(number, line)?),
+            SetUpVerb::Record => self.add_set_up(alloc, number, record(alloc, line)?),
+            SetUpVerb::Block => self.add_set_up(alloc, number, block(alloc, line)?),
+            SetUpVerb::Mark => self.add_set_up(alloc, number, mark(line)?),
+            SetUpVerb::Fault => self.add_set_up(alloc, number, fault(line)?),
+            SetUpVerb::Open => self.add_set_up(alloc, number, opening(alloc, number, line)?),
+            SetUpVerb::Area => self.add_set_up(alloc, number, area(alloc, line)?),
+        }
+    }
+
+    /// Adds what a set-up line says, if no command comes before it.
+    #[inline(always)]
+    #[tactic(auto, unfolding(crate::specs::Adding::add_line))]
+    fn add_set_up(&mut self, alloc: Global, number: usize, line: SetUpLine) -> Result<(), Refusal>
+        ensures { Leads result (said self.new) (add_line (says_set_up (set_up_line_said line)) (said self.old)) }
+    {
+        if !self.commands.is_empty() {
+            return Err(late(self.commands[0].line));
+        }
+        self.set_up.add(alloc, number, line)
+    }
+
     /// Adds a command, if all that it names is declared.
+    #[inline(always)]
     #[tactic(auto, unfolding(crate::specs::Adding::add_command))]
     fn add_command(&mut self, alloc: Global, command: Command) -> Result<(), Refusal>
         ensures { Leads result (said self.new) (add_command (command_said command) (said self.old)) }
@@ -134,7 +187,7 @@ impl Script {
         self.commands.reserve(1)?;
         let place = self.commands.len();
         add_place(alloc, &mut self.places, usize::from(command.task), place)?;
-        self.commands.push(command)?;
+        self.commands.push_reserved(command);
         Ok(())
     }
 
@@ -203,6 +256,7 @@ impl Script {
 }
 
 /// Adds a place to the list with this number, after the places that are there.
+#[inline(always)]
 fn add_place(
     alloc: Global,
     lists: &mut Vec<Vec<usize>>,
@@ -218,6 +272,7 @@ fn add_place(
 }
 
 /// Adds empty lists until one has this number.
+#[inline(always)]
 fn lengthen(alloc: Global, lists: &mut Vec<Vec<usize>>, number: usize) -> Result<(), AllocError>
     ensures same { (k : ℕ) → list_of lists.new.items k ≡ list_of lists.old.items k }
     ensures there { OnOk result (number < vec_len lists.new) }

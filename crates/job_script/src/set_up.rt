@@ -86,6 +86,7 @@ impl SetUp {
     }
 
     /// A unit has this DCB.
+    #[inline(always)]
     fn names_dcb(&self, dcb: DcbName) -> Result<(), Cause>
         ensures read { Reads result (is_dcb dcb (set_up_said self.now)) }
         ensures unit { OnOk result (dcb.unit < vec_len self.now.units) }
@@ -102,6 +103,7 @@ impl SetUp {
     }
 
     /// A task has this number.
+    #[inline(always)]
     fn names_task(&self, number: u16) -> Result<(), Cause>
         ensures read { Reads result (is_task number (set_up_said self.now)) }
         ensures below { OnOk result (number < self.now.tasks) }
@@ -115,6 +117,7 @@ impl SetUp {
     }
 
     /// All that a command names is declared: its task, and a DCB or another task.
+    #[inline(always)]
     #[tactic(auto, unfolding(crate::specs::Adding::names_command))]
     pub fn names(&self, command: &Command) -> Result<(), Cause>
         ensures read { Reads result (names_command (command_said command.now) (set_up_said self.now)) }
@@ -131,6 +134,7 @@ impl SetUp {
     }
 
     /// The area with this number.
+    #[inline(always)]
     fn area(&self, number: u64) -> Result<Arc<Area, Global>, Refusal>
         ensures { Returns arc_value result (numbered number (set_up_said self.now).areas) }
     {
@@ -142,6 +146,7 @@ impl SetUp {
     }
 
     /// The command of an EXCP, with its area.
+    #[inline(always)]
     #[tactic(auto, unfolding(crate::specs::Adding::excp_of))]
     pub fn excp(&self, line: ExcpLine) -> Result<Command, Refusal>
         ensures { Returns command_said result (excp_of line (set_up_said self.now)) }
@@ -155,6 +160,7 @@ impl SetUp {
     }
 
     /// Adds what the line with this number says, in the order of the faults that it may have.
+    #[inline(always)]
     #[tactic(auto, unfolding(crate::specs::Adding::add_set_up))]
     pub fn add(&mut self, alloc: Global, number: usize, line: SetUpLine) -> Result<(), Refusal>
         ensures { Leads result (set_up_said self.new) (add_set_up (set_up_line_said line) (set_up_said self.old)) }
@@ -171,6 +177,7 @@ impl SetUp {
     }
 
     /// The tasks are declared once.
+    #[inline(always)]
     #[tactic(auto, unfolding(crate::specs::Adding::add_tasks))]
     fn add_tasks(&mut self, line: TasksLine) -> Result<(), Refusal>
         ensures { Leads result (set_up_said self.new) (add_tasks line.tasks (set_up_said self.old)) }
@@ -183,6 +190,7 @@ impl SetUp {
     }
 
     /// A unit has the next number.
+    #[inline(always)]
     #[tactic(auto, unfolding(crate::specs::Adding::add_unit))]
     fn add_unit(&mut self, alloc: Global, line: UnitLine) -> Result<(), Refusal>
         ensures { Leads result (set_up_said self.new) (add_unit line.number (unit_line_said line) (set_up_said self.old)) }
@@ -196,6 +204,7 @@ impl SetUp {
     }
 
     /// A record lies on a disk.
+    #[inline(always)]
     fn add_record(&mut self, place: usize, line: usize, added: InitialRecord) -> Result<(), Refusal>
         ensures { Leads result (set_up_said self.new) (change_unit place (add_record (record_said added)) (set_up_said self.old)) }
     {
@@ -207,6 +216,7 @@ impl SetUp {
     }
 
     /// A block or a mark lies on a tape.
+    #[inline(always)]
     fn add_item(&mut self, place: usize, line: usize, item: InitialItem) -> Result<(), Refusal>
         ensures { Leads result (set_up_said self.new) (change_unit place (add_item (initial item)) (set_up_said self.old)) }
     {
@@ -218,6 +228,7 @@ impl SetUp {
     }
 
     /// A unit meets a fault.
+    #[inline(always)]
     fn add_fault(&mut self, place: usize, line: usize, fault: DeviceFault) -> Result<(), Refusal>
         ensures { Leads result (set_up_said self.new) (change_unit place (add_fault fault) (set_up_said self.old)) }
     {
@@ -229,6 +240,7 @@ impl SetUp {
     }
 
     /// A DCB has the next number of its unit.
+    #[inline(always)]
     fn add_opening(&mut self, place: usize, opening: Opening) -> Result<(), Refusal>
         ensures { Leads result (set_up_said self.new) (change_unit place (add_opening (opening_said opening)) (set_up_said self.old)) }
     {
@@ -240,6 +252,7 @@ impl SetUp {
     }
 
     /// An area has the next number.
+    #[inline(always)]
     #[tactic(auto, unfolding(crate::specs::Adding::add_area))]
     fn add_area(&mut self, alloc: Global, line: AreaLine) -> Result<(), Refusal>
         ensures { Leads result (set_up_said self.new) (add_area line.number (record { base = line.base; bytes = line.bytes.items }) (set_up_said self.old)) }
@@ -286,6 +299,7 @@ impl UnitSetup {
     }
 
     /// A record of the line lies on it, if it is a disk. Its number serves the message.
+    #[inline(always)]
     fn add_record(
         &mut self,
         number: usize,
@@ -295,7 +309,10 @@ impl UnitSetup {
         ensures { Leads result (unit_said self.new) (add_record (record_said added) (unit_said self.old)) }
     {
         match &mut self.medium {
-            Medium::Disk(_, records) => records.push(added)?,
+            Medium::Disk(_, records) => {
+                records.reserve(1)?;
+                records.push_reserved(added);
+            }
             Medium::Tape(_, _) => return Err(kind("unit {n} is no disk", number)),
             Medium::Printer { .. } => return Err(kind("unit {n} is no disk", number)),
         }
@@ -304,11 +321,15 @@ impl UnitSetup {
     }
 
     /// An item of the line lies on it, if it is a tape. Its number serves the message.
+    #[inline(always)]
     fn add_item(&mut self, number: usize, line: usize, item: InitialItem) -> Result<(), Refusal>
         ensures { Leads result (unit_said self.new) (add_item (initial item) (unit_said self.old)) }
     {
         match &mut self.medium {
-            Medium::Tape(_, items) => items.push(item)?,
+            Medium::Tape(_, items) => {
+                items.reserve(1)?;
+                items.push_reserved(item);
+            }
             Medium::Disk(_, _) => return Err(kind("unit {n} is no tape", number)),
             Medium::Printer { .. } => return Err(kind("unit {n} is no tape", number)),
         }
@@ -317,6 +338,7 @@ impl UnitSetup {
     }
 
     /// It meets a fault of the line.
+    #[inline(always)]
     fn add_fault(&mut self, line: usize, fault: DeviceFault) -> Result<(), Refusal>
         ensures { Leads result (unit_said self.new) (add_fault fault (unit_said self.old)) }
     {
@@ -326,6 +348,7 @@ impl UnitSetup {
     }
 
     /// It has one more DCB.
+    #[inline(always)]
     fn add_opening(&mut self, opening: Opening) -> Result<(), Refusal>
         ensures { Leads result (unit_said self.new) (add_opening (opening_said opening) (unit_said self.old)) }
     {

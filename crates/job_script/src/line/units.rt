@@ -17,6 +17,7 @@ use std::alloc::Global;
 use tape_unit::InitialItem;
 
 /// `disk U ISC CYLS HEADS BYTES`
+#[inline(always)]
 #[tactic(auto, unfolding(crate::specs::Lines::disk_line))]
 pub fn disk(alloc: Global, at: usize, line: &Words<'_>) -> Result<SetUpLine, Refusal>
     ensures { Returns set_up_line_said result (disk_line at (words_in line.now)) }
@@ -39,6 +40,7 @@ pub fn disk(alloc: Global, at: usize, line: &Words<'_>) -> Result<SetUpLine, Ref
 }
 
 /// `tape U ISC BYTES`
+#[inline(always)]
 #[tactic(auto, unfolding(crate::specs::Lines::tape_line))]
 pub fn tape(alloc: Global, at: usize, line: &Words<'_>) -> Result<SetUpLine, Refusal>
     ensures { Returns set_up_line_said result (tape_line at (words_in line.now)) }
@@ -56,6 +58,7 @@ pub fn tape(alloc: Global, at: usize, line: &Words<'_>) -> Result<SetUpLine, Ref
 }
 
 /// `printer U ISC LINES PAGES`
+#[inline(always)]
 #[tactic(auto, unfolding(crate::specs::Lines::printer_line))]
 pub fn printer(at: usize, line: &Words<'_>) -> Result<SetUpLine, Refusal>
     ensures { Returns set_up_line_said result (printer_line at (words_in line.now)) }
@@ -75,6 +78,7 @@ pub fn printer(at: usize, line: &Words<'_>) -> Result<SetUpLine, Refusal>
 }
 
 /// `rec U CC HH R KEY HEX`
+#[inline(always)]
 #[tactic(auto, unfolding(crate::specs::Lines::record_line))]
 pub fn record(alloc: Global, line: &Words<'_>) -> Result<SetUpLine, Refusal>
     ensures { Returns set_up_line_said result (record_line (words_in line.now)) }
@@ -97,6 +101,7 @@ pub fn record(alloc: Global, line: &Words<'_>) -> Result<SetUpLine, Refusal>
 }
 
 /// `block U HEX`
+#[inline(always)]
 #[tactic(auto, unfolding(crate::specs::Lines::block_line))]
 pub fn block(alloc: Global, line: &Words<'_>) -> Result<SetUpLine, Refusal>
     ensures { Returns set_up_line_said result (block_line (words_in line.now)) }
@@ -108,6 +113,7 @@ pub fn block(alloc: Global, line: &Words<'_>) -> Result<SetUpLine, Refusal>
 }
 
 /// `mark U`
+#[inline(always)]
 #[tactic(auto, unfolding(crate::specs::Lines::mark_line))]
 pub fn mark(line: &Words<'_>) -> Result<SetUpLine, Refusal>
     ensures { Returns set_up_line_said result (mark_line (words_in line.now)) }
@@ -118,6 +124,7 @@ pub fn mark(line: &Words<'_>) -> Result<SetUpLine, Refusal>
 }
 
 /// `fault U ORDINAL UU SS XXXX`
+#[inline(always)]
 #[tactic(auto, unfolding(crate::specs::Lines::fault_line))]
 pub fn fault(line: &Words<'_>) -> Result<SetUpLine, Refusal>
     ensures { Returns set_up_line_said result (fault_line (words_in line.now)) }

@@ -1,6 +1,5 @@
-use Rattle.std.proofs.Common.{rules, ◌≡◌, ◌<◌, ◌++◌, ◌∷◌, [], List, length, true, ap, ◌∙◌}
+use Rattle.std.proofs.Common.{rules, ◌≡◌, ◌<◌, ◌++◌, ◌∷◌, [], List, length, ap, ◌∙◌}
 use Rattle.std.specs.Prelude.{vec_len}
-use Rattle.std.specs.Result.{is_ok}
 use Rattle.job_script.specs.Commands.{NamesUnits}
 use Rattle.job_script.specs.declared.command.Command.{Command}
 use Rattle.job_script.proofs.Grouping.{grouped-more, pushed}
@@ -25,9 +24,8 @@ invariant_of-self-2 c =
     let commands = c.args.self.now.commands.items in
     let command = c.args.command in
     let set_up = c.args.self.now.set_up in
-    let ok : is_ok c.push.result ≡ true = search rules in
-    let is : c.push.new.self.items ≡ commands ++ command ∷ [] =
-    (rw ok at c.push.ensures.items) ∙ ap (λ (l : List Command). l ++ command ∷ []) c.reserve.ensures.items in
+    let is : c.push_reserved.new.self.items ≡ commands ++ command ∷ [] =
+    c.push_reserved.ensures.items ∙ ap (λ (l : List Command). l ++ command ∷ []) c.reserve.ensures.items in
     let place : c.len-place.result ≡ length commands = search rules in
     record {
       declared = rw is (pushed (NamesUnits (vec_len set_up.units)) commands command c.args.self.now.declared c.in_ok-names.ensures.units);

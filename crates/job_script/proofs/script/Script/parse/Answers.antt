@@ -20,9 +20,9 @@ lines-preserved c =
     let is : option_copied c.lines.left ≡ Some text = rw c.in-Some.is refl in
     let size : bytes_left (option_copied c.lines.left) ≡ length text + 1 = rw is refl in
     record {
-      read = goes_on c.lines.number (said c.lines.script) (said c.numbered_line.new.self) (option_copied c.lines.left) (option_copied c.scan.result.1) text
-          c.scan.result.0.line.now _ is c.scan.ensures.line c.in_default-numbered_line.ensures c.lines.invariant.read;
-      few = omega (arith, size, c.scan.ensures.shorter, c.lines.invariant.few);
+      read = goes_on c.lines.number (said c.lines.script) (said c.numbered_line.new.self) (option_copied c.lines.left) (option_copied c.scan-after.result) text
+          c.scan-after.new.self.line.now _ is c.scan-after.ensures.line c.in_default-numbered_line.ensures c.lines.invariant.read;
+      few = omega (arith, size, c.scan-after.ensures.shorter, c.lines.invariant.few);
     }
 
 pub lines-smaller : goal.lines-smaller
@@ -30,14 +30,14 @@ lines-smaller c =
     let text = c.in-Some.text.now in
     let is : option_copied c.lines.left ≡ Some text = rw c.in-Some.is refl in
     let size : bytes_left (option_copied c.lines.left) ≡ length text + 1 = rw is refl in
-    omega (arith, size, c.scan.ensures.shorter)
+    omega (arith, size, c.scan-after.ensures.shorter)
 
 pub returns-in-Err-clause-grammar : goal.returns-in-Err-clause-grammar
 returns-in-Err-clause-grammar c =
     let text = c.in-Some.text.now in
     let is : option_copied c.lines.left ≡ Some text = rw c.in-Some.is refl in
-    stops _ c.lines.number (said c.lines.script) (said c.numbered_line.new.self) (option_copied c.lines.left) (option_copied c.scan.result.1) text
-    c.scan.result.0.line.now c.args.text.now is c.scan.ensures.line c.in-Err.ensures c.lines.invariant.read
+    stops _ c.lines.number (said c.lines.script) (said c.numbered_line.new.self) (option_copied c.lines.left) (option_copied c.scan-after.result) text
+    c.scan-after.new.self.line.now c.args.text.now is c.scan-after.ensures.line c.in-Err.ensures c.lines.invariant.read
 
 pub returns-then-lacks-clause-grammar : goal.returns-then-lacks-clause-grammar
 returns-then-lacks-clause-grammar c =

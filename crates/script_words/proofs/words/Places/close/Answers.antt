@@ -1,6 +1,6 @@
 use Rattle.script_words.proofs.Scans.{closes_kept, closes_past, closes_none}
-use Rattle.script_words.proofs.words.Scan.close.Goals as goal
-use Rattle.script_words.proofs.words.Scan.close.Goals.{then-count-lt8, else-count-lt8}
+use Rattle.script_words.proofs.words.Places.close.Goals as goal
+use Rattle.script_words.proofs.words.Places.close.Goals.{then-count-lt8, else-count-lt8}
 
 pub returns-after-count-lt8-clause-closed : goal.returns-after-count-lt8-clause-closed
 returns-after-count-lt8-clause-closed c =
