@@ -79,6 +79,12 @@ class Setup:
     jobs: int = 1
     names: list = field(default_factory=list)
 
+    def skip_unproved(self):
+        """Skips a case that an unproved program fails for its AddressSanitizer, which takes time and memory."""
+        with open(self.program, "rb") as it:
+            if b"AddressSanitizer" in it.read():
+                raise Skipped("an unproved program has AddressSanitizer, and is too slow or too large for it")
+
     def run(self, *words, script=None, file=""):
         """Runs the program on a script, or on the script in a file."""
         if file:

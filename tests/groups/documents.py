@@ -1,19 +1,18 @@
-"""The documents: their sentences, by tests/sentences, and the kit that the README names, of which there is only a warning."""
+"""The documents: their sentences, by tests/sentences; the layers of crates.txt, and the steps of a request in ARCHITECTURE.md; and
+the kit that the README names, of which there is only a warning."""
 
 import re
 import shutil
 
-from harness import TOP, Case, Failed, Skipped, read, run
-
-SENTENCES = f"{TOP}/tests/sentences"
+from harness import TOP, Case, Failed, Skipped, read, require, run
 
 
-def passes(*words):
-    """tests/sentences with these words passes."""
-    ran = run([SENTENCES, *words], cwd=TOP)
+def passes(program, *words):
+    """A program of tests/ with these words passes."""
+    ran = run([f"{TOP}/tests/{program}", *words], cwd=TOP)
     if ran.status != 0 or not re.search(r"^\d+ passed, 0 failed$", ran.out.rstrip("\n").rpartition("\n")[2]):
-        raise Failed("tests/sentences found faults", ran, None, ran.out + ran.err)
-    return f"tests/sentences: {ran.out.rstrip().rpartition(chr(10))[2]}"
+        raise Failed(f"tests/{program} found faults", ran, None, ran.out + ran.err)
+    return f"tests/{program}: {ran.out.rstrip().rpartition(chr(10))[2]}"
 
 
 def names_kit():
@@ -24,7 +23,41 @@ def names_kit():
     return "" if kit in read(f"{TOP}/README.md") else f"warning: README.md does not name the kit of `rt version`: {kit}"
 
 
+def layers_hold():
+    """No crate of crates.txt stands on a crate of a layer above its own."""
+    layer, layers, below = "", {}, {}
+    for line in read(f"{TOP}/crates.txt").splitlines()[1:]:
+        if line.startswith("# "):
+            layer = line[2:]
+        elif line:
+            head, _, rest = line.partition(":")
+            layers[head.split()[0]] = layer
+            below[head.split()[0]] = rest.split()
+    order = list(dict.fromkeys(layers.values()))
+    stands_above = lambda name, it: it in layers and order.index(layers[it]) > order.index(layers[name])
+    wrong = [f"{name} on {it}" for name in below for it in below[name] if stands_above(name, it)]
+    require(len(order) > 1 and not wrong, f"crates.txt: {len(order)} layers; {'; '.join(wrong)}")
+
+
+STEP = re.compile(r"^\| (\d+) \| .+ \| (`.+`) \| (.+) \|$", re.M)
+
+
+def steps_hold():
+    """Each step of a request names functions that are in the files that it names."""
+    steps = STEP.findall(read(f"{TOP}/docs/ARCHITECTURE.md"))
+    require([int(it[0]) for it in steps] == list(range(1, 26)), "ARCHITECTURE.md has no steps 1 to 25")
+    for number, names, files in steps:
+        names, files = names.split(", "), files.split("; ")
+        require(len(names) == len(files), f"step {number}: {len(names)} functions and {len(files)} files")
+        for name, file in zip(names, files):
+            crate, _, path = file.partition(": ")
+            function = name.strip("`").rpartition("::")[2]
+            require(re.search(rf"\bfn {function}\b", read(f"{TOP}/crates/{crate}/src/{path}")), f"step {number}: no fn {function} in {file}")
+
+
 def cases(setup):
-    yield Case("sentences", passes, "tests/sentences, by CONTRIBUTING.md")
-    yield Case("the measure of sentences", lambda: passes("--self-test"), "tests/sentences, texts with known measures")
+    yield Case("sentences", lambda: passes("sentences"), "tests/sentences, by CONTRIBUTING.md")
+    yield Case("the measure of sentences", lambda: passes("sentences", "--self-test"), "tests/sentences, texts with known measures")
+    yield Case("layers of crates.txt", layers_hold, "crates.txt, line 1")
+    yield Case("steps of a request", steps_hold, "docs/ARCHITECTURE.md, by the sources")
     yield Case("kit of the README", names_kit, "rt version")

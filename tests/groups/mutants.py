@@ -8,8 +8,9 @@ line says what rejects it:
     rejected by: run GROUP CASE ..     the cases of tests/run with these words in their names, which pass on the program, fail on
                                        one that is made with the edit; nothing is proved, as by `./excp --try`
 
-Kept work is what `rt check` or `rt lib` leaves in crates/CRATE/out; the crates below have to be built too. An edit that
-cannot be read, applied or compiled fails as BAD EDIT, and is not counted as rejected.
+Kept work is what `rt check` or `rt lib` leaves in crates/CRATE/out. If a crate has none, as after `rt ci` in a new clone,
+the crate is proved first. The crates below have to be built by `rt lib`. An edit that cannot be read, applied or compiled
+fails as BAD EDIT, and is not counted as rejected.
 """
 
 import glob
@@ -28,6 +29,12 @@ MUTANTS = f"{TOP}/tests/mutants"
 
 # The most seconds that a build of tests with nothing proved may take.
 SECONDS = 900
+
+# What to do if no program is there to pass the cases of a mutant with no edit.
+NO_PROGRAM = (
+    "no program {}: `./excp --build` proves and builds crates/excp_job/out/excp_job; `tools/prove.py try` builds"
+    " out/tried/excp_job with nothing proved, in two minutes, for `--program out/tried/excp_job`"
+)
 
 # What a worker keeps of a crate from one mutant to the next: the copy of its kept work.
 KEPT = {}
@@ -54,14 +61,17 @@ def crate_of(rt, name):
 
 
 def kept_work(rt, crate):
-    """A copy of the work that the crate's out/ keeps, over which the crate is proved with nothing changed."""
+    """A copy of the work that the crate's out/ keeps, over which the crate is proved with nothing changed. If out/ keeps
+    none, that proof makes it."""
     if crate.name not in KEPT:
         source = f"{crate.folder}/out/incremental"
-        require(os.path.isdir(source), f"crates/{crate.name}/out has no kept work; `rt check` in its folder makes it")
         room = tempfile.TemporaryDirectory(prefix="mutants-")
-        subprocess.run(["cp", "-a", "--reflink=auto", source, f"{room.name}/kept"], check=True)
-        KEPT[crate.name] = room
+        if os.path.isdir(source):
+            subprocess.run(["cp", "-a", "--reflink=auto", source, f"{room.name}/kept"], check=True)
+        else:
+            os.mkdir(f"{room.name}/kept")
         require_proved(rt, crate, f"{room.name}/kept")
+        KEPT[crate.name] = room
     return f"{KEPT[crate.name].name}/kept"
 
 
@@ -107,9 +117,11 @@ def rejected_by_run(name, edit, group, case, program):
     rt = loaded()
     texts, why = rt.read_edit(edit, f"{TOP}/crates/{name}")
     require(not why, f"BAD EDIT: {why}")
+    require(os.access(program, os.X_OK), NO_PROGRAM.format(program.removeprefix(f"{TOP}/")))
     words = [f"{TOP}/tests/run", group, "--case", case, "--jobs", "1", "--program"]
     before = run([*words, program], timeout=SECONDS, stdin=subprocess.DEVNULL)
-    require(before.status == 0, f"BAD EDIT: {group}: {case}: does not pass with no edit", before)
+    passes = before.status == 0 and re.search(r"^[1-9]\d* passed, 0 failed", before.out, re.M)
+    require(passes, f"BAD EDIT: {group}: {case}: does not pass with no edit", before)
     with tempfile.TemporaryDirectory(prefix="mutants-") as room:
         for file in ("crates.txt", "HANDLES"):
             shutil.copy(f"{TOP}/{file}", room)
@@ -121,7 +133,7 @@ def rejected_by_run(name, edit, group, case, program):
         built = run(["python3", f"{room}/tools/prove.py", "try"], timeout=SECONDS, stdin=subprocess.DEVNULL)
         require(built.status == 0, "BAD EDIT: the program with it is not built", built)
         after = run([*words, f"{room}/out/tried/excp_job"], timeout=SECONDS, stdin=subprocess.DEVNULL)
-    require(after.status == 1 and f"FAILED: {group}: " in after.out, f"NOT REJECTED: {group}: {case}: passes", after)
+    require(after.status == 1 and f"FAILED: {group}: " in after.out, f"NOT REJECTED: {group}: {case}: passes or is skipped", after)
     return f"{name}/{os.path.basename(edit)}: rejected: {group}: {case}: fails"
 
 

@@ -2,7 +2,7 @@
 //! tests/cases/histories/lines.report, broken lines are in tests/cases/scripts/broken.posts, and scripts that are cut,
 //! replaced or too long in the group hostile of tests/run.
 
-use job_script::{Fault, Script, read_script};
+use job_script::{JobError, Script, read_script};
 use std::alloc::{AllocError, Global};
 use std::io;
 use std::io::Read;
@@ -64,7 +64,7 @@ fn unreadable(rt: HostRuntime) -> Result<(), Fail> {
         };
         match read_script(rt.alloc(), &mut reader) {
             Ok(_) => assert!(rt; false, "no fault"),
-            Err(fault) => assert_eq!(rt; fault, Fault::Unreadable),
+            Err(fault) => assert_eq!(rt; fault, JobError::Unreadable),
         }
     }
     Ok(())

@@ -5,7 +5,8 @@ use std::test::Fail;
 
 #[test]
 fn bytes_of_words(rt: HostRuntime) -> Result<(), Fail> {
-    let (words, rest) = Words::scan(b"area 0 001000 C1c2 -  d3\nmark 0");
+    let mut words = Words::new();
+    let rest = words.scan(b"area 0 001000 C1c2 -  d3\nmark 0");
     assert_eq!(rt; rest, Some(b"mark 0".as_slice()));
     assert_eq!(rt; words.count(), 6);
     let mut bytes = bytes_of(rt.alloc(), words.word(2))?;

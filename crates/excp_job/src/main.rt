@@ -9,9 +9,10 @@ mod screen;
 mod words;
 
 use job_assembler::assemble_script;
+use job_check::{Source, check_script};
 use job_options::{Counts, Order, Words};
 use job_run::{Workers, report_script, run_script};
-use job_script::{Fault, Source, check_script};
+use job_script::JobError;
 use screen::Screen;
 use std::cell::Cell;
 use std::env;
@@ -92,7 +93,7 @@ fn carry_out<R: Threads + Wait + Sync, I: Read>(
     };
     match done {
         Ok(status) => status,
-        Err(Fault::NotWritten) if is_broken.get() => {
+        Err(JobError::NotWritten) if is_broken.get() => {
             if matches!(order, Order::Check) {
                 REJECTED
             } else {
@@ -109,8 +110,14 @@ fn run<R: Threads + Wait + Sync, I: Read>(
     threads: &R,
     input: &mut I,
     counts: Counts,
-) -> Result<u8, Fault> {
-    run_script(threads, rt.alloc(), input, rt.stdout(), workers(counts))?;
+) -> Result<u8, JobError> {
+    run_script(
+        threads,
+        rt.alloc(),
+        input,
+        &mut rt.stdout(),
+        workers(counts),
+    )?;
     Ok(0)
 }
 
@@ -122,9 +129,16 @@ fn report<R: Threads + Wait + Sync, I: Read>(
     counts: Counts,
     steps: bool,
     is_broken: &Cell<bool>,
-) -> Result<u8, Fault> {
-    let screen = Screen::new(rt.stdout(), takes_colour(rt, rt.stdout()), is_broken);
-    report_script(threads, rt.alloc(), input, screen, workers(counts), steps)?;
+) -> Result<u8, JobError> {
+    let mut screen = Screen::new(rt.stdout(), takes_colour(rt, rt.stdout()), is_broken);
+    report_script(
+        threads,
+        rt.alloc(),
+        input,
+        &mut screen,
+        workers(counts),
+        steps,
+    )?;
     Ok(0)
 }
 
@@ -134,7 +148,7 @@ fn check<I: Read>(
     input: &mut I,
     name: &str,
     is_broken: &Cell<bool>,
-) -> Result<u8, Fault> {
+) -> Result<u8, JobError> {
     let is_coloured = takes_colour(rt, rt.stdout());
     let screen = Screen::new(rt.stdout(), false, is_broken);
     let is_rejected = check_script(rt.alloc(), input, Source { name, is_coloured }, screen)?;
@@ -147,7 +161,7 @@ fn assemble<I: Read>(
     input: &mut I,
     name: &str,
     is_broken: &Cell<bool>,
-) -> Result<u8, Fault> {
+) -> Result<u8, JobError> {
     let is_coloured = takes_colour(rt, rt.stderr());
     let source = Source { name, is_coloured };
     let screen = Screen::new(rt.stdout(), false, is_broken);

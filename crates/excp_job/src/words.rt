@@ -3,7 +3,7 @@
 use clap::Error;
 use clap::error::ErrorKind;
 use job_options::{Words, parse};
-use job_script::Fault;
+use job_script::JobError;
 use std::alloc::{AllocError, Global};
 use std::env::{Env, FillError};
 use std::{env, io, str};
@@ -23,7 +23,7 @@ pub fn read(rt: &HostRuntime) -> Result<Words, u8> {
     let arguments = match env::args(rt) {
         Ok(arguments) => arguments,
         Err(error) if error.kind() == io::ErrorKind::OutOfMemory => {
-            return Err(ended_by(rt, Fault::NoMemory));
+            return Err(ended_by(rt, JobError::NoMemory));
         }
         Err(_) => return Err(not_utf8(rt)),
     };
@@ -34,7 +34,7 @@ pub fn read(rt: &HostRuntime) -> Result<Words, u8> {
             words.as_slice(),
             error,
         )),
-        Err(_) => Err(ended_by(rt, Fault::NoMemory)),
+        Err(_) => Err(ended_by(rt, JobError::NoMemory)),
     }
 }
 
@@ -42,7 +42,7 @@ pub fn read(rt: &HostRuntime) -> Result<Words, u8> {
 /// the user asked for; that of `run`, and of the whole program, goes to standard error (profile).
 fn told(rt: &HostRuntime, words: &[String], error: Error) -> u8 {
     match error.kind() {
-        ErrorKind::OutOfMemory => ended_by(rt, Fault::NoMemory),
+        ErrorKind::OutOfMemory => ended_by(rt, JobError::NoMemory),
         ErrorKind::DisplayHelp if is_of_own(words) => printed(rt, &error),
         ErrorKind::DisplayVersion => printed(rt, &error),
         _ => {
@@ -55,7 +55,7 @@ fn told(rt: &HostRuntime, words: &[String], error: Error) -> u8 {
 fn printed(rt: &HostRuntime, error: &Error) -> u8 {
     match print!(rt; "{error}") {
         Ok(()) => 0,
-        Err(_) => ended_by(rt, Fault::NotWritten),
+        Err(_) => ended_by(rt, JobError::NotWritten),
     }
 }
 
@@ -103,7 +103,7 @@ fn is_file_not_utf8(rt: &HostRuntime) -> bool {
 }
 
 /// Prints why the program ends, and returns the exit status.
-pub fn ended_by(rt: &HostRuntime, fault: Fault) -> u8 {
+pub fn ended_by(rt: &HostRuntime, fault: JobError) -> u8 {
     let _ = eprintln!(rt; "excp_job: {fault}");
     fault.status()
 }

@@ -10,7 +10,8 @@ use crate::labels::Labels;
 use crate::line::{Operands, first_word, is_printable, without_comment};
 use crate::numbers::{put_digits, value_of};
 use crate::statement::put_statement;
-use job_script::{Fault, LIMIT, Message, Source, begins_line, read_script, write_findings};
+use job_check::{Source, write_findings};
+use job_script::{JobError, LIMIT, Message, begins_line, read_script};
 use std::alloc::{AllocError, Global};
 use std::io::{Read, Write};
 
@@ -36,7 +37,7 @@ pub fn assemble_script<R: Read, W: Write + Drop, E: Write + Drop>(
     source: Source<'_>,
     writer: W,
     faults: E,
-) -> Result<bool, Fault>
+) -> Result<bool, JobError>
     ensures { ReadsAtMost (LIMIT + 1) (R.remaining reader.old) (R.remaining reader.new) }
 {
     let text = read_script(alloc, reader)?;
@@ -57,15 +58,15 @@ pub fn assemble_script<R: Read, W: Write + Drop, E: Write + Drop>(
     Ok(true)
 }
 
-fn write_script<W: Write + Drop>(script: &[u8], writer: W) -> Result<(), Fault> {
+fn write_script<W: Write + Drop>(script: &[u8], writer: W) -> Result<(), JobError> {
     let mut writer = writer;
     match writer.write_all(script) {
         Ok(()) => {}
-        Err(_) => return Err(Fault::NotWritten),
+        Err(_) => return Err(JobError::NotWritten),
     }
     match writer.flush() {
         Ok(()) => Ok(()),
-        Err(_) => Err(Fault::NotWritten),
+        Err(_) => Err(JobError::NotWritten),
     }
 }
 

@@ -24,28 +24,25 @@ const NO_EXTENT: &str = "no extent: a number from 0 to 255 is wanted";
 
 const NO_SEEK: &str = "seek=CYLINDER,HEAD,RECORD has three numbers";
 
-const ECB: u8 = 1;
-
-const START: u8 = 2;
-
-const DCB: u8 = 4;
-
-const SEEK: u8 = 8;
-
-const EXTENT: u8 = 16;
-
-const RELATED: u8 = 32;
-
-/// The operands of an IOB as far as they were read.
+/// The operands of an IOB that were read.
 #[derive(Clone, Copy)]
-struct Fields<'a> {
-    iob: Iob,
-    ecb: &'a [u8],
-    start: &'a [u8],
-    /// Which operands were read.
-    given: u8,
-    /// How many numbers of a seek address were read.
-    seek: u8,
+struct Operands<'a> {
+    ecb: Option<&'a [u8]>,
+    start: Option<&'a [u8]>,
+    dcb: Option<u16>,
+    extent: Option<u8>,
+    is_related: Option<bool>,
+    seek: SeekAddress,
+}
+
+/// The numbers of a seek address. They come in this order.
+#[derive(Clone, Copy)]
+struct SeekAddress {
+    /// Whether `seek=` was read.
+    is_given: bool,
+    cylinder: Option<u16>,
+    head: Option<u16>,
+    record: Option<u8>,
 }
 
 /// `IOB ecb=ADDRESS start=ADDRESS dcb=NUMBER ..`: one of a request that chains commands, and is unrelated unless it
@@ -55,36 +52,57 @@ pub fn put_block<'a>(
     line: usize,
     operands: &'a [u8],
 ) -> Result<(), Refusal<'a>> {
-    let mut image = [0; 40];
-    let mut iob = Iob::read(&image);
-    iob.command_chaining = true;
-    iob.unrelated = true;
-    let mut fields = Fields {
-        iob,
-        ecb: &[],
-        start: &[],
-        given: 0,
-        seek: 0,
-    };
-    let read = fields.read_all(operands);
-    if fields.given & ECB != 0 {
-        area.refer(line, 5, fields.ecb)?;
+    let mut given = Operands::none();
+    let read = given.read_all(operands);
+    if let Some(ecb) = given.ecb {
+        area.refer(line, 5, ecb)?;
     }
-    if fields.given & START != 0 {
-        area.refer(line, 17, fields.start)?;
+    if let Some(start) = given.start {
+        area.refer(line, 17, start)?;
     }
     read?;
-    if fields.given & (ECB | START | DCB) != ECB | START | DCB {
-        return Err(Refusal::Wrong(Wrong::line(LACKS)));
-    }
-    if fields.given & SEEK != 0 && fields.seek != 3 {
-        return Err(Refusal::Wrong(Wrong::line(NO_SEEK)));
-    }
-    fields.iob.write(&mut image);
+    let mut image = [0; 40];
+    given.check_and_write(&mut image)?;
     area.put(&image)
 }
 
-impl<'a> Fields<'a> {
+impl<'a> Operands<'a> {
+    fn none() -> Self {
+        Operands {
+            ecb: None,
+            start: None,
+            dcb: None,
+            extent: None,
+            is_related: None,
+            seek: SeekAddress {
+                is_given: false,
+                cylinder: None,
+                head: None,
+                record: None,
+            },
+        }
+    }
+
+    /// Writes the IOB into an image of zeros, if no operand is missing. The addresses follow once all labels are known.
+    fn check_and_write(&self, image: &mut [u8; 40]) -> Result<(), Wrong<'a>> {
+        let (Some(_), Some(_), Some(dcb)) = (self.ecb, self.start, self.dcb) else {
+            return Err(Wrong::line(LACKS));
+        };
+        if self.seek.is_given && self.seek.record.is_none() {
+            return Err(Wrong::line(NO_SEEK));
+        }
+        let mut iob = Iob::read(image);
+        iob.command_chaining = true;
+        iob.unrelated = self.is_related != Some(true);
+        iob.dcb = Address::new(u32::from(dcb));
+        iob.seek.extent = self.extent.unwrap_or(0);
+        iob.seek.cylinder = self.seek.cylinder.unwrap_or(0);
+        iob.seek.head = self.seek.head.unwrap_or(0);
+        iob.seek.record = self.seek.record.unwrap_or(0);
+        iob.write(image);
+        Ok(())
+    }
+
     /// Reads the operands, up to the first that is none.
     fn read_all(&mut self, operands: &'a [u8]) -> Result<(), Wrong<'a>> {
         for operand in operands.split(|byte| parts_operands(*byte)) {
@@ -102,11 +120,11 @@ impl<'a> Fields<'a> {
             .position(|byte| *byte == b'=')
             .unwrap_or(operand.len());
         let (name, value) = operand.split_at(end);
-        if self.seek == 1 || self.seek == 2 {
+        if self.seek.is_under_way() {
             return match name {
                 b"related" | b"unrelated" => Err(Wrong::line(NO_SEEK)),
                 _ if !value.is_empty() => Err(Wrong::line(NO_SEEK)),
-                _ => self.read_seek(operand),
+                _ => self.seek.read_number(operand),
             };
         }
         let value = match value.split_first() {
@@ -124,64 +142,74 @@ impl<'a> Fields<'a> {
     ) -> Result<(), Wrong<'a>> {
         match name {
             b"ecb" => {
-                self.once(ECB, operand)?;
-                self.ecb = value;
-                Ok(())
+                once(self.ecb.is_some(), operand)?;
+                self.ecb = Some(value);
             }
             b"start" => {
-                self.once(START, operand)?;
-                self.start = value;
-                Ok(())
+                once(self.start.is_some(), operand)?;
+                self.start = Some(value);
             }
             b"dcb" => {
-                self.once(DCB, operand)?;
-                self.read_dcb(value)
+                once(self.dcb.is_some(), operand)?;
+                let dcb = dcb_number(value)?;
+                self.dcb = Some(dcb);
             }
             b"seek" => {
-                self.once(SEEK, operand)?;
-                self.read_seek(value)
+                once(self.seek.is_given, operand)?;
+                self.seek.is_given = true;
+                self.seek.read_number(value)?;
             }
             b"extent" => {
-                self.once(EXTENT, operand)?;
+                once(self.extent.is_some(), operand)?;
                 let extent = number_to(value, 255, NO_EXTENT)?;
-                self.iob.seek.extent = extent as u8;
-                Ok(())
+                self.extent = Some(extent as u8);
             }
             b"related" if value.is_empty() => {
-                self.iob.unrelated = false;
-                self.once(RELATED, operand)
+                once(self.is_related.is_some(), operand)?;
+                self.is_related = Some(true);
             }
-            b"unrelated" if value.is_empty() => self.once(RELATED, operand),
-            _ => Err(Wrong::of(operand, NO_OPERAND)),
+            b"unrelated" if value.is_empty() => {
+                once(self.is_related.is_some(), operand)?;
+                self.is_related = Some(false);
+            }
+            _ => return Err(Wrong::of(operand, NO_OPERAND)),
         }
-    }
-
-    /// That an operand was not read before.
-    fn once(&mut self, operand: u8, word: &'a [u8]) -> Result<(), Wrong<'a>> {
-        if self.given & operand != 0 {
-            return Err(Wrong::of(word, TWICE));
-        }
-        self.given |= operand;
         Ok(())
     }
+}
 
-    fn read_dcb(&mut self, value: &'a [u8]) -> Result<(), Wrong<'a>> {
-        let number = number_to(value, 65535, NO_DCB)?;
-        if number == 0 {
-            return Err(Wrong::of(value, NO_DCB));
-        }
-        self.iob.dcb = Address::new(number);
-        Ok(())
+impl SeekAddress {
+    /// Whether a number of it was read, and the last one was not.
+    fn is_under_way(&self) -> bool {
+        self.cylinder.is_some() && self.record.is_none()
     }
 
-    /// Reads the next number of a seek address.
-    fn read_seek(&mut self, value: &'a [u8]) -> Result<(), Wrong<'a>> {
-        match self.seek {
-            0 => self.iob.seek.cylinder = number_to(value, 65535, NO_TRACK)? as u16,
-            1 => self.iob.seek.head = number_to(value, 65535, NO_TRACK)? as u16,
-            _ => self.iob.seek.record = number_to(value, 255, NO_RECORD)? as u8,
+    /// Reads its next number.
+    fn read_number<'a>(&mut self, value: &'a [u8]) -> Result<(), Wrong<'a>> {
+        if self.cylinder.is_none() {
+            self.cylinder = Some(number_to(value, 65535, NO_TRACK)? as u16);
+        } else if self.head.is_none() {
+            self.head = Some(number_to(value, 65535, NO_TRACK)? as u16);
+        } else {
+            self.record = Some(number_to(value, 255, NO_RECORD)? as u8);
         }
-        self.seek = self.seek.saturating_add(1);
         Ok(())
     }
+}
+
+/// That an operand was not read before.
+fn once(is_given: bool, operand: &[u8]) -> Result<(), Wrong<'_>> {
+    if is_given {
+        Err(Wrong::of(operand, TWICE))
+    } else {
+        Ok(())
+    }
+}
+
+fn dcb_number(value: &[u8]) -> Result<u16, Wrong<'_>> {
+    let number = number_to(value, 65535, NO_DCB)?;
+    if number == 0 {
+        return Err(Wrong::of(value, NO_DCB));
+    }
+    Ok(number as u16)
 }

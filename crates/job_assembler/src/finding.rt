@@ -1,6 +1,7 @@
 //! What is wrong with a line, and how it is told.
 
-use job_script::{Found, Message, write_word};
+use job_check::Found;
+use job_script::{Message, write_word};
 use std::alloc::{AllocError, AllocFailed};
 use std::fmt;
 

@@ -1,7 +1,9 @@
 //! The units of a run, one after another.
 
+ghost use Rattle.std.specs.Prelude.{◌≡◌, IfErr, false};
+
 use crate::medium::write_medium;
-use job_script::{Fault, SetUp};
+use job_script::{JobError, SetUp};
 use std::io::Write;
 use unit_book::UnitBook;
 use unit_device::UnitDevice;
@@ -16,16 +18,18 @@ pub fn write_units<W: Write>(
     books: &[UnitBook<UnitDevice>],
     steps: bool,
     open: &mut OpenDcbs,
-) -> Result<(), Fault> {
+) -> Result<(), JobError>
+    ensures { steps ≡ false → IfErr result (λ fault. fault ≡ JobError.NotWritten) }
+{
     for (number, (unit, book)) in set_up.units.iter().zip(books).enumerate() {
         let faults = steps.then_some(unit.faults.as_slice());
         match write_history(out, number, book, faults, open) {
             Ok(()) => {}
-            Err(HistoryError::NoMemory) => return Err(Fault::NoMemory),
-            Err(HistoryError::NotWritten) => return Err(Fault::NotWritten),
+            Err(HistoryError::NoMemory) => return Err(JobError::NoMemory),
+            Err(HistoryError::NotWritten) => return Err(JobError::NotWritten),
         }
         if write_medium(out, number, unit, book.device()).is_err() {
-            return Err(Fault::NotWritten);
+            return Err(JobError::NotWritten);
         }
     }
     Ok(())

@@ -2,7 +2,7 @@
 use Rattle.std.proofs.Common.{◌≡◌, ℕ, List, length}
 use Rattle.std.specs.List.{All}
 use Rattle.unit_book.specs.Book.{Book}
-use Rattle.job_script.specs.Books.{IsFresh}
+use Rattle.job_mount.specs.Books.{IsFresh}
 use Rattle.excp_system.specs.Opening.{AreBooks}
 use Rattle.post_ledger.proofs.Pairs.{all_get}
 

@@ -1,2 +1,3 @@
--- The books of a script.
+-- The books of a script, and what its commands send.
 pub mod Books
+pub mod Sent

@@ -1,14 +1,18 @@
 //! What one task does of a script.
 
-ghost use Rattle.std.specs.Prelude.{◌≡◌, ◌<◌, All, vec_len};
-ghost use Rattle.job_script.specs.Commands.{CanBeDone, CanIssue, NamesUnits};
+ghost use Rattle.std.specs.Prelude.{◌≡◌, ◌<◌, All, IfErr, OnErr, OnOk, vec_len};
+ghost use Rattle.job_mount.specs.Requests.{CanBeDone, CanIssue};
+ghost use Rattle.job_script.specs.Commands.{NamesUnits};
+ghost use Rattle.job_run.specs.Sending.{ExcpFails, Fails, SendsFirst, StopsAt, sends, sends_all, sends_excp};
 
+use crate::command_fault::CommandFault;
 use crate::lines::Lines;
 use crate::unit_calls::{close, purge, purge_task, reset};
 use crossbeam_utils::Backoff;
 use excp_system::{Site, System};
 use fifo_row::Full;
-use job_script::{Action, Command, Excp, Fault, FaultName, LineFault, Script};
+use job_mount::request;
+use job_script::{Action, Command, Excp, JobError, Script};
 use std::alloc::{AllocError, Global};
 use std::sync::Wait;
 use system_threads::{Alarm, Client};
@@ -45,22 +49,42 @@ impl<'a, 'r, S: Site> Job<'a, 'r, S> {
         }
     }
 
-    /// Does the commands of a task, in order, up to the first fault.
+    /// Does all that a task does: its commands, up to the first fault, and then waits until all its requests were posted.
+    /// Returns what is printed of them, or why it ended. Out of memory outranks the fault of a line.
+    pub fn task<R: Wait>(
+        &self,
+        rt: &R,
+        alloc: Global,
+        client: &mut Client<'_, S>,
+    ) -> Result<Lines, JobError>
+        ensures number { client.new.number ≡ client.old.number }
+        ensures sent { OnOk result (client.new.sent ≡ sends_all client.old.number self.now.script.now.commands.items client.old.sent) }
+        ensures stopped { OnErr result (SendsFirst client.old.number self.now.script.now.commands.items client.old.sent client.new.sent) }
+    {
+        let mut lines = Lines::of_task(alloc, self.script, client.number())?;
+        let done = self.commands(rt, alloc, client, &mut lines);
+        self.collect(rt, client, &mut lines)?;
+        done?;
+        Ok(lines)
+    }
+
+    /// Does the commands of a task, in order, up to the first fault. Whatever other threads do, the task sends the requests
+    /// of its commands, in their order, and no other.
     pub fn commands<R: Wait>(
         &self,
         rt: &R,
         alloc: Global,
         client: &mut Client<'_, S>,
         lines: &mut Lines,
-    ) -> Result<(), Fault>
-        ensures { client.new.number ≡ client.old.number }
+    ) -> Result<(), JobError>
+        ensures number { client.new.number ≡ client.old.number }
+        ensures sent { OnOk result (client.new.sent ≡ sends_all client.old.number self.now.script.now.commands.items client.old.sent) }
+        ensures stopped { IfErr result (StopsAt client.old.number self.now.script.now.commands.items client.old.sent client.new.sent) }
     {
-        let number = client.number();
-        for command in &self.script.commands {
-            if command.task == number {
-                if let Err(fault) = self.command(rt, alloc, client, lines, command) {
-                    return Err(fault.at(command.line));
-                }
+        for place in self.script.places_of(client.number()) {
+            let command = &self.script.commands[*place];
+            if let Err(fault) = self.command(rt, alloc, client, lines, command) {
+                return Err(fault.at(command.line));
             }
         }
         Ok(())
@@ -74,10 +98,13 @@ impl<'a, 'r, S: Site> Job<'a, 'r, S> {
         client: &mut Client<'_, S>,
         lines: &mut Lines,
         command: &Command,
-    ) -> Result<(), LineFault>
+    ) -> Result<(), CommandFault>
         requires units { NamesUnits S.rows.units command.now }
         requires request { CanBeDone command.now }
-        ensures { client.new.number ≡ client.old.number }
+        ensures number { client.new.number ≡ client.old.number }
+        ensures sent { OnOk result (client.new.sent ≡ sends client.old.number command.now.action client.old.sent) }
+        ensures unsent { OnErr result (client.new.sent ≡ client.old.sent) }
+        ensures fails { IfErr result (Fails command.now.action client.old.sent) }
     {
         match &command.action {
             Action::Excp(excp) => self.issue(rt, alloc, client, lines, excp)?,
@@ -99,15 +126,18 @@ impl<'a, 'r, S: Site> Job<'a, 'r, S> {
         client: &mut Client<'_, S>,
         lines: &mut Lines,
         excp: &Excp,
-    ) -> Result<(), LineFault>
+    ) -> Result<(), CommandFault>
         requires unit { excp.now.dcb.unit < S.rows.units }
         requires request { CanIssue excp.now }
-        ensures { client.new.number ≡ client.old.number }
+        ensures number { client.new.number ≡ client.old.number }
+        ensures sent { OnOk result (client.new.sent ≡ sends_excp client.old.number excp.now client.old.sent) }
+        ensures unsent { OnErr result (client.new.sent ≡ client.old.sent) }
+        ensures fails { IfErr result (ExcpFails excp.now client.old.sent) }
     {
         let Some(name) = client.name(excp.dcb.unit) else {
-            return Err(LineFault::Named(FaultName::Request));
+            return Err(CommandFault::NoNumber);
         };
-        let mut request = excp.request(alloc, name)?;
+        let mut request = request(alloc, excp, name)?;
         let idle = Backoff::new();
         for _ in rt.forever() {
             if client.awaited() < MOST_UNDER_WAY {
@@ -134,7 +164,8 @@ impl<'a, 'r, S: Site> Job<'a, 'r, S> {
         client: &mut Client<'_, S>,
         lines: &mut Lines,
     ) -> Result<(), AllocError>
-        ensures { client.new.number ≡ client.old.number }
+        ensures number { client.new.number ≡ client.old.number }
+        ensures sent { client.new.sent ≡ client.old.sent }
     {
         for _ in rt.forever() {
             match client.next_post(rt, self.alarm)? {

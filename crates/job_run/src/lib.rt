@@ -12,7 +12,9 @@
 //! Tests: job_tests, tests/cases/scripts, the groups random and purges of tests/run.
 #![tactic(auto)]
 
+mod command_fault;
 mod job;
+mod late_writer;
 mod lines;
 mod output;
 mod rooms;

@@ -58,10 +58,8 @@ impl Lines {
     /// A line for each request that the script issues by a task.
     pub fn of_task(alloc: Global, script: &Script, task: u16) -> Result<Lines, AllocError> {
         let mut lines = Lines::new(alloc, script.set_up.units.len())?;
-        for command in &script.commands {
-            if command.task == task {
-                lines.add(command)?;
-            }
+        for place in script.places_of(task) {
+            lines.add(&script.commands[*place])?;
         }
         Ok(lines)
     }

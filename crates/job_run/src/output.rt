@@ -1,13 +1,15 @@
 //! The lines that a run prints: one for each post, and their number; and behind them, in a report, what the run left
 //! behind.
 
-ghost use Rattle.std.specs.Prelude.{◌≤◌, All, length};
+ghost use Rattle.std.specs.Prelude.{◌≡◌, ◌≤◌, All, IfErr, false, length};
 ghost use Rattle.job_run.specs.Complete.{IsComplete, IsWhole};
+ghost use Rattle.job_run.specs.Faults.{LeavesWriter, has_steps};
 
+use crate::late_writer::LateWriter;
 use crate::lines::{End, Line, Lines};
 use digits::{put_decimal, put_digits, write_bytes};
 use job_report::write_units;
-use job_script::{Fault, SetUp};
+use job_script::{JobError, SetUp};
 use std::alloc::Global;
 use std::io;
 use std::io::{BufWriter, Write};
@@ -30,38 +32,67 @@ pub enum Output<'a> {
 }
 
 /// Writes what the requests of each task were posted with, in order of tasks, units and numbers, each with its shown
-/// bytes, and then how many there are; and what else is to be printed.
-pub fn write<W: Write + Drop>(
+/// bytes, and then how many there are; and what else is to be printed. If memory runs out, nothing was written, but a
+/// report with every command may run out of it after a part.
+pub fn write<W: Write>(
     alloc: Global,
     lines: &[Lines],
     output: Output<'_>,
-    writer: W,
-) -> Result<(), Fault>
+    writer: &mut W,
+) -> Result<(), JobError>
     requires { All IsComplete lines.now }
+    ensures { has_steps output.entry ≡ false → IfErr result (λ fault. LeavesWriter fault writer.old writer.new) }
 {
-    let Ok(mut out) = BufWriter::new(alloc, writer) else {
-        return Err(Fault::NoMemory);
-    };
     match output {
-        Output::Posts => write_posts(&mut out, lines)?,
+        Output::Posts => write_posts(alloc, lines, writer),
         Output::Report {
             set_up,
             books,
             steps,
-        } => {
-            // before anything is written, so that where there is no memory for it nothing is
-            let mut open = OpenDcbs::of_units(alloc, books)?;
-            write_posts(&mut out, lines)?;
-            write_units(&mut out, set_up, books, steps, &mut open)?;
-        }
+        } => write_report(alloc, lines, set_up, books, steps, writer),
     }
-    out.flush().or(Err(Fault::NotWritten))
 }
 
-fn write_posts<W: Write>(out: &mut W, lines: &[Lines]) -> Result<(), Fault>
+/// Writes the posts alone.
+fn write_posts<W: Write>(alloc: Global, lines: &[Lines], writer: &mut W) -> Result<(), JobError>
     requires { All IsComplete lines.now }
+    ensures { IfErr result (λ fault. LeavesWriter fault writer.old writer.new) }
 {
-    write_all_lines(out, lines).or(Err(Fault::NotWritten))
+    let Ok(mut out) = BufWriter::new(alloc, LateWriter::new()) else {
+        return Err(JobError::NoMemory);
+    };
+    out.get_mut().set(writer);
+    put_posts(&mut out, lines)?;
+    out.flush().or(Err(JobError::NotWritten))
+}
+
+/// Writes the posts, and what the run left behind.
+fn write_report<W: Write>(
+    alloc: Global,
+    lines: &[Lines],
+    set_up: &SetUp,
+    books: &[UnitBook<UnitDevice>],
+    steps: bool,
+    writer: &mut W,
+) -> Result<(), JobError>
+    requires { All IsComplete lines.now }
+    ensures { steps ≡ false → IfErr result (λ fault. LeavesWriter fault writer.old writer.new) }
+{
+    let mut open = OpenDcbs::of_units(alloc, books)?;
+    let Ok(mut out) = BufWriter::new(alloc, LateWriter::new()) else {
+        return Err(JobError::NoMemory);
+    };
+    out.get_mut().set(writer);
+    put_posts(&mut out, lines)?;
+    write_units(&mut out, set_up, books, steps, &mut open)?;
+    out.flush().or(Err(JobError::NotWritten))
+}
+
+fn put_posts<W: Write>(out: &mut W, lines: &[Lines]) -> Result<(), JobError>
+    requires { All IsComplete lines.now }
+    ensures { IfErr result (λ fault. fault ≡ JobError.NotWritten) }
+{
+    write_all_lines(out, lines).or(Err(JobError::NotWritten))
 }
 
 fn write_all_lines<W: Write>(out: &mut W, lines: &[Lines]) -> io::Result<()>

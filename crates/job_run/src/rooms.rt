@@ -1,11 +1,12 @@
 //! The rows and the books that a script is run on.
 
 ghost use Rattle.std.specs.Prelude.{◌≡◌, ◌≤◌, All, IfOk, OnOk, vec_len};
-ghost use Rattle.job_script.specs.Commands.{CanBeDone};
+ghost use Rattle.job_mount.specs.Requests.{CanBeDone};
 ghost use Rattle.job_run.specs.Rooms.{AreBooksOf, AreRowsOf, room_for};
 
 use excp_system::Rows;
-use job_script::{Fault, Script};
+use job_mount::books;
+use job_script::{JobError, Script};
 use std::alloc::Global;
 use unit_book::UnitBook;
 use unit_device::UnitDevice;
@@ -24,7 +25,7 @@ fn room_for(requests: usize) -> usize
 pub(crate) fn rows_and_books(
     alloc: Global,
     script: &Script,
-) -> Result<(Rows, Vec<UnitBook<UnitDevice>>), Fault>
+) -> Result<(Rows, Vec<UnitBook<UnitDevice>>), JobError>
     requires tasks { (1 ≤ script.now.set_up.tasks) × (script.now.set_up.tasks ≤ 64) }
     requires units { (1 ≤ vec_len script.now.set_up.units) × (vec_len script.now.set_up.units ≤ 64) }
     ensures rows { IfOk result (λ made. AreRowsOf script.now made.0) }
@@ -33,7 +34,7 @@ pub(crate) fn rows_and_books(
 {
     let to_a_unit = room_for(script.most_to_a_unit());
     let of_a_task = room_for(script.most_of_a_task());
-    let books = script.books(alloc, to_a_unit)?;
+    let books = books(alloc, script, to_a_unit)?;
     let units = script.set_up.units.len() as u16;
     let rows = Rows::new(alloc, script.set_up.tasks, units, to_a_unit, of_a_task)?;
     Ok((rows, books))

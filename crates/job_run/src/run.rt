@@ -1,9 +1,10 @@
 //! The run of a script: its tasks on threads of their own, beside channel workers and interruption handlers.
 
-ghost use Rattle.std.specs.Prelude.{◌≡◌, ◌≤◌, ◌<◌, ◌+◌, All, IfOk, length, vec_len};
-ghost use Rattle.job_script.specs.Commands.{CanBeDone};
+ghost use Rattle.std.specs.Prelude.{◌≡◌, ◌≤◌, ◌<◌, ◌+◌, All, IfErr, IfOk, false, length, vec_len};
+ghost use Rattle.job_mount.specs.Requests.{CanBeDone};
 ghost use Rattle.job_script.specs.Reading.{ReadsAtMost};
 ghost use Rattle.job_run.specs.Complete.{IsComplete};
+ghost use Rattle.job_run.specs.Faults.{LeavesWriter};
 ghost use Rattle.excp_system.specs.Opening.{AreBooks, AreFresh};
 ghost use Rattle.post_ledger.specs.Report.{IsFor};
 ghost use Rattle.post_ledger.specs.Work.{lists_of};
@@ -13,7 +14,7 @@ use crate::output::{Output, write};
 use crate::rooms::rows_and_books;
 use crate::script_tasks::ScriptTasks;
 use excp_system::Rows;
-use job_script::{Fault, LIMIT, Script, read_script};
+use job_script::{JobError, LIMIT, Script, read_script};
 use post_ledger::Report;
 use std::alloc::Global;
 use std::io::{Read, Write};
@@ -32,35 +33,38 @@ pub struct Finished {
 }
 
 /// Reads a script, at most 1,048,576 bytes and one more, runs its tasks beside so many channel workers and interruption
-/// handlers, and writes what its requests were posted with, or tells why not.
-pub fn run_script<R: Threads + Wait + Sync, I: Read, W: Write + Drop>(
+/// handlers, and writes what its requests were posted with, or returns why not. It writes only after the run, so every
+/// fault but that of a write leaves the writer as it was.
+pub fn run_script<R: Threads + Wait + Sync, I: Read, W: Write>(
     rt: &R,
     alloc: Global,
     reader: &mut I,
-    writer: W,
+    writer: &mut W,
     workers: Workers,
-) -> Result<(), Fault>
-    ensures { ReadsAtMost (LIMIT + 1) (I.remaining reader.old) (I.remaining reader.new) }
+) -> Result<(), JobError>
+    ensures bounded { ReadsAtMost (LIMIT + 1) (I.remaining reader.old) (I.remaining reader.new) }
+    ensures unwritten { IfErr result (λ fault. LeavesWriter fault writer.old writer.new) }
 {
     match read_and_run(rt, alloc, reader, workers) {
         Ok((_, run)) => write(alloc, &run.lines, Output::Posts, writer),
         // one text for both causes (profile)
-        Err(Fault::NoThread) => Err(Fault::NoMemory),
+        Err(JobError::NoThread) => Err(JobError::NoMemory),
         Err(fault) => Err(fault),
     }
 }
 
-/// Does so, and writes behind that, for each unit, its history, with `steps` every command of it too, and its medium:
-/// all of that is again text of a script, comments and set-up lines.
-pub fn report_script<R: Threads + Wait + Sync, I: Read, W: Write + Drop>(
+/// Does so, and then writes of each unit its history, with `steps` every command of it too, and its medium: all of that is
+/// again text of a script, comments and set-up lines. With `steps`, memory may run out after a part was written.
+pub fn report_script<R: Threads + Wait + Sync, I: Read, W: Write>(
     rt: &R,
     alloc: Global,
     reader: &mut I,
-    writer: W,
+    writer: &mut W,
     workers: Workers,
     steps: bool,
-) -> Result<(), Fault>
-    ensures { ReadsAtMost (LIMIT + 1) (I.remaining reader.old) (I.remaining reader.new) }
+) -> Result<(), JobError>
+    ensures bounded { ReadsAtMost (LIMIT + 1) (I.remaining reader.old) (I.remaining reader.new) }
+    ensures unwritten { steps ≡ false → IfErr result (λ fault. LeavesWriter fault writer.old writer.new) }
 {
     let (script, run) = read_and_run(rt, alloc, reader, workers)?;
     let output = Output::Report {
@@ -77,7 +81,7 @@ fn read_and_run<R: Threads + Wait + Sync, I: Read>(
     alloc: Global,
     reader: &mut I,
     workers: Workers,
-) -> Result<(Script, Finished), Fault>
+) -> Result<(Script, Finished), JobError>
     ensures { ReadsAtMost (LIMIT + 1) (I.remaining reader.old) (I.remaining reader.new) }
 {
     let text = read_script(alloc, reader)?;
@@ -96,7 +100,7 @@ pub fn run_on<R: Threads + Wait + Sync>(
     books: Vec<UnitBook<UnitDevice>>,
     script: &Script,
     workers: Workers,
-) -> Result<Finished, Fault>
+) -> Result<Finished, JobError>
     requires fresh { AreFresh rows }
     requires books { AreBooks rows.units books.items }
     requires units { vec_len script.now.set_up.units ≡ rows.units }
@@ -106,8 +110,8 @@ pub fn run_on<R: Threads + Wait + Sync>(
     let tasks = ScriptTasks::new(script);
     match run_program(rt, alloc, rows, books, workers, &tasks) {
         Ok((report, outcomes)) => ended(alloc, report, outcomes),
-        Err(RunError::NoThread) => Err(Fault::NoThread),
-        Err(_) => Err(Fault::NoMemory),
+        Err(RunError::NoThread) => Err(JobError::NoThread),
+        Err(_) => Err(JobError::NoMemory),
     }
 }
 
@@ -117,8 +121,8 @@ pub fn run_on<R: Threads + Wait + Sync>(
 pub fn ended(
     alloc: Global,
     report: Report<UnitDevice>,
-    outcomes: Vec<Result<Lines, Fault>>,
-) -> Result<Finished, Fault>
+    outcomes: Vec<Result<Lines, JobError>>,
+) -> Result<Finished, JobError>
     requires lists { IsFor (length report.books) (length outcomes.items) report }
     requires few_units { length report.books ≤ 64 }
     requires few_tasks { length outcomes.items ≤ 64 }
@@ -127,17 +131,17 @@ pub fn ended(
     let mut lines = lines_of(alloc, outcomes)?;
     add_rest(&mut lines, &report);
     if !lines.iter().all(|of_task| of_task.is_complete()) {
-        return Err(Fault::Unmatched);
+        return Err(JobError::Unmatched);
     }
     Ok(Finished { lines, report })
 }
 
 /// What is printed of the requests of each task; or want of memory, if a task ended for it, or the first fault.
-fn lines_of(alloc: Global, outcomes: Vec<Result<Lines, Fault>>) -> Result<Vec<Lines>, Fault>
+fn lines_of(alloc: Global, outcomes: Vec<Result<Lines, JobError>>) -> Result<Vec<Lines>, JobError>
     ensures { IfOk result (λ lines. length lines.items ≡ length outcomes.items) }
 {
     if outcomes.iter().any(wants_memory) {
-        return Err(Fault::NoMemory);
+        return Err(JobError::NoMemory);
     }
     let mut lines = Vec::with_capacity(alloc, outcomes.len())?;
     for outcome in outcomes {
@@ -147,8 +151,8 @@ fn lines_of(alloc: Global, outcomes: Vec<Result<Lines, Fault>>) -> Result<Vec<Li
 }
 
 /// Whether a task ended for want of memory.
-fn wants_memory(outcome: &Result<Lines, Fault>) -> bool {
-    matches!(outcome, Err(Fault::NoMemory))
+fn wants_memory(outcome: &Result<Lines, JobError>) -> bool {
+    matches!(outcome, Err(JobError::NoMemory))
 }
 
 /// Adds what the report of a run lists to the lines of each task.

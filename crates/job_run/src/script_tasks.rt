@@ -1,12 +1,12 @@
 //! The tasks of a script.
 
 ghost use Rattle.std.specs.Prelude.{◌≡◌, ℕ, All, vec_len};
-ghost use Rattle.job_script.specs.Commands.{CanBeDone};
+ghost use Rattle.job_mount.specs.Requests.{CanBeDone};
 
 use crate::job::Job;
 use crate::lines::Lines;
 use excp_system::{Site, System};
-use job_script::{Fault, Script};
+use job_script::{JobError, Script};
 use std::alloc::Global;
 use std::sync::Wait;
 use system_threads::{Alarm, Client, Program};
@@ -31,7 +31,7 @@ impl<'a> ScriptTasks<'a> {
 }
 
 impl<'a> Program<UnitDevice> for ScriptTasks<'a> {
-    type Outcome = Result<Lines, Fault>;
+    type Outcome = Result<Lines, JobError>;
 
     ghost units = { λ tasks. vec_len tasks.script.now.set_up.units };
 
@@ -42,12 +42,7 @@ impl<'a> Program<UnitDevice> for ScriptTasks<'a> {
         system: &System<'_, S, UnitDevice>,
         alarm: &Alarm,
         client: &mut Client<'_, S>,
-    ) -> Result<Lines, Fault> {
-        let mut lines = Lines::of_task(alloc, self.script, client.number())?;
-        let job = Job::new(self.script, system, alarm);
-        let done = job.commands(rt, alloc, client, &mut lines);
-        job.collect(rt, client, &mut lines)?;
-        done?;
-        Ok(lines)
+    ) -> Result<Lines, JobError> {
+        Job::new(self.script, system, alarm).task(rt, alloc, client)
     }
 }

@@ -1,10 +1,9 @@
 -- Words that are joined, or read one by one.
-use Rattle.std.proofs.Common.{◌≡◌, ℕ, List, [], ◌∷◌, ◌++◌, sym, ap, refl, rules, Option, Some, None, Ok, Err}
-use Rattle.io_images.specs.declared.extent.Extent.{Extent}
-use Rattle.script_words.specs.Forms.{Leaves, after, each, hex_bytes, joined}
+use Rattle.std.proofs.Common.{◌≡◌, ℕ, List, ◌∷◌, sym, ap, rules, Option, Err}
+use Rattle.script_words.specs.Forms.{Leaves, after, hex_bytes, joined}
 use Rattle.script_words.specs.declared.forms.FormError.{FormError}
 use Rattle.script_words.specs.declared.forms.FormError.TheVariants.{NotOfForm, OutOfMemory}
-use Rattle.script_words.proofs.Joining.{joined_stops, each_stops}
+use Rattle.script_words.proofs.Joining.{joined_stops}
 use Rattle.job_script.specs.declared.cause.Refusal.{Refusal}
 use Rattle.job_script.specs.declared.cause.Refusal.TheVariants.{Caused, NoMemory}
 use Rattle.job_script.specs.declared.fault.FaultName.{FaultName}

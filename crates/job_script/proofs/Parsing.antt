@@ -1,8 +1,8 @@
 -- Lines that are read one after the other.
 use Rattle.std.proofs.Common.{◌≡◌, ◌+◌, ℕ, List, ◌∷◌, Option, Some, None, Result, Ok, Err, refl, sym, ◌∙◌}
 use Rattle.script_words.specs.Text.{lines, lines_left}
-use Rattle.job_script.specs.declared.fault.Fault.{Fault}
-use Rattle.job_script.specs.declared.fault.Fault.TheVariants as faults
+use Rattle.job_script.specs.declared.fault.JobError.{JobError}
+use Rattle.job_script.specs.declared.fault.JobError.TheVariants as faults
 use Rattle.job_script.specs.Grammar.{FaultAt, ended, lines_from, script_of, with_line}
 use Rattle.job_script.specs.Outcomes.{Gives, LeadsAt}
 use Rattle.job_script.specs.Said.{Said, nothing}
@@ -27,7 +27,7 @@ stop_at n at s left after text line whole fault is parts same_line one so_far =
     let same : lines_from 1 nothing (lines whole) ≡ Err fault = sym so_far ∙ step ∙ rw (sym same_line) refl in
     rw same refl
 
-pub stops : (e : Fault) (n : ℕ) (s new : Said) (left after : Option (List ℕ)) (text line whole : List ℕ) → left ≡ Some text
+pub stops : (e : JobError) (n : ℕ) (s new : Said) (left after : Option (List ℕ)) (text line whole : List ℕ) → left ≡ Some text
     → lines text ≡ line ∷ lines_left after → LeadsAt n (Err e) new (with_line n line s)
     → lines_from n s (lines_left left) ≡ lines_from 1 nothing (lines whole) → Gives said (Err e) (script_of whole)
 stops (faults.Line at f) n s new left after text line whole is parts one so_far =

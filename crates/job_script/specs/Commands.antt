@@ -1,10 +1,7 @@
--- WHAT A COMMAND NAMES, and when it can be done (profile).
+-- WHAT A COMMAND NAMES, and which requests it issues (profile).
 use Rattle.std.specs.Prelude.{◌≡◌, ◌<◌, ◌==◌, ◌&&◌, ℕ, zero, suc, Bool, true, false, List, Option, Some, None, length, max}
 use Rattle.std.specs.List.{filter}
-use Rattle.std.specs.Arc.{arc_value}
 use Rattle.std.specs.Option.{ForSome}
-use Rattle.io_area.specs.Storage.{lies_in}
-use Rattle.request_piece.specs.Requests.{NoFault}
 use Rattle.job_script.specs.declared.command.DcbName.{DcbName}
 use Rattle.job_script.specs.declared.command.Excp.{Excp as OneExcp}
 use Rattle.job_script.specs.declared.command.Action.{Action}
@@ -23,24 +20,6 @@ dcb_of Wait = None
 -- the DCB that it names, if it names one, is of one of the first so many units
 abbrev pub NamesUnits : ℕ → Command → Type 0
 NamesUnits units c = ForSome (dcb_of c.action) (λ dcb. dcb.unit < units)
-
--- a request can be made of the area of an EXCP, in which the bytes that are shown lie
-pub record CanIssue (e : OneExcp) : Type 0 where
-  pub request : NoFault e.dcb.number e.iob (arc_value e.area)
-  pub shown : lies_in (arc_value e.area) e.show e.len ≡ true
-
--- the EXCP of a command, if it is one
-abbrev pub excp_of : Action → Option OneExcp
-excp_of (Excp e) = Some e
-excp_of (Purge dcb mode) = None
-excp_of (PurgeTask task mode) = None
-excp_of (Close dcb) = None
-excp_of (Reset dcb) = None
-excp_of Wait = None
-
--- where the command issues a request, it can be made
-abbrev pub CanBeDone : Command → Type 0
-CanBeDone c = ForSome (excp_of c.action) CanIssue
 
 -- the command is an EXCP
 abbrev pub is_excp : Action → Bool

@@ -4,7 +4,7 @@ use Rattle.script_words.specs.Text.{lines}
 use Rattle.job_script.specs.declared.fault.FaultName.{FaultName}
 use Rattle.job_script.specs.declared.fault.FaultName.TheVariants as names
 use Rattle.job_script.specs.Steps.{◌>>=◌}
-use Rattle.job_script.specs.Said.{Said, nothing}
+use Rattle.job_script.specs.Said.{LineSaid, Said, SetUpLineSaid, nothing, says_set_up}
 use Rattle.job_script.specs.Lines.{line_of}
 use Rattle.job_script.specs.Adding.{add_line}
 
@@ -13,9 +13,17 @@ pub record FaultAt : Type 0 where
   pub line : ℕ
   pub name : FaultName
 
+-- the script with what a line says that was read
+abbrev pub adds : Result LineSaid FaultName → Said → Result Said FaultName
+adds read s = read >>= λ line. add_line line s
+
+-- the script with what a set-up line says that was read
+abbrev pub adds_set_up : Result SetUpLineSaid FaultName → Said → Result Said FaultName
+adds_set_up read s = read >>= λ line. add_line (says_set_up line) s
+
 -- the script with the line that has this number and these bytes
 abbrev pub with_line : ℕ → List ℕ → Said → Result Said FaultName
-with_line line text s = line_of line text >>= λ said. add_line said s
+with_line line text s = adds (line_of line text) s
 
 -- a line with a fault ends a script; else the lines after it follow
 abbrev pub then_lines : ℕ → Result Said FaultName → (Said → Result Said FaultAt) → Result Said FaultAt

@@ -1,6 +1,5 @@
--- The grammar of a script, how far a script is read, what its commands name, and what the books of its units begin with.
+-- The grammar of a script, how far a script is read, and what its commands name.
 pub mod Adding
-pub mod Books
 pub mod Commands
 pub mod Forms
 pub mod Grammar
@@ -11,5 +10,6 @@ pub mod Reading
 pub mod Runs
 pub mod Said
 pub mod Steps
+pub mod Tasks
 pub mod Verbs
 pub mod Views

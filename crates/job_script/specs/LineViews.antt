@@ -4,13 +4,18 @@ use Rattle.job_script.specs.declared.line.Line.{Line}
 use Rattle.job_script.specs.declared.line.Line.TheVariants as lines
 use Rattle.job_script.specs.declared.line.SetUpLine.{SetUpLine}
 use Rattle.job_script.specs.declared.line.SetUpLine.TheVariants as set_up_lines
-use Rattle.job_script.specs.Said.{LineSaid, SetUpLineSaid, says_area, says_fault, says_item, says_opening, says_record, says_tasks, says_unit}
+use Rattle.job_script.specs.declared.line.UnitLine.{UnitLine}
+use Rattle.job_script.specs.Said.{LineSaid, SetUpLineSaid, UnitSaid, says_area, says_fault, says_item, says_opening, says_record, says_tasks, says_unit}
 use Rattle.job_script.specs.Said.{says_command, says_excp, says_nothing, says_set_up}
-use Rattle.job_script.specs.Views.{command_said, opening_said, record_said, unit_said}
+use Rattle.job_script.specs.Lines.{new_unit}
+use Rattle.job_script.specs.Views.{command_said, medium_said, opening_said, record_said}
+
+abbrev pub unit_line_said : UnitLine → UnitSaid
+unit_line_said u = new_unit u.line u.isc (medium_said u.medium)
 
 abbrev pub set_up_line_said : SetUpLine → SetUpLineSaid
 set_up_line_said (set_up_lines.Tasks t) = says_tasks t.tasks
-set_up_line_said (set_up_lines.Unit u) = says_unit u.number (unit_said u.unit)
+set_up_line_said (set_up_lines.Unit u) = says_unit u.number (unit_line_said u)
 set_up_line_said (set_up_lines.Record n r) = says_record n (record_said r)
 set_up_line_said (set_up_lines.Item n i) = says_item n (initial i)
 set_up_line_said (set_up_lines.Fault n fault) = says_fault n fault

@@ -196,19 +196,24 @@ abbrev pub is_comment : Word → Bool
 is_comment [] = false
 is_comment (byte ∷ more) = byte == 35
 
--- the kind of a line, by its first word
-abbrev pub known : Option Verb → Result Verb FaultName
+-- the kind that a first word begins
+abbrev pub known : Option Verb → Result (Option Verb) FaultName
 known None = Err names.Words
-known (Some verb) = Ok verb
+known (Some verb) = Ok (Some verb)
 
--- a line without words and a comment say nothing, whatever bytes they hold; any other line is printable
-unfoldable pub line_words : ℕ → Bool → List Word → Result LineSaid FaultName
-line_words line printable ws =
-    if length ws == 0 then Ok says_nothing
-    else if is_comment (word 0 ws) then Ok says_nothing
-    else if printable then (known (verb_of (word 0 ws)) >>= λ verb. by_verb verb line ws)
+-- the kind of a line: a line without words and a comment have none, whatever bytes they hold; any other line is printable
+unfoldable pub kind_of : Bool → List Word → Result (Option Verb) FaultName
+kind_of printable ws =
+    if length ws == 0 then Ok None
+    else if is_comment (word 0 ws) then Ok None
+    else if printable then known (verb_of (word 0 ws))
     else Err names.Words
+
+-- what a line of this kind says; one of no kind says nothing
+abbrev pub by_kind : Option Verb → ℕ → List Word → Result LineSaid FaultName
+by_kind None line ws = Ok says_nothing
+by_kind (Some verb) line ws = by_verb verb line ws
 
 -- the line with this number
 abbrev pub line_of : ℕ → List ℕ → Result LineSaid FaultName
-line_of line text = line_words line (is_printable text) (words text)
+line_of line text = kind_of (is_printable text) (words text) >>= λ kind. by_kind kind line (words text)

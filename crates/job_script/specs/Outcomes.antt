@@ -10,8 +10,8 @@ use Rattle.job_script.specs.declared.cause.Cause.{Cause}
 use Rattle.job_script.specs.declared.cause.Refusal.{Refusal}
 use Rattle.job_script.specs.declared.cause.Refusal.TheVariants.{Caused, NoMemory}
 use Rattle.job_script.specs.Grammar.{FaultAt}
-use Rattle.job_script.specs.declared.fault.Fault.{Fault}
-use Rattle.job_script.specs.declared.fault.Fault.TheVariants as faults
+use Rattle.job_script.specs.declared.fault.JobError.{JobError}
+use Rattle.job_script.specs.declared.fault.JobError.TheVariants as faults
 use Rattle.job_script.specs.declared.fault.FaultName.{FaultName}
 use Rattle.job_script.specs.declared.fault.FaultName.TheVariants as names
 use Rattle.script_words.specs.declared.forms.FormError.{FormError}
@@ -68,7 +68,7 @@ MakesArea storage (Err (Caused cause)) = is_area storage ≡ Err cause.name
 MakesArea storage (Err NoMemory) = Unit {0}
 
 -- a call left what the line with this number says, out of memory apart
-abbrev pub LeadsAt : {S : Type 0} → ℕ → Result (Unit {0}) Fault → S → Result S FaultName → Type 0
+abbrev pub LeadsAt : {S : Type 0} → ℕ → Result (Unit {0}) JobError → S → Result S FaultName → Type 0
 LeadsAt line (Ok x) new read = read ≡ Ok new
 LeadsAt line (Err (faults.Line at n)) new read = (at ≡ line) × (read ≡ Err n)
 LeadsAt line (Err faults.NoMemory) new read = Unit {0}
@@ -79,7 +79,7 @@ LeadsAt line (Err faults.Unmatched) new read = ⊥
 LeadsAt line (Err faults.NoThread) new read = ⊥
 
 -- a call returned a value that says what the grammar gives, or its first fault with its line, out of memory apart
-abbrev pub Gives : {X S : Type 0} → (X → S) → Result X Fault → Result S FaultAt → Type 0
+abbrev pub Gives : {X S : Type 0} → (X → S) → Result X JobError → Result S FaultAt → Type 0
 Gives view (Ok x) read = read ≡ Ok (view x)
 Gives view (Err (faults.Line line n)) read = read ≡ Err (record { line = line; name = n })
 Gives view (Err faults.NoMemory) read = Unit {0}

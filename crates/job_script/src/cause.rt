@@ -4,7 +4,7 @@
 ghost use Rattle.std.specs.Prelude.{◌≡◌};
 ghost use Rattle.job_script.specs.declared.cause.Refusal.TheVariants as refusals;
 
-use crate::fault::{Fault, FaultName};
+use crate::fault::{FaultName, JobError};
 use crate::message::Message;
 use std::alloc::{AllocError, AllocFailed};
 
@@ -17,6 +17,7 @@ pub struct Cause {
 
 impl Cause {
     /// A fault with this name, and the text that is told of it, in which these numbers stand.
+    #[inline(always)]
     pub fn new(name: FaultName, text: &'static str, numbers: &[u64]) -> Self
         ensures { result.name ≡ name }
     {
@@ -34,13 +35,13 @@ pub enum Refusal {
 
 impl Refusal {
     /// The fault of the line with this number.
-    pub fn at(self, line: usize) -> Fault {
+    pub fn at(self, line: usize) -> JobError {
         match self {
-            Refusal::Caused(cause) => Fault::Line {
+            Refusal::Caused(cause) => JobError::Line {
                 line,
                 name: cause.name,
             },
-            Refusal::NoMemory => Fault::NoMemory,
+            Refusal::NoMemory => JobError::NoMemory,
         }
     }
 }

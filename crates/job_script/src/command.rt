@@ -1,13 +1,10 @@
 //! What the tasks of a script do.
 
-ghost use Rattle.std.specs.Prelude.{◌≡◌, IfOk};
-ghost use Rattle.std.specs.Arc.{arc_value};
-ghost use Rattle.request_piece.specs.Requests.{request_of};
-ghost use Rattle.job_script.specs.Commands.{CanIssue, issues_of, issues_to};
+ghost use Rattle.std.specs.Prelude.{◌≡◌};
+ghost use Rattle.job_script.specs.Commands.{issues_of, issues_to};
 
 use io_area::Area;
-use request_piece::{Name, Request, RequestError};
-use std::alloc::{AllocError, Global};
+use std::alloc::Global;
 use std::sync::Arc;
 use unit_book::Mode;
 
@@ -29,22 +26,6 @@ pub struct Excp {
     pub show: u32,
     /// How many bytes are shown.
     pub len: u64,
-}
-
-impl Excp {
-    /// A request with this name, on a copy of the area.
-    pub fn request(&self, alloc: Global, name: Name) -> Result<Request, AllocError>
-        requires { CanIssue self.now }
-        ensures { IfOk result (λ request. request ≡ request_of name self.now.dcb.unit self.now.dcb.number self.now.iob (arc_value self.now.area)) }
-    {
-        let unit = self.dcb.unit;
-        let dcb = self.dcb.number;
-        match Request::over(alloc, name, unit, dcb, self.iob, &self.area) {
-            Ok(request) => Ok(request),
-            Err(RequestError::NoMemory) => Err(AllocError),
-            Err(_) => unreachable!(),
-        }
-    }
 }
 
 /// What a task does.

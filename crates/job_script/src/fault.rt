@@ -1,10 +1,11 @@
 //! What ends a run: the faults of a script, with their names, texts and exit statuses.
 
-use request_piece::RequestError;
+ghost use Rattle.std.specs.Prelude.{◌≡◌};
+ghost use Rattle.job_script.specs.declared.fault.JobError.TheVariants as faults;
+
 use std::alloc::{AllocError, AllocFailed};
 use std::fmt;
 use thiserror::Error;
-use unit_book::DcbError;
 
 /// The name of a fault of a script's line.
 #[derive(Clone, Copy, PartialEq, Eq, Debug)]
@@ -46,62 +47,9 @@ impl fmt::Display for FaultName {
     }
 }
 
-/// Why a line of a script is not taken, or its command not done.
-#[derive(Clone, Copy)]
-pub enum LineFault {
-    Named(FaultName),
-    NoMemory,
-}
-
-impl LineFault {
-    /// The fault of the line with this number.
-    pub fn at(self, line: usize) -> Fault {
-        match self {
-            LineFault::Named(name) => Fault::Line { line, name },
-            LineFault::NoMemory => Fault::NoMemory,
-        }
-    }
-}
-
-impl From<FaultName> for LineFault {
-    fn from(name: FaultName) -> Self {
-        LineFault::Named(name)
-    }
-}
-
-impl From<AllocError> for LineFault {
-    fn from(_error: AllocError) -> Self {
-        LineFault::NoMemory
-    }
-}
-
-impl<T: Drop> From<AllocFailed<T>> for LineFault {
-    fn from(_error: AllocFailed<T>) -> Self {
-        LineFault::NoMemory
-    }
-}
-
-impl From<RequestError> for LineFault {
-    fn from(error: RequestError) -> Self {
-        match error {
-            RequestError::NoMemory => LineFault::NoMemory,
-            _ => LineFault::Named(FaultName::Request),
-        }
-    }
-}
-
-impl From<DcbError> for LineFault {
-    fn from(error: DcbError) -> Self {
-        match error {
-            DcbError::NoSuchDcb => LineFault::Named(FaultName::Name),
-            DcbError::NoMemory => LineFault::NoMemory,
-        }
-    }
-}
-
 /// Why a run of a script ended before its end.
 #[derive(Clone, Copy, PartialEq, Eq, Debug, Error)]
-pub enum Fault {
+pub enum JobError {
     #[error("line {line}: {name}")]
     Line { line: usize, name: FaultName },
     #[error("script too long")]
@@ -120,24 +68,28 @@ pub enum Fault {
     NoThread,
 }
 
-impl Fault {
+impl JobError {
     /// The exit status of the program: 3 if memory or a thread is lacking, else 1.
     pub fn status(self) -> u8 {
         match self {
-            Fault::NoMemory | Fault::NoThread => 3,
+            JobError::NoMemory | JobError::NoThread => 3,
             _ => 1,
         }
     }
 }
 
-impl From<AllocError> for Fault {
+impl From<AllocError> for JobError {
+    ghost from_gives = { λ _ e. e ≡ faults.NoMemory };
+
     fn from(_error: AllocError) -> Self {
-        Fault::NoMemory
+        JobError::NoMemory
     }
 }
 
-impl<T: Drop> From<AllocFailed<T>> for Fault {
+impl<T: Drop> From<AllocFailed<T>> for JobError {
+    ghost from_gives = { λ _ e. e ≡ faults.NoMemory };
+
     fn from(_error: AllocFailed<T>) -> Self {
-        Fault::NoMemory
+        JobError::NoMemory
     }
 }

@@ -48,7 +48,7 @@ pub fn has_least(line: &Words<'_>, count: usize) -> Result<(), Cause>
 }
 
 /// That the line does not have the words that it should have.
-#[inline(never)]
+#[inline(always)]
 fn wrong_count(count: usize, wanted: usize, text: &'static str) -> Cause
     ensures { result.name ≡ names.Words }
 {
@@ -56,7 +56,7 @@ fn wrong_count(count: usize, wanted: usize, text: &'static str) -> Cause
 }
 
 /// That a word is not of its form. The text tells of it with its number from 1, the word itself, and two numbers.
-#[inline(never)]
+#[inline(always)]
 fn malformed(place: usize, text: &'static str, first: u64, second: u64) -> Cause
     ensures { result.name ≡ names.Number }
 {
@@ -137,6 +137,7 @@ pub fn small_number(line: &Words<'_>, place: usize) -> Result<u8, Cause>
 }
 
 /// That a word is not of `count` hexadecimal digits.
+#[inline(always)]
 fn wrong_digits(place: usize, count: u64) -> Cause
     ensures { result.name ≡ names.Number }
 {
@@ -181,6 +182,7 @@ pub fn two_bytes(line: &Words<'_>, place: usize) -> Result<u16, Cause>
 }
 
 /// Reads bytes as an even number of hexadecimal digits, or `-` for no byte.
+#[inline(always)]
 pub fn bytes(alloc: Global, line: &Words<'_>, place: usize) -> Result<Vec<u8>, Refusal>
     requires { place < 8 }
     ensures { Returns (λ v. v.items) result (bytes (word place (words_in line.now))) }
@@ -192,6 +194,7 @@ pub fn bytes(alloc: Global, line: &Words<'_>, place: usize) -> Result<Vec<u8>, R
 }
 
 /// Why a word gives no bytes.
+#[inline(always)]
 fn no_bytes(error: FormError, place: usize) -> Refusal
     ensures { IsNoBytes error result }
 {
@@ -208,7 +211,7 @@ fn no_bytes(error: FormError, place: usize) -> Refusal
 pub fn joined_bytes(alloc: Global, line: &Words<'_>) -> Result<Vec<u8>, Refusal>
     ensures { Returns (λ v. v.items) result (joined_bytes (drop 3 (words_in line.now))) }
 {
-    let mut bytes = Vec::new(alloc);
+    let mut bytes = Vec::with_capacity(alloc, line.line.len() / 2)?;
     let mut left = script_words::after_words(line.line, 3);
     let mut place: usize = 3;
     'words: while let Some((word, rest)) = script_words::next_word(left) {
@@ -261,6 +264,7 @@ pub fn dcb_of(line: &Words<'_>, unit: usize, dcb: usize) -> Result<DcbName, Caus
 }
 
 /// Reads `in` or `out`: whether a DCB is for input.
+#[inline(always)]
 #[tactic(auto, unfolding(crate::specs::Forms::input_of))]
 pub fn input_of(line: &Words<'_>, place: usize) -> Result<bool, Cause>
     requires { place < 8 }
@@ -277,6 +281,7 @@ pub fn input_of(line: &Words<'_>, place: usize) -> Result<bool, Cause>
 }
 
 /// Reads `quiesce` or `halt`.
+#[inline(always)]
 #[tactic(auto, unfolding(crate::specs::Forms::mode_of))]
 pub fn mode_of(line: &Words<'_>, place: usize) -> Result<Mode, Cause>
     requires { place < 8 }

@@ -1,14 +1,12 @@
-//! Scripts of EXCP requests: how a script is read and checked, the faults that it may have, and the books of the units
-//! that it declares (profile).
+//! Scripts of EXCP requests: the grammar, and the parsed script or its first fault (profile).
 //!
 //! A script has at most 1,048,576 bytes. Its lines end with LF; words are separated by spaces; a line that is empty or
 //! whose first word begins with `#` says nothing. Set-up lines stand before the first command.
 //!
-//! Tests: component_tests (`scripts`), tests/cases/scripts/broken.posts, tests/cases/mistakes.
+//! Tests: component_tests (`scripts`), tests/cases/scripts/broken.posts, tests/cases/mistakes/lines.findings.
 #![tactic(auto)]
 
 mod cause;
-mod check;
 mod command;
 mod fault;
 mod forms;
@@ -18,16 +16,16 @@ mod reading;
 mod runs;
 mod script;
 mod set_up;
-mod telling;
-mod units;
 
-pub use check::check_script;
+pub use cause::{Cause, Refusal};
 pub use command::{Action, Command, DcbName, Excp};
-pub use fault::{Fault, FaultName, LineFault};
-pub use line::{begins_line, unprintable};
+pub use fault::{FaultName, JobError};
+pub use line::{
+    AreaLine, ExcpLine, Line, SetUpLine, SetUpVerb, TasksLine, UnitLine, Verb, begins_line,
+    unprintable,
+};
 pub use message::{Message, write_word};
 pub use reading::{LIMIT, read_script};
 pub use runs::worked_runs;
-pub use script::Script;
+pub use script::{Script, late};
 pub use set_up::{Medium, Opening, SetUp, UnitSetup};
-pub use telling::{Found, Source, write_findings};

@@ -1,9 +1,9 @@
 //! A line of a script as its words say, before it is compared with what other lines say: the faults of its words and
 //! of their forms.
 
-mod areas;
-mod commands;
-mod units;
+pub mod areas;
+pub mod commands;
+pub mod units;
 mod verb;
 
 ghost use Rattle.std.specs.Prelude.{◌≡◌, ◌≤◌, ◌<◌};
@@ -15,7 +15,7 @@ use crate::command::{Command, DcbName, Excp};
 use crate::fault::FaultName;
 use crate::forms::is_comment;
 use crate::message::Message;
-use crate::set_up::{Opening, UnitSetup};
+use crate::set_up::{Medium, Opening};
 use areas::{area, opening, tasks};
 use ckd_disk::InitialRecord;
 use commands::{close, excp, purge, purge_task, reset, wait};
@@ -53,12 +53,16 @@ pub struct TasksLine {
     ghost few: { tasks ≤ 64 },
 }
 
-/// A line that declares a unit: its number, 0 to 63, and what it is.
+/// A line that declares a unit: its number, 0 to 63, the number of the line, the unit's interruption subclass, 0 to 7, and
+/// its medium, with nothing on it.
 #[derive(Drop)]
 pub struct UnitLine {
     pub number: u16,
-    pub unit: UnitSetup,
+    pub line: usize,
+    pub isc: u8,
+    pub medium: Medium,
     ghost few: { number < 64 },
+    ghost subclass: { isc ≤ 7 },
 }
 
 /// A line that declares an area: its number, the address of its first byte, and its bytes.
@@ -116,24 +120,13 @@ impl Line {
     ghost use Rattle.job_script.specs.Outcomes.{Returns, words_in};
 
     /// Reads the line with this number.
-    #[tactic(auto, unfolding(crate::specs::Lines::line_words))]
     pub fn read(alloc: Global, number: usize, line: &Words<'_>) -> Result<Line, Refusal>
         ensures { Returns line_said result (line_of number line.now.line.now) }
     {
-        if line.count() == 0 {
-            return Ok(Line::Nothing);
+        match Verb::of_line(line)? {
+            None => Ok(Line::Nothing),
+            Some(verb) => Line::by_verb(alloc, number, verb, line),
         }
-        let first = line.word(0);
-        if is_comment(first) {
-            return Ok(Line::Nothing);
-        }
-        if !line.is_printable() {
-            return Err(Refusal::Caused(not_printable(line.line)));
-        }
-        let Some(verb) = Verb::of(first) else {
-            return Err(Refusal::Caused(Cause::new(FaultName::Words, UNKNOWN, &[1])));
-        };
-        Line::by_verb(alloc, number, verb, line)
     }
 
     /// Reads a line of this kind.
@@ -175,13 +168,41 @@ impl SetUpLine {
             SetUpVerb::Tasks => tasks(line),
             SetUpVerb::Disk => disk(alloc, number, line),
             SetUpVerb::Tape => tape(alloc, number, line),
-            SetUpVerb::Printer => printer(alloc, number, line),
+            SetUpVerb::Printer => printer(number, line),
             SetUpVerb::Record => record(alloc, line),
             SetUpVerb::Block => block(alloc, line),
             SetUpVerb::Mark => mark(line),
             SetUpVerb::Fault => fault(line),
             SetUpVerb::Open => opening(alloc, number, line),
             SetUpVerb::Area => area(alloc, line),
+        }
+    }
+}
+
+impl Verb {
+    ghost use Rattle.job_script.specs.Lines.{kind_of};
+    ghost use Rattle.script_words.specs.Text.{is_printable};
+    ghost use Rattle.job_script.specs.Outcomes.{Reads, words_in};
+
+    /// What kind of line it is, or none if it says nothing.
+    #[inline(always)]
+    #[tactic(auto, unfolding(crate::specs::Lines::kind_of))]
+    pub fn of_line(line: &Words<'_>) -> Result<Option<Verb>, Cause>
+        ensures { Reads result (kind_of (is_printable line.now.line.now) (words_in line.now)) }
+    {
+        if line.count() == 0 {
+            return Ok(None);
+        }
+        let first = line.word(0);
+        if is_comment(first) {
+            return Ok(None);
+        }
+        if !line.is_printable() {
+            return Err(not_printable(line.line));
+        }
+        match Verb::of(first) {
+            Some(verb) => Ok(Some(verb)),
+            None => Err(Cause::new(FaultName::Words, UNKNOWN, &[1])),
         }
     }
 }

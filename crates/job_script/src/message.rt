@@ -17,6 +17,7 @@ pub struct Message {
 
 impl Message {
     /// The text with these numbers; where they are fewer than four, the others are 0.
+    #[inline(always)]
     pub fn new(text: &'static str, numbers: &[u64]) -> Self {
         let mut message = Message {
             text,

@@ -1,43 +1,54 @@
 //! A script: its set-up and its commands, as its lines say, and the first fault of its lines.
 
-ghost use Rattle.std.specs.Prelude.{◌≡◌, ◌≤◌, Contains, IfOk, vec_len};
+ghost use Rattle.std.specs.Prelude.{◌≡◌, ◌<◌, ◌≤◌, ◌==◌, ◌++◌, ◌∷◌, [], ℕ, All, Contains, IfOk, OnErr, OnOk, get_or, if◌then◌else◌, vec_len};
 ghost use Rattle.job_script.specs.Commands.{NamesUnits, most, requests_of, requests_to};
 ghost use Rattle.job_script.specs.Outcomes.{IsNamed};
+ghost use Rattle.job_script.specs.Tasks.{list_of, places_of};
 ghost use Rattle.job_script.specs.declared.command.Command.{Command as OneCommand};
 ghost use Rattle.job_script.specs.declared.fault.FaultName.TheVariants as names;
 
 use crate::cause::{Cause, Refusal};
-use crate::command::Command;
-use crate::fault::{Fault, FaultName};
-use crate::line::Line;
+use crate::command::{Action, Command};
+use crate::fault::{FaultName, JobError};
+use crate::line::areas::{area, opening, tasks};
+use crate::line::commands::{close, excp, purge, purge_task, reset, wait};
+use crate::line::units::{block, disk, fault, mark, printer, record, tape};
+use crate::line::{SetUpLine, SetUpVerb, Verb};
 use crate::set_up::SetUp;
 use script_words::Words;
-use std::alloc::Global;
+use std::alloc::{AllocError, Global};
 
 /// That no line declares the tasks, or a unit.
-const NO_LINE: Fault = Fault::Line {
+const NO_LINE: JobError = JobError::Line {
     line: 0,
     name: FaultName::Order,
 };
 
-/// What a script says. The units that its commands name are declared.
+/// What a script says. The tasks of its commands, and the units that they name, are declared.
 #[derive(Drop)]
 pub struct Script {
     pub set_up: SetUp,
+    /// The commands, in the order of their lines.
     pub commands: Vec<Command>,
+    /// For each task, the places of its commands in `commands`, in their order.
+    places: Vec<Vec<usize>>,
     ghost declared: { (command : OneCommand) → Contains commands.items command → NamesUnits (vec_len set_up.units) command },
+    ghost of_tasks: { (command : OneCommand) → Contains commands.items command → command.task < set_up.tasks },
+    ghost grouped: { (task : ℕ) → list_of places.items task ≡ places_of task commands.items },
 }
 
 impl Script {
     ghost use Rattle.job_script.specs.Adding.{add_command, add_line};
-    ghost use Rattle.job_script.specs.Grammar.{lacks, script_of, with_line};
-    ghost use Rattle.job_script.specs.LineViews.{line_said};
-    ghost use Rattle.job_script.specs.Outcomes.{Gives, Leads, LeadsAt};
+    ghost use Rattle.job_script.specs.Grammar.{adds, adds_set_up, lacks, script_of, with_line};
+    ghost use Rattle.job_script.specs.LineViews.{set_up_line_said};
+    ghost use Rattle.job_script.specs.Outcomes.{Gives, Leads, LeadsAt, words_in};
+    ghost use Rattle.job_script.specs.Lines.{by_verb, set_up_line};
+    ghost use Rattle.job_script.specs.Said.{says_set_up};
     ghost use Rattle.job_script.specs.Views.{command_said, said};
 
     /// Reads the lines of a script, first to last; the first fault ends it. A script without tasks or units has a fault
     /// at line 0.
-    pub fn parse(alloc: Global, text: &[u8]) -> Result<Self, Fault>
+    pub fn parse(alloc: Global, text: &[u8]) -> Result<Self, JobError>
         ensures grammar { Gives said result (script_of text.now) }
         ensures tasks { IfOk result (λ script. (1 ≤ script.set_up.tasks) × (script.set_up.tasks ≤ 64)) }
         ensures units { IfOk result (λ script. (1 ≤ vec_len script.set_up.units) × (vec_len script.set_up.units ≤ 64)) }
@@ -45,11 +56,13 @@ impl Script {
         let mut script = Script {
             set_up: SetUp::new(alloc),
             commands: Vec::new(alloc),
+            places: Vec::new(alloc),
         };
         let mut left = Some(text);
         let mut number: usize = 1;
+        let mut line = Words::new();
         'lines: while let Some(text) = left {
-            let (line, after) = Words::scan(text);
+            let after = line.scan(text);
             if let Err(fault) = script.numbered_line(alloc, number, &line) {
                 return Err(fault);
             }
@@ -70,103 +83,208 @@ impl Script {
     }
 
     /// Adds what the line with this number says, and names the line in a fault.
-    fn numbered_line(&mut self, alloc: Global, number: usize, line: &Words<'_>) -> Result<(), Fault>
+    fn numbered_line(
+        &mut self,
+        alloc: Global,
+        number: usize,
+        line: &Words<'_>,
+    ) -> Result<(), JobError>
         ensures { LeadsAt number result (said self.new) (with_line number line.now.line.now (said self.old)) }
     {
         match self.read_line(alloc, number, line) {
             Ok(()) => Ok(()),
-            Err(Refusal::Caused(cause)) => Err(Fault::Line {
+            Err(Refusal::Caused(cause)) => Err(JobError::Line {
                 line: number,
                 name: cause.name,
             }),
-            Err(Refusal::NoMemory) => Err(Fault::NoMemory),
+            Err(Refusal::NoMemory) => Err(JobError::NoMemory),
         }
     }
 
     /// Adds what the line with this number says.
+    #[tactic(auto, unfolding(crate::specs::Adding::add_line))]
     fn read_line(&mut self, alloc: Global, number: usize, line: &Words<'_>) -> Result<(), Refusal>
         ensures { Leads result (said self.new) (with_line number line.now.line.now (said self.old)) }
     {
-        let read = Line::read(alloc, number, line)?;
-        self.add_line(alloc, number, read)
-    }
-
-    /// Adds what a line says.
-    #[tactic(auto, unfolding(crate::specs::Adding::add_line))]
-    fn add_line(&mut self, alloc: Global, number: usize, line: Line) -> Result<(), Refusal>
-        ensures { Leads result (said self.new) (add_line (line_said line) (said self.old)) }
-    {
-        match line {
-            Line::Nothing => Ok(()),
-            Line::SetUp(line) => {
-                if !self.commands.is_empty() {
-                    return Err(late(self.commands[0].line));
-                }
-                self.set_up.add(alloc, number, line)
-            }
-            Line::Excp(line) => {
-                let command = self.set_up.excp(line)?;
-                self.add_command(command)
-            }
-            Line::Command(command) => self.add_command(command),
+        match Verb::of_line(line)? {
+            None => Ok(()),
+            Some(verb) => self.by_verb(alloc, number, verb, line),
         }
     }
 
+    /// Adds what a line of this kind says. Each kind is added where it is read, so that no line is moved.
+    #[inline(always)]
+    #[tactic(auto, unfolding(crate::specs::Lines::by_verb, crate::specs::Adding::add_line))]
+    fn by_verb(
+        &mut self,
+        alloc: Global,
+        number: usize,
+        verb: Verb,
+        line: &Words<'_>,
+    ) -> Result<(), Refusal>
+        ensures { Leads result (said self.new) (adds (by_verb verb number (words_in line.now)) (said self.old)) }
+    {
+        match verb {
+            Verb::SetUp(verb) => self.set_up_line(alloc, number, verb, line),
+            Verb::Excp => {
+                let command = self.set_up.excp(excp(number, line)?)?;
+                self.add_command(alloc, command)
+            }
+            Verb::Purge => self.add_command(alloc, purge(number, line)?),
+            Verb::PurgeTask => self.add_command(alloc, purge_task(number, line)?),
+            Verb::Close => self.add_command(alloc, close(number, line)?),
+            Verb::Reset => self.add_command(alloc, reset(number, line)?),
+            Verb::Wait => self.add_command(alloc, wait(number, line)?),
+        }
+    }
+
+    /// Adds what a set-up line of this kind says.
+    #[inline(always)]
+    #[tactic(auto, unfolding(crate::specs::Lines::set_up_line))]
+    fn set_up_line(
+        &mut self,
+        alloc: Global,
+        number: usize,
+        verb: SetUpVerb,
+        line: &Words<'_>,
+    ) -> Result<(), Refusal>
+        ensures { Leads result (said self.new) (adds_set_up (set_up_line verb number (words_in line.now)) (said self.old)) }
+    {
+        match verb {
+            SetUpVerb::Tasks => self.add_set_up(alloc, number, tasks(line)?),
+            SetUpVerb::Disk => self.add_set_up(alloc, number, disk(alloc, number, line)?),
+            SetUpVerb::Tape => self.add_set_up(alloc, number, tape(alloc, number, line)?),
+            SetUpVerb::Printer => self.add_set_up(alloc, number, printer(number, line)?),
+            SetUpVerb::Record => self.add_set_up(alloc, number, record(alloc, line)?),
+            SetUpVerb::Block => self.add_set_up(alloc, number, block(alloc, line)?),
+            SetUpVerb::Mark => self.add_set_up(alloc, number, mark(line)?),
+            SetUpVerb::Fault => self.add_set_up(alloc, number, fault(line)?),
+            SetUpVerb::Open => self.add_set_up(alloc, number, opening(alloc, number, line)?),
+            SetUpVerb::Area => self.add_set_up(alloc, number, area(alloc, line)?),
+        }
+    }
+
+    /// Adds what a set-up line says, if no command comes before it.
+    #[inline(always)]
+    #[tactic(auto, unfolding(crate::specs::Adding::add_line))]
+    fn add_set_up(&mut self, alloc: Global, number: usize, line: SetUpLine) -> Result<(), Refusal>
+        ensures { Leads result (said self.new) (add_line (says_set_up (set_up_line_said line)) (said self.old)) }
+    {
+        if !self.commands.is_empty() {
+            return Err(late(self.commands[0].line));
+        }
+        self.set_up.add(alloc, number, line)
+    }
+
     /// Adds a command, if all that it names is declared.
+    #[inline(always)]
     #[tactic(auto, unfolding(crate::specs::Adding::add_command))]
-    fn add_command(&mut self, command: Command) -> Result<(), Refusal>
+    fn add_command(&mut self, alloc: Global, command: Command) -> Result<(), Refusal>
         ensures { Leads result (said self.new) (add_command (command_said command) (said self.old)) }
     {
         self.set_up.names(&command)?;
-        self.commands.push(command)?;
+        // Makes room first, so that the command and its place are added together.
+        self.commands.reserve(1)?;
+        let place = self.commands.len();
+        add_place(alloc, &mut self.places, usize::from(command.task), place)?;
+        self.commands.push_reserved(command);
         Ok(())
+    }
+
+    /// The places of a task's commands in `commands`, in the order of their lines.
+    pub fn places_of(&self, task: u16) -> &[usize]
+        ensures value { result.now ≡ places_of task self.now.commands.items }
+        ensures inside { All (λ place. place < vec_len self.now.commands) result.now }
+    {
+        let task = usize::from(task);
+        if task >= self.places.len() {
+            return &[];
+        }
+        let places = &self.places[task];
+        places
     }
 
     /// The largest number of requests that it issues to one unit.
     pub fn most_to_a_unit(&self) -> usize
         ensures { result ≡ most (requests_to self.now.commands.items) (vec_len self.now.set_up.units) }
     {
+        let counts = self.requests_to_units();
         let mut largest = 0;
         for unit in 0..self.set_up.units.len() {
-            largest = largest.max(self.requests_to(unit as u16));
+            largest = largest.max(counts[unit]);
         }
         largest
+    }
+
+    /// For each unit, how many requests it issues to the unit.
+    fn requests_to_units(&self) -> [usize; 64]
+        ensures { (unit : ℕ) → unit < 64 → get_or result unit 0 ≡ requests_to self.now.commands.items unit }
+    {
+        let mut counts = [0; 64];
+        for command in &self.commands {
+            if let Action::Excp(excp) = &command.action {
+                counts[usize::from(excp.dcb.unit)] += 1;
+            }
+        }
+        counts
     }
 
     /// The largest number of requests that one of its tasks issues.
     pub fn most_of_a_task(&self) -> usize
         ensures { result ≡ most (requests_of self.now.commands.items) self.now.set_up.tasks }
     {
+        let counts = self.requests_of_tasks();
         let mut largest = 0;
-        for task in 0..self.set_up.tasks {
-            largest = largest.max(self.requests_of(task));
+        for task in 0..usize::from(self.set_up.tasks) {
+            largest = largest.max(counts[task]);
         }
         largest
     }
 
-    /// How many requests it issues to the unit.
-    fn requests_to(&self, unit: u16) -> usize
-        ensures { result ≡ requests_to self.now.commands.items unit }
+    /// For each task, how many requests it issues.
+    fn requests_of_tasks(&self) -> [usize; 64]
+        ensures { (task : ℕ) → task < 64 → get_or result task 0 ≡ requests_of self.now.commands.items task }
     {
-        self.commands
-            .iter()
-            .filter(|command| command.issues_to(unit))
-            .count()
-    }
-
-    /// How many requests the task issues.
-    fn requests_of(&self, task: u16) -> usize
-        ensures { result ≡ requests_of self.now.commands.items task }
-    {
-        self.commands
-            .iter()
-            .filter(|command| command.issues_of(task))
-            .count()
+        let mut counts = [0; 64];
+        for command in &self.commands {
+            if let Action::Excp(_) = &command.action {
+                counts[usize::from(command.task)] += 1;
+            }
+        }
+        counts
     }
 }
 
-/// That a set-up line stands behind the first command, which has this line.
-pub(crate) fn late(command: usize) -> Refusal
+/// Adds a place to the list with this number, after the places that are there.
+#[inline(always)]
+fn add_place(
+    alloc: Global,
+    lists: &mut Vec<Vec<usize>>,
+    number: usize,
+    place: usize,
+) -> Result<(), AllocError>
+    ensures added { OnOk result ((k : ℕ) → list_of lists.new.items k ≡ list_of lists.old.items k ++ (if number == k then place ∷ [] else [])) }
+    ensures same { OnErr result ((k : ℕ) → list_of lists.new.items k ≡ list_of lists.old.items k) }
+{
+    lengthen(alloc, lists, number)?;
+    lists[number].push(place)?;
+    Ok(())
+}
+
+/// Adds empty lists until one has this number.
+#[inline(always)]
+fn lengthen(alloc: Global, lists: &mut Vec<Vec<usize>>, number: usize) -> Result<(), AllocError>
+    ensures same { (k : ℕ) → list_of lists.new.items k ≡ list_of lists.old.items k }
+    ensures there { OnOk result (number < vec_len lists.new) }
+{
+    for _ in lists.len()..=number {
+        lists.push(Vec::new(alloc))?;
+    }
+    Ok(())
+}
+
+/// Why a set-up line after the first command, which has this line, is refused.
+pub fn late(command: usize) -> Refusal
     ensures { IsNamed names.Order result }
 {
     let text = "a set-up line stands before the first command, which is line {n}";

@@ -1,8 +1,6 @@
 //! What the set-up lines of a script declare: its tasks, units, DCBs and areas; and the faults of such lines: of their
 //! order, of names, of kinds and of areas.
 
-mod assumed;
-
 ghost use Rattle.std.specs.Prelude.{◌≡◌, ◌≤◌, ◌<◌, OnOk, vec_len};
 ghost use Rattle.std.specs.Arc.{arc_value};
 ghost use Rattle.job_script.specs.Commands.{NamesUnits};
@@ -70,7 +68,7 @@ pub struct SetUp {
 impl SetUp {
     ghost use Rattle.job_script.specs.Adding.{add_area, add_set_up, add_tasks, add_unit, excp_of, names_command, is_dcb, is_task};
     ghost use Rattle.job_script.specs.Adding.{add_fault, add_item, add_opening, add_record, change_unit, numbered};
-    ghost use Rattle.job_script.specs.LineViews.{set_up_line_said};
+    ghost use Rattle.job_script.specs.LineViews.{set_up_line_said, unit_line_said};
     ghost use Rattle.job_script.specs.Outcomes.{Leads, Reads, Returns};
     ghost use Rattle.job_script.specs.Said.{nothing};
     ghost use Rattle.job_script.specs.Views.{command_said, opening_said, record_said, set_up_said, unit_said};
@@ -88,6 +86,7 @@ impl SetUp {
     }
 
     /// A unit has this DCB.
+    #[inline(always)]
     fn names_dcb(&self, dcb: DcbName) -> Result<(), Cause>
         ensures read { Reads result (is_dcb dcb (set_up_said self.now)) }
         ensures unit { OnOk result (dcb.unit < vec_len self.now.units) }
@@ -104,8 +103,10 @@ impl SetUp {
     }
 
     /// A task has this number.
+    #[inline(always)]
     fn names_task(&self, number: u16) -> Result<(), Cause>
-        ensures { Reads result (is_task number (set_up_said self.now)) }
+        ensures read { Reads result (is_task number (set_up_said self.now)) }
+        ensures below { OnOk result (number < self.now.tasks) }
     {
         let count = self.tasks;
         if number < count {
@@ -116,9 +117,11 @@ impl SetUp {
     }
 
     /// All that a command names is declared: its task, and a DCB or another task.
+    #[inline(always)]
     #[tactic(auto, unfolding(crate::specs::Adding::names_command))]
-    pub(crate) fn names(&self, command: &Command) -> Result<(), Cause>
+    pub fn names(&self, command: &Command) -> Result<(), Cause>
         ensures read { Reads result (names_command (command_said command.now) (set_up_said self.now)) }
+        ensures task { OnOk result (command.now.task < self.now.tasks) }
         ensures units { OnOk result (NamesUnits (vec_len self.now.units) command.now) }
     {
         self.names_task(command.task)?;
@@ -131,6 +134,7 @@ impl SetUp {
     }
 
     /// The area with this number.
+    #[inline(always)]
     fn area(&self, number: u64) -> Result<Arc<Area, Global>, Refusal>
         ensures { Returns arc_value result (numbered number (set_up_said self.now).areas) }
     {
@@ -142,8 +146,9 @@ impl SetUp {
     }
 
     /// The command of an EXCP, with its area.
+    #[inline(always)]
     #[tactic(auto, unfolding(crate::specs::Adding::excp_of))]
-    pub(crate) fn excp(&self, line: ExcpLine) -> Result<Command, Refusal>
+    pub fn excp(&self, line: ExcpLine) -> Result<Command, Refusal>
         ensures { Returns command_said result (excp_of line (set_up_said self.now)) }
     {
         let area = self.area(line.area)?;
@@ -155,18 +160,14 @@ impl SetUp {
     }
 
     /// Adds what the line with this number says, in the order of the faults that it may have.
+    #[inline(always)]
     #[tactic(auto, unfolding(crate::specs::Adding::add_set_up))]
-    pub(crate) fn add(
-        &mut self,
-        alloc: Global,
-        number: usize,
-        line: SetUpLine,
-    ) -> Result<(), Refusal>
+    pub fn add(&mut self, alloc: Global, number: usize, line: SetUpLine) -> Result<(), Refusal>
         ensures { Leads result (set_up_said self.new) (add_set_up (set_up_line_said line) (set_up_said self.old)) }
     {
         match line {
             SetUpLine::Tasks(line) => self.add_tasks(line),
-            SetUpLine::Unit(line) => self.add_unit(line),
+            SetUpLine::Unit(line) => self.add_unit(alloc, line),
             SetUpLine::Record(unit, record) => self.add_record(usize::from(unit), number, record),
             SetUpLine::Item(unit, item) => self.add_item(usize::from(unit), number, item),
             SetUpLine::Fault(unit, fault) => self.add_fault(usize::from(unit), number, fault),
@@ -176,6 +177,7 @@ impl SetUp {
     }
 
     /// The tasks are declared once.
+    #[inline(always)]
     #[tactic(auto, unfolding(crate::specs::Adding::add_tasks))]
     fn add_tasks(&mut self, line: TasksLine) -> Result<(), Refusal>
         ensures { Leads result (set_up_said self.new) (add_tasks line.tasks (set_up_said self.old)) }
@@ -188,20 +190,21 @@ impl SetUp {
     }
 
     /// A unit has the next number.
+    #[inline(always)]
     #[tactic(auto, unfolding(crate::specs::Adding::add_unit))]
-    fn add_unit(&mut self, line: UnitLine) -> Result<(), Refusal>
-        ensures { Leads result (set_up_said self.new) (add_unit line.number (unit_said line.unit) (set_up_said self.old)) }
+    fn add_unit(&mut self, alloc: Global, line: UnitLine) -> Result<(), Refusal>
+        ensures { Leads result (set_up_said self.new) (add_unit line.number (unit_line_said line) (set_up_said self.old)) }
     {
-        let UnitLine { number, unit } = line;
-        if usize::from(number) != self.units.len() {
-            let numbers = [u64::from(number), self.units.len() as u64];
+        if usize::from(line.number) != self.units.len() {
+            let numbers = [u64::from(line.number), self.units.len() as u64];
             return Err(order("unit {n}, expected {n}", &numbers));
         }
-        self.units.push(unit)?;
+        self.units.push(UnitSetup::new(alloc, line))?;
         Ok(())
     }
 
     /// A record lies on a disk.
+    #[inline(always)]
     fn add_record(&mut self, place: usize, line: usize, added: InitialRecord) -> Result<(), Refusal>
         ensures { Leads result (set_up_said self.new) (change_unit place (add_record (record_said added)) (set_up_said self.old)) }
     {
@@ -213,6 +216,7 @@ impl SetUp {
     }
 
     /// A block or a mark lies on a tape.
+    #[inline(always)]
     fn add_item(&mut self, place: usize, line: usize, item: InitialItem) -> Result<(), Refusal>
         ensures { Leads result (set_up_said self.new) (change_unit place (add_item (initial item)) (set_up_said self.old)) }
     {
@@ -224,6 +228,7 @@ impl SetUp {
     }
 
     /// A unit meets a fault.
+    #[inline(always)]
     fn add_fault(&mut self, place: usize, line: usize, fault: DeviceFault) -> Result<(), Refusal>
         ensures { Leads result (set_up_said self.new) (change_unit place (add_fault fault) (set_up_said self.old)) }
     {
@@ -235,6 +240,7 @@ impl SetUp {
     }
 
     /// A DCB has the next number of its unit.
+    #[inline(always)]
     fn add_opening(&mut self, place: usize, opening: Opening) -> Result<(), Refusal>
         ensures { Leads result (set_up_said self.new) (change_unit place (add_opening (opening_said opening)) (set_up_said self.old)) }
     {
@@ -246,6 +252,7 @@ impl SetUp {
     }
 
     /// An area has the next number.
+    #[inline(always)]
     #[tactic(auto, unfolding(crate::specs::Adding::add_area))]
     fn add_area(&mut self, alloc: Global, line: AreaLine) -> Result<(), Refusal>
         ensures { Leads result (set_up_said self.new) (add_area line.number (record { base = line.base; bytes = line.bytes.items }) (set_up_said self.old)) }
@@ -271,11 +278,28 @@ impl SetUp {
 
 impl UnitSetup {
     ghost use Rattle.job_script.specs.Adding.{add_fault, add_item, add_opening, add_record};
+    ghost use Rattle.job_script.specs.LineViews.{unit_line_said};
     ghost use Rattle.job_script.specs.Outcomes.{Leads};
     ghost use Rattle.job_script.specs.Views.{opening_said, record_said, unit_said};
     ghost use Rattle.tape_unit.specs.Mount.{initial};
 
+    /// The unit that a line declares. It is to meet no fault and has no DCB.
+    fn new(alloc: Global, line: UnitLine) -> Self
+        ensures { unit_said result ≡ unit_line_said line }
+    {
+        UnitSetup {
+            line: line.line,
+            isc: line.isc,
+            medium: line.medium,
+            content_lines: Vec::new(alloc),
+            faults: Vec::new(alloc),
+            fault_lines: Vec::new(alloc),
+            openings: Vec::new(alloc),
+        }
+    }
+
     /// A record of the line lies on it, if it is a disk. Its number serves the message.
+    #[inline(always)]
     fn add_record(
         &mut self,
         number: usize,
@@ -285,7 +309,10 @@ impl UnitSetup {
         ensures { Leads result (unit_said self.new) (add_record (record_said added) (unit_said self.old)) }
     {
         match &mut self.medium {
-            Medium::Disk(_, records) => records.push(added)?,
+            Medium::Disk(_, records) => {
+                records.reserve(1)?;
+                records.push_reserved(added);
+            }
             Medium::Tape(_, _) => return Err(kind("unit {n} is no disk", number)),
             Medium::Printer { .. } => return Err(kind("unit {n} is no disk", number)),
         }
@@ -294,11 +321,15 @@ impl UnitSetup {
     }
 
     /// An item of the line lies on it, if it is a tape. Its number serves the message.
+    #[inline(always)]
     fn add_item(&mut self, number: usize, line: usize, item: InitialItem) -> Result<(), Refusal>
         ensures { Leads result (unit_said self.new) (add_item (initial item) (unit_said self.old)) }
     {
         match &mut self.medium {
-            Medium::Tape(_, items) => items.push(item)?,
+            Medium::Tape(_, items) => {
+                items.reserve(1)?;
+                items.push_reserved(item);
+            }
             Medium::Disk(_, _) => return Err(kind("unit {n} is no tape", number)),
             Medium::Printer { .. } => return Err(kind("unit {n} is no tape", number)),
         }
@@ -307,6 +338,7 @@ impl UnitSetup {
     }
 
     /// It meets a fault of the line.
+    #[inline(always)]
     fn add_fault(&mut self, line: usize, fault: DeviceFault) -> Result<(), Refusal>
         ensures { Leads result (unit_said self.new) (add_fault fault (unit_said self.old)) }
     {
@@ -316,6 +348,7 @@ impl UnitSetup {
     }
 
     /// It has one more DCB.
+    #[inline(always)]
     fn add_opening(&mut self, opening: Opening) -> Result<(), Refusal>
         ensures { Leads result (unit_said self.new) (add_opening (opening_said opening) (unit_said self.old)) }
     {

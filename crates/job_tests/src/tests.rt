@@ -2,8 +2,9 @@
 //! Whole scripts with their posts are in tests/cases/scripts; the group random of tests/run judges scripts at random.
 //! Expected values are those of the profile's tables.
 
+use job_mount::books;
 use job_run::{Workers, report_script, run_script};
-use job_script::{Fault, Script};
+use job_script::{JobError, Script};
 use std::alloc::AllocError;
 use std::io;
 use std::io::Write;
@@ -25,7 +26,7 @@ const ONE_OF_EACH: Workers = Workers {
 fn books_have_their_subclasses(rt: HostRuntime) -> Result<(), Fail> {
     let text = "tasks 1\ndisk 0 0 1 1 40\ntape 1 7 40\nprinter 2 3 10 2\n";
     let script = Script::parse(rt.alloc(), text.as_bytes())?;
-    let books = script.books(rt.alloc(), 1)?;
+    let books = books(rt.alloc(), &script, 1)?;
     assert!(rt; books.len() == 3);
     for (book, isc) in books.iter().zip([0, 7, 3]) {
         assert!(rt; book.isc() == isc);
@@ -51,9 +52,9 @@ impl Write for Full {
 fn output_is_not_written(rt: HostRuntime) {
     let text = "tasks 1\ndisk 0 0 1 1 40\n".as_bytes();
     let mut reader = text;
-    let done = run_script(&rt, rt.alloc(), &mut reader, Full, ONE_OF_EACH);
-    assert_eq!(rt; done, Err(Fault::NotWritten));
+    let done = run_script(&rt, rt.alloc(), &mut reader, &mut Full, ONE_OF_EACH);
+    assert_eq!(rt; done, Err(JobError::NotWritten));
     let mut reader = text;
-    let done = report_script(&rt, rt.alloc(), &mut reader, Full, ONE_OF_EACH, false);
-    assert_eq!(rt; done, Err(Fault::NotWritten));
+    let done = report_script(&rt, rt.alloc(), &mut reader, &mut Full, ONE_OF_EACH, false);
+    assert_eq!(rt; done, Err(JobError::NotWritten));
 }

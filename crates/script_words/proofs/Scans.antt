@@ -244,6 +244,9 @@ at_start text starts ends ls le = record {
   word = All-nil (λ b. is_space b ≡ false);
 }
 
+pub nothing_closed : (starts ends : List ℕ) → length starts ≡ 8 → length ends ≡ 8 → Closed [] starts ends 0 0
+nothing_closed starts ends ls le = closes_none [] starts ends 0 0 0 (omega arith) (at_start [] starts ends ls le)
+
 -- one byte further: whether each is printable, and that the line is not over
 and_true : (b : Bool) → (b && true) ≡ b
 and_true true = refl
@@ -281,11 +284,10 @@ line_stops text after place within below is rest =
     rw (rest, e) (slice_split_first is_line_feed text 0 (omega arith))
 
 pub line_is_last : (text : List ℕ) (place : ℕ) → length text ≤ place → ((k : ℕ) → k < place → is_line_feed (get_or text k 0) ≡ false)
-    → lines text ≡ take (length text) text ∷ []
+    → lines text ≡ text ∷ []
 unfolding lines
 line_is_last text place end below =
-    rw (take_all (length text) text (omega arith))
-    (slice_split_none is_line_feed text (All-from_get_or (λ b. is_line_feed b ≡ false) text 0 (λ k h. below k (omega arith))))
+    slice_split_none is_line_feed text (All-from_get_or (λ b. is_line_feed b ≡ false) text 0 (λ k h. below k (omega arith)))
 
 pub plain_byte : (b : ℕ) → 32 ≤ b → b ≤ 126 → is_printable_byte b ≡ true
 plain_byte b low high = rw (le-leb 32 b low, le-leb b 126 high) refl

@@ -106,6 +106,7 @@ pub fn two_bytes(word: &[u8]) -> Option<u16>
 fn push_pairs(bytes: &mut Vec<u8>, word: &[u8]) -> Result<(), FormError>
     ensures { Leaves result bytes.new.items (after bytes.old.items (pairs word.now)) }
 {
+    bytes.reserve(word.len() / 2)?;
     let mut rest = word;
     while let [first, second, others @ ..] = rest {
         let high = digit(*first);
@@ -116,7 +117,7 @@ fn push_pairs(bytes: &mut Vec<u8>, word: &[u8]) -> Result<(), FormError>
         if low >= 16 {
             return Err(FormError::NotOfForm);
         }
-        bytes.push(high * 16 + low)?;
+        bytes.push_reserved(high * 16 + low);
         rest = others;
     }
     if rest.is_empty() {
@@ -143,7 +144,7 @@ pub fn push_bytes(bytes: &mut Vec<u8>, word: &[u8]) -> Result<(), FormError>
 pub fn bytes_of(alloc: Global, word: &[u8]) -> Result<Vec<u8>, FormError>
     ensures { Returns (λ v. v.items) result (hex_bytes word.now) }
 {
-    let mut bytes = Vec::with_capacity(alloc, word.len() / 2)?;
+    let mut bytes = Vec::new(alloc);
     push_bytes(&mut bytes, word)?;
     Ok(bytes)
 }

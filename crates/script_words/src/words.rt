@@ -4,31 +4,44 @@ ghost use Rattle.std.specs.Prelude.{◌≡◌, ◌<◌, ◌≤◌, ◌+◌, ◌�
 ghost use Rattle.script_words.specs.Scan.{Closed, Scanned};
 ghost use Rattle.script_words.specs.Text.{bytes_left, is_printable, lines, lines_left, words};
 
-/// A line and the places of its first eight words.
+/// A line and the places of its first eight words. One value serves all lines of a text, one after the other.
 #[derive(Clone, Copy)]
 pub struct Words<'a> {
     /// The bytes of the line, without its line feed.
     pub line: &'a [u8],
-    starts: [usize; 8],
-    ends: [usize; 8],
-    count: usize,
+    places: Places,
     printable: bool,
-    ghost places: { Closed line.now starts ends count (length line.now) },
+    ghost closed: { Closed line.now places.starts places.ends places.count (length line.now) },
     ghost bytes: { printable ≡ is_printable line.now },
 }
 
 impl<'a> Words<'a> {
-    /// Returns the first line of a text, and the text after its line feed, if it has one.
-    pub fn scan(text: &'a [u8]) -> (Words<'a>, Option<&'a [u8]>)
-        ensures line { lines text.now ≡ result.0.line.now ∷ lines_left (option_copied result.1) }
-        ensures shorter { bytes_left (option_copied result.1) ≤ length text.now }
+    /// An empty line.
+    pub fn new() -> Self
+        ensures { result.line.now ≡ [] }
     {
-        let mut scan = Scan {
+        let places = Places {
             starts: [0; 8],
             ends: [0; 8],
             count: 0,
             start: 0,
         };
+        Words {
+            line: &[],
+            places,
+            printable: true,
+        }
+    }
+
+    /// Takes the first line of a text, and returns the text after its line feed, if it has one.
+    #[inline(always)]
+    pub fn scan(&mut self, text: &'a [u8]) -> Option<&'a [u8]>
+        ensures line { lines text.now ≡ self.new.line.now ∷ lines_left (option_copied result) }
+        ensures shorter { bytes_left (option_copied result) ≤ length text.now }
+    {
+        let places = &mut self.places;
+        places.count = 0;
+        places.start = 0;
         let mut printable = true;
         for (place, byte) in text.iter().enumerate() {
             // The test for the bytes of words comes first, since most bytes are such.
@@ -37,20 +50,24 @@ impl<'a> Words<'a> {
             }
             match *byte {
                 b' ' => {
-                    scan.close(text, place);
-                    scan.start = place + 1;
+                    places.close(text, place);
+                    places.start = place + 1;
                 }
                 b'\n' => {
-                    scan.close(text, place);
+                    places.close(text, place);
+                    let (line, _) = text.split_at(place);
                     let (_, after) = text.split_at(place + 1);
-                    return (scan.words(text, place, printable), Some(after));
+                    self.line = line;
+                    self.printable = printable;
+                    return Some(after);
                 }
                 _ => printable = false,
             }
         }
-        let end = text.len();
-        scan.close(text, end);
-        (scan.words(text, end, printable), None)
+        places.close(text, text.len());
+        self.line = text;
+        self.printable = printable;
+        None
     }
 
     /// Returns the word with this number. The first word has the number 0. Past the last word it returns an empty word.
@@ -59,8 +76,8 @@ impl<'a> Words<'a> {
         requires { number < 8 }
         ensures { result.now ≡ get_or (words self.now.line.now) number [] }
     {
-        if number < self.count {
-            &self.line[self.starts[number]..self.ends[number]]
+        if number < self.places.count {
+            &self.line[self.places.starts[number]..self.places.ends[number]]
         } else {
             &[]
         }
@@ -71,7 +88,7 @@ impl<'a> Words<'a> {
     pub fn count(&self) -> usize
         ensures { result ≡ length (words self.now.line.now) }
     {
-        self.count
+        self.places.count
     }
 
     /// Whether each byte is a printable ASCII character or a space.
@@ -85,7 +102,7 @@ impl<'a> Words<'a> {
 
 /// The places of the words so far.
 #[derive(Clone, Copy)]
-struct Scan {
+struct Places {
     starts: [usize; 8],
     ends: [usize; 8],
     count: usize,
@@ -93,7 +110,7 @@ struct Scan {
     start: usize,
 }
 
-impl Scan {
+impl Places {
     /// Ends the current word before this place, if it has a byte.
     #[inline(always)]
     fn close(&mut self, text: &[u8], place: usize)
@@ -111,30 +128,6 @@ impl Scan {
                 self.ends[count] = place;
             }
             self.count = count + 1;
-        }
-    }
-
-    /// The words of the line that ends before this place.
-    #[inline(always)]
-    fn words(self, text: &[u8], end: usize, printable: bool) -> Words<'_>
-        requires closed { Closed text.now self.starts self.ends self.count end }
-        requires inside { end ≤ length text.now }
-        requires bytes { printable ≡ is_printable (take end text.now) }
-        ensures { result.line.now ≡ take end text.now }
-    {
-        let Scan {
-            starts,
-            ends,
-            count,
-            start: _,
-        } = self;
-        let (line, _) = text.split_at(end);
-        Words {
-            line,
-            starts,
-            ends,
-            count,
-            printable,
         }
     }
 }

@@ -1,5 +1,8 @@
 //! Why a history is not written whole.
 
+ghost use Rattle.std.specs.Prelude.{◌≡◌};
+ghost use Rattle.unit_history.specs.declared.error.HistoryError.TheVariants as history_errors;
+
 use std::alloc::AllocError;
 use std::io;
 use thiserror::Error;
@@ -15,12 +18,16 @@ pub enum HistoryError {
 }
 
 impl From<AllocError> for HistoryError {
+    ghost from_gives = { λ _ e. e ≡ history_errors.NoMemory };
+
     fn from(_error: AllocError) -> Self {
         HistoryError::NoMemory
     }
 }
 
 impl From<io::Error> for HistoryError {
+    ghost from_gives = { λ _ e. e ≡ history_errors.NotWritten };
+
     fn from(_error: io::Error) -> Self {
         HistoryError::NotWritten
     }

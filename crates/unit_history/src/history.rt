@@ -1,6 +1,6 @@
 //! The history of a unit: the entries of its trace in words, each on a line with its number.
 
-ghost use Rattle.std.specs.Prelude.{◌<◌, length};
+ghost use Rattle.std.specs.Prelude.{◌≡◌, ◌<◌, IfErr, None, length};
 
 use crate::doom::Dooms;
 use crate::error::HistoryError;
@@ -76,7 +76,9 @@ pub fn write_history<W: Write, D: Device>(
     book: &UnitBook<D>,
     faults: Option<&[Fault]>,
     open: &mut OpenDcbs,
-) -> Result<(), HistoryError> {
+) -> Result<(), HistoryError>
+    ensures { faults.entry ≡ None → IfErr result (λ error. error ≡ HistoryError.NotWritten) }
+{
     let steps = match faults {
         Some(faults) => Some(Steps::of(book, faults)?),
         None => None,
@@ -110,7 +112,9 @@ fn write_entries<W: Write, D: Device>(
     trace: &[Entry],
     steps: Option<Steps<'_, D>>,
     past: Past<'_>,
-) -> Result<(), HistoryError> {
+) -> Result<(), HistoryError>
+    ensures { steps.entry ≡ None → IfErr result (λ error. error ≡ HistoryError.NotWritten) }
+{
     let mut past = past;
     let mut steps = steps;
     for place in 0..trace.len() {

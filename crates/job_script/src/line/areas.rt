@@ -15,6 +15,7 @@ use script_words::Words;
 use std::alloc::Global;
 
 /// `tasks N`
+#[inline(always)]
 #[tactic(auto, unfolding(crate::specs::Lines::tasks_line))]
 pub fn tasks(line: &Words<'_>) -> Result<SetUpLine, Refusal>
     ensures { Returns set_up_line_said result (tasks_line (words_in line.now)) }
@@ -25,6 +26,7 @@ pub fn tasks(line: &Words<'_>) -> Result<SetUpLine, Refusal>
 }
 
 /// `open U in EXTENT ...` or `open U out EXTENT ...`
+#[inline(always)]
 #[tactic(auto, unfolding(crate::specs::Lines::open_line))]
 pub fn opening(alloc: Global, at: usize, line: &Words<'_>) -> Result<SetUpLine, Refusal>
     ensures { Returns set_up_line_said result (open_line at (words_in line.now)) }
@@ -42,6 +44,7 @@ pub fn opening(alloc: Global, at: usize, line: &Words<'_>) -> Result<SetUpLine, 
 }
 
 /// `area A ADDR HEX ...`
+#[inline(always)]
 #[tactic(auto, unfolding(crate::specs::Lines::area_line))]
 pub fn area(alloc: Global, line: &Words<'_>) -> Result<SetUpLine, Refusal>
     ensures { Returns set_up_line_said result (area_line (words_in line.now)) }

@@ -12,6 +12,7 @@ use crate::forms::{address, dcb_of, has, index, mode_of, number};
 use script_words::Words;
 
 /// `excp T U DCB IOB A SHOW LEN`
+#[inline(always)]
 #[tactic(auto, unfolding(crate::specs::Lines::excp_line))]
 pub fn excp(at: usize, line: &Words<'_>) -> Result<ExcpLine, Cause>
     ensures { Reads result (excp_line at (words_in line.now)) }
@@ -29,6 +30,7 @@ pub fn excp(at: usize, line: &Words<'_>) -> Result<ExcpLine, Cause>
 }
 
 /// `purge T U DCB MODE`
+#[inline(always)]
 #[tactic(auto, unfolding(crate::specs::Lines::purge_line))]
 pub fn purge(at: usize, line: &Words<'_>) -> Result<Command, Cause>
     ensures { ReadsAs command_said result (purge_line at (words_in line.now)) }
@@ -41,6 +43,7 @@ pub fn purge(at: usize, line: &Words<'_>) -> Result<Command, Cause>
 }
 
 /// `purgetask T X MODE`
+#[inline(always)]
 #[tactic(auto, unfolding(crate::specs::Lines::purgetask_line))]
 pub fn purge_task(at: usize, line: &Words<'_>) -> Result<Command, Cause>
     ensures { ReadsAs command_said result (purgetask_line at (words_in line.now)) }
@@ -53,6 +56,7 @@ pub fn purge_task(at: usize, line: &Words<'_>) -> Result<Command, Cause>
 }
 
 /// `close T U DCB`
+#[inline(always)]
 #[tactic(auto, unfolding(crate::specs::Lines::close_line))]
 pub fn close(at: usize, line: &Words<'_>) -> Result<Command, Cause>
     ensures { ReadsAs command_said result (close_line at (words_in line.now)) }
@@ -64,6 +68,7 @@ pub fn close(at: usize, line: &Words<'_>) -> Result<Command, Cause>
 }
 
 /// `reset T U DCB`
+#[inline(always)]
 #[tactic(auto, unfolding(crate::specs::Lines::reset_line))]
 pub fn reset(at: usize, line: &Words<'_>) -> Result<Command, Cause>
     ensures { ReadsAs command_said result (reset_line at (words_in line.now)) }
@@ -75,6 +80,7 @@ pub fn reset(at: usize, line: &Words<'_>) -> Result<Command, Cause>
 }
 
 /// `wait T`
+#[inline(always)]
 #[tactic(auto, unfolding(crate::specs::Lines::wait_line))]
 pub fn wait(at: usize, line: &Words<'_>) -> Result<Command, Cause>
     ensures { ReadsAs command_said result (wait_line at (words_in line.now)) }

@@ -1,15 +1,14 @@
 //! Lines on units: what they are, what lies on their media, and the faults that they meet.
 
-ghost use Rattle.std.specs.Prelude.{◌≡◌, ◌≤◌};
+ghost use Rattle.std.specs.Prelude.{◌≡◌};
 ghost use Rattle.job_script.specs.LineViews.{set_up_line_said};
-ghost use Rattle.job_script.specs.Lines.{block_line, disk_line, fault_line, mark_line, new_unit, printer_line, record_line, tape_line};
+ghost use Rattle.job_script.specs.Lines.{block_line, disk_line, fault_line, mark_line, printer_line, record_line, tape_line};
 ghost use Rattle.job_script.specs.Outcomes.{Returns, words_in};
-ghost use Rattle.job_script.specs.Views.{medium_said, unit_said};
 
 use super::{SetUpLine, UnitLine};
 use crate::cause::Refusal;
 use crate::forms::{byte, bytes, halfword, has, index, number, small_number, subclass, two_bytes};
-use crate::set_up::{Medium, UnitSetup};
+use crate::set_up::Medium;
 use ckd_disk::{Geometry, InitialRecord};
 use device_port::Fault;
 use io_images::{SubStatus, UnitStatus};
@@ -18,6 +17,7 @@ use std::alloc::Global;
 use tape_unit::InitialItem;
 
 /// `disk U ISC CYLS HEADS BYTES`
+#[inline(always)]
 #[tactic(auto, unfolding(crate::specs::Lines::disk_line))]
 pub fn disk(alloc: Global, at: usize, line: &Words<'_>) -> Result<SetUpLine, Refusal>
     ensures { Returns set_up_line_said result (disk_line at (words_in line.now)) }
@@ -33,11 +33,14 @@ pub fn disk(alloc: Global, at: usize, line: &Words<'_>) -> Result<SetUpLine, Ref
     let medium = Medium::Disk(geometry, Vec::new(alloc));
     Ok(SetUpLine::Unit(UnitLine {
         number: unit_number,
-        unit: new_unit(alloc, at, isc, medium),
+        line: at,
+        isc,
+        medium,
     }))
 }
 
 /// `tape U ISC BYTES`
+#[inline(always)]
 #[tactic(auto, unfolding(crate::specs::Lines::tape_line))]
 pub fn tape(alloc: Global, at: usize, line: &Words<'_>) -> Result<SetUpLine, Refusal>
     ensures { Returns set_up_line_said result (tape_line at (words_in line.now)) }
@@ -48,13 +51,16 @@ pub fn tape(alloc: Global, at: usize, line: &Words<'_>) -> Result<SetUpLine, Ref
     let medium = Medium::Tape(number(line, 3)?, Vec::new(alloc));
     Ok(SetUpLine::Unit(UnitLine {
         number: unit_number,
-        unit: new_unit(alloc, at, isc, medium),
+        line: at,
+        isc,
+        medium,
     }))
 }
 
 /// `printer U ISC LINES PAGES`
+#[inline(always)]
 #[tactic(auto, unfolding(crate::specs::Lines::printer_line))]
-pub fn printer(alloc: Global, at: usize, line: &Words<'_>) -> Result<SetUpLine, Refusal>
+pub fn printer(at: usize, line: &Words<'_>) -> Result<SetUpLine, Refusal>
     ensures { Returns set_up_line_said result (printer_line at (words_in line.now)) }
 {
     has(line, 5)?;
@@ -65,27 +71,14 @@ pub fn printer(alloc: Global, at: usize, line: &Words<'_>) -> Result<SetUpLine, 
     let medium = Medium::Printer { lines, pages };
     Ok(SetUpLine::Unit(UnitLine {
         number: unit_number,
-        unit: new_unit(alloc, at, isc, medium),
+        line: at,
+        isc,
+        medium,
     }))
 }
 
-/// A unit with this medium, which is to meet no fault and has no DCB.
-fn new_unit(alloc: Global, line: usize, isc: u8, medium: Medium) -> UnitSetup
-    requires { isc ≤ 7 }
-    ensures { unit_said result ≡ new_unit line isc (medium_said medium) }
-{
-    UnitSetup {
-        line,
-        isc,
-        medium,
-        content_lines: Vec::new(alloc),
-        faults: Vec::new(alloc),
-        fault_lines: Vec::new(alloc),
-        openings: Vec::new(alloc),
-    }
-}
-
 /// `rec U CC HH R KEY HEX`
+#[inline(always)]
 #[tactic(auto, unfolding(crate::specs::Lines::record_line))]
 pub fn record(alloc: Global, line: &Words<'_>) -> Result<SetUpLine, Refusal>
     ensures { Returns set_up_line_said result (record_line (words_in line.now)) }
@@ -108,6 +101,7 @@ pub fn record(alloc: Global, line: &Words<'_>) -> Result<SetUpLine, Refusal>
 }
 
 /// `block U HEX`
+#[inline(always)]
 #[tactic(auto, unfolding(crate::specs::Lines::block_line))]
 pub fn block(alloc: Global, line: &Words<'_>) -> Result<SetUpLine, Refusal>
     ensures { Returns set_up_line_said result (block_line (words_in line.now)) }
@@ -119,6 +113,7 @@ pub fn block(alloc: Global, line: &Words<'_>) -> Result<SetUpLine, Refusal>
 }
 
 /// `mark U`
+#[inline(always)]
 #[tactic(auto, unfolding(crate::specs::Lines::mark_line))]
 pub fn mark(line: &Words<'_>) -> Result<SetUpLine, Refusal>
     ensures { Returns set_up_line_said result (mark_line (words_in line.now)) }
@@ -129,6 +124,7 @@ pub fn mark(line: &Words<'_>) -> Result<SetUpLine, Refusal>
 }
 
 /// `fault U ORDINAL UU SS XXXX`
+#[inline(always)]
 #[tactic(auto, unfolding(crate::specs::Lines::fault_line))]
 pub fn fault(line: &Words<'_>) -> Result<SetUpLine, Refusal>
     ensures { Returns set_up_line_said result (fault_line (words_in line.now)) }

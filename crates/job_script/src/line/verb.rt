@@ -1,6 +1,7 @@
 //! The first word of a line.
 
 ghost use Rattle.std.specs.Prelude.{◌≡◌};
+ghost use Rattle.std.specs.Str.{bytes_eq};
 ghost use Rattle.job_script.specs.Verbs.{verb_of};
 
 /// The first word of a line.
@@ -32,60 +33,78 @@ pub enum SetUpVerb {
 
 impl Verb {
     /// What a first word says. The words of long scripts come first.
+    #[inline(always)]
     #[tactic(auto, unfolding(crate::specs::Verbs::verb_of))]
     pub fn of(word: &[u8]) -> Option<Verb>
         ensures { result ≡ verb_of word.now }
     {
-        if word == b"excp".as_slice() {
+        if is_word(word, b"excp") {
             return Some(Verb::Excp);
         }
-        if word == b"wait".as_slice() {
+        if is_word(word, b"wait") {
             return Some(Verb::Wait);
         }
-        if word == b"fault".as_slice() {
+        if is_word(word, b"fault") {
             return Some(Verb::SetUp(SetUpVerb::Fault));
         }
-        if word == b"rec".as_slice() {
+        if is_word(word, b"rec") {
             return Some(Verb::SetUp(SetUpVerb::Record));
         }
-        if word == b"area".as_slice() {
+        if is_word(word, b"area") {
             return Some(Verb::SetUp(SetUpVerb::Area));
         }
-        if word == b"open".as_slice() {
+        if is_word(word, b"open") {
             return Some(Verb::SetUp(SetUpVerb::Open));
         }
-        if word == b"purge".as_slice() {
+        if is_word(word, b"purge") {
             return Some(Verb::Purge);
         }
-        if word == b"purgetask".as_slice() {
+        if is_word(word, b"purgetask") {
             return Some(Verb::PurgeTask);
         }
-        if word == b"close".as_slice() {
+        if is_word(word, b"close") {
             return Some(Verb::Close);
         }
-        if word == b"reset".as_slice() {
+        if is_word(word, b"reset") {
             return Some(Verb::Reset);
         }
-        if word == b"block".as_slice() {
+        if is_word(word, b"block") {
             return Some(Verb::SetUp(SetUpVerb::Block));
         }
-        if word == b"mark".as_slice() {
+        if is_word(word, b"mark") {
             return Some(Verb::SetUp(SetUpVerb::Mark));
         }
-        if word == b"disk".as_slice() {
+        if is_word(word, b"disk") {
             return Some(Verb::SetUp(SetUpVerb::Disk));
         }
-        if word == b"tape".as_slice() {
+        if is_word(word, b"tape") {
             return Some(Verb::SetUp(SetUpVerb::Tape));
         }
-        if word == b"printer".as_slice() {
+        if is_word(word, b"printer") {
             return Some(Verb::SetUp(SetUpVerb::Printer));
         }
-        if word == b"tasks".as_slice() {
+        if is_word(word, b"tasks") {
             return Some(Verb::SetUp(SetUpVerb::Tasks));
         }
         None
     }
+}
+
+/// Whether a word is this one. `==` on slices costs more, since it calls a search for long ones.
+#[inline(always)]
+#[tactic(auto, using(crate::proofs::Spelling::is_spelled, crate::proofs::Spelling::other_length, crate::proofs::Spelling::other_byte))]
+fn is_word(word: &[u8], name: &[u8]) -> bool
+    ensures { result ≡ bytes_eq word.now name.now }
+{
+    if word.len() != name.len() {
+        return false;
+    }
+    for place in 0..name.len() {
+        if word[place] != name[place] {
+            return false;
+        }
+    }
+    true
 }
 
 /// Whether a line of a script may begin with this word.

@@ -2,13 +2,14 @@
 
 ghost use Rattle.std.specs.Prelude.{◌≡◌, ◌<◌, ◌≤◌};
 ghost use Rattle.excp_system.specs.Opening.{AreBooks, AreFresh, site_of};
-ghost use Rattle.job_script.specs.Books.{IsFresh};
+ghost use Rattle.job_mount.specs.Books.{IsFresh};
 
 use cases::{CASES, Case};
 use excp_system::{Rows, Site, System, Task};
 use fifo_row::Full;
 use io_area::Area;
 use io_images::{Code, Ecb, Iob};
+use job_mount::books;
 use job_script::Script;
 use look::Look;
 use request_piece::{Posted, Request};
@@ -274,7 +275,7 @@ fn expect_steps<R: Wait + Abort + AllocGlobal>(
     requires book_few { book ≤ 65536 }
 {
     let script = Script::parse(rt.alloc(), script.as_bytes())?;
-    let books = script.books(rt.alloc(), book)?;
+    let books = books(rt.alloc(), &script, book)?;
     let mut rows = Rows::new(rt.alloc(), 1, 1, row, row)?;
     if books.len() != 1 {
         return Err(Fail::from("no unit"));

@@ -3,14 +3,15 @@
 
 ghost use Rattle.std.specs.Prelude.{◌≡◌, ◌<◌, ◌≤◌, All, IfOk, vec_len};
 ghost use Rattle.excp_system.specs.Opening.{AreBooks, AreFresh, site_of};
-ghost use Rattle.job_script.specs.Commands.{CanBeDone};
+ghost use Rattle.job_mount.specs.Requests.{CanBeDone};
 ghost use Rattle.job_run.specs.Complete.{IsComplete};
 
 mod not_awaited;
 
 use excp_system::{Gate, IscTaker, Point, Rows, Site, System};
+use job_mount::books;
 use job_run::{Lines, Output, ScriptTasks, ended, run_on, write};
-use job_script::{Fault, FaultName, Script};
+use job_script::{FaultName, JobError, Script};
 use not_awaited::NotAwaited;
 use post_ledger::finish;
 use request_piece::Name;
@@ -188,7 +189,7 @@ fn unawaited<R: Threads + Wait + Sync + AllocGlobal>(
     rows: Rows,
     books: Vec<UnitBook<UnitDevice>>,
     script: &Script,
-) -> Result<Outcome, Fault>
+) -> Result<Outcome, JobError>
     requires fresh { AreFresh rows }
     requires books { AreBooks rows.units books.items }
     requires units { vec_len script.now.set_up.units ≡ rows.units }
@@ -199,7 +200,7 @@ fn unawaited<R: Threads + Wait + Sync + AllocGlobal>(
     let program = NotAwaited::new(script);
     let done = run_program(rt, alloc, rows, books, two_of_each(), &program);
     let Ok((report, outcomes)) = done else {
-        return Err(Fault::NoMemory);
+        return Err(JobError::NoMemory);
     };
     let run = ended(alloc, report, outcomes)?;
     printed(alloc, &run.lines)
@@ -211,7 +212,7 @@ fn left<S: Site + Send + Sync, R: Threads + Wait + Sync + AllocGlobal>(
     rows: &mut Rows,
     books: Vec<UnitBook<UnitDevice>>,
     script: &Script,
-) -> Result<Outcome, Fault>
+) -> Result<Outcome, JobError>
     requires site { S.rows ≡ site_of rows.old }
     requires fresh { AreFresh rows.old }
     requires books { AreBooks S.rows.units books.items }
@@ -229,11 +230,11 @@ fn left<S: Site + Send + Sync, R: Threads + Wait + Sync + AllocGlobal>(
     };
     let program = NotAwaited::new(script);
     let runners = run_beside(rt, alloc, &system, &alarm, &alarm, crew, runners, &program).or(Err(
-        Fault::NoMemory,
+        JobError::NoMemory,
     ))?;
     let (tasks, outcomes) = parted(alloc, runners)?;
     let Ok(report) = finish(rt, alloc, system, tasks) else {
-        return Err(Fault::NoMemory);
+        return Err(JobError::NoMemory);
     };
     let run = ended(alloc, report, outcomes)?;
     printed(alloc, &run.lines)
@@ -246,7 +247,7 @@ fn tasks_alone<S: Site + Send + Sync, R: Threads + Wait + Sync + AllocGlobal>(
     books: Vec<UnitBook<UnitDevice>>,
     script: &Script,
     way: Way,
-) -> Result<Outcome, Fault>
+) -> Result<Outcome, JobError>
     requires site { S.rows ≡ site_of rows.old }
     requires fresh { AreFresh rows.old }
     requires books { AreBooks S.rows.units books.items }
@@ -265,7 +266,7 @@ fn tasks_alone<S: Site + Send + Sync, R: Threads + Wait + Sync + AllocGlobal>(
     let crew = crew_of(alloc, units, takers, way)?;
     let program = ScriptTasks::new(script);
     let runners = run_beside(rt, alloc, &system, &alarm, &gate, crew, runners, &program).or(Err(
-        Fault::NoMemory,
+        JobError::NoMemory,
     ))?;
     let (_, outcomes) = parted(alloc, runners)?;
     Ok(Outcome::Ended(how_many_short(outcomes)?, told(rt, &system, units)?))
@@ -302,13 +303,13 @@ fn two_of_each() -> Workers {
 }
 
 /// How many tasks ended for want of memory. The others are to have collected all their posts.
-fn how_many_short(outcomes: Vec<Result<Lines, Fault>>) -> Result<usize, Fault> {
+fn how_many_short(outcomes: Vec<Result<Lines, JobError>>) -> Result<usize, JobError> {
     let mut short: usize = 0;
     for outcome in outcomes {
         match outcome {
             Ok(lines) if lines.is_complete() => {}
-            Ok(_) => return Err(Fault::Unmatched),
-            Err(Fault::NoMemory) => short = short.saturating_add(1),
+            Ok(_) => return Err(JobError::Unmatched),
+            Err(JobError::NoMemory) => short = short.saturating_add(1),
             Err(fault) => return Err(fault),
         }
     }
@@ -316,7 +317,7 @@ fn how_many_short(outcomes: Vec<Result<Lines, Fault>>) -> Result<usize, Fault> {
 }
 
 /// What is printed of the requests of each task.
-fn printed(alloc: Global, lines: &[Lines]) -> Result<Outcome, Fault>
+fn printed(alloc: Global, lines: &[Lines]) -> Result<Outcome, JobError>
     requires { All IsComplete lines.now }
 {
     let mut text = Vec::new(alloc);
@@ -353,7 +354,7 @@ fn rows_and_books(
     alloc: Global,
     script: &Script,
     room: usize,
-) -> Result<(Rows, Vec<UnitBook<UnitDevice>>), Fault>
+) -> Result<(Rows, Vec<UnitBook<UnitDevice>>), JobError>
     requires tasks { (1 ≤ script.now.set_up.tasks) × (script.now.set_up.tasks ≤ 64) }
     requires units { (1 ≤ vec_len script.now.set_up.units) × (vec_len script.now.set_up.units ≤ 64) }
     requires some { 1 ≤ room }
@@ -363,7 +364,7 @@ fn rows_and_books(
     ensures fresh { IfOk result (λ made. AreFresh made.0) }
     ensures books { IfOk result (λ made. AreBooks (vec_len script.now.set_up.units) made.1.items) }
 {
-    let books = script.books(alloc, room)?;
+    let books = books(alloc, script, room)?;
     let units = script.set_up.units.len() as u16;
     let rows = Rows::new(alloc, script.set_up.tasks, units, room, room)?;
     Ok((rows, books))
@@ -377,7 +378,7 @@ fn run<R: Threads + Wait + Sync + AllocGlobal>(
     parts: &[&str],
     room: usize,
     way: Way,
-) -> Result<Outcome, Fault>
+) -> Result<Outcome, JobError>
     requires some { 1 ≤ room }
     requires few { room ≤ 65536 }
 {
@@ -390,9 +391,9 @@ fn run<R: Threads + Wait + Sync + AllocGlobal>(
     }
     let script = Script::parse(alloc, &text)?;
     // its requests can be made
-    script.books(alloc, room)?;
+    books(alloc, &script, room)?;
     if script.set_up.units.len() != mounted.set_up.units.len() {
-        return Err(Fault::Unmatched);
+        return Err(JobError::Unmatched);
     }
     let (mut rows, books) = rows_and_books(alloc, &mounted, room)?;
     match way {
@@ -480,7 +481,7 @@ fn task_that_ends_early_is_told(rt: HostRuntime) -> Result<(), Fail> {
         let parts = [SECOND, AREAS, first, last];
         let ended = run(&rt, [TWO_TASKS, UNITS], &parts, 1, Way::Whole);
         let name = FaultName::Name;
-        assert_eq!(rt; ended, Err(Fault::Line { line, name }));
+        assert_eq!(rt; ended, Err(JobError::Line { line, name }));
     }
     Ok(())
 }

@@ -86,7 +86,7 @@ fn readers_that_fail(rt: HostRuntime) -> Result<(), Fail> {
             bytes: &text[..count],
         };
         let done = run_script(&rt, rt.alloc(), &mut reader, &mut output, ONE_OF_EACH);
-        assert_eq!(rt; done, Err(Fault::Unreadable), "{count}");
+        assert_eq!(rt; done, Err(JobError::Unreadable), "{count}");
         assert!(rt; output.is_empty(), "{count}");
     }
     let mut reader = text;

@@ -1,4 +1,4 @@
-use Rattle.std.proofs.Common.{refl, sym, ap, Ok, rules}
+use Rattle.std.proofs.Common.{refl}
 use Rattle.script_words.specs.Text.{words}
 use Rattle.script_words.proofs.Joining.{joined_more, joined_ends}
 use Rattle.job_script.proofs.Joining.{joined_fails}

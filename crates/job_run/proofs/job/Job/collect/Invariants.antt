@@ -2,4 +2,7 @@ use Rattle.std.proofs.Common.{◌≡◌}
 use Rattle.job_run.proofs.job.Job.collect.Given as goal
 
 abbrev pub invariant-loop : goal.invariant-loop
-invariant-loop g l = l.client.number ≡ l.fn.client.number
+invariant-loop g l = record {
+  number : l.client.number ≡ l.fn.client.number;
+  sent : l.client.sent ≡ l.fn.client.sent;
+}

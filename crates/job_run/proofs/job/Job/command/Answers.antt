@@ -1,5 +1,6 @@
 use Rattle.std.proofs.Common.{ap}
-use Rattle.job_script.specs.Commands.{dcb_of, excp_of}
+use Rattle.job_mount.specs.Requests.{excp_of}
+use Rattle.job_script.specs.Commands.{dcb_of}
 use Rattle.job_run.proofs.job.Job.command.Goals as goal
 
 pub issue-requires-clause-unit : goal.issue-requires-clause-unit

@@ -1,13 +1,66 @@
-use Rattle.std.proofs.Common.{◌≡◌, ◌<◌, length, rules, get_or, subst, sym, ap, ◌∙◌, arith}
+use Rattle.std.proofs.Common.{◌≡◌, ◌<◌, ◌+◌, length, rules, get_or, drop, refl, subst, sym, ap, ◌∙◌}
 use Rattle.std.proofs.lemmas.List.Elements.{All-get_or}
-use Rattle.job_script.specs.Commands.{CanBeDone}
+use Rattle.job_mount.specs.Requests.{CanBeDone}
+use Rattle.job_script.specs.Tasks.{places_of}
+use Rattle.job_run.specs.Sending.{sends}
+use Rattle.job_run.proofs.Sent.{at_place, begins, ends, goes_on, stops}
 use Rattle.job_run.proofs.job.Job.commands.Goals as goal
 
 pub command-requires-clause-request : goal.command-requires-clause-request
 command-requires-clause-request g c =
     let commands = c.args.self.now.script.now.commands.items in
-    let index = c.loop-command.command-index in
-    let within : index < length commands = omega (arith, c.loop-command-test.true, c.loop-command.auto.command-index-end, c.deref-command-items.ensures.len) in
-    let item = c.command-item.result in
-    let same : c.deref-command-items.result.now ≡ commands = search rules in
-    subst CanBeDone (sym (c.command-item.is ∙ ap (λ l. get_or l index item) same)) (All-get_or CanBeDone commands index item within c.args.self.now.requests_can_be_made)
+    let place = get_or c.places_of-place-items.result.now c.loop-place.place-index 0 in
+    let command = c.index-command.result.now in
+    let within : place < length commands = search rules in
+    let is : command ≡ get_or commands place command = search rules in
+    subst CanBeDone (sym is) (All-get_or CanBeDone commands place command within c.args.self.now.requests_can_be_made)
+
+pub loop-place-init : goal.loop-place-init
+loop-place-init g c = record {
+  number = refl;
+  reached = begins c.args.client.now.number c.args.self.now.script.now.commands.items c.args.client.now.sent;
+}
+
+pub loop-place-preserved : goal.loop-place-preserved
+loop-place-preserved g c =
+    let commands = c.args.self.now.script.now.commands.items in
+    let task = c.args.client.now.number in
+    let old = c.args.client.now.sent in
+    let i = c.loop-place.place-index in
+    let sent = c.loop-place.client.sent in
+    let command = c.index-command.result.now in
+    let number = c.loop-place.invariant.number in
+    let done = rw c.in_default.is at c.command.ensures.sent in
+    let n = at_place task c.number.result commands old sent c.places_of-place-items.result.now i command c.places_of-place-items.ensures.value c.number.ensures
+    c.loop-place-test.true c.loop-place.invariant.reached c.index-command.ensures in
+    record {
+      number = c.command.ensures.number ∙ number;
+      reached = goes_on task commands old command (drop (i + 1) (places_of task commands)) sent c.command.new.client.sent n
+          (done ∙ ap (λ t. sends t command.action sent) number);
+    }
+
+pub returns : goal.returns
+returns g c = record {
+  number = c.loop-place.invariant.number;
+  sent = ends c.args.client.now.number c.number.result c.args.self.now.script.now.commands.items c.args.client.now.sent c.loop-place.client.sent
+      c.places_of-place-items.result.now c.loop-place.place-index c.places_of-place-items.ensures.value c.number.ensures c.loop-place-test.false
+      c.loop-place.invariant.reached;
+  stopped = tt;
+}
+
+pub returns-in-Err : goal.returns-in-Err
+returns-in-Err g c =
+    let commands = c.args.self.now.script.now.commands.items in
+    let task = c.args.client.now.number in
+    let old = c.args.client.now.sent in
+    let i = c.loop-place.place-index in
+    let sent = c.loop-place.client.sent in
+    let command = c.index-command.result.now in
+    let n = at_place task c.number.result commands old sent c.places_of-place-items.result.now i command c.places_of-place-items.ensures.value c.number.ensures
+    c.loop-place-test.true c.loop-place.invariant.reached c.index-command.ensures in
+    record {
+      number = c.command.ensures.number ∙ c.loop-place.invariant.number;
+      sent = tt;
+      stopped = stops task commands old command (drop (i + 1) (places_of task commands)) sent c.command.new.client.sent c.in-Err.fault c.at.result n
+          c.in-Err.ensures.unsent c.in-Err.ensures.fails c.at.ensures;
+    }

@@ -8,4 +8,4 @@ loop-task-init c = refl
 
 pub loop-task-preserved : goal.loop-task-preserved
 unfolding most
-loop-task-preserved c = search rules
+loop-task-preserved c = search (rules, c.requests_of_tasks-counts.ensures c.loop-task.task)

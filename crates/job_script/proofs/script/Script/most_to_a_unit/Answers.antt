@@ -8,4 +8,4 @@ loop-unit-init c = refl
 
 pub loop-unit-preserved : goal.loop-unit-preserved
 unfolding most
-loop-unit-preserved c = search rules
+loop-unit-preserved c = search (rules, c.requests_to_units-counts.ensures c.loop-unit.unit)

@@ -1,4 +1,4 @@
-use Rattle.std.proofs.Common.{rules, ◌≡◌, ◌<◌, ◌≤◌, length, get_or, refl, sym, ap, ◌∙◌, Ok, Err}
+use Rattle.std.proofs.Common.{rules, ◌<◌, ◌≤◌, length, sym, ap, ◌∙◌, Err}
 use Rattle.std.specs.Arc.{arc_value}
 use Rattle.job_script.specs.declared.fault.FaultName.{FaultName}
 use Rattle.job_script.proofs.Changing.{numbered_map, unnumbered_map}

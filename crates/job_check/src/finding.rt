@@ -1,0 +1,69 @@
+//! A finding: a fault or a note, with its line.
+
+use crate::telling::Found;
+use ccw_programs::Refusal as BrokenRule;
+use job_script::{Cause, FaultName, Message};
+use std::alloc::AllocError;
+use std::fmt;
+
+/// The script as a whole in place of the number of a line. It sorts after all lines.
+pub const SCRIPT: usize = usize::MAX;
+
+/// What is found: a fault, which has a name, or a note.
+#[derive(Clone, Copy)]
+pub enum Told {
+    Fault(FaultName, Message),
+    Note(Message),
+    /// A note that a CCW breaks a rule.
+    Broken(BrokenRule),
+}
+
+/// What is found in the line with this number. Its bytes are kept if the text has words of it.
+#[derive(Clone, Copy)]
+pub struct Finding<'a> {
+    pub line: usize,
+    pub bytes: &'a [u8],
+    pub told: Told,
+}
+
+impl<'a> Found for Finding<'a> {
+    fn line(&self) -> Option<usize> {
+        (self.line != SCRIPT).then_some(self.line)
+    }
+
+    fn is_fault(&self) -> bool {
+        matches!(self.told, Told::Fault(_, _))
+    }
+}
+
+/// Adds why a line is refused, in a text without words of the line.
+pub fn tell(findings: &mut Vec<Finding<'_>>, line: usize, cause: Cause) -> Result<(), AllocError> {
+    let told = Told::Fault(cause.name, cause.message);
+    add(findings, line, told)
+}
+
+/// Adds a finding in a line, in a text without words of the line.
+pub fn add(findings: &mut Vec<Finding<'_>>, line: usize, told: Told) -> Result<(), AllocError> {
+    let bytes = &[];
+    findings.push(Finding { line, bytes, told })?;
+    Ok(())
+}
+
+impl<'a> fmt::Display for Finding<'a> {
+    fn fmt<W: fmt::Write>(&self, f: &mut fmt::Formatter<W>) -> fmt::Result {
+        let bytes = self.bytes;
+        match self.told {
+            Told::Fault(name, message) => {
+                write!(f, "{name}: ")?;
+                message.write(f, bytes)
+            }
+            Told::Note(message) => {
+                f.write_str("note: ")?;
+                message.write(f, bytes)
+            }
+            Told::Broken(BrokenRule { at, rule }) => {
+                write!(f, "note: the CCW at {at:06X} is a program check: {rule}")
+            }
+        }
+    }
+}

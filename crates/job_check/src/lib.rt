@@ -1,0 +1,19 @@
+//! What is wrong in a script, for people: every fault with its cause, and notes on what runs but is a likely mistake.
+//!
+//! The grammar's own readers read each line, so a fault of a line is the one that a run reports. A line with a fault
+//! counts as declaring what it was to declare, so that no other line has a fault for that (profile).
+//!
+//! Tests: tests/cases/mistakes, tests/groups/first_faults.py.
+#![tactic(auto)]
+
+mod assumed;
+mod check;
+mod finding;
+mod media;
+mod notes;
+mod programs;
+mod requests;
+mod telling;
+
+pub use check::check_script;
+pub use telling::{Found, Source, write_findings};

@@ -1,0 +1,78 @@
+//! How findings are written: a line for each, which begins with its place.
+
+use job_script::JobError;
+use std::alloc::Global;
+use std::io::{BufWriter, Write};
+use std::{fmt, io};
+
+/// Bold red and bold yellow, and the end of either, as terminals take them (ECMA-48, "SGR").
+const RED: &str = "\x1b[1;31m";
+
+const YELLOW: &str = "\x1b[1;33m";
+
+const PLAIN: &str = "\x1b[0m";
+
+/// The script in which something is found.
+#[derive(Clone, Copy)]
+pub struct Source<'a> {
+    /// Its name, with which each line that is written begins.
+    pub name: &'a str,
+    /// Whether the places of faults are red and those of notes yellow.
+    pub is_coloured: bool,
+}
+
+/// What is found in a script. `Display` writes what it is, without its place.
+pub trait Found: fmt::Display {
+    /// The number of its line, from 1; none if it is of the script as a whole.
+    fn line(&self) -> Option<usize>;
+
+    /// Whether a run rejects the script for it.
+    fn is_fault(&self) -> bool;
+}
+
+/// Writes each finding on a line of its own, as `NAME:LINE: TEXT`, or `NAME: TEXT` if it is of the script as a whole.
+pub fn write_findings<F: Found, W: Write + Drop>(
+    alloc: Global,
+    source: Source<'_>,
+    findings: &[F],
+    writer: W,
+) -> Result<(), JobError> {
+    let Ok(mut out) = BufWriter::new(alloc, writer) else {
+        return Err(JobError::NoMemory);
+    };
+    match write_all(&mut out, source, findings) {
+        Ok(()) => Ok(()),
+        Err(_) => Err(JobError::NotWritten),
+    }
+}
+
+fn write_all<F: Found, W: Write>(
+    out: &mut W,
+    source: Source<'_>,
+    findings: &[F],
+) -> io::Result<()> {
+    for finding in findings {
+        write_place(out, source, finding.line(), finding.is_fault())?;
+        writeln!(out, "{finding}")?;
+    }
+    out.flush()
+}
+
+/// Writes the place of a finding.
+fn write_place<W: Write>(
+    out: &mut W,
+    source: Source<'_>,
+    line: Option<usize>,
+    is_fault: bool,
+) -> io::Result<()> {
+    let name = source.name;
+    let (begin, end) = match (source.is_coloured, is_fault) {
+        (false, _) => ("", ""),
+        (true, true) => (RED, PLAIN),
+        (true, false) => (YELLOW, PLAIN),
+    };
+    match line {
+        Some(line) => write!(out, "{begin}{name}:{line}:{end} "),
+        None => write!(out, "{begin}{name}:{end} "),
+    }
+}

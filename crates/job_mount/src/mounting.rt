@@ -1,0 +1,139 @@
+//! The books of the units of a script: the units are mounted, then their DCBs opened, then the requests tried.
+
+ghost use Rattle.std.specs.Prelude.{◌≡◌, ◌≤◌, All, IfOk, OnOk, length, map, vec_len};
+ghost use Rattle.job_mount.specs.Books.{HasRoom, IsFresh};
+ghost use Rattle.job_mount.specs.Mounting.{books_of, tried, units_with};
+ghost use Rattle.job_mount.specs.Openings.{earlier};
+ghost use Rattle.job_mount.specs.Outcomes.{MountsBook, Opens, Tries, all_known};
+ghost use Rattle.job_mount.specs.Requests.{CanBeDone};
+ghost use Rattle.job_script.specs.Outcomes.{Gives};
+ghost use Rattle.job_script.specs.Views.{command_said, opening_said, said, unit_said};
+
+use crate::device::mounted;
+use crate::requests::can_be_done;
+use device_port::MountError;
+use job_script::{Command, FaultName, JobError, Opening, Script, UnitSetup};
+use std::alloc::{AllocError, Global};
+use unit_book::{OpenError, UnitBook};
+use unit_device::UnitDevice;
+
+/// The books of a script's units, in the order of their numbers, each for up to `capacity` requests at a time (1 to
+/// 65,536), with the DCBs of the script open. The first of these faults ends it: of a medium, in the order of
+/// units; of extents, in the order of lines; of a request, in the order of lines.
+#[tactic(auto, unfolding(crate::specs::Mounting::books_of))]
+pub fn books(
+    alloc: Global,
+    script: &Script,
+    capacity: usize,
+) -> Result<Vec<UnitBook<UnitDevice>>, JobError>
+    requires some { 1 ≤ capacity }
+    requires few { capacity ≤ 65536 }
+    ensures exact { Gives all_known result (books_of capacity (said script.now)) }
+    ensures count { IfOk result (λ books. vec_len books ≡ vec_len script.now.set_up.units) }
+    ensures fresh { IfOk result (λ books. All IsFresh books.items) }
+    ensures room { IfOk result (λ books. All (HasRoom capacity) books.items) }
+    ensures requests { OnOk result (All CanBeDone script.now.commands.items) }
+{
+    let books = opened_books(alloc, &script.set_up.units, capacity)?;
+    try_requests(&script.commands)?;
+    Ok(books)
+}
+
+/// The books of all units, mounted, with their DCBs open.
+fn opened_books(
+    alloc: Global,
+    units: &[UnitSetup],
+    capacity: usize,
+) -> Result<Vec<UnitBook<UnitDevice>>, JobError>
+    requires some { 1 ≤ capacity }
+    requires few { capacity ≤ 65536 }
+    ensures exact { Gives all_known result (units_with capacity (map unit_said units.now)) }
+    ensures count { IfOk result (λ books. vec_len books ≡ length units.now) }
+    ensures fresh { IfOk result (λ books. All IsFresh books.items) }
+    ensures room { IfOk result (λ books. All (HasRoom capacity) books.items) }
+{
+    let mut books = Vec::new(alloc);
+    let mut first = None;
+    for unit in units {
+        let mut book = mounted_book(alloc, unit, capacity)?;
+        match open_dcbs(&mut book, &unit.openings)? {
+            None => books.push(book)?,
+            Some(line) => first = Some(earlier(first, line)),
+        }
+    }
+    match first {
+        None => Ok(books),
+        Some(line) => Err(JobError::Line {
+            line,
+            name: FaultName::Extent,
+        }),
+    }
+}
+
+/// The book of a unit, mounted, without a DCB.
+fn mounted_book(
+    alloc: Global,
+    unit: &UnitSetup,
+    capacity: usize,
+) -> Result<UnitBook<UnitDevice>, JobError>
+    requires some { 1 ≤ capacity }
+    requires few { capacity ≤ 65536 }
+    ensures exact { MountsBook capacity (unit_said unit.now) result }
+    ensures fresh { IfOk result IsFresh }
+    ensures room { IfOk result (HasRoom capacity) }
+{
+    match mounted(alloc, unit) {
+        Ok(device) => Ok(UnitBook::new(alloc, device, unit.isc, capacity)?),
+        Err(MountError::NoMemory) => Err(JobError::NoMemory),
+        Err(_) => Err(JobError::Line {
+            line: unit.line,
+            name: FaultName::Medium,
+        }),
+    }
+}
+
+/// Opens the DCBs of a unit, in the order of their lines. Returns the line of the first that cannot be opened.
+fn open_dcbs(
+    book: &mut UnitBook<UnitDevice>,
+    openings: &[Opening],
+) -> Result<Option<usize>, AllocError>
+    requires { IsFresh book.old }
+    ensures exact { Opens book.old (map opening_said openings.now) result book.new }
+    ensures fresh { IsFresh book.new }
+    ensures room { book.new.capacity ≡ book.old.capacity }
+{
+    for opening in openings {
+        match book.open(opening.input, &opening.extents) {
+            Ok(_) => {}
+            Err(OpenError::NoMemory) => return Err(AllocError),
+            Err(_) => return Ok(Some(opening.line)),
+        }
+    }
+    Ok(None)
+}
+
+/// The first of a line that was found, if one was, and another.
+fn earlier(found: Option<usize>, line: usize) -> usize
+    ensures { result ≡ earlier found line }
+{
+    match found {
+        None => line,
+        Some(found) => found.min(line),
+    }
+}
+
+/// Tries each request in the order of their lines.
+fn try_requests(commands: &[Command]) -> Result<(), JobError>
+    ensures exact { Tries result (tried (map command_said commands.now)) }
+    ensures each { OnOk result (All CanBeDone commands.now) }
+{
+    for command in commands {
+        if !can_be_done(command) {
+            return Err(JobError::Line {
+                line: command.line,
+                name: FaultName::Request,
+            });
+        }
+    }
+    Ok(())
+}

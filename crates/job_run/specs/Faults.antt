@@ -1,0 +1,30 @@
+-- WHICH FAULT of a line the fault of its command is, and which faults leave the output as it was (profile).
+use Rattle.std.specs.Prelude.{◌≡◌, ℕ, Bool, false}
+use Rattle.job_script.specs.declared.fault.JobError.{JobError}
+use Rattle.job_script.specs.declared.fault.JobError.TheVariants as faults
+use Rattle.job_script.specs.declared.fault.FaultName.TheVariants as names
+use Rattle.job_run.specs.declared.command_fault.CommandFault.{CommandFault}
+use Rattle.job_run.specs.declared.command_fault.CommandFault.TheVariants.{NoNumber, NotOpen, NoMemory}
+use Rattle.job_run.specs.declared.output.Output.{Output}
+use Rattle.job_run.specs.declared.output.Output.TheVariants.{Posts, Report}
+
+-- what ends the task, by the line of the command
+abbrev pub fault_at : CommandFault → ℕ → JobError
+fault_at NoNumber line = faults.Line line names.Request
+fault_at NotOpen line = faults.Line line names.Name
+fault_at NoMemory line = faults.NoMemory
+
+-- every fault but that of a write leaves the writer as it was
+abbrev pub LeavesWriter : {W : Type 0} → JobError → W → W → Type 0
+LeavesWriter faults.NotWritten old new = Unit {0}
+LeavesWriter (faults.Line _ _) old new = new ≡ old
+LeavesWriter faults.TooLong old new = new ≡ old
+LeavesWriter faults.Unreadable old new = new ≡ old
+LeavesWriter faults.Unmatched old new = new ≡ old
+LeavesWriter faults.NoMemory old new = new ≡ old
+LeavesWriter faults.NoThread old new = new ≡ old
+
+-- what is printed has every command of the report
+abbrev pub has_steps : Output → Bool
+has_steps Posts = false
+has_steps (Report set_up books steps) = steps

@@ -1,0 +1,77 @@
+-- WHAT A TASK SENDS by the commands of a script, and why a command fails (profile).
+use Rattle.std.specs.Prelude.{◌≡◌, ◌≤◌, ◌+◌, ◌-◌, ◌^◌, ◌==◌, ℕ, List, [], ◌∷◌, ◌++◌, length, slice_index_or, slice_set, if◌then◌else◌}
+use Rattle.std.specs.Arc.{arc_value}
+use Rattle.request_piece.specs.Requests.{request_of}
+use Rattle.request_piece.specs.declared.piece.Name.{Name}
+use Rattle.request_piece.specs.declared.piece.Piece.{Piece}
+use Rattle.job_script.specs.declared.command.Action.{Action}
+use Rattle.job_script.specs.declared.command.Action.TheVariants.{Excp, Purge, PurgeTask, Close, Reset, Wait}
+use Rattle.job_script.specs.declared.command.Command.{Command}
+use Rattle.job_script.specs.declared.command.Excp.{Excp as OneExcp}
+use Rattle.job_script.specs.declared.fault.JobError.{JobError}
+use Rattle.job_run.specs.declared.command_fault.CommandFault.{CommandFault}
+use Rattle.job_run.specs.declared.command_fault.CommandFault.TheVariants.{NoNumber, NotOpen, NoMemory}
+use Rattle.job_run.specs.Faults.{fault_at}
+
+-- an EXCP sends its request to its unit, under the task's next number there; `sent` is what the task has sent to each unit
+abbrev pub sends_excp : ℕ → OneExcp → List (List Piece) → List (List Piece)
+sends_excp task e sent =
+    let before = slice_index_or sent e.dcb.unit [] in
+    let name : Name = record { task = task; seq = length before + 1 } in
+    slice_set sent e.dcb.unit (before ++ request_of name e.dcb.unit e.dcb.number e.iob (arc_value e.area) ∷ [])
+
+-- no other command sends a request
+abbrev pub sends : ℕ → Action → List (List Piece) → List (List Piece)
+sends task (Excp e) sent = sends_excp task e sent
+sends task (Purge dcb mode) sent = sent
+sends task (PurgeTask other mode) sent = sent
+sends task (Close dcb) sent = sent
+sends task (Reset dcb) sent = sent
+sends task Wait sent = sent
+
+-- a task does its own commands alone, one after the other
+unfoldable pub sends_all : ℕ → List Command → List (List Piece) → List (List Piece)
+sends_all task [] sent = sent
+sends_all task (c ∷ others) sent = sends_all task others (if c.task == task then sends task c.action sent else sent)
+
+-- an EXCP fails if memory runs out, or if the task has used its last number at the unit
+abbrev pub ExcpFails : OneExcp → List (List Piece) → CommandFault → Type 0
+ExcpFails e sent NoNumber = 2 ^ 32 - 1 ≤ length (slice_index_or sent e.dcb.unit [])
+ExcpFails e sent NotOpen = ⊥
+ExcpFails e sent NoMemory = Unit {0}
+
+-- a purge or a close fails if memory runs out, or if its DCB is not open
+abbrev pub DcbFails : CommandFault → Type 0
+DcbFails NoNumber = ⊥
+DcbFails NotOpen = Unit {0}
+DcbFails NoMemory = Unit {0}
+
+-- why a command fails, when the task has sent this; all but an EXCP, a purge of a DCB and a close fail only if memory
+-- runs out
+abbrev pub Fails : Action → List (List Piece) → CommandFault → Type 0
+Fails (Excp e) sent fault = ExcpFails e sent fault
+Fails (Purge dcb mode) sent fault = DcbFails fault
+Fails (PurgeTask other mode) sent fault = fault ≡ NoMemory
+Fails (Close dcb) sent fault = DcbFails fault
+Fails (Reset dcb) sent fault = fault ≡ NoMemory
+Fails Wait sent fault = fault ≡ NoMemory
+
+-- a task stops at one of its commands, which fails: it has sent what the commands before send, and the fault names the
+-- command's line
+pub record StopsAt (task : ℕ) (commands : List Command) (old new : List (List Piece)) (fault : JobError) : Type 0 where
+  pub before : List Command
+  pub command : Command
+  pub others : List Command
+  pub split : commands ≡ before ++ command ∷ others
+  pub own : command.task ≡ task
+  pub sent : new ≡ sends_all task before old
+  pub cause : CommandFault
+  pub fails : Fails command.action new cause
+  pub named : fault ≡ fault_at cause command.line
+
+-- a task has sent what the first commands send
+pub record SendsFirst (task : ℕ) (commands : List Command) (old new : List (List Piece)) : Type 0 where
+  pub before : List Command
+  pub others : List Command
+  pub split : commands ≡ before ++ others
+  pub sent : new ≡ sends_all task before old

@@ -1,0 +1,53 @@
+//! Why a command of a task is not done.
+
+ghost use Rattle.std.specs.Prelude.{◌≡◌};
+ghost use Rattle.job_run.specs.Faults.{fault_at};
+ghost use Rattle.job_run.specs.Sending.{DcbFails};
+ghost use Rattle.job_run.specs.declared.command_fault.CommandFault.TheVariants as command_faults;
+
+use job_script::{FaultName, JobError};
+use std::alloc::AllocError;
+use unit_book::DcbError;
+
+/// Why a command of a task is not done.
+#[derive(Clone, Copy)]
+pub(crate) enum CommandFault {
+    /// The task has used the last number of a request to the unit.
+    NoNumber,
+    /// The DCB is not open.
+    NotOpen,
+    NoMemory,
+}
+
+impl CommandFault {
+    /// What ends the task, by the line of the command.
+    pub fn at(self, line: usize) -> JobError
+        ensures { result ≡ fault_at self line }
+    {
+        let name = match self {
+            CommandFault::NoNumber => FaultName::Request,
+            CommandFault::NotOpen => FaultName::Name,
+            CommandFault::NoMemory => return JobError::NoMemory,
+        };
+        JobError::Line { line, name }
+    }
+}
+
+impl From<AllocError> for CommandFault {
+    ghost from_gives = { λ _ e. e ≡ command_faults.NoMemory };
+
+    fn from(_error: AllocError) -> Self {
+        CommandFault::NoMemory
+    }
+}
+
+impl From<DcbError> for CommandFault {
+    ghost from_gives = { λ _ e. DcbFails e };
+
+    fn from(error: DcbError) -> Self {
+        match error {
+            DcbError::NoSuchDcb => CommandFault::NotOpen,
+            DcbError::NoMemory => CommandFault::NoMemory,
+        }
+    }
+}
