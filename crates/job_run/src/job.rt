@@ -3,16 +3,17 @@
 ghost use Rattle.std.specs.Prelude.{◌≡◌, ◌<◌, All, IfErr, OnErr, OnOk, vec_len};
 ghost use Rattle.job_mount.specs.Requests.{CanBeDone, CanIssue};
 ghost use Rattle.job_script.specs.Commands.{NamesUnits};
-ghost use Rattle.job_run.specs.Sending.{ExcpFails, Fails, SendsFirst, StopsAt, sends, sends_all, sends_excp};
+ghost use Rattle.job_run.specs.Sending.{EndsEarly, ExcpFails, Fails, StopsAt, sends, sends_all, sends_excp};
 
 use crate::command_fault::CommandFault;
 use crate::lines::Lines;
+use crate::task_error::TaskError;
 use crate::unit_calls::{close, purge, purge_task, reset};
 use crossbeam_utils::Backoff;
 use excp_system::{Site, System};
 use fifo_row::Full;
 use job_mount::request;
-use job_script::{Action, Command, Excp, JobError, Script};
+use job_script::{Action, Command, Excp, Script};
 use std::alloc::{AllocError, Global};
 use std::sync::Wait;
 use system_threads::{Alarm, Client};
@@ -41,6 +42,7 @@ impl<'a, 'r, S: Site> Job<'a, 'r, S> {
     ) -> Job<'a, 'r, S>
         requires units { vec_len script.now.set_up.units ≡ S.rows.units }
         requires requests { All CanBeDone script.now.commands.items }
+        ensures { result.script.now ≡ script.now }
     {
         Job {
             script,
@@ -56,10 +58,10 @@ impl<'a, 'r, S: Site> Job<'a, 'r, S> {
         rt: &R,
         alloc: Global,
         client: &mut Client<'_, S>,
-    ) -> Result<Lines, JobError>
+    ) -> Result<Lines, TaskError>
         ensures number { client.new.number ≡ client.old.number }
         ensures sent { OnOk result (client.new.sent ≡ sends_all client.old.number self.now.script.now.commands.items client.old.sent) }
-        ensures stopped { OnErr result (SendsFirst client.old.number self.now.script.now.commands.items client.old.sent client.new.sent) }
+        ensures stopped { IfErr result (EndsEarly client.old.number self.now.script.now.commands.items client.old.sent client.new.sent) }
     {
         let mut lines = Lines::of_task(alloc, self.script, client.number())?;
         let done = self.commands(rt, alloc, client, &mut lines);
@@ -76,7 +78,7 @@ impl<'a, 'r, S: Site> Job<'a, 'r, S> {
         alloc: Global,
         client: &mut Client<'_, S>,
         lines: &mut Lines,
-    ) -> Result<(), JobError>
+    ) -> Result<(), TaskError>
         ensures number { client.new.number ≡ client.old.number }
         ensures sent { OnOk result (client.new.sent ≡ sends_all client.old.number self.now.script.now.commands.items client.old.sent) }
         ensures stopped { IfErr result (StopsAt client.old.number self.now.script.now.commands.items client.old.sent client.new.sent) }

@@ -3,7 +3,7 @@
 
 ghost use Rattle.std.specs.Prelude.{◌≡◌, ◌≤◌, All, IfErr, false, length};
 ghost use Rattle.job_run.specs.Complete.{IsComplete, IsWhole};
-ghost use Rattle.job_run.specs.Faults.{LeavesWriter, has_steps};
+ghost use Rattle.job_run.specs.Faults.{IsWriteFault, LeavesWriter, has_steps};
 
 use crate::late_writer::LateWriter;
 use crate::lines::{End, Line, Lines};
@@ -15,7 +15,7 @@ use std::io;
 use std::io::{BufWriter, Write};
 use unit_book::UnitBook;
 use unit_device::UnitDevice;
-use unit_history::OpenDcbs;
+use unit_history::{HistoryError, OpenDcbs};
 
 /// What a run prints.
 #[derive(Drop)]
@@ -41,7 +41,8 @@ pub fn write<W: Write>(
     writer: &mut W,
 ) -> Result<(), JobError>
     requires { All IsComplete lines.now }
-    ensures { has_steps output.entry ≡ false → IfErr result (λ fault. LeavesWriter fault writer.old writer.new) }
+    ensures unwritten { has_steps output.entry ≡ false → IfErr result (λ fault. LeavesWriter fault writer.old writer.new) }
+    ensures fault { IfErr result IsWriteFault }
 {
     match output {
         Output::Posts => write_posts(alloc, lines, writer),
@@ -56,7 +57,8 @@ pub fn write<W: Write>(
 /// Writes the posts alone.
 fn write_posts<W: Write>(alloc: Global, lines: &[Lines], writer: &mut W) -> Result<(), JobError>
     requires { All IsComplete lines.now }
-    ensures { IfErr result (λ fault. LeavesWriter fault writer.old writer.new) }
+    ensures unwritten { IfErr result (λ fault. LeavesWriter fault writer.old writer.new) }
+    ensures fault { IfErr result IsWriteFault }
 {
     let Ok(mut out) = BufWriter::new(alloc, LateWriter::new()) else {
         return Err(JobError::NoMemory);
@@ -76,7 +78,8 @@ fn write_report<W: Write>(
     writer: &mut W,
 ) -> Result<(), JobError>
     requires { All IsComplete lines.now }
-    ensures { steps ≡ false → IfErr result (λ fault. LeavesWriter fault writer.old writer.new) }
+    ensures unwritten { steps ≡ false → IfErr result (λ fault. LeavesWriter fault writer.old writer.new) }
+    ensures fault { IfErr result IsWriteFault }
 {
     let mut open = OpenDcbs::of_units(alloc, books)?;
     let Ok(mut out) = BufWriter::new(alloc, LateWriter::new()) else {
@@ -84,8 +87,11 @@ fn write_report<W: Write>(
     };
     out.get_mut().set(writer);
     put_posts(&mut out, lines)?;
-    write_units(&mut out, set_up, books, steps, &mut open)?;
-    out.flush().or(Err(JobError::NotWritten))
+    match write_units(&mut out, set_up, books, steps, &mut open) {
+        Ok(()) => out.flush().or(Err(JobError::NotWritten)),
+        Err(HistoryError::NotWritten) => Err(JobError::NotWritten),
+        Err(HistoryError::NoMemory) => Err(JobError::NoMemory),
+    }
 }
 
 fn put_posts<W: Write>(out: &mut W, lines: &[Lines]) -> Result<(), JobError>

@@ -5,8 +5,9 @@ ghost use Rattle.job_mount.specs.Requests.{CanBeDone};
 
 use crate::job::Job;
 use crate::lines::Lines;
+use crate::task_error::TaskError;
 use excp_system::{Site, System};
-use job_script::{JobError, Script};
+use job_script::Script;
 use std::alloc::Global;
 use std::sync::Wait;
 use system_threads::{Alarm, Client, Program};
@@ -31,7 +32,7 @@ impl<'a> ScriptTasks<'a> {
 }
 
 impl<'a> Program<UnitDevice> for ScriptTasks<'a> {
-    type Outcome = Result<Lines, JobError>;
+    type Outcome = Result<Lines, TaskError>;
 
     ghost units = { λ tasks. vec_len tasks.script.now.set_up.units };
 
@@ -42,7 +43,7 @@ impl<'a> Program<UnitDevice> for ScriptTasks<'a> {
         system: &System<'_, S, UnitDevice>,
         alarm: &Alarm,
         client: &mut Client<'_, S>,
-    ) -> Result<Lines, JobError> {
+    ) -> Result<Lines, TaskError> {
         Job::new(self.script, system, alarm).task(rt, alloc, client)
     }
 }

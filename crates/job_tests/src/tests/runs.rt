@@ -10,7 +10,7 @@ mod not_awaited;
 
 use excp_system::{Gate, IscTaker, Point, Rows, Site, System};
 use job_mount::books;
-use job_run::{Lines, Output, ScriptTasks, ended, run_on, write};
+use job_run::{Lines, Output, ScriptTasks, TaskError, ended, run_on, write};
 use job_script::{FaultName, JobError, Script};
 use not_awaited::NotAwaited;
 use post_ledger::finish;
@@ -303,14 +303,14 @@ fn two_of_each() -> Workers {
 }
 
 /// How many tasks ended for want of memory. The others are to have collected all their posts.
-fn how_many_short(outcomes: Vec<Result<Lines, JobError>>) -> Result<usize, JobError> {
+fn how_many_short(outcomes: Vec<Result<Lines, TaskError>>) -> Result<usize, JobError> {
     let mut short: usize = 0;
     for outcome in outcomes {
         match outcome {
             Ok(lines) if lines.is_complete() => {}
             Ok(_) => return Err(JobError::Unmatched),
-            Err(JobError::NoMemory) => short = short.saturating_add(1),
-            Err(fault) => return Err(fault),
+            Err(TaskError::NoMemory) => short = short.saturating_add(1),
+            Err(error) => return Err(JobError::from(error)),
         }
     }
     Ok(short)

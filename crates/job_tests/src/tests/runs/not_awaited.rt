@@ -4,8 +4,8 @@ ghost use Rattle.std.specs.Prelude.{◌≡◌, ℕ, All, vec_len};
 ghost use Rattle.job_mount.specs.Requests.{CanBeDone};
 
 use excp_system::{Site, System};
-use job_run::{Job, Lines};
-use job_script::{JobError, Script};
+use job_run::{Job, Lines, TaskError};
+use job_script::Script;
 use std::alloc::Global;
 use std::sync::Wait;
 use system_threads::{Alarm, Client, Program};
@@ -34,7 +34,7 @@ impl<'a> NotAwaited<'a> {
         system: &System<'_, S, UnitDevice>,
         alarm: &Alarm,
         client: &mut Client<'_, S>,
-    ) -> Result<Lines, JobError>
+    ) -> Result<Lines, TaskError>
         requires { S.rows.units ≡ vec_len self.now.script.now.set_up.units }
         ensures { client.new.number ≡ client.old.number }
     {
@@ -45,7 +45,7 @@ impl<'a> NotAwaited<'a> {
 }
 
 impl<'a> Program<UnitDevice> for NotAwaited<'a> {
-    type Outcome = Result<Lines, JobError>;
+    type Outcome = Result<Lines, TaskError>;
 
     ghost units = { λ tasks. vec_len tasks.script.now.set_up.units };
 
@@ -56,7 +56,7 @@ impl<'a> Program<UnitDevice> for NotAwaited<'a> {
         system: &System<'_, S, UnitDevice>,
         alarm: &Alarm,
         client: &mut Client<'_, S>,
-    ) -> Result<Lines, JobError> {
+    ) -> Result<Lines, TaskError> {
         self.commands(rt, alloc, system, alarm, client)
     }
 }
