@@ -1,4 +1,4 @@
--- What the calls of a book come to, one step of its ledger after another.
+-- What the calls of a book come to, one step of its entries after another.
 use Rattle.std.proofs.Common.{◌≡◌, ◌≤◌, ◌+◌, ℕ, Bool, true, false, Result, Ok, Err, List, [], ◌∷◌, ◌++◌, append_assoc, length, refl, sym, ap, ◌∙◌, arith, subst}
 use Rattle.std.specs.Prelude.{OnOk, OnErr, drop}
 use Rattle.std.specs.declared.alloc.AllocError.{AllocError}

@@ -16,7 +16,7 @@ mod doom;
 mod entry;
 mod extents;
 pub mod laws;
-mod ledger;
+mod entries;
 
 pub use answer::{
     ArriveError, Closing, DcbError, Interruption, OpenError, Purging, Running, Starting,

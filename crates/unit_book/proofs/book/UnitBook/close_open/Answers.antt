@@ -7,7 +7,7 @@ use Rattle.unit_book.proofs.book.UnitBook.close_open.Goals as goal
 pub returns-clause-ok : goal.returns-clause-ok
 returns-clause-ok g c =
     let m = g.D.Device.meaning in
-    let old = c.self.inside.ledger in
+    let old = c.self.inside.entries in
     let r = c.in_ok-reserve_posts.ensures.book in
     let a = rw r at c.close.ensures.book in
     rw (← c.self.view_is) (add-then-sweep m old c.close.new.self c.sweep.new.self (Close c.args.dcb ∷ old.trace) (posted-close m old.mounted c.args.dcb old.trace) a c.sweep.ensures.book)

@@ -9,18 +9,18 @@ use Rattle.unit_book.proofs.book.UnitBook.interrupt.Goals as goal
 pub sweep-requires-clause-spare : goal.sweep-requires-clause-spare
 sweep-requires-clause-spare g c =
     let d = c.in-Some.decision in
-    sweep-room g.D.Device.meaning c.self.inside.ledger c.reserve_posts.new.self c.post-doom.new.self c.post-doom.new.self d.name d.csw d.sense c.in-Some-code.code c.reserve_posts.ensures.book c.post-doom.ensures.book
+    sweep-room g.D.Device.meaning c.self.inside.entries c.reserve_posts.new.self c.post-doom.new.self c.post-doom.new.self d.name d.csw d.sense c.in-Some-code.code c.reserve_posts.ensures.book c.post-doom.ensures.book
     c.in_ok-reserve_posts-in-Some-code.ensures.room c.post-doom.ensures.spare
 
 pub sweep-requires-clause-due : goal.sweep-requires-clause-due
 sweep-requires-clause-due g c =
     let d = c.in-Some.decision in
-    sweep-due g.D.Device.meaning c.self.inside.ledger c.reserve_posts.new.self c.post-doom.new.self c.post-doom.new.self d.name d.csw d.sense c.in-Some-code.code c.post-doom.ensures.book
+    sweep-due g.D.Device.meaning c.self.inside.entries c.reserve_posts.new.self c.post-doom.new.self c.post-doom.new.self d.name d.csw d.sense c.in-Some-code.code c.post-doom.ensures.book
 
 pub returns-in_ok-reserve_posts-in-Some-code-clause-ok : goal.returns-in_ok-reserve_posts-in-Some-code-clause-ok
 returns-in_ok-reserve_posts-in-Some-code-clause-ok g c =
     let m = g.D.Device.meaning in
-    let old = c.self.inside.ledger in
+    let old = c.self.inside.entries in
     let d = c.in-Some.decision in
     let told = c.in-Some.ensures in
     let fits = subst (DecidedCode m old d.name d.csw d.sense) c.in-Some-code.is told.1 in
@@ -45,7 +45,7 @@ post-doom-requires-clause-fits g c =
     let d = c.in-Some.decision in
     let told = c.in-Some.ensures in
     let r = c.in_ok-reserve_posts-in-Some-code.ensures.book in
-    rw r (subst (DecidedCode m c.self.inside.ledger d.name d.csw d.sense) c.in-Some-code.is told.1)
+    rw r (subst (DecidedCode m c.self.inside.entries d.name d.csw d.sense) c.in-Some-code.is told.1)
 
 pub returns-in_err-reserve_posts-in-Some-code-clause-full : goal.returns-in_err-reserve_posts-in-Some-code-clause-full
 returns-in_err-reserve_posts-in-Some-code-clause-full g c =
@@ -55,7 +55,7 @@ returns-in_err-reserve_posts-in-Some-code-clause-full g c =
       csw = d.csw;
       sense = d.sense;
       code = c.in-Some-code.code;
-      fits = subst (DecidedCode g.D.Device.meaning c.self.inside.ledger d.name d.csw d.sense) c.in-Some-code.is c.in-Some.ensures.1;
+      fits = subst (DecidedCode g.D.Device.meaning c.self.inside.entries d.name d.csw d.sense) c.in-Some-code.is c.in-Some.ensures.1;
       room = c.in_err-reserve_posts-in-Some-code.ensures.full;
     }) in
     search rules

@@ -16,6 +16,6 @@ returns-clause-pending g c =
 pub returns-clause-ok : goal.returns-clause-ok
 returns-clause-ok g c =
     let r = c.in_ok-reserve_posts.ensures.book in
-    let p = purge-reserved g.D.Device.meaning c.self.inside.ledger c.reserve_posts.new.self c.purge_in_room.new.self c.args.scope c.args.mode r c.purge_in_room.ensures in
+    let p = purge-reserved g.D.Device.meaning c.self.inside.entries c.reserve_posts.new.self c.purge_in_room.new.self c.args.scope c.args.mode r c.purge_in_room.ensures in
     let left = ap (λ (b : Book _). active_of c.args.scope b.trace) c.self-2.view_is in
     rw (← c.self.view_is) (record { purges = p; answer_is = c.purging.ensures ∙ ap purging (c.active_of.ensures ∙ left) })
