@@ -14,9 +14,9 @@ ghost use Rattle.unit_book.specs.Refusals.{InterruptLacks, RunLacks, StartLacks}
 ghost use Rattle.unit_book.specs.Trace.{active, arrived_of, waiting};
 
 use crate::answer::{ArriveError, Interruption, OpenError, Running, Starting};
-use crate::decision::Next;
-use crate::entry::Entry;
+use crate::decision::{Next, Taken};
 use crate::entries::Entries;
+use crate::entry::Entry;
 use device_port::Device;
 use io_images::Extent;
 use request_piece::{Posted, Request};
@@ -195,21 +195,12 @@ impl<D: Device> UnitBook<D> {
         ensures taken { OnOk result (is_pending D.meaning self.new ≡ false) }
     {
         self.entries.holds();
-        let Some(decision) = self.entries.decide() else {
-            return Ok(Interruption::Quiet);
-        };
-        let name = decision.name;
-        let sense = decision.sense;
-        match decision.code {
-            Some(code) => {
-                self.entries.reserve_posts(1)?;
-                let doom = self.entries.post(name, decision.csw, sense, code);
+        match self.entries.take_status()? {
+            Taken::Quiet => Ok(Interruption::Quiet),
+            Taken::Again(name) => Ok(Interruption::Again(name)),
+            Taken::Posted { name, code, doom } => {
                 self.entries.sweep(doom);
                 Ok(Interruption::Ended(name, code))
-            }
-            None => {
-                self.entries.await_restart(name, decision.csw, sense);
-                Ok(Interruption::Again(name))
             }
         }
     }

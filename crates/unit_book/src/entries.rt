@@ -73,9 +73,7 @@ fn hand_out(out: &mut HeapCircularBuffer<Posted>, posted: Posted)
     requires { length out.old.items < out.old.capacity }
     ensures { out.new ≡ buffer (out.old.items ++ posted ∷ []) out.old.capacity }
 {
-    if out.push_back(posted).is_some() {
-        unreachable!();
-    }
+    out.push_back(posted);
 }
 
 /// Puts a posted value back in front where there is room.
@@ -83,9 +81,7 @@ fn hand_back(out: &mut HeapCircularBuffer<Posted>, posted: Posted)
     requires { length out.old.items < out.old.capacity }
     ensures { out.new ≡ buffer (posted ∷ out.old.items) out.old.capacity }
 {
-    if out.push_front(posted).is_some() {
-        unreachable!();
-    }
+    out.push_front(posted);
 }
 
 impl<D: Device> Entries<D> {

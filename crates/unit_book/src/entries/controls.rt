@@ -8,9 +8,9 @@ ghost use Rattle.unit_book.specs.Legal.{CanPurge, Settled, ToHalt, due, doomed_f
 ghost use Rattle.unit_book.specs.Selected.{DoomedBy};
 ghost use Rattle.unit_book.specs.Trace.{waiting};
 
-use crate::entry::{Entry, Mode};
 use crate::entries::posts::{post_all, posted_from};
 use crate::entries::{Entries, hand_out, write};
+use crate::entry::{Entry, Mode};
 use device_port::Device;
 use io_images::Code;
 use request_piece::{Name, Scope};

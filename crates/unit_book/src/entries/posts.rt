@@ -1,28 +1,29 @@
 //! Posts of requests.
 
-ghost use Rattle.std.specs.Prelude.{◌≡◌, ◌≤◌, ◌<◌, ◌+◌, ◌-◌, ◌∷◌, ◌++◌, [], true, length, map, reverse, vec_len, vec_capacity, slice_get, drop, IfSome};
+ghost use Rattle.std.specs.Prelude.{◌≡◌, ◌≤◌, ◌<◌, ◌+◌, ◌-◌, ◌∷◌, ◌++◌, [], true, length, map, reverse, vec_len, vec_capacity, slice_get, drop, IfSome, IfOk, OnErr};
 ghost use Rattle.circular_buffer.specs.Buffer.{buffer};
 ghost use Rattle.request_piece.specs.Places.{Placed};
 ghost use Rattle.unit_book.specs.Lists.{Each};
 ghost use Rattle.io_images.specs.Images.{no_status};
-ghost use Rattle.unit_book.specs.Book.{occupancy, given, IsLastGiven};
-ghost use Rattle.unit_book.specs.Legal.{Fits, Settled, due, doomed_first, PostsActive, StartsAgain, FailsCheck};
-ghost use Rattle.unit_book.specs.Media.{HasEnded, active_phase};
+ghost use Rattle.unit_book.specs.Book.{occupancy, given, is_pending, IsLastGiven};
+ghost use Rattle.unit_book.specs.Legal.{Fits, Settled, due, doomed_first, FailsCheck};
+ghost use Rattle.unit_book.specs.Refusals.{InterruptLacks};
 ghost use Rattle.unit_book.specs.Selected.{DoomedBy};
 ghost use Rattle.unit_book.specs.Dcbs.{doomed, is_refused};
 ghost use Rattle.unit_book.specs.Dooms.{all_posted, after_dooms, purged};
 ghost use Rattle.unit_book.specs.Posts.{posted_value};
 ghost use Rattle.unit_queue.specs.Queue.{queue};
-ghost use Rattle.unit_book.specs.Answers.{ExtendsByPost, Extends, Decided};
+ghost use Rattle.unit_book.specs.Answers.{ExtendsByPost, Extends, Takes};
 
-use crate::decision::Decision;
+use crate::decision::Taken;
 use crate::doom::doomed_by_post;
-use crate::entry::Entry;
 use crate::entries::{Entries, hand_back, hand_out, write};
+use crate::entry::Entry;
 use circular_buffer::HeapCircularBuffer;
 use device_port::Device;
 use io_images::{Code, Csw};
 use request_piece::{Issued, Name, Piece, Posted};
+use std::alloc::AllocError;
 use unit_queue::{Selection, WaitQueue};
 
 /// The value that a post hands out.
@@ -82,33 +83,35 @@ impl<D: Device> Entries<D> {
         post_all(&mut self.swept, &mut self.trace, &mut self.out);
     }
 
-    /// What becomes of the active request, if its status is pending.
-    pub fn decide(&self) -> Option<Decision>
-        ensures { Decided D.meaning self.now result }
+    /// Takes the status that is pending: the active request is posted, or awaits its restart. Makes room for the
+    /// post and for the posts of all that it may doom.
+    pub fn take_status(&mut self) -> Result<Taken, AllocError>
+        requires { Settled D.meaning self.old.mounted self.old.trace }
+        ensures ok { IfOk result (λ taken. Takes D.meaning self.old taken self.new) }
+        ensures err { OnErr result (self.new ≡ self.old) }
+        ensures full { OnErr result (InterruptLacks D.meaning self.old) }
+        ensures pending { OnErr result (is_pending D.meaning self.old ≡ true) }
     {
-        let (csw, sense) = self.channel.status()?;
-        let active = self.active.as_ref()?;
-        let code = active.code(self.mounted.kind(), &csw, sense);
-        Some(Decision {
-            name: active.name(),
-            csw,
-            sense,
-            code,
-        })
-    }
-
-    /// Posts the active request.
-    pub fn post(&mut self, name: Name, csw: Csw, sense: u16, code: Code) -> Option<Selection>
-        requires spare { 1 ≤ self.old.spare }
-        requires settled { Settled D.meaning self.old.mounted self.old.trace }
-        requires fits { PostsActive D.meaning self.old.mounted name csw sense code self.old.trace }
-        ensures book { ExtendsByPost D.meaning self.old name csw sense code self.new }
-        ensures spare { self.old.spare ≤ self.new.spare + 1 }
-        ensures dooms { DoomedBy result self.new.trace }
-    {
-        let Some(active) = self.active.take() else {
-            unreachable!();
+        let Some((csw, sense)) = self.channel.status() else {
+            return Ok(Taken::Quiet);
         };
+        let Some(active) = self.active.take() else {
+            return Ok(Taken::Quiet);
+        };
+        let name = active.name();
+        let Some(code) = active.code(self.mounted.kind(), &csw, sense) else {
+            self.channel.tsch();
+            self.active = Some(active.awaiting(csw, sense));
+            return Ok(Taken::Again(name));
+        };
+        let _capacity = self.out.capacity();
+        match self.trace.reserve(self.waiting.len() + 1) {
+            Ok(()) => {}
+            Err(error) => {
+                self.active = Some(active);
+                return Err(error);
+            }
+        }
         self.channel.tsch();
         let shown = csw;
         write(&mut self.trace, Entry::Post(name, shown, sense, code));
@@ -116,20 +119,7 @@ impl<D: Device> Entries<D> {
         let doom = doomed_by_post(&piece, code);
         self.dcbs.note_post(&piece, code);
         hand_out(&mut self.out, posted_from(piece, csw, sense, code));
-        doom
-    }
-
-    /// The active request awaits its restart.
-    pub fn await_restart(&mut self, name: Name, csw: Csw, sense: u16)
-        requires fits { StartsAgain D.meaning self.old.mounted name self.old.trace }
-        requires ended { active_phase D.meaning self.old.mounted name self.old.trace ≡ HasEnded csw sense }
-        ensures { self.new ≡ record self.old { awaits = true } }
-    {
-        let Some(active) = self.active.take() else {
-            unreachable!();
-        };
-        self.channel.tsch();
-        self.active = Some(active.awaiting(csw, sense));
+        Ok(Taken::Posted { name, code, doom })
     }
 
     /// Posts the request that waits first and fails the extent check.

@@ -1,19 +1,18 @@
 //! Starts of requests, and the commands of their programs.
 
-ghost use Rattle.std.specs.Prelude.{◌≡◌, ◌≤◌, ◌+◌, true, false, not, None, is_some};
+ghost use Rattle.std.specs.Prelude.{◌≡◌, ◌≤◌, ◌+◌, true, false, not, None};
 ghost use Rattle.ccw_programs.specs.Step.{is_running};
 ghost use Rattle.subchannel.specs.Subchannel.{Fits, started};
 ghost use Rattle.unit_book.specs.Legal.{Settled, StartsFirst, StartsAgain};
 ghost use Rattle.unit_book.specs.Answers.{IsNext, RunsBook, StartsOne};
-ghost use Rattle.unit_book.specs.Book.{running_name};
 ghost use Rattle.unit_book.specs.Trace.{active};
 
 use crate::active::{Active, Standing};
 use crate::answer::Running;
 use crate::decision::Next;
+use crate::entries::{Entries, write};
 use crate::entry::Entry;
 use crate::extents::passes_check;
-use crate::entries::{Entries, write};
 use ccw_programs::State;
 use device_port::Device;
 use request_piece::{Name, Piece};
@@ -103,19 +102,19 @@ impl<D: Device> Entries<D> {
         self.active = Some(active.restarted());
     }
 
-    /// Runs the program of the active request, by so many commands at most.
+    /// Runs the program of the active request, by `max` commands at most, if it runs.
     pub fn run(&mut self, max: u32) -> Running
         requires some { 1 ≤ max }
         requires spare { 1 ≤ self.old.spare }
         requires settled { Settled D.meaning self.old.mounted self.old.trace }
-        requires runs { is_some (running_name D.meaning self.old) ≡ true }
         ensures { RunsBook D.meaning self.old max result self.new }
     {
         let Some(mut active) = self.active.take() else {
-            unreachable!();
+            return Running::Quiet;
         };
         let Some(burst) = active.run(&mut self.channel, max) else {
-            unreachable!();
+            self.active = Some(active);
+            return Running::Quiet;
         };
         let commands = burst.commands;
         write(&mut self.trace, Entry::Ran(active.name(), commands));

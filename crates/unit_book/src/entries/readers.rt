@@ -10,9 +10,9 @@ ghost use Rattle.unit_book.specs.Trace.{waiting};
 
 use crate::active::Standing;
 use crate::dcb::DcbState;
+use crate::entries::Entries;
 use crate::entry::Entry;
 use crate::extents::takes_extents;
-use crate::entries::Entries;
 use device_port::Device;
 use io_images::Extent;
 use request_piece::Request;

@@ -1,6 +1,4 @@
-use Rattle.std.proofs.Common.{◌∷◌, [], reverse, arith, length-append, refl}
-use Rattle.std.proofs.lemmas.List.{append-nil}
-use Rattle.unit_book.specs.declared.entry.Entry.TheVariants.{Arrive}
+use Rattle.unit_book.proofs.Names.{◌∷◌, [], reverse, arith, length-append, refl, append-nil, Arrive}
 use Rattle.unit_book.proofs.Arrivals.{ties-arrive}
 use Rattle.unit_book.proofs.LegalFacts.{facts}
 use Rattle.unit_book.proofs.Purges.{dooms-none, since-arrive}
@@ -12,7 +10,7 @@ pub push-requires : goal.push-requires
 push-requires g c =
     let i = c.self.inside in
     let room = rw (← c.self.view_is) at c.requires.room in
-    let r = room-of g.D.Device.meaning i.mounted (reverse i.trace.items) i.channel i.active i.waiting.pieces i.dcbs i.out.items i.out.capacity c.self.invariant.0 room in
+    let r = room-of g.D.Device.meaning i.mounted c.self.invariant.0 room in
     omega (arith, r, c.self.invariant.1.waiting_room)
 
 pub invariant_of-self : goal.invariant_of-self
@@ -20,8 +18,8 @@ invariant_of-self g c =
     let i = c.self.inside in
     let fits = rw (← c.self.view_is) at c.requires.fits in
     let room = rw (← c.self.view_is) at c.requires.room in
-    let r = room-of g.D.Device.meaning i.mounted (reverse i.trace.items) i.channel i.active i.waiting.pieces i.dcbs i.out.items i.out.capacity c.self.invariant.0 room in
-    let t = ties-arrive g.D.Device.meaning i.mounted c.args.issued (reverse i.trace.items) i.channel i.active i.waiting.pieces i.dcbs i.out.items fits c.requires.placed c.self.invariant.0 in
+    let r = room-of g.D.Device.meaning i.mounted c.self.invariant.0 room in
+    let t = ties-arrive g.D.Device.meaning i.mounted fits c.requires.placed c.self.invariant.0 in
     let e = c.write.ensures.items in
     let q = c.push.ensures in (
       rw (e, q, c.requires.same) t,
@@ -39,7 +37,8 @@ returns g c =
     let fits = rw (← c.self.view_is) at c.requires.fits in
     let settled = rw (← c.self.view_is) at c.requires.settled in
     let accepted = rw (← c.self.view_is) at c.requires.accepted in
-    let k = settled-arrive m i.mounted c.args.issued (reverse i.trace.items) (facts m i.mounted (reverse i.trace.items) c.self.invariant.0.legal) fits settled accepted in
+    let k = settled-arrive m i.mounted c.args.issued (reverse i.trace.items)
+    (facts m i.mounted (reverse i.trace.items) c.self.invariant.0.legal) fits settled accepted in
     let same = dooms-none (Arrive c.args.issued ∷ reverse i.trace.items) k.0 in
     let since = since-arrive m i.mounted c.args.issued (reverse i.trace.items) in
     let w = c.write.ensures.items in

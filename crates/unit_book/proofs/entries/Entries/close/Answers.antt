@@ -1,5 +1,4 @@
-use Rattle.std.proofs.Common.{◌∷◌, reverse, refl}
-use Rattle.unit_book.specs.declared.entry.Entry.TheVariants.{Close}
+use Rattle.unit_book.proofs.Names.{◌∷◌, reverse, refl, Close}
 use Rattle.unit_book.proofs.Controls.{doomed-close, doomed-close_few}
 use Rattle.unit_book.proofs.Dooms.{due-doomed, due-no_halt}
 use Rattle.unit_book.proofs.Opens.{open-row}
@@ -12,7 +11,7 @@ invariant_of-self g c =
     let i = c.self.inside in
     let settled = rw (← c.self.view_is) at c.requires.settled in
     let can = rw (← c.self.view_is) at c.requires.can in
-    let k = ties-close m i.mounted (reverse i.trace.items) i.channel i.active i.waiting.pieces i.dcbs i.out.items c.args.dcb settled can c.self.invariant.0 c.close.new.self c.close.ensures.dcbs c.close.ensures.count in
+    let k = ties-close m i.mounted settled can c.self.invariant.0 c.close.ensures.dcbs c.close.ensures.count in
     let w = c.write.ensures.items in
     (rw w k, c.self.invariant.1)
 

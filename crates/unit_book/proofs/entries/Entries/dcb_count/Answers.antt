@@ -1,4 +1,4 @@
-use Rattle.std.proofs.Common.{reverse, arith}
+use Rattle.unit_book.proofs.Names.{reverse, arith}
 use Rattle.unit_book.proofs.Opens.{opened-most}
 use Rattle.unit_book.proofs.entries.Entries.dcb_count.Goals as goal
 

@@ -1,4 +1,4 @@
-use Rattle.std.proofs.Common.{sym, ap, ◌∙◌}
+use Rattle.unit_book.proofs.Names.{sym, ap, ◌∙◌}
 use Rattle.std.specs.Option.{option_copied}
 use Rattle.unit_book.proofs.Starts.{no-first, first-told}
 use Rattle.unit_book.proofs.entries.Entries.first_of_queue.Goals as goal
@@ -16,7 +16,15 @@ returns-then-passes_check g c =
     let none = rw (← c.self.view_is) at c.requires in
     let k = first-told g.D.Device.meaning i.mounted c.self.invariant.0 (sym c.front.ensures ∙ ap option_copied c.in-Some.is) in
     let p = rw (c.kind-kind.ensures, c.heads.ensures, c.extents-extents.ensures) at c.passes_check.ensures in
-    rw (← c.self.view_is) (record { none = none; request = c.in-Some.piece.now; first = k.0; name = λ i. c.in-Some.piece.now.name; passes = k.1 ∙ sym p ∙ c.if-passes_check.true })
+    rw (← c.self.view_is)
+    (record {
+      none = none;
+      request = c.in-Some.piece.now;
+      first = k.0;
+      name = λ i. c.in-Some.piece.now.name;
+      passes = k.1 ∙ sym p
+          ∙ c.if-passes_check.true;
+    })
 
 pub returns-else-passes_check : goal.returns-else-passes_check
 returns-else-passes_check g c =
@@ -24,4 +32,12 @@ returns-else-passes_check g c =
     let none = rw (← c.self.view_is) at c.requires in
     let k = first-told g.D.Device.meaning i.mounted c.self.invariant.0 (sym c.front.ensures ∙ ap option_copied c.in-Some.is) in
     let p = rw (c.kind-kind.ensures, c.heads.ensures, c.extents-extents.ensures) at c.passes_check.ensures in
-    rw (← c.self.view_is) (record { none = none; request = c.in-Some.piece.now; first = k.0; name = λ i. c.in-Some.piece.now.name; fails = k.1 ∙ sym p ∙ c.if-passes_check.false })
+    rw (← c.self.view_is)
+    (record {
+      none = none;
+      request = c.in-Some.piece.now;
+      first = k.0;
+      name = λ i. c.in-Some.piece.now.name;
+      fails = k.1 ∙ sym p
+          ∙ c.if-passes_check.false;
+    })

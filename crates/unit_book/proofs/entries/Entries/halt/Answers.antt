@@ -1,8 +1,6 @@
-use Rattle.std.proofs.Common.{◌≡◌, Some, None, reverse, sym, subst, ◌∙◌}
-use Rattle.request_piece.specs.declared.piece.Name.{Name}
-use Rattle.unit_book.specs.Legal.{ToHalt, due}
+use Rattle.unit_book.proofs.Names.{◌≡◌, Some, None, reverse, sym, subst, ◌∙◌, Name, ToHalt, due}
 use Rattle.unit_book.proofs.Halts.{ties-halt}
-use Rattle.unit_book.proofs.TraceLaws.{halt-active}
+use Rattle.unit_book.proofs.Facts.{due-halt}
 use Rattle.unit_book.proofs.Found.{ties-found, name-found, rooms-found}
 use Rattle.unit_book.proofs.entries.Entries.halt.Goals as goal
 
@@ -14,9 +12,9 @@ invariant_of-self g c =
     let d = rw (← c.self.view_is) at c.requires.due in
     let o : i.active ≡ Some a = sym c.take.ensures.value ∙ c.in-Some.is in
     let t = ties-found o c.self.invariant.0 in
-    let n = name-found (halt-active m i.mounted c.args.name (reverse i.trace.items) d) t in
+    let n = name-found ((due-halt m i.mounted (reverse i.trace.items) c.args.name d).0) t in
     let d' = subst (λ (x : Name). due m i.mounted (reverse i.trace.items) ≡ ToHalt x) n d in
-    let k = ties-halt m i.mounted (reverse i.trace.items) i.channel a i.waiting.pieces i.dcbs i.out.items d' t in
+    let k = ties-halt m i.mounted d' t in
     let w = c.write.ensures.items in
     let h = c.hsch.ensures.state in
     let v = c.once_halted.ensures in
@@ -30,5 +28,5 @@ unreachable-requires g c =
     let d = rw (← c.self.view_is) at c.requires.due in
     let o : i.active ≡ None = sym c.take.ensures.value ∙ c.in_default.is in
     let t = (ties-found o c.self.invariant.0).activity in
-    let clash : None ≡ Some c.args.name = sym t.0 ∙ halt-active m i.mounted c.args.name (reverse i.trace.items) d in
+    let clash : None ≡ Some c.args.name = sym t.0 ∙ (due-halt m i.mounted (reverse i.trace.items) c.args.name d).0 in
     absurd cc

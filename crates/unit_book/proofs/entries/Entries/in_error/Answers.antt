@@ -1,4 +1,4 @@
-use Rattle.std.proofs.Common.{reverse, sym, ap, ◌∙◌}
+use Rattle.unit_book.proofs.Names.{reverse, sym, ap, ◌∙◌}
 use Rattle.std.specs.Option.{option_copied}
 use Rattle.unit_book.proofs.Opens.{no-flag}
 use Rattle.unit_book.proofs.entries.Entries.in_error.Goals as goal

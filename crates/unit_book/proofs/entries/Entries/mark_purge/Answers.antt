@@ -1,4 +1,4 @@
-use Rattle.std.proofs.Common.{◌≡◌, Some, None, reverse, sym, ◌∙◌}
+use Rattle.unit_book.proofs.Names.{◌≡◌, Some, None, sym, ◌∙◌}
 use Rattle.unit_book.proofs.Controls.{ties-purge, ties-purge_none}
 use Rattle.unit_book.proofs.Found.{ties-found, rooms-found}
 use Rattle.unit_book.proofs.entries.Entries.mark_purge.Goals as goal
@@ -14,7 +14,7 @@ invariant_of-self-in-Some-2 g c =
     let o : i.active ≡ Some a = sym c.take.ensures.value ∙ c.in-Some.is in
     let t = ties-found o c.self.invariant.0 in
     let u = rw o at uncovered in
-    let k = ties-purge m i.mounted (reverse i.trace.items) i.channel i.waiting.pieces i.dcbs i.out.items c.args.scope c.args.mode a settled can u t in
+    let k = ties-purge m i.mounted c.args.scope c.args.mode settled can u t in
     let w = c.write.ensures.items in
     let v = c.purged.ensures in
     let room = rooms-found o c.self.invariant.1 in
@@ -28,7 +28,7 @@ invariant_of-self-in_default g c =
     let can = rw (← c.self.view_is) at c.requires.can in
     let o : i.active ≡ None = sym c.take.ensures.value ∙ c.in_default.is in
     let t = ties-found o c.self.invariant.0 in
-    let k = ties-purge_none m i.mounted (reverse i.trace.items) i.channel i.waiting.pieces i.dcbs i.out.items c.args.scope c.args.mode settled can t in
+    let k = ties-purge_none m i.mounted c.args.scope c.args.mode settled can t in
     let w = c.write.ensures.items in
     let z = c.take.ensures.after in
     let room = rooms-found o c.self.invariant.1 in

@@ -1,5 +1,4 @@
-use Rattle.std.proofs.Common.{reverse, sym, ap, ◌∙◌}
-use Rattle.unit_book.specs.Fields.{mask_at}
+use Rattle.unit_book.proofs.Names.{reverse, ap, ◌∙◌, mask_at}
 use Rattle.unit_book.proofs.Starts.{mask-is}
 use Rattle.unit_book.proofs.entries.Entries.mask.Goals as goal
 

@@ -1,5 +1,5 @@
-use Rattle.std.proofs.Common.{◌≡◌, true, reverse, ap, ◌∙◌}
-use Rattle.unit_book.specs.Fields.{awaits_of, awaits_by}
+use Rattle.unit_book.proofs.Names.{◌≡◌, true, ap, ◌∙◌, awaits_by}
+use Rattle.unit_book.specs.Fields.{awaits_of}
 use Rattle.unit_book.proofs.Restarts.{awaits-told}
 use Rattle.unit_book.proofs.Found.{ties-found}
 use Rattle.unit_book.proofs.entries.Entries.next_start.Goals as goal
@@ -13,4 +13,4 @@ returns-in-AwaitsRestart g c =
     let again : awaits_by a.standing ≡ true = ap awaits_by c.in-AwaitsRestart.is in
     let name_is = c.name.ensures in
     let again_is = ap awaits_of c.in-Some.is ∙ again in
-    rw (← c.self.view_is, name_is) (again_is, awaits-told m i.mounted (reverse i.trace.items) i.channel a i.waiting.pieces i.dcbs i.out.items t again)
+    rw (← c.self.view_is, name_is) (again_is, awaits-told m i.mounted t again)

@@ -1,5 +1,4 @@
-use Rattle.std.proofs.Common.{◌∷◌, refl}
-use Rattle.unit_book.specs.declared.entry.Entry.TheVariants.{Purge, Halted}
+use Rattle.unit_book.proofs.Names.{◌∷◌, refl, Purge, Halted}
 use Rattle.unit_book.proofs.Controls.{doomed-purge, doomed-purge_few, dooms-halted, doomed-halted_few}
 use Rattle.unit_book.proofs.Dooms.{due-doomed, due-no_halt}
 use Rattle.unit_book.proofs.entries.Entries.purge.Goals as goal
@@ -17,7 +16,8 @@ returns-in-Some-clause-dooms g c =
     let b = c.args.self.now in
     let p = c.mark_purge.ensures.book in
     let h = c.halt.ensures.book in
-    rw (h, p) (dooms-halted m b.mounted c.in-Some.name c.args.scope c.args.mode b.trace (doomed-purge m b.mounted c.args.scope c.args.mode b.trace (due-doomed m b.mounted b.trace c.requires.settled)))
+    rw (h, p) (dooms-halted m b.mounted c.in-Some.name c.args.scope c.args.mode b.trace
+    (doomed-purge m b.mounted c.args.scope c.args.mode b.trace (due-doomed m b.mounted b.trace c.requires.settled)))
 
 pub returns-in-Some-clause-few : goal.returns-in-Some-clause-few
 returns-in-Some-clause-few g c =

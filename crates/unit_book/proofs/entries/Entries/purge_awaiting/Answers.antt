@@ -1,21 +1,15 @@
-use Rattle.std.proofs.Common.{◌≡◌, ◌++◌, [], ◌∷◌, Some, length, length-append, append_assoc, map, reverse, arith, refl, sym, ap, ◌∙◌, subst}
-use Rattle.io_images.specs.declared.code.Code.TheVariants.{Purged}
-use Rattle.std.specs.List.{filter}
-use Rattle.std.specs.Prelude.{is_some}
-use Rattle.unit_queue.specs.Queue.{Queue, queue}
-use Rattle.request_piece.specs.Places.{Placed}
-use Rattle.request_piece.specs.Scope.{covers}
-use Rattle.unit_book.specs.Controls.{active_of}
+use Rattle.unit_book.proofs.Names.{◌≡◌, ◌++◌, [], ◌∷◌, Some, length, length-append, append_assoc, map, reverse, arith, refl, sym, ap, ◌∙◌}
+use Rattle.unit_book.proofs.Names.{Ties, PostsActive}
+use Rattle.unit_book.proofs.Names.{subst, Purged, filter, Queue, queue, Placed, covers, purged}
+use Rattle.unit_book.proofs.Names.{posted_value}
 use Rattle.unit_book.specs.Fields.{kept_by}
-use Rattle.unit_book.specs.Dooms.{purged}
-use Rattle.unit_book.specs.Legal.{PostsActive}
-use Rattle.unit_book.specs.Posts.{posted_value}
-use Rattle.unit_book.specs.Trace.{is_halt}
 use Rattle.unit_book.proofs.Facts.{Each-filter}
 use Rattle.unit_book.proofs.Posting.{length-map}
 use Rattle.unit_book.proofs.Purges.{length-filters}
-use Rattle.unit_book.proofs.Awaiting.{kept-is, ties-awaiting, settled-awaiting, since-awaiting, after-is, fits-purged}
+use Rattle.unit_book.proofs.Awaiting.{ties-awaiting, settled-awaiting, since-awaiting, after-is, fits-purged, FoundAwaiting}
 use Rattle.unit_book.proofs.Found.{ties-found, rooms-found, swept-found}
+use Rattle.unit_book.proofs.entries.Entries.purge_awaiting.Given.{Over}
+use Rattle.unit_book.proofs.entries.Entries.purge_awaiting.Goals.{In-Some}
 use Rattle.unit_book.proofs.entries.Entries.purge_awaiting.Goals as goal
 
 pub post_all-requires : goal.post_all-requires
@@ -40,7 +34,15 @@ write-requires-2 g c =
     let room = c.self.invariant.1 in
     let sw = swept-found c.sweep.ensures.swept room.swept_is in
     let items_is = ap (λ (x : Queue). length x.pieces) sw in
-    omega (arith, spare, c.write.ensures.spare, c.post_all.ensures.spare, items_is, length-filters p i.waiting.pieces, ap length c.self.invariant.0.queue)
+    omega (
+      arith,
+      spare,
+      c.write.ensures.spare,
+      c.post_all.ensures.spare,
+      items_is,
+      length-filters p i.waiting.pieces,
+      ap length c.self.invariant.0.queue,
+    )
 
 pub hand_out-requires : goal.hand_out-requires
 hand_out-requires g c =
@@ -52,24 +54,38 @@ hand_out-requires g c =
     let sw = swept-found c.sweep.ensures.swept room.swept_is in
     let items_is = ap (λ (x : Queue). x.pieces) sw in
     let out_is = rw items_is at c.post_all.ensures.out in
-    rw out_is (omega (arith, room.occupancy, length-filters p i.waiting.pieces, length-append i.out.items (map purged (filter p i.waiting.pieces)), length-map (filter p i.waiting.pieces)))
+    rw out_is (omega (
+      arith,
+      room.occupancy,
+      length-filters p i.waiting.pieces,
+      length-append i.out.items (map purged (filter p i.waiting.pieces)),
+      length-map (filter p i.waiting.pieces),
+    ))
+
+-- what was found: the active request awaits its restart, and the purge covers it
+found : (g : Over) (c : In-Some g) → let i = c.self.inside in let m = g.D.Device.meaning in
+    (i.active ≡ Some c.in-Some.active)
+    × Ties m i.mounted (reverse i.trace.items) i.channel (Some c.in-Some.active) i.waiting.pieces i.dcbs i.out.items
+    × FoundAwaiting m i.mounted (reverse i.trace.items) c.in-Some.active c.args.scope c.args.mode
+found g c =
+    let covered = rw (← c.self.view_is) at c.requires.covered in
+    let o : c.self.inside.active ≡ Some c.in-Some.active = sym c.take.ensures.value ∙ c.in-Some.is in (
+      o,
+      ties-found o c.self.invariant.0,
+      record {
+        settled = rw (← c.self.view_is) at c.requires.settled;
+        can = rw (← c.self.view_is) at c.requires.can;
+        covered = rw o at covered;
+      },
+    )
 
 pub invariant_of-self : goal.invariant_of-self
 invariant_of-self g c =
-    let m = g.D.Device.meaning in
     let i = c.self.inside in
-    let a = c.in-Some.active in
-    let H = reverse i.trace.items in
     let p = covers c.args.scope in
-    let settled = rw (← c.self.view_is) at c.requires.settled in
-    let can = rw (← c.self.view_is) at c.requires.can in
-    let covered = rw (← c.self.view_is) at c.requires.covered in
-    let o : i.active ≡ Some a = sym c.take.ensures.value ∙ c.in-Some.is in
-    let t = ties-found o c.self.invariant.0 in
-    let covered' = rw o at covered in
-    let standing = kept-is a.standing (is_halt c.args.mode) (is_some (active_of c.args.scope H)) covered' in
-    let k = ties-awaiting m i.mounted H i.channel a i.waiting.pieces i.dcbs i.out.items c.args.scope c.args.mode (kept_by a.standing).0 (kept_by a.standing).1 t standing settled can covered' in
-    let room = rooms-found o c.self.invariant.1 in
+    let f = found g (goal.at.invariant_of-self g c).In-Some in
+    let k = ties-awaiting g.D.Device.meaning i.mounted f.1 f.2 in
+    let room = rooms-found f.0 c.self.invariant.1 in
     let sw = swept-found c.sweep.ensures.swept room.swept_is in
     let items_is = ap (λ (x : Queue). x.pieces) sw in
     let trace_is = rw items_is at c.post_all.ensures.trace in
@@ -81,10 +97,19 @@ invariant_of-self g c =
     let nm = c.name-name.ensures in
     let q = c.hand_out.ensures in
     let v = c.posted_from.ensures in
-    let z = c.take.ensures.after in (
+    let z = c.take.ensures.after in
+    let few = length-filters p i.waiting.pieces in
+    let purges = map purged (filter p i.waiting.pieces) in (
       rw (w2, trace_is, w, kept, q, out_is, v, st, nm, z) k,
       record {
-        occupancy = rw (z, kept, q, out_is) (omega (arith, room.occupancy, length-filters p i.waiting.pieces, length-append i.out.items (map purged (filter p i.waiting.pieces)), length-map (filter p i.waiting.pieces), length-append (i.out.items ++ map purged (filter p i.waiting.pieces)) (c.posted_from.result ∷ [])));
+        occupancy = rw (z, kept, q, out_is) (omega (
+          arith,
+          room.occupancy,
+          few,
+          length-append i.out.items purges,
+          length-map (filter p i.waiting.pieces),
+          length-append (i.out.items ++ purges) (c.posted_from.result ∷ []),
+        ));
         waiting_room = rw (kept, q, out_is) room.waiting_room;
         swept_is = c.post_all.ensures.swept ∙ ap (λ (x : Queue). queue [] x.capacity) sw ∙ rw (q, out_is) refl;
       },
@@ -95,23 +120,14 @@ returns g c =
     let m = g.D.Device.meaning in
     let i = c.self.inside in
     let a = c.in-Some.active in
-    let H = reverse i.trace.items in
-    let p = covers c.args.scope in
-    let settled = rw (← c.self.view_is) at c.requires.settled in
-    let can = rw (← c.self.view_is) at c.requires.can in
-    let covered = rw (← c.self.view_is) at c.requires.covered in
-    let o : i.active ≡ Some a = sym c.take.ensures.value ∙ c.in-Some.is in
-    let t = ties-found o c.self.invariant.0 in
-    let covered' = rw o at covered in
-    let standing = kept-is a.standing (is_halt c.args.mode) (is_some (active_of c.args.scope H)) covered' in
+    let f = found g (goal.at.returns g c).In-Some in
+    let fits = fits-purged m i.mounted f.1 f.2 in
+    let since = since-awaiting m i.mounted f.1 f.2 in
+    let after = after-is m i.mounted f.1 f.2 in
+    let k = settled-awaiting m i.mounted f.1 f.2 in
     let csw = (kept_by a.standing).0 in
     let sense = (kept_by a.standing).1 in
-    let fits = fits-purged m i.mounted H i.channel a i.waiting.pieces i.dcbs i.out.items c.args.scope c.args.mode csw sense t standing settled can covered' in
-    let since = since-awaiting m i.mounted H i.channel a i.waiting.pieces i.dcbs i.out.items c.args.scope c.args.mode csw sense t standing settled can covered' in
-    let after = after-is m i.mounted H i.channel a i.waiting.pieces i.dcbs i.out.items c.args.scope c.args.mode csw sense t standing settled can covered' in
-    let k = settled-awaiting m i.mounted H i.channel a i.waiting.pieces i.dcbs i.out.items c.args.scope c.args.mode csw sense t standing settled can covered' in
-    let room = c.self.invariant.1 in
-    let sw = swept-found c.sweep.ensures.swept room.swept_is in
+    let sw = swept-found c.sweep.ensures.swept c.self.invariant.1.swept_is in
     let items_is = ap (λ (x : Queue). x.pieces) sw in
     let trace_is = rw items_is at c.post_all.ensures.trace in
     let out_is = rw items_is at c.post_all.ensures.out in
@@ -122,7 +138,8 @@ returns g c =
     let q = c.hand_out.ensures in
     let v = c.posted_from.ensures in
     let z = c.take.ensures.after in
-    let joined = append_assoc i.out.items (map purged (filter p i.waiting.pieces)) (posted_value a.piece.value csw sense Purged a.piece.value.area ∷ []) in
+    let value = posted_value a.piece.value csw sense Purged a.piece.value.area in
+    let joined = append_assoc i.out.items (map purged (filter (covers c.args.scope) i.waiting.pieces)) (value ∷ []) in
     record {
       book = rw (← c.self.view_is) (record {
         name = a.piece.value.name;

@@ -1,5 +1,4 @@
-use Rattle.std.proofs.Common.{◌∷◌, [], reverse, length-append, arith, refl}
-use Rattle.unit_book.specs.Dooms.{purged}
+use Rattle.unit_book.proofs.Names.{◌∷◌, [], length-append, arith, refl, purged}
 use Rattle.unit_book.proofs.Same.{room-of}
 use Rattle.unit_book.proofs.Refusals.{ties-refused, after-refusal, since-refused, settled-refused}
 use Rattle.unit_book.proofs.entries.Entries.refuse.Goals as goal
@@ -13,14 +12,21 @@ invariant_of-self g c =
     let refused = rw (← c.self.view_is) at c.requires.refused in
     let room = rw (← c.self.view_is) at c.requires.room in
     let t = c.self.invariant.0 in
-    let k = ties-refused m i.mounted c.args.issued (reverse i.trace.items) i.channel i.active i.waiting.pieces i.dcbs i.out.items fits c.requires.placed settled refused t in
-    let r = room-of m i.mounted (reverse i.trace.items) i.channel i.active i.waiting.pieces i.dcbs i.out.items i.out.capacity t room in
+    let k = ties-refused m i.mounted fits c.requires.placed settled refused t in
+    let r = room-of m i.mounted t room in
     let w = c.write.ensures.items in
     let p = c.post_purged.ensures.trace in
     let q = c.post_purged.ensures.out in
     let same = c.requires.same in
-    let room = c.self.invariant.1 in
-    (rw (p, w, q, same) k, rw (q, same) (record { occupancy = omega (arith, length-append i.out.items (purged c.args.issued ∷ []), r); waiting_room = room.waiting_room; swept_is = room.swept_is }))
+    let room = c.self.invariant.1 in (
+      rw (p, w, q, same) k,
+      rw (q, same)
+          (record {
+            occupancy = omega (arith, length-append i.out.items (purged c.args.issued ∷ []), r);
+            waiting_room = room.waiting_room;
+            swept_is = room.swept_is;
+          }),
+    )
 
 pub returns : goal.returns
 returns g c =
@@ -30,9 +36,9 @@ returns g c =
     let settled = rw (← c.self.view_is) at c.requires.settled in
     let refused = rw (← c.self.view_is) at c.requires.refused in
     let t = c.self.invariant.0 in
-    let after = after-refusal m i.mounted c.args.issued (reverse i.trace.items) i.channel i.active i.waiting.pieces i.dcbs i.out.items fits c.requires.placed settled refused t in
-    let since = since-refused m i.mounted c.args.issued (reverse i.trace.items) i.channel i.active i.waiting.pieces i.dcbs i.out.items fits c.requires.placed settled refused t in
-    let k = settled-refused m i.mounted c.args.issued (reverse i.trace.items) i.channel i.active i.waiting.pieces i.dcbs i.out.items fits c.requires.placed settled refused t in
+    let after = after-refusal m i.mounted fits c.requires.placed settled refused t in
+    let since = since-refused m i.mounted fits c.requires.placed settled refused t in
+    let k = settled-refused m i.mounted fits c.requires.placed settled refused t in
     let w = c.write.ensures.items in
     let p = c.post_purged.ensures.trace in
     let q = c.post_purged.ensures.out in

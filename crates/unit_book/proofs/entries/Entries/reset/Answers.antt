@@ -1,4 +1,4 @@
-use Rattle.std.proofs.Common.{reverse}
+use Rattle.unit_book.proofs.Names.{reverse}
 use Rattle.unit_book.proofs.Controls.{settled-reset}
 use Rattle.unit_book.proofs.Opens.{open-row}
 use Rattle.unit_book.proofs.Halts.{ties-reset}
@@ -10,7 +10,7 @@ invariant_of-self g c =
     let i = c.self.inside in
     let settled = rw (← c.self.view_is) at c.requires.settled in
     let can = rw (← c.self.view_is) at c.requires.can in
-    let k = ties-reset m i.mounted (reverse i.trace.items) i.channel i.active i.waiting.pieces i.dcbs i.out.items c.args.dcb settled can c.self.invariant.0 c.reset.new.self c.reset.ensures.dcbs c.reset.ensures.count in
+    let k = ties-reset m i.mounted settled can c.self.invariant.0 c.reset.ensures.dcbs c.reset.ensures.count in
     let w = c.write.ensures.items in
     (rw w k, c.self.invariant.1)
 

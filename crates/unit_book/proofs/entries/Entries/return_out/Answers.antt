@@ -1,4 +1,4 @@
-use Rattle.std.proofs.Common.{arith}
+use Rattle.unit_book.proofs.Names.{arith}
 use Rattle.unit_book.proofs.entries.Entries.return_out.Goals as goal
 
 pub hand_back-requires : goal.hand_back-requires

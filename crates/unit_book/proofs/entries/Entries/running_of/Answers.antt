@@ -1,5 +1,4 @@
-use Rattle.std.proofs.Common.{sym, ◌∙◌}
-use Rattle.unit_book.specs.declared.entry.Mode.TheVariants.{Halt}
+use Rattle.unit_book.proofs.Names.{sym, ◌∙◌, Halt}
 use Rattle.unit_book.proofs.Halts.{halts-none, halts-active}
 use Rattle.unit_book.proofs.entries.Entries.running_of.Goals as goal
 

@@ -1,12 +1,9 @@
-use Rattle.std.proofs.Common.{◌≡◌, Some, List, length, reverse, arith, sym, ap, subst, ◌∙◌}
-use Rattle.std.specs.Prelude.{slice_get}
-use Rattle.request_piece.specs.declared.piece.Name.{Name}
-use Rattle.request_piece.specs.declared.piece.Piece.{Piece}
-use Rattle.subchannel.specs.Subchannel.{started as ssch_started}
-use Rattle.unit_book.specs.Legal.{StartsFirst}
+use Rattle.unit_book.proofs.Names.{◌≡◌, Some, List, length, reverse, arith, sym, ap, subst, ◌∙◌, slice_get, Name, Piece, ssch_started}
+use Rattle.unit_book.proofs.Names.{StartsFirst}
 use Rattle.unit_book.proofs.Seeks.{first-fits, fits-device}
-use Rattle.unit_book.proofs.Starts.{ties-start, none-in_field, first-rest}
+use Rattle.unit_book.proofs.Starts.{ties-start, none-in_field}
 use Rattle.unit_book.proofs.Found.{first-found, rooms-found}
+use Rattle.unit_book.proofs.Lists.{first-rest}
 use Rattle.unit_book.proofs.entries.Entries.start_first.Goals as goal
 
 pub launch-requires : goal.launch-requires
@@ -36,14 +33,15 @@ invariant_of-self g c =
     let p = subst (λ (x : Name). StartsFirst m i.mounted x (reverse i.trace.items)) (sym n) s in
     let dcb_is = ap (λ (x : Piece). x.dcb) c.deref.ensures in
     let mask_is = rw dcb_is at c.mask-mask.ensures in
-    let k = ties-start m i.mounted b (reverse i.trace.items) i.channel i.active i.waiting.pieces i.dcbs i.out.items c.mask-mask.result settled p t (s.first ∙ ap Some (sym e)) mask_is in
+    let k = ties-start m i.mounted b settled p t (s.first ∙ ap Some (sym e)) mask_is in
     let w = c.write.ensures.items in
     let q = c.pop.ensures.rest in
-    let l = c.launch.ensures ∙ ap (λ (x : Piece). ssch_started m i.channel x.start x.seek c.mask-mask.result i.channel.phase) c.deref-2.ensures in
+    let l = c.launch.ensures ∙ ap (λ (x : Piece). ssch_started m i.channel x.start x.seek c.mask-mask.result i.channel.phase)
+    c.deref-2.ensures in
     let v = c.first.ensures in
     let y = (none-in_field m i.mounted (reverse i.trace.items) i.channel.phase i.active s.none t.activity).1 in
     let room = rooms-found y c.self.invariant.1 in
-    let count = ap length (first-rest m i.mounted s.request i.waiting.pieces (ap (λ (x : List Piece). slice_get x 0) t.queue ∙ s.first)) in (
+    let count = ap length (first-rest i.waiting.pieces s.request (ap (λ (x : List Piece). slice_get x 0) t.queue ∙ s.first)) in (
       rw (w, q, l, v, ← n) k,
       record {
         occupancy = rw q (omega (arith, room.occupancy, count));

@@ -1,4 +1,4 @@
-use Rattle.unit_book.specs.Posts.{posted_value}
+use Rattle.unit_book.proofs.Names.{posted_value}
 use Rattle.unit_book.proofs.entries.posts.posted_from.Goals as goal
 
 pub returns : goal.returns
