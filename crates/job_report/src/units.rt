@@ -3,10 +3,10 @@
 ghost use Rattle.std.specs.Prelude.{◌≡◌, IfErr, false};
 
 use crate::medium::write_medium;
+use any_device::AnyDevice;
 use job_script::SetUp;
 use std::io::Write;
 use unit_book::UnitBook;
-use unit_device::UnitDevice;
 use unit_history::{HistoryError, OpenDcbs, write_history};
 
 /// Writes of each unit of a script its history, with `steps` each command of it too, and its medium, as its book has
@@ -15,7 +15,7 @@ use unit_history::{HistoryError, OpenDcbs, write_history};
 pub fn write_units<W: Write>(
     out: &mut W,
     set_up: &SetUp,
-    books: &[UnitBook<UnitDevice>],
+    books: &[UnitBook<AnyDevice>],
     steps: bool,
     open: &mut OpenDcbs,
 ) -> Result<(), HistoryError>

@@ -1,7 +1,7 @@
 -- HOW A RUN OF A SCRIPT ENDS, by what its reader gave (profile).
 use Rattle.std.specs.Prelude.{◌≡◌, ◌⊎◌, ℕ, List, Option, Result, Ok, Err}
 use Rattle.unit_book.specs.Book.{Book}
-use Rattle.unit_device.specs.declared.device.UnitDevice.{UnitDevice}
+use Rattle.any_device.specs.declared.device.AnyDevice.{AnyDevice}
 use Rattle.job_script.specs.declared.fault.JobError.{JobError}
 use Rattle.job_script.specs.declared.fault.JobError.TheVariants as faults
 use Rattle.job_script.specs.Grammar.{FaultAt, script_of}
@@ -9,12 +9,12 @@ use Rattle.job_script.specs.Reading.{ReadsAll, ReadsAtMost, ReadsMore}
 use Rattle.job_mount.specs.Mounting.{◌>>=◌, books_of}
 
 -- the books of a text, each for this many requests at a time, or its first fault
-abbrev pub books_of_text : ℕ → List ℕ → Result (List (Book UnitDevice)) FaultAt
+abbrev pub books_of_text : ℕ → List ℕ → Result (List (Book AnyDevice)) FaultAt
 books_of_text capacity text = script_of text >>= books_of capacity
 
 -- the text is a script that has no fault
 abbrev pub IsFaultless : List ℕ → Type 0
-IsFaultless text = (capacity : ℕ) × (books : List (Book UnitDevice)) × (books_of_text capacity text ≡ Ok books)
+IsFaultless text = (capacity : ℕ) × (books : List (Book AnyDevice)) × (books_of_text capacity text ≡ Ok books)
 
 -- the first fault of the text is this one
 abbrev pub HasFault : List ℕ → FaultAt → Type 0

@@ -9,6 +9,7 @@ use crate::command_fault::CommandFault;
 use crate::lines::Lines;
 use crate::task_error::TaskError;
 use crate::unit_calls::{close, purge, purge_task, reset};
+use any_device::AnyDevice;
 use crossbeam_utils::Backoff;
 use excp_system::{Site, System};
 use fifo_row::Full;
@@ -17,7 +18,6 @@ use job_script::{Action, Command, Excp, Script};
 use std::alloc::{AllocError, Global};
 use std::sync::Wait;
 use system_threads::{Alarm, Client};
-use unit_device::UnitDevice;
 
 /// The most requests that a task has under way, so that the storage of a run does not grow with all its requests
 /// (profile).
@@ -27,7 +27,7 @@ const MOST_UNDER_WAY: usize = 256;
 #[derive(Drop)]
 pub struct Job<'a, 'r, S: Site> {
     script: &'a Script,
-    system: &'a System<'r, S, UnitDevice>,
+    system: &'a System<'r, S, AnyDevice>,
     alarm: &'a Alarm,
     ghost units_are: { vec_len script.now.set_up.units ≡ S.rows.units },
     ghost requests_can_be_made: { All CanBeDone script.now.commands.items },
@@ -37,7 +37,7 @@ impl<'a, 'r, S: Site> Job<'a, 'r, S> {
     /// The job of a script, whose requests can be made, on the system of its units.
     pub fn new(
         script: &'a Script,
-        system: &'a System<'r, S, UnitDevice>,
+        system: &'a System<'r, S, AnyDevice>,
         alarm: &'a Alarm,
     ) -> Job<'a, 'r, S>
         requires units { vec_len script.now.set_up.units ≡ S.rows.units }

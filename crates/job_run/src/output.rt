@@ -7,6 +7,7 @@ ghost use Rattle.job_run.specs.Faults.{IsWriteFault, LeavesWriter, has_steps};
 
 use crate::late_writer::LateWriter;
 use crate::lines::{End, Line, Lines};
+use any_device::AnyDevice;
 use digits::{put_decimal, put_digits, write_bytes};
 use job_report::write_units;
 use job_script::{JobError, SetUp};
@@ -14,7 +15,6 @@ use std::alloc::Global;
 use std::io;
 use std::io::{BufWriter, Write};
 use unit_book::UnitBook;
-use unit_device::UnitDevice;
 use unit_history::{HistoryError, OpenDcbs};
 
 /// What a run prints.
@@ -26,7 +26,7 @@ pub enum Output<'a> {
     /// and what lies on its medium.
     Report {
         set_up: &'a SetUp,
-        books: &'a [UnitBook<UnitDevice>],
+        books: &'a [UnitBook<AnyDevice>],
         steps: bool,
     },
 }
@@ -73,7 +73,7 @@ fn write_report<W: Write>(
     alloc: Global,
     lines: &[Lines],
     set_up: &SetUp,
-    books: &[UnitBook<UnitDevice>],
+    books: &[UnitBook<AnyDevice>],
     steps: bool,
     writer: &mut W,
 ) -> Result<(), JobError>

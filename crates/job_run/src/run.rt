@@ -15,6 +15,7 @@ use crate::output::{Output, write};
 use crate::rooms::rows_and_books;
 use crate::script_tasks::ScriptTasks;
 use crate::task_error::TaskError;
+use any_device::AnyDevice;
 use excp_system::Rows;
 use job_script::{JobError, LIMIT, Script, read_script};
 use post_ledger::Report;
@@ -24,13 +25,12 @@ use std::sync::Wait;
 use std::thread::Threads;
 use system_threads::{RunError, Workers, run_program};
 use unit_book::UnitBook;
-use unit_device::UnitDevice;
 
 /// A run that was brought to its end: what is printed of the requests of each task, and the account of its units.
 #[derive(Drop)]
 pub struct Finished {
     pub lines: Vec<Lines>,
-    pub report: Report<UnitDevice>,
+    pub report: Report<AnyDevice>,
     ghost complete: { All IsComplete lines.items },
 }
 
@@ -105,7 +105,7 @@ pub fn run_on<R: Threads + Wait + Sync>(
     rt: &R,
     alloc: Global,
     rows: Rows,
-    books: Vec<UnitBook<UnitDevice>>,
+    books: Vec<UnitBook<AnyDevice>>,
     script: &Script,
     workers: Workers,
 ) -> Result<Finished, JobError>
@@ -129,7 +129,7 @@ pub fn run_on<R: Threads + Wait + Sync>(
 /// the first such task, and where a line has no post of its own.
 pub fn ended(
     alloc: Global,
-    report: Report<UnitDevice>,
+    report: Report<AnyDevice>,
     outcomes: Vec<Result<Lines, TaskError>>,
 ) -> Result<Finished, JobError>
     requires lists { IsFor (length report.books) (length outcomes.items) report }
@@ -166,7 +166,7 @@ fn wants_memory(outcome: &Result<Lines, TaskError>) -> bool {
 }
 
 /// Adds what the report of a run lists to the lines of each task.
-fn add_rest(lines: &mut [Lines], report: &Report<UnitDevice>)
+fn add_rest(lines: &mut [Lines], report: &Report<AnyDevice>)
     requires lists { IsFor (length report.now.books) (length lines.old) report.now }
     requires few_units { length report.now.books ≤ 64 }
     requires few_tasks { length lines.old ≤ 64 }
@@ -178,7 +178,7 @@ fn add_rest(lines: &mut [Lines], report: &Report<UnitDevice>)
 }
 
 /// Adds what the report of a run lists for a task to its lines.
-fn add_listed(lines: &mut Lines, report: &Report<UnitDevice>, task: u16, units: u16)
+fn add_listed(lines: &mut Lines, report: &Report<AnyDevice>, task: u16, units: u16)
     requires task { task < length report.now.lists }
     requires units { length (lists_of report.now.lists task) ≡ units }
 {

@@ -66,7 +66,7 @@ pub struct SetUp {
 }
 
 impl SetUp {
-    ghost use Rattle.job_script.specs.Adding.{add_area, add_set_up, add_tasks, add_unit, excp_of, names_command, is_dcb, is_task};
+    ghost use Rattle.job_script.specs.Adding.{add_area, add_set_up, add_tasks, add_unit, excp_command, names_command, is_dcb, is_task};
     ghost use Rattle.job_script.specs.Adding.{add_fault, add_item, add_opening, add_record, change_unit, numbered};
     ghost use Rattle.job_script.specs.LineViews.{set_up_line_said, unit_line_said};
     ghost use Rattle.job_script.specs.Outcomes.{Leads, Reads, Returns};
@@ -147,9 +147,9 @@ impl SetUp {
 
     /// The command of an EXCP, with its area.
     #[inline(always)]
-    #[tactic(auto, unfolding(crate::specs::Adding::excp_of))]
+    #[tactic(auto, unfolding(crate::specs::Adding::excp_command))]
     pub fn excp(&self, line: ExcpLine) -> Result<Command, Refusal>
-        ensures { Returns command_said result (excp_of line (set_up_said self.now)) }
+        ensures { Returns command_said result (excp_command line (set_up_said self.now)) }
     {
         let area = self.area(line.area)?;
         Ok(Command {

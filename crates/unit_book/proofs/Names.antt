@@ -23,7 +23,7 @@ pub use Rattle.ccw_programs.specs.Place.{Place}
 pub use Rattle.ccw_programs.specs.Step.{Program, length_of, is_running}
 unfoldable pub use Rattle.ccw_programs.specs.Step.{after}
 pub use Rattle.ccw_programs.specs.declared.context.State.{State}
-pub use Rattle.subchannel.specs.Subchannel.{Channel, Phase, Absent, Idle, Running, Pending, started as ssch_started}
+pub use Rattle.subchannel.specs.Subchannel.{Channel, Phase, Absent, Idle, Running, Pending, after_ssch as ssch_started}
 pub use Rattle.recovery.specs.Verdict.{verdict}
 pub use Rattle.recovery.specs.declared.answer.Verdict.TheVariants.{Retry, Final}
 pub use Rattle.request_piece.specs.Places.{Placed}
@@ -66,4 +66,4 @@ unfoldable pub use Rattle.unit_book.specs.Posts.{posted, posted_value}
 pub use Rattle.unit_book.specs.Selected.{doomed_by_post, DoomedBy}
 pub use Rattle.unit_book.specs.Trace.{same, has_arrived, is_covered, is_halt, is_halted, arrived_of, starts, has_started, is_posted}
 pub use Rattle.unit_book.specs.Trace.{starts_of}
-unfoldable pub use Rattle.unit_book.specs.Trace.{request_of, active, started, waiting, arrivals}
+unfoldable pub use Rattle.unit_book.specs.Trace.{request_named, active, started, waiting, arrivals}

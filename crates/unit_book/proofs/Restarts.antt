@@ -9,7 +9,7 @@ use Rattle.std.specs.Prelude.{nat_le}
 use Rattle.io_images.specs.declared.code.Code.TheVariants.{PermanentError}
 use Rattle.device_port.specs.Meaning.{Lawful}
 use Rattle.ccw_programs.specs.Place.{start_place}
-use Rattle.subchannel.specs.Subchannel.{Fits, prefixed}
+use Rattle.subchannel.specs.Subchannel.{TakesSeek, prefixed}
 use Rattle.recovery.specs.Verdict.{is_disk, is_success, is_passing_error, is_channel_error}
 use Rattle.unit_book.specs.Legal.{Again as Restart}
 use Rattle.unit_book.proofs.Lists.{same-refl}
@@ -68,7 +68,7 @@ module _ {D : Type 0} (meaning : Meaning D) (mounted : D) where
         (retry-few (meaning.kind mounted) s.csw s.sense (starts_of n H) s.retry)
 
     -- its seek fits the device
-    pub restart-fits : Lawful meaning → Fits meaning channel.device a.piece.value.seek
+    pub restart-fits : Lawful meaning → TakesSeek meaning channel.device a.piece.value.seek
     restart-fits law =
         let f = seeks meaning mounted H t.legal n (active-is n H t.activity.is).0 in
         let seek_is = ap (λ (r : Piece). r.seek) t.activity.request in

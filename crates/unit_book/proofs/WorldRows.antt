@@ -12,7 +12,7 @@ use Rattle.unit_book.specs.declared.answer.Purging.TheVariants.{Quiet}
 use Rattle.unit_book.specs.declared.entry.Entry.TheVariants.{Start as StartOf, Purge as PurgeOf}
 use Rattle.unit_book.specs.Trace.{no_request}
 use Rattle.unit_book.specs.Book.{opening}
-use Rattle.unit_book.specs.World.{World, behind, without_first, Accepts, Accept, Take, Start, Run, Interrupt, Purge, Deliver, Collect}
+use Rattle.unit_book.specs.World.{World, one_more_of_task, without_first, Accepts, Accept, Take, Start, Run, Interrupt, Purge, Deliver, Collect}
 use Rattle.unit_book.specs.World.{Reaches, Stay, Go, IsOpening, IsFinished}
 use Rattle.unit_book.specs.WorldLaws.{posts_of}
 
@@ -59,7 +59,7 @@ world H = record {
 
 -- task 0 has sent its request 1
 abbrev sent : World (Unit {0}) → World (Unit {0})
-sent w = record w { sent = behind w.sent 0 (r 1); flight = r 1 ∷ [] }
+sent w = record w { sent = one_more_of_task w.sent 0 (r 1); flight = r 1 ∷ [] }
 
 -- the book has this trace, and these values are out
 abbrev taken : List Entry → List PostedState → World (Unit {0}) → World (Unit {0})
@@ -67,11 +67,11 @@ taken H out w = record w { flight = []; book = record w.book { trace = H; out = 
 
 -- the value goes on its way back to task 0
 abbrev delivered : PostedState → World (Unit {0}) → World (Unit {0})
-delivered v w = record w { book = record w.book { out = [] }; back = behind w.back 0 v }
+delivered v w = record w { book = record w.book { out = [] }; back = one_more_of_task w.back 0 v }
 
 -- task 0 collects it
 abbrev collected : PostedState → World (Unit {0}) → World (Unit {0})
-collected v w = record w { back = without_first w.back 0; got = behind w.got 0 v }
+collected v w = record w { back = without_first w.back 0; got = one_more_of_task w.got 0 v }
 
 -- the posted value of request 1
 abbrev value : Csw → Code → PostedState

@@ -5,7 +5,7 @@ use Rattle.unit_book.proofs.Names.{◌∙◌, arith, eqb, inl, inr, subst, cases
 use Rattle.unit_book.proofs.Names.{drop, slice_get-append_right, Meaning, PostedState, Name, Piece, arrivals, arrived_of, Legal, posted}
 use Rattle.unit_book.proofs.Names.{Book, Each}
 use Rattle.unit_book.specs.Legal.{Settled}
-use Rattle.unit_book.specs.World.{World, requests_of, values_of, behind, without_first, InBook, Takes, Step, Accept, Take, Open, Start, Run}
+use Rattle.unit_book.specs.World.{World, requests_of, values_of, one_more_of_task, without_first, InBook, Takes, Step, Accept, Take, Open, Start, Run}
 use Rattle.unit_book.specs.World.{Interrupt, Purge, Close, Reset, Deliver, Collect, Reaches, Stay, Go, IsOpening}
 use Rattle.unit_book.proofs.Facts.{Each-behind}
 use Rattle.unit_book.proofs.WorldTraces.{opened-only}
@@ -83,7 +83,7 @@ module _ {D : Type 0} (meaning : Meaning D) where
 
   -- A REQUEST IS ACCEPTED
   accept-kept : (w : World D) (r : Piece) → Kept w → r.unit ≡ w.unit → r.name.seq ≡ length (w.sent r.name.task) + 1 →
-      Kept (record w { sent = behind w.sent r.name.task r; flight = w.flight ++ r ∷ [] })
+      Kept (record w { sent = one_more_of_task w.sent r.name.task r; flight = w.flight ++ r ∷ [] })
   accept-kept w r k of_unit next = record {
     received = received;
     numbered = numbered;
@@ -93,7 +93,7 @@ module _ {D : Type 0} (meaning : Meaning D) where
     settled = k.settled;
   } where
     sent : ℕ → List Piece
-    sent = behind w.sent r.name.task r
+    sent = one_more_of_task w.sent r.name.task r
 
     received : (task : ℕ) → requests_of task (arrivals w.book.trace) ++ requests_of task (w.flight ++ r ∷ []) ≡ sent task
     received task =
@@ -149,7 +149,7 @@ module _ {D : Type 0} (meaning : Meaning D) where
 
   -- A VALUE GOES BACK
   deliver-kept : (w : World D) (value : PostedState) → Kept w → slice_get w.book.out 0 ≡ Some value →
-      Kept (record w { book = record w.book { out = drop 1 w.book.out }; back = behind w.back value.name.task value })
+      Kept (record w { book = record w.book { out = drop 1 w.book.out }; back = one_more_of_task w.back value.name.task value })
   deliver-kept w value k first = record {
     received = k.received;
     numbered = k.numbered;
@@ -159,7 +159,7 @@ module _ {D : Type 0} (meaning : Meaning D) where
     settled = k.settled;
   } where
     returned : (task : ℕ) → values_of task (posted meaning w.book.mounted w.book.trace)
-        ≡ (w.got task ++ behind w.back value.name.task value task) ++ values_of task (drop 1 w.book.out)
+        ≡ (w.got task ++ one_more_of_task w.back value.name.task value task) ++ values_of task (drop 1 w.book.out)
     returned task =
         let R = values_of task (drop 1 w.book.out) in
         let o : values_of task w.book.out ≡ values_of task (value ∷ drop 1 w.book.out) = ap (values_of task)
@@ -173,7 +173,7 @@ module _ {D : Type 0} (meaning : Meaning D) where
 
   -- A TASK COLLECTS A VALUE
   collect-kept : (w : World D) (task : ℕ) (value : PostedState) → Kept w → slice_get (w.back task) 0 ≡ Some value →
-      Kept (record w { back = without_first w.back task; got = behind w.got task value })
+      Kept (record w { back = without_first w.back task; got = one_more_of_task w.got task value })
   collect-kept w task value k first = record {
     received = k.received;
     numbered = k.numbered;
@@ -182,7 +182,7 @@ module _ {D : Type 0} (meaning : Meaning D) where
     legal = k.legal;
     settled = k.settled;
   } where
-    moved : (t : ℕ) → w.got t ++ w.back t ≡ behind w.got task value t ++ without_first w.back task t
+    moved : (t : ℕ) → w.got t ++ w.back t ≡ one_more_of_task w.got task value t ++ without_first w.back task t
     moved t =
         elim (cases_Bool (eqb task t)) [
           | inl e ↦

@@ -25,7 +25,7 @@ use Rattle.unit_book.specs.declared.decision.Next.{Next}
 use Rattle.unit_book.specs.declared.decision.Next.TheVariants.{Busy, Idle, First, Violated, Again}
 use Rattle.unit_book.specs.declared.entry.Entry.{Entry}
 use Rattle.unit_book.specs.declared.entry.Entry.TheVariants.{Opened, Start, Ran, Post}
-use Rattle.unit_book.specs.Trace.{active, waiting, request_of}
+use Rattle.unit_book.specs.Trace.{active, waiting, request_named}
 use Rattle.unit_book.specs.Extents.{takes_extents}
 use Rattle.unit_book.specs.Dcbs.{opened_count, doomed}
 use Rattle.unit_book.specs.Media.{still_runs, active_phase, current, area}
@@ -68,7 +68,7 @@ module _ {D : Type 0} (meaning : Meaning D) where
   ExtendsByPost old n csw sense code new = new ≡ record old {
     trace = Post n csw sense code ∷ old.trace;
     awaits = false;
-    out = old.out ++ posted_value (request_of n old.trace) csw sense code (area meaning old.mounted (request_of n old.trace) old.trace) ∷ [];
+    out = old.out ++ posted_value (request_named n old.trace) csw sense code (area meaning old.mounted (request_named n old.trace) old.trace) ∷ [];
     spare = new.spare;
   }
 

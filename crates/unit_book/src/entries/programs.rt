@@ -2,7 +2,7 @@
 
 ghost use Rattle.std.specs.Prelude.{◌≡◌, ◌≤◌, ◌+◌, true, false, not, None};
 ghost use Rattle.ccw_programs.specs.Step.{is_running};
-ghost use Rattle.subchannel.specs.Subchannel.{Fits, started};
+ghost use Rattle.subchannel.specs.Subchannel.{TakesSeek, after_ssch};
 ghost use Rattle.unit_book.specs.Legal.{Settled, StartsFirst, StartsAgain};
 ghost use Rattle.unit_book.specs.Answers.{IsNext, RunsBook, StartsOne};
 ghost use Rattle.unit_book.specs.Trace.{active};
@@ -20,8 +20,8 @@ use subchannel::Subchannel;
 
 /// Starts the program of a request.
 fn launch<D: Device>(channel: &mut Subchannel<D>, piece: &Piece, mask: u8)
-    requires { Fits D.meaning channel.old.device piece.now.seek }
-    ensures { channel.new ≡ started D.meaning channel.old piece.now.start piece.now.seek mask channel.old.phase }
+    requires { TakesSeek D.meaning channel.old.device piece.now.seek }
+    ensures { channel.new ≡ after_ssch D.meaning channel.old piece.now.start piece.now.seek mask channel.old.phase }
 {
     channel.ssch(piece.start, &piece.seek, mask);
 }

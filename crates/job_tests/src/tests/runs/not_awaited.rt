@@ -3,13 +3,13 @@
 ghost use Rattle.std.specs.Prelude.{◌≡◌, ℕ, All, vec_len};
 ghost use Rattle.job_mount.specs.Requests.{CanBeDone};
 
+use any_device::AnyDevice;
 use excp_system::{Site, System};
 use job_run::{Job, Lines, TaskError};
 use job_script::Script;
 use std::alloc::Global;
 use std::sync::Wait;
 use system_threads::{Alarm, Client, Program};
-use unit_device::UnitDevice;
 
 /// Each task leaves what is printed of its requests.
 #[derive(Drop)]
@@ -31,7 +31,7 @@ impl<'a> NotAwaited<'a> {
         &self,
         rt: &R,
         alloc: Global,
-        system: &System<'_, S, UnitDevice>,
+        system: &System<'_, S, AnyDevice>,
         alarm: &Alarm,
         client: &mut Client<'_, S>,
     ) -> Result<Lines, TaskError>
@@ -44,7 +44,7 @@ impl<'a> NotAwaited<'a> {
     }
 }
 
-impl<'a> Program<UnitDevice> for NotAwaited<'a> {
+impl<'a> TaskProgram<AnyDevice> for NotAwaited<'a> {
     type Outcome = Result<Lines, TaskError>;
 
     ghost units = { λ tasks. vec_len tasks.script.now.set_up.units };
@@ -53,7 +53,7 @@ impl<'a> Program<UnitDevice> for NotAwaited<'a> {
         &self,
         rt: &R,
         alloc: Global,
-        system: &System<'_, S, UnitDevice>,
+        system: &System<'_, S, AnyDevice>,
         alarm: &Alarm,
         client: &mut Client<'_, S>,
     ) -> Result<Lines, TaskError> {
