@@ -50,17 +50,6 @@ module _ {D : Type 0} (meaning : Meaning D) (old mid posting new : Book D) (n : 
       = append_assoc old.out (v ∷ []) (posted_since meaning old.mounted G (after_dooms G)) ∙ ap (λ x. old.out ++ x) (sym since) in
       r ∙ ap (λ o. record old { trace = after_dooms G; awaits = false; out = o; spare = new.spare }) out
 
-  -- there is room for what a post dooms
-  pub sweep-room : mid ≡ record old { spare = mid.spare } → ExtendsByPost meaning mid n csw sense code posting →
-      length (waiting old.trace) + 1 ≤ mid.spare → mid.spare ≤ posting.spare + 1 →
-      length (doomed posting.trace) ≤ posting.spare
-  sweep-room m p r s =
-      let t : posting.trace ≡ Post n csw sense code ∷ old.trace = ap (λ (b : Book D). b.trace) p
-      ∙ ap (λ (b : Book D). Post n csw sense code ∷ b.trace) m in
-      let few = doomed-few meaning old.mounted n csw sense code old.trace in
-      let same = ap (λ x. length (doomed x)) t in
-      omega (arith, r, s, few, same)
-
   -- only the dooms are due after a post
   pub sweep-due : ExtendsByPost meaning mid n csw sense code posting →
       due meaning posting.mounted posting.trace ≡ doomed_first (doomed posting.trace)

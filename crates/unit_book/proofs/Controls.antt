@@ -85,12 +85,24 @@ module _ {D : Type 0} (meaning : Meaning D) (mounted : D) where
   covers-area (Dcb d) r m = refl
   covers-area (Task t) r m = refl
 
+  some-covers : (n : Name) (b : Bool) → b ≡ is_some (if b then Some n else None)
+  some-covers n true = refl
+  some-covers n false = refl
+
   module _ {H : List Entry} (scope : Scope) (mode : Mode) where
     -- the purge covers the active request as its piece tells
     pub covers-same : {phase : Phase} {a : Active} → ActiveTies meaning mounted H phase a →
         covers scope a.piece.value ≡ covers scope (request_named a.piece.value.name H)
     covers-same {a = a} t = ap (covers scope) t.request ∙ covers-area scope (request_named a.piece.value.name H)
         (current meaning mounted H).area
+
+    -- whether the purge covers what awaits its restart, by the piece
+    pub awaiting-is : {phase : Phase} {a : Active} → ActiveTies meaning mounted H phase a →
+        is_halt mode && awaits_by a.standing && covers scope a.piece.value
+        ≡ (is_halt mode && awaits_by a.standing && is_some (active_of scope H))
+    awaiting-is {a = a} t = ap (λ b. is_halt mode && awaits_by a.standing && b)
+        (covers-same t ∙ some-covers a.piece.value.name (covers scope (request_named a.piece.value.name H))
+        ∙ sym (ap (λ o. is_some (covered_by scope H o)) t.is))
 
     uncovered : (phase : Phase) (a : Active) (standing : Standing) → ActiveTies meaning mounted H phase a →
         is_halt mode && awaits_by standing && is_some (covered_by scope H (Some a.piece.value.name)) ≡ false →

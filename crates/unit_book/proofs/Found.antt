@@ -1,6 +1,8 @@
 -- What the fields of a book say once it is known what a place of them has.
 use Rattle.unit_book.proofs.Names.{◌≡◌, ◌++◌, [], ℕ, Some, Option, List, sym, ap, subst, ◌∙◌, slice_get, Buffer, PostedState, Name, Piece}
 use Rattle.unit_book.proofs.Names.{Meaning, Channel, Queue, queue, Active, Dcb, Entry, Ties, waiting, active}
+use Rattle.unit_book.proofs.Names.{Ok, Err, OnErr}
+use Rattle.std.proofs.Common.{Result}
 use Rattle.std.specs.Prelude.{option_map, box_value, Box}
 use Rattle.unit_book.specs.Fields.{Rooms}
 
@@ -32,3 +34,8 @@ rooms-found {waiters = waiters} {swept = swept} {outs = outs} o room = subst (λ
 pub swept-found : {swept empty : Queue} {capacity : ℕ} {taken : List Piece} → swept ≡ queue (empty.pieces ++ taken) empty.capacity →
     empty ≡ queue [] capacity → swept ≡ queue taken capacity
 swept-found {taken = taken} e o = e ∙ ap (λ (x : Queue). queue (x.pieces ++ taken) x.capacity) o
+
+-- what holds of every error
+pub on-err : {X E : Type 0} (r : Result X E) (P : Type 0) → P → OnErr r P
+on-err (Ok x) P p = tt
+on-err (Err e) P p = p

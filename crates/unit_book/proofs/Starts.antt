@@ -7,13 +7,14 @@ use Rattle.unit_book.proofs.Names.{Reset, Post, same, starts, has_started, waiti
 use Rattle.unit_book.proofs.Names.{flag, mask_of, Attempt, attempts, stand, newest, current, device, area, Legal, due, Free, First}
 use Rattle.unit_book.proofs.Names.{StartsFirst, posted, Each, ActivityTies, Ties, dcb_at, dcb_of, mask_at}
 use Rattle.std.specs.Global.{Box}
+use Rattle.std.specs.Prelude.{option_map, box_value, MatchOption, IsSomeAnd}
 use Rattle.ccw_programs.specs.Place.{start_place}
 use Rattle.ccw_programs.specs.Step.{begun}
 use Rattle.subchannel.specs.Subchannel.{prefixed}
 use Rattle.unit_book.specs.Trace.{opens_for_input}
 use Rattle.unit_book.specs.Media.{lengthened}
 use Rattle.unit_book.specs.Legal.{passes}
-use Rattle.unit_book.specs.Fields.{extents_at}
+use Rattle.unit_book.specs.Fields.{extents_at, active_field_count}
 use Rattle.unit_book.proofs.Lists.{same-true, same-refl, same-is, no_both, without, without-first, Apart, first-rest}
 use Rattle.unit_book.proofs.Facts.{active-start, waiting-start, waiting-apart, fits-start, Each-at}
 use Rattle.unit_book.proofs.LegalFacts.{facts, first-waits}
@@ -214,3 +215,19 @@ module _ {D : Type 0} (meaning : Meaning D) (mounted : D) where
         } in
         subst (λ x. Ties meaning mounted G (ssch_started meaning channel r.start r.seek mask x) (Some (held_first b))
         (drop 1 waiters) table left) (sym idle) whole
+
+  -- the first of the queue is started, and what is taken from the queue is made active
+  pub ties-first : (popped : Option (Box Piece)) (made : Option Active) {r : Piece} {H : List Entry} {channel : Channel D}
+      {o : Option Active} {waiters : List Piece} {table : List Dcb} {left : List PostedState} {mask : ℕ} →
+      due meaning mounted H ≡ Free → StartsFirst meaning mounted r.name H → Ties meaning mounted H channel o waiters table left →
+      slice_get (waiting H) 0 ≡ Some r → mask ≡ mask_at (dcb_at table r.dcb) → option_map box_value popped ≡ Some r →
+      MatchOption popped (made ≡ None) (λ x. IsSomeAnd made (λ y. y ≡ held_first x)) →
+      Ties meaning mounted (Start r.name ∷ H) (ssch_started meaning channel r.start r.seek mask channel.phase) made (drop 1 waiters) table left
+      × (active_field_count made ≡ 1)
+  ties-first None made settled s t first mask_is popped_is made_is = absurd cc
+  ties-first (Some b) None settled s t first mask_is popped_is made_is = absurd made_is
+  ties-first (Some b) (Some a) {r = r} {H = H} {table = table} settled s t first mask_is popped_is made_is =
+      let e : r ≡ b.value = cc in
+      let k = ties-start b settled (subst (λ (x : Piece). StartsFirst meaning mounted x.name H) e s) t (first ∙ ap Some e)
+      (mask_is ∙ ap (λ (x : Piece). mask_at (dcb_at table x.dcb)) e) in
+      (rw (made_is, e) k, refl)
