@@ -1,8 +1,8 @@
 -- A purge with Halt that covers the active request, which awaits its restart: what waits is posted first, then it.
 use Rattle.unit_book.proofs.Names.{◌≡◌, ℕ, Bool, true, false, not, ◌&&◌, Option, Some, None, List, [], ◌∷◌, ◌++◌, append_assoc, map, refl}
 use Rattle.unit_book.proofs.Names.{sym, ap, ◌∙◌, subst, if◌then◌else◌, filter, is_some, Csw, Purged, Meaning, Kind, Place, State, Channel}
-use Rattle.unit_book.proofs.Names.{Phase, Absent, Idle, Running, Pending, Retry, verdict, PostedState, Name, Piece, covers, Scope, Active}
-use Rattle.unit_book.proofs.Names.{Standing, OnChannel, AwaitsRestart, Dcb, Mode, Entry, Purge, Post, waiting, active, request_named, is_halt}
+use Rattle.unit_book.proofs.Names.{Phase, Idle, Pending, Retry, verdict, PostedState, Name, Piece, covers, Scope, Active, Standing}
+use Rattle.unit_book.proofs.Names.{OnChannel, AwaitsRestart, Dcb, Mode, Entry, Purge, Post, waiting, active, request_named, is_halt}
 use Rattle.unit_book.proofs.Names.{is_halted, doomed, area, current, active_phase, active_phase_by, HasEnded, due, Free, doomed_first}
 use Rattle.unit_book.proofs.Names.{CanPurge, PostsActive, all_posted, after_dooms, purged, posted, posted_since, posted_value}
 use Rattle.unit_book.proofs.Names.{running_name_by, active_of, after_purge, halted_by, awaits_by, dcb_at, StandingTies, Ties, noted}
@@ -24,8 +24,7 @@ noted-nothing (Some c) = refl
 -- what awaits its restart keeps its status
 again-told : (h g s : Bool) → h && g && s ≡ true → g ≡ true
 again-told true true s k = refl
-again-told true false s k = absurd cc
-again-told false g s k = absurd cc
+again-told _ _ s k = absurd cc
 
 again-is : (d : Standing) → awaits_by d ≡ true → d ≡ AwaitsRestart (kept_by d).0 (kept_by d).1
 again-is OnChannel h = absurd cc
@@ -43,10 +42,8 @@ module _ {D : Type 0} (meaning : Meaning D) (mounted : D) where
 
   kept-by : (H : List Entry) (phase : Phase) (a : Active) (csw : Csw) (sense : ℕ) →
       StandingTies meaning mounted H phase a (AwaitsRestart csw sense) → Kept H phase a csw sense
-  kept-by H Absent a csw sense d = absurd d
   kept-by H Idle a csw sense d = record { idle = refl; ended = d.0; retry = d.1 }
-  kept-by H (Running place) a csw sense d = absurd d
-  kept-by H (Pending c s) a csw sense d = absurd d
+  kept-by H _ a csw sense d = absurd d
 
   over-unhalted : (b : Bool) (place : Place) (state : State) (csw : Csw) (sense : ℕ) → active_phase_by b place state ≡ HasEnded csw sense →
       b ≡ false
@@ -167,9 +164,7 @@ module _ {D : Type 0} (meaning : Meaning D) (mounted : D) where
     -- the post
     and-ends : (h g s : Bool) → h && g && s ≡ true → (h ≡ true) × (s ≡ true)
     and-ends true true true k = (refl, refl)
-    and-ends true true false k = absurd cc
-    and-ends true false s k = absurd cc
-    and-ends false g s k = absurd cc
+    and-ends _ _ _ k = absurd cc
 
     some-covers : (b : Bool) → is_some (if b then Some n else None) ≡ true → b ≡ true
     some-covers true h = refl

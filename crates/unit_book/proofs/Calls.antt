@@ -1,16 +1,16 @@
 -- What the calls of a book come to, one step of its entries after another.
-use Rattle.unit_book.proofs.Names.{◌≡◌, ◌≤◌, ◌+◌, ℕ, Bool, true, false, Ok, Err, List, [], ◌∷◌, ◌++◌, append_assoc, length, refl, sym, ap}
-use Rattle.unit_book.proofs.Names.{◌∙◌, arith, subst, OnOk, OnErr, drop, Csw, Code, Extent, Meaning, Name, Scope, Mode, Entry, Opened}
-use Rattle.unit_book.proofs.Names.{Purge, Close, Post, request_named, waiting, opened_count, doomed, area, posted, posted_value, posted_since}
-use Rattle.unit_book.proofs.Names.{PurgesBy, covers_awaiting, halted_by, after_halt, after_dooms, Book, Adds, Extends, RunsBook, Due}
-use Rattle.unit_book.proofs.Names.{ToHalt, ToPost, Free, due, doomed_first}
+use Rattle.unit_book.proofs.Names.{◌≡◌, ◌+◌, ℕ, Bool, true, false, Ok, Err, List, [], ◌∷◌, ◌++◌, append_assoc, length, refl, sym, ap, ◌∙◌}
+use Rattle.unit_book.proofs.Names.{subst, OnOk, OnErr, drop, Csw, Code, Extent, Meaning, Name, Scope, Mode, Entry, Opened, Purge, Close}
+use Rattle.unit_book.proofs.Names.{Post, request_named, opened_count, doomed, area, posted, posted_value, posted_since, PurgesBy}
+use Rattle.unit_book.proofs.Names.{covers_awaiting, halted_by, after_halt, after_dooms, Book, Adds, Extends, RunsBook, Due, ToHalt, ToPost}
+use Rattle.unit_book.proofs.Names.{Free, due, doomed_first}
 use Rattle.std.proofs.Common.{Result}
 use Rattle.std.specs.declared.alloc.AllocError.{AllocError}
 use Rattle.unit_book.specs.declared.answer.Running.{Running}
 use Rattle.unit_book.specs.declared.answer.Running.TheVariants.{Quiet, Ran}
 use Rattle.unit_book.specs.Answers.{ExtendsByPost}
 use Rattle.unit_book.specs.Legal.{Settled}
-use Rattle.unit_book.proofs.Dooms.{settled-ran, settled-open, doomed-few, due-no_halt}
+use Rattle.unit_book.proofs.Dooms.{settled-ran, settled-open, due-no_halt}
 use Rattle.unit_book.proofs.Purges.{since-post}
 
 -- `run` keeps a book settled

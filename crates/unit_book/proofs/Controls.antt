@@ -1,6 +1,6 @@
 -- A purge, a halt, a close and a reset: what they doom, and that the fields stay those of the trace.
 use Rattle.unit_book.proofs.Names.{◌≡◌, ℕ, ◌≤◌, Bool, true, false, not, ◌&&◌, ◌||◌, Option, Some, None, List, [], ◌∷◌, length, refl, sym}
-use Rattle.unit_book.proofs.Names.{ap, ◌∙◌, eqb, if◌then◌else◌, is_some, Storage, Meaning, Channel, Phase, Absent, Idle, Running, Pending}
+use Rattle.unit_book.proofs.Names.{ap, ◌∙◌, eqb, if◌then◌else◌, is_some, Storage, Meaning, Channel, Phase, Idle, Running, Pending}
 use Rattle.unit_book.proofs.Names.{PostedState, Name, Piece, covers, Scope, Active, Standing, OnChannel, AwaitsRestart, Mode, Entry, Halted}
 use Rattle.unit_book.proofs.Names.{Purge, Close, Reset, waiting, arrivals, active, started, request_named, is_halt, is_covered, doomed}
 use Rattle.unit_book.proofs.Names.{is_doomed, is_open, is_opened, is_closed, flag, extents_of, attempts, current, Legal, Free, due}
@@ -21,9 +21,7 @@ module _ {D : Type 0} (meaning : Meaning D) (mounted : D) where
       (shut || (covered || purged) || flagged) ≡ covered
   purged-by true false purged flagged h = refl
   purged-by false false false false h = refl
-  purged-by false false false true h = absurd cc
-  purged-by false false true flagged h = absurd cc
-  purged-by covered true purged flagged h = absurd cc
+  purged-by _ _ _ _ h = absurd cc
 
   pub doomed-purge : (scope : Scope) (mode : Mode) (H : List Entry) → doomed H ≡ [] →
       DoomedBy (Some (selection.Scope scope)) (Purge scope mode ∷ H)
@@ -44,10 +42,7 @@ module _ {D : Type 0} (meaning : Meaning D) (mounted : D) where
       (not (opened && not (here || closed)) || purged || flagged) ≡ here
   closed-by true true false false false h = refl
   closed-by false true false false false h = refl
-  closed-by here true false false true h = absurd cc
-  closed-by here true false true flagged h = absurd cc
-  closed-by here true true purged flagged h = absurd cc
-  closed-by here false closed purged flagged h = absurd cc
+  closed-by here _ _ _ _ h = absurd cc
 
   pub doomed-close : (d : ℕ) (H : List Entry) → doomed H ≡ [] → DoomedBy (Some (selection.Scope (Dcb d))) (Close d ∷ H)
   unfolding waiting arrivals flag
@@ -60,12 +55,10 @@ module _ {D : Type 0} (meaning : Meaning D) (mounted : D) where
   -- A RESET DOOMS nothing
   reset-spares : (here shut purged related flagged : Bool) → not (shut || purged || (related && flagged)) ≡ true →
       (shut || purged || (related && (if here then false else flagged))) ≡ false
-  reset-spares here true purged related flagged h = absurd cc
-  reset-spares here false true related flagged h = absurd cc
   reset-spares true false false true flagged h = refl
   reset-spares false false false true false h = refl
-  reset-spares false false false true true h = absurd cc
   reset-spares here false false false flagged h = refl
+  reset-spares _ _ _ _ _ h = absurd cc
 
   pub settled-reset : (d : ℕ) (H : List Entry) → due meaning mounted H ≡ Free → due meaning mounted (Reset d ∷ H) ≡ Free
   unfolding waiting arrivals flag
@@ -121,15 +114,12 @@ module _ {D : Type 0} (meaning : Meaning D) (mounted : D) where
         StandingTies meaning mounted H phase a standing →
         StandingTies meaning mounted (Purge scope mode ∷ H) phase (after_cover scope mode a) standing
     unfolding attempts request_named
-    standing-purge Absent a standing t u d = absurd d
-    standing-purge Idle a OnChannel t u d = absurd d
     standing-purge Idle a (AwaitsRestart csw sense) t u d =
         let e = ap (λ b. b && is_halt mode) (sym (covers-same t)) ∙ u refl in
         (d.0, d.1, rw e d.2)
     standing-purge (Running place) a OnChannel t u d = d
-    standing-purge (Running place) a (AwaitsRestart csw sense) t u d = absurd d
     standing-purge (Pending csw sense) a OnChannel t u d = d
-    standing-purge (Pending csw sense) a (AwaitsRestart c s) t u d = absurd d
+    standing-purge _ a _ t u d = absurd d
 
     active-purge : (phase : Phase) (a : Active) → ActiveTies meaning mounted H phase a →
         (awaits_by a.standing ≡ true → covers scope a.piece.value && is_halt mode ≡ false) →

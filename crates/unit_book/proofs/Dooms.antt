@@ -74,8 +74,6 @@ module _ {D : Type 0} (meaning : Meaning D) (mounted : D) where
   doomed-by : (q r : Piece) (code : Code) (shut purged f : Bool) → not (shut || purged || (r.related && f)) ≡ true →
       (shut || purged || (r.related && (if is_error code && q.related && eqb q.dcb r.dcb then true else f)))
       ≡ is_selected (doomed_by_post q code) r
-  doomed-by q r code true purged f h = absurd cc
-  doomed-by q r code false true f h = absurd cc
   doomed-by q r code false false f h =
       elim (cases_Bool (is_error code)) [
         | inl e ↦ elim (cases_Bool q.related) [
@@ -94,6 +92,7 @@ module _ {D : Type 0} (meaning : Meaning D) (mounted : D) where
         by_bools true false true h = absurd cc
         by_bools true false false h = refl
         by_bools false d f h = refl
+  doomed-by q r code _ _ f h = absurd cc
 
   pub doomed-post : (n : Name) (csw : Csw) (sense : ℕ) (code : Code) (H : List Entry) → doomed H ≡ [] →
       DoomedBy (doomed_by_post (request_named n H) code) (Post n csw sense code ∷ H)
@@ -151,10 +150,7 @@ module _ {D : Type 0} (meaning : Meaning D) (mounted : D) where
       (not ((now || opened) && not shut) || purged || flagged) ≡ false
   open-spares true true false false false h = refl
   open-spares true false false false false h = refl
-  open-spares true now true purged flagged h = absurd cc
-  open-spares false now shut purged flagged h = absurd cc
-  open-spares true now false true flagged h = absurd cc
-  open-spares true now false false true h = absurd cc
+  open-spares _ now _ _ _ h = absurd cc
 
   pub settled-open : (d : ℕ) (input : Bool) (x : List Extent) (H : List Entry) → due meaning mounted H ≡ Free →
       due meaning mounted (Opened d input x ∷ H) ≡ Free

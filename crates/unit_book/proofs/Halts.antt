@@ -1,11 +1,11 @@
 -- A halt, a close and a reset: the fields stay those of the trace.
-use Rattle.unit_book.proofs.Names.{◌≡◌, ℕ, Bool, true, false, ◌&&◌, Option, Some, None, List, [], ◌∷◌, length, refl, sym, ap, ◌∙◌, eqb, inl}
-use Rattle.unit_book.proofs.Names.{inr, subst, if◌then◌else◌, cases_Bool, and_parts, is_some, Meaning, Place, Channel, Phase, Absent, Idle}
-use Rattle.unit_book.proofs.Names.{Running, Pending, PostedState, Name, Piece, covers, Scope, Active, Standing, OnChannel, AwaitsRestart}
-use Rattle.unit_book.proofs.Names.{Mode, Quiesce, Halt, Entry, Opened, Arrive, Start, Ran, Halted, Purge, Close, Reset, Post, waiting}
-use Rattle.unit_book.proofs.Names.{arrivals, active, started, request_named, doomed, is_open, is_opened, flag, extents_of, attempts, current}
-use Rattle.unit_book.proofs.Names.{active_phase, still_runs, Fits, FitsBy, Legal, ToHalt, Free, due, due_by, doomed_first, is_to_halt}
-use Rattle.unit_book.proofs.Names.{posted, running_name_by, active_of, covered_by, StandingTies, Ties, dcb_at, dcb_of}
+use Rattle.unit_book.proofs.Names.{◌≡◌, ℕ, Bool, true, false, ◌&&◌, Option, Some, None, List, ◌∷◌, length, refl, sym, ap, ◌∙◌, eqb, inl}
+use Rattle.unit_book.proofs.Names.{inr, subst, if◌then◌else◌, cases_Bool, and_parts, is_some, Meaning, Place, Channel, Phase, Idle, Running}
+use Rattle.unit_book.proofs.Names.{Pending, PostedState, Name, Piece, covers, Scope, Active, Standing, OnChannel, AwaitsRestart, Mode}
+use Rattle.unit_book.proofs.Names.{Quiesce, Halt, Entry, Halted, Purge, Close, Reset, waiting, arrivals, active, started, request_named}
+use Rattle.unit_book.proofs.Names.{doomed, is_open, is_opened, flag, extents_of, attempts, current, active_phase, still_runs, Fits, FitsBy}
+use Rattle.unit_book.proofs.Names.{Legal, ToHalt, Free, due, due_by, doomed_first, is_to_halt, posted, running_name_by, active_of}
+use Rattle.unit_book.proofs.Names.{covered_by, StandingTies, Ties, dcb_at, dcb_of}
 use Rattle.subchannel.specs.Subchannel.{halted_phase}
 use Rattle.unit_book.specs.declared.dcb.Dcb.{Dcb as Row}
 use Rattle.unit_book.specs.Controls.{due_after}
@@ -56,17 +56,8 @@ module _ {D : Type 0} (meaning : Meaning D) (mounted : D) where
 
   -- what is to be halted has a program that runs
   to-halt : (H : List Entry) (n : Name) → is_to_halt meaning mounted H n ≡ true → still_runs (active_phase meaning mounted n H) ≡ true
-  to-halt [] n h = absurd cc
-  to-halt (Purge scope Quiesce ∷ H) n h = absurd cc
   to-halt (Purge scope Halt ∷ H) n h = (and_parts (covers scope (request_named n H)) _ h).1
-  to-halt (Opened d i x ∷ H) n h = absurd cc
-  to-halt (Arrive r ∷ H) n h = absurd cc
-  to-halt (Start m ∷ H) n h = absurd cc
-  to-halt (Ran m j ∷ H) n h = absurd cc
-  to-halt (Halted m ∷ H) n h = absurd cc
-  to-halt (Close d ∷ H) n h = absurd cc
-  to-halt (Reset d ∷ H) n h = absurd cc
-  to-halt (Post m csw sense code ∷ H) n h = absurd cc
+  to-halt _ n h = absurd cc
 
   pub halt-runs : (n : Name) (H : List Entry) → due meaning mounted H ≡ ToHalt n → still_runs (active_phase meaning mounted n H) ≡ true
   halt-runs n H h = to-halt H n (due-halt meaning mounted H n h).1
@@ -89,13 +80,10 @@ module _ {D : Type 0} (meaning : Meaning D) (mounted : D) where
 
     runs : (phase : Phase) (standing : Standing) → still_runs (active_phase meaning mounted n H) ≡ true →
         StandingTies meaning mounted H phase a standing → Going phase standing
-    runs Absent standing g k = absurd k
-    runs Idle OnChannel g k = absurd k
     runs Idle (AwaitsRestart csw sense) g k = absurd (not-over (active_phase meaning mounted n H) g false csw sense k.0)
     runs (Running place) OnChannel g k = record { place = place; phase_is = refl; place_is = k.0; standing_is = refl }
-    runs (Running place) (AwaitsRestart csw sense) g k = absurd k
     runs (Pending csw sense) OnChannel g k = absurd (not-over (active_phase meaning mounted n H) g a.halted csw sense k)
-    runs (Pending csw sense) (AwaitsRestart c s) g k = absurd k
+    runs _ _ g k = absurd k
 
     stopped : Active
     stopped = record a { halted = true }

@@ -1,16 +1,15 @@
 -- When a status is pending: what each call of a book makes of it.
 use Rattle.unit_book.proofs.Names.{◌≡◌, ℕ, ◌+◌, Bool, true, false, not, ◌&&◌, ◌||◌, Ok, Err, Option, Some, None, List, [], ◌∷◌, refl, sym}
 use Rattle.unit_book.proofs.Names.{ap, ◌∙◌, subst, and_parts, is_some, OnOk, OnErr, Extent, ExtentViolated, Purged, Meaning, after}
-use Rattle.unit_book.proofs.Names.{no_status, Name, Piece, covers, Scope, Starting, Busy, Started, Violated, NothingRuns, RanSome}
-use Rattle.unit_book.proofs.Names.{Interruption, NothingPending, TriedAgain, WasPosted, Mode, Quiesce, Halt, Entry, Opened, Arrive, Purge}
-use Rattle.unit_book.proofs.Names.{Close, Reset, Post, waiting, active, started, arrivals, request_named, has_started, is_posted, is_halt}
-use Rattle.unit_book.proofs.Names.{is_halted, arrived_of, doomed, is_doomed, opened_count, all_posted, after_dooms, attempts, newest}
-use Rattle.unit_book.proofs.Names.{still_runs, active_phase, Due, ToHalt, ToPost, Free, Legal, CanPurge, due, due_by, is_to_halt, Book}
-use Rattle.unit_book.proofs.Names.{running_name_by, Adds, Extends, MayStart, MayFirst, MayAgain, StartsBook, RunsBook, InterruptsBook}
-use Rattle.unit_book.proofs.Names.{PurgesBy, covered_by, covers_awaiting, halted_by, after_halt, after_purge, Each}
+use Rattle.unit_book.proofs.Names.{no_status, Name, Piece, covers, Scope, Starting, Started, Violated, NothingRuns, RanSome, Interruption}
+use Rattle.unit_book.proofs.Names.{NothingPending, TriedAgain, WasPosted, Mode, Quiesce, Halt, Entry, Opened, Arrive, Purge, Close, Reset}
+use Rattle.unit_book.proofs.Names.{Post, waiting, active, started, arrivals, request_named, has_started, is_posted, is_halt, is_halted}
+use Rattle.unit_book.proofs.Names.{arrived_of, doomed, is_doomed, opened_count, all_posted, after_dooms, attempts, newest, still_runs}
+use Rattle.unit_book.proofs.Names.{active_phase, Due, ToHalt, ToPost, Free, Legal, CanPurge, due, due_by, is_to_halt, Book, running_name_by}
+use Rattle.unit_book.proofs.Names.{Adds, Extends, MayStart, MayFirst, MayAgain, StartsBook, RunsBook, InterruptsBook, PurgesBy, covered_by}
+use Rattle.unit_book.proofs.Names.{covers_awaiting, halted_by, after_halt, after_purge, Each}
 use Rattle.std.proofs.Common.{Result}
 use Rattle.std.specs.declared.alloc.AllocError.{AllocError}
-use Rattle.unit_book.specs.declared.answer.Starting.TheVariants.{Idle}
 use Rattle.unit_book.specs.declared.answer.Running.{Running}
 use Rattle.unit_book.specs.Book.{running_name, is_pending, pending_by}
 use Rattle.unit_book.specs.Answers.{pending_after}
@@ -77,8 +76,7 @@ module _ {D : Type 0} (meaning : Meaning D) (mounted : D) where
   purged-facts : (d : Due) (scope : Scope) (mode : Mode) (H : List Entry) → Facts H → Facts (halted_by d (Purge scope mode ∷ H))
   unfolding arrivals active started attempts request_named
   purged-facts (ToHalt n) scope mode H f = f
-  purged-facts (ToPost n) scope mode H f = f
-  purged-facts Free scope mode H f = f
+  purged-facts _ scope mode H f = f
 
   -- the purge halts no program
   unhalted : (scope : Scope) (mode : Mode) (H : List Entry) (n : Name) (again : Bool) → is_to_halt meaning mounted (Purge scope mode ∷ H) n
@@ -160,8 +158,6 @@ module _ {D : Type 0} (meaning : Meaning D) where
   pub pending-start : (old new : Book D) (answer : Starting) → StartsBook meaning old answer new →
       is_pending meaning new ≡ is_pending meaning old
   unfolding attempts newest after
-  pending-start old new Busy h = ap (is_pending meaning) h.2
-  pending-start old new Idle h = ap (is_pending meaning) h.2
   pending-start old new (Started n) h = runs-now (unposted h.0) ∙ sym (by_start h.0) where
     by_start : MayStart meaning old n → is_pending meaning old ≡ false
     by_start (MayFirst s) = pending-none meaning old.mounted old.trace old.awaits (active old.trace) s.none
@@ -183,6 +179,7 @@ module _ {D : Type 0} (meaning : Meaning D) where
       ap (is_pending meaning) h.1
       ∙ pending-none meaning old.mounted (after_dooms G) false (active (after_dooms G)) none
       ∙ sym (pending-none meaning old.mounted old.trace old.awaits (active old.trace) h.0.none)
+  pending-start old new _ h = ap (is_pending meaning) h.2
 
   pub pending-run : (old new : Book D) (max : ℕ) (answer : Running) → (old.awaits ≡ true → running_name meaning old ≡ None) →
       RunsBook meaning old max answer new →

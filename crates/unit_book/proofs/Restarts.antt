@@ -1,7 +1,7 @@
 -- A further start of the active request: the fields stay those of the trace.
 use Rattle.unit_book.proofs.Names.{◌≡◌, ℕ, ◌+◌, ◌≤◌, Bool, true, false, ◌&&◌, ◌||◌, Some, List, ◌∷◌, refl, sym, ap, ◌∙◌, arith, subst}
-use Rattle.unit_book.proofs.Names.{if◌then◌else◌, and_parts, Csw, Ended, Meaning, Kind, Program, Channel, Phase, Absent, Idle, Running}
-use Rattle.unit_book.proofs.Names.{Pending, ssch_started, Retry, Final, verdict, PostedState, Name, Piece, Active, Standing, OnChannel}
+use Rattle.unit_book.proofs.Names.{if◌then◌else◌, and_parts, Csw, Ended, Meaning, Kind, Program, Channel, Phase, Idle, Running, Pending}
+use Rattle.unit_book.proofs.Names.{ssch_started, Retry, Final, verdict, PostedState, Name, Piece, Active, Standing, OnChannel}
 use Rattle.unit_book.proofs.Names.{AwaitsRestart, Dcb, Entry, Start, same, starts_of, active, request_named, extents_of, flag, mask_of}
 use Rattle.unit_book.proofs.Names.{current, device, Legal, due, Free, StartsAgain, posted, StandingTies, Ties, awaits_by, dcb_at, mask_at}
 use Rattle.std.proofs.lemmas.Bool.{leb-true}
@@ -54,20 +54,16 @@ module _ {D : Type 0} (meaning : Meaning D) (mounted : D) where
 
     is-idle : (phase : Phase) (standing : Standing) → StandingTies meaning mounted H phase a standing → awaits_by standing ≡ true →
         phase ≡ Idle
-    is-idle Absent standing d h = absurd d
     is-idle Idle standing d h = refl
     is-idle (Running place) OnChannel d h = absurd cc
-    is-idle (Running place) (AwaitsRestart csw sense) d h = absurd d
     is-idle (Pending csw sense) OnChannel d h = absurd cc
-    is-idle (Pending csw sense) (AwaitsRestart c k) d h = absurd d
+    is-idle _ _ d h = absurd d
 
     -- it may be started again
     pub may-restart : StartsAgain meaning mounted n H
     may-restart = by_standing channel.phase a.standing t.activity.standing found.again where
       by_standing : (phase : Phase) (standing : Standing) → StandingTies meaning mounted H phase a standing → awaits_by standing ≡ true →
           StartsAgain meaning mounted n H
-      by_standing Absent standing d h = absurd d
-      by_standing Idle OnChannel d h = absurd d
       by_standing Idle (AwaitsRestart csw sense) d h = record {
         active = t.activity.is;
         csw = csw;
@@ -77,9 +73,8 @@ module _ {D : Type 0} (meaning : Meaning D) (mounted : D) where
         free = d.2;
       }
       by_standing (Running place) OnChannel d h = absurd cc
-      by_standing (Running place) (AwaitsRestart csw sense) d h = absurd d
       by_standing (Pending csw sense) OnChannel d h = absurd cc
-      by_standing (Pending csw sense) (AwaitsRestart c k) d h = absurd d
+      by_standing _ _ d h = absurd d
 
     -- it was started at most ten times
     pub few-starts : a.starts ≤ 10

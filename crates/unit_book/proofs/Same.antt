@@ -1,9 +1,9 @@
 -- What an entry that says nothing of the active request leaves as it is.
 use Rattle.unit_book.proofs.Names.{◌≡◌, ℕ, ◌+◌, ◌<◌, Bool, Option, Some, None, List, length, refl, sym, ap, ◌∙◌, arith, subst, Meaning}
-use Rattle.unit_book.proofs.Names.{Program, Channel, Phase, Absent, Idle, Running, Pending, PostedState, Name, Piece, Active, Standing}
-use Rattle.unit_book.proofs.Names.{OnChannel, AwaitsRestart, Dcb, Entry, waiting, active, request_named, starts_of, is_halted, is_covered}
-use Rattle.unit_book.proofs.Names.{attempts, newest, current, active_phase, active_phase_by, Fits, FitsBy, due, Free, ActivityTies}
-use Rattle.unit_book.proofs.Names.{StandingTies, Ties}
+use Rattle.unit_book.proofs.Names.{Program, Channel, Phase, Idle, Running, Pending, PostedState, Name, Piece, Active, Standing, OnChannel}
+use Rattle.unit_book.proofs.Names.{AwaitsRestart, Dcb, Entry, waiting, active, request_named, starts_of, is_halted, is_covered, attempts}
+use Rattle.unit_book.proofs.Names.{newest, current, active_phase, active_phase_by, Fits, FitsBy, due, Free, ActivityTies, StandingTies}
+use Rattle.unit_book.proofs.Names.{Ties}
 use Rattle.unit_book.specs.Media.{ActivePhase}
 use Rattle.unit_book.specs.Legal.{FitsFree}
 use Rattle.unit_book.specs.Book.{active_count}
@@ -30,17 +30,14 @@ module _ {D : Type 0} (meaning : Meaning D) (mounted : D) where
 
   standing-same : (H G : List Entry) (phase : Phase) (a : Active) (standing : Standing) → Silent H G a.piece.value.name →
       StandingTies meaning mounted H phase a standing → StandingTies meaning mounted G phase a standing
-  standing-same H G Absent a standing s t = t
-  standing-same H G Idle a OnChannel s t = t
   standing-same H G Idle a (AwaitsRestart csw sense) s t =
       (phase-same H G a.piece.value.name s.attempts s.halted ∙ t.0, rw s.starts t.1, s.covered ∙ t.2)
   standing-same H G (Running place) a OnChannel s t = (
     t.0 ∙ ap (λ (p : Program D). p.place) (sym (current-same H G s.attempts)),
     phase-same H G a.piece.value.name s.attempts s.halted ∙ t.1,
   )
-  standing-same H G (Running place) a (AwaitsRestart csw sense) s t = t
   standing-same H G (Pending csw sense) a OnChannel s t = phase-same H G a.piece.value.name s.attempts s.halted ∙ t
-  standing-same H G (Pending csw sense) a (AwaitsRestart c d) s t = t
+  standing-same H G _ a _ s t = t
 
   active-same : (H G : List Entry) (phase : Phase) (a : Active) → Silent H G a.piece.value.name →
       ActiveTies meaning mounted H phase a → ActiveTies meaning mounted G phase a

@@ -2,10 +2,10 @@
 use Rattle.unit_book.proofs.Names.{◌≡◌, ℕ, Bool, true, false, ◌||◌, Option, Some, None, List, [], ◌∷◌, length, refl, sym, ap, ◌∙◌, eqb, inl}
 use Rattle.unit_book.proofs.Names.{inr, subst, cases_Bool, and_parts, and_from, or_parts, or_left, or_right, filter, list_any, list_all}
 use Rattle.unit_book.proofs.Names.{slice_get, drop, Meaning, Program, after, Channel, Phase, Idle, Running, ssch_started, PostedState}
-use Rattle.unit_book.proofs.Names.{Placed, Name, Piece, Active, OnChannel, Dcb, Entry, Opened, Arrive, Start, Ran, Halted, Purge, Close}
-use Rattle.unit_book.proofs.Names.{Reset, Post, same, starts, has_started, waiting, active, request_named, passes_check, is_opened, extents_of}
-use Rattle.unit_book.proofs.Names.{flag, mask_of, Attempt, attempts, stand, newest, current, device, area, Legal, due, Free, First}
-use Rattle.unit_book.proofs.Names.{StartsFirst, posted, Each, ActivityTies, Ties, dcb_at, dcb_of, mask_at}
+use Rattle.unit_book.proofs.Names.{Placed, Name, Piece, Active, OnChannel, Dcb, Entry, Opened, Start, Ran, same, starts, has_started}
+use Rattle.unit_book.proofs.Names.{waiting, active, request_named, passes_check, is_opened, extents_of, flag, mask_of, Attempt, attempts}
+use Rattle.unit_book.proofs.Names.{stand, newest, current, device, area, Legal, due, Free, First, StartsFirst, posted, Each, ActivityTies}
+use Rattle.unit_book.proofs.Names.{Ties, dcb_at, dcb_of, mask_at}
 use Rattle.std.specs.Global.{Box}
 use Rattle.std.specs.Prelude.{option_map, box_value, MatchOption, IsSomeAnd}
 use Rattle.ccw_programs.specs.Place.{start_place}
@@ -51,27 +51,13 @@ no-starts n (e ∷ H) h = let p = or_parts (starts n e) (has_started n H) h in l
 pub no-input : (d : ℕ) (H : List Entry) → is_opened d H ≡ false → list_any (opens_for_input d) H ≡ false
 no-input d [] h = refl
 no-input d (Opened c i x ∷ H) h = let p = or_parts (eqb c d) (is_opened d H) h in let a = p.0 in rw a (no-input d H p.1)
-no-input d (Arrive r ∷ H) h = no-input d H h
-no-input d (Start n ∷ H) h = no-input d H h
-no-input d (Ran n j ∷ H) h = no-input d H h
-no-input d (Halted n ∷ H) h = no-input d H h
-no-input d (Purge s m ∷ H) h = no-input d H h
-no-input d (Close c ∷ H) h = no-input d H h
-no-input d (Reset c ∷ H) h = no-input d H h
-no-input d (Post n c s k ∷ H) h = no-input d H h
+no-input d (_ ∷ H) h = no-input d H h
 
 pub no-extents : (d : ℕ) (H : List Entry) → is_opened d H ≡ false → extents_of d H ≡ []
 unfolding extents_of
 no-extents d [] h = refl
 no-extents d (Opened c i x ∷ H) h = let p = or_parts (eqb c d) (is_opened d H) h in let a = p.0 in rw a (no-extents d H p.1)
-no-extents d (Arrive r ∷ H) h = no-extents d H h
-no-extents d (Start n ∷ H) h = no-extents d H h
-no-extents d (Ran n j ∷ H) h = no-extents d H h
-no-extents d (Halted n ∷ H) h = no-extents d H h
-no-extents d (Purge s m ∷ H) h = no-extents d H h
-no-extents d (Close c ∷ H) h = no-extents d H h
-no-extents d (Reset c ∷ H) h = no-extents d H h
-no-extents d (Post n c s k ∷ H) h = no-extents d H h
+no-extents d (_ ∷ H) h = no-extents d H h
 
 -- the table has the file mask of the trace
 pub mask-is : (d : ℕ) (H : List Entry) → mask_at (dcb_of d H) ≡ mask_of d H
@@ -86,8 +72,6 @@ module _ {D : Type 0} (meaning : Meaning D) (mounted : D) where
   pub named : (H : List Entry) → Legal meaning mounted H → list_all (named_within H) (attempts H) ≡ true
   unfolding Legal attempts request_named
   named [] l = refl
-  named (Opened d i x ∷ H) l = named H l.1
-  named (Arrive r ∷ H) l = named H l.1
   named (Start n ∷ H) l =
       let f = facts meaning mounted H l.1 in
       let u = start-unposted meaning mounted n H f (fits-start meaning mounted n H (due meaning mounted H) l.0) in
@@ -97,11 +81,7 @@ module _ {D : Type 0} (meaning : Meaning D) (mounted : D) where
       (or_left (same n (request_named n H).name) (has_started (request_named n H).name H) (same-is n (request_named n H).name (sym e)))
       (named-more H n (attempts H) (named H l.1))
   named (Ran n j ∷ H) l = lengthened-named H n j (attempts H) (named H l.1)
-  named (Halted n ∷ H) l = named H l.1
-  named (Purge s m ∷ H) l = named H l.1
-  named (Close d ∷ H) l = named H l.1
-  named (Reset d ∷ H) l = named H l.1
-  named (Post n c s k ∷ H) l = named H l.1
+  named (_ ∷ H) l = named H l.1
 
   as-issued_by : (r : Piece) (H : List Entry) → has_started r.name H ≡ false → (rest : List Attempt) →
       list_all (named_within H) rest ≡ true → (stand meaning mounted rest).area r ≡ r.area

@@ -154,11 +154,4 @@ module _ {D : Type 0} (meaning : Meaning D) (mounted : D) where
   unfolding arrivals posted
   opened-only [] h = (refl, refl, settled-new meaning mounted)
   opened-only (Opened d i x ∷ H) h = let ih = opened-only H h in (ih.0, ih.1, settled-open meaning mounted d i x H ih.2)
-  opened-only (Arrive r ∷ H) h = absurd cc
-  opened-only (Start n ∷ H) h = absurd cc
-  opened-only (Ran n j ∷ H) h = absurd cc
-  opened-only (Halted n ∷ H) h = absurd cc
-  opened-only (Purge s m ∷ H) h = absurd cc
-  opened-only (Close d ∷ H) h = absurd cc
-  opened-only (Reset d ∷ H) h = absurd cc
-  opened-only (Post n csw sense code ∷ H) h = absurd cc
+  opened-only (_ ∷ H) h = absurd cc

@@ -133,11 +133,11 @@ module _ {D : Type 0} (meaning : Meaning D) where
     pub dooms : DoomedBy doom new.trace
 
   -- a start, before what its post dooms is posted
-  abbrev pub Begins : Book D → Begun → Book D → Type 0
-  Begins old beginning.Busy new = IsSome (active old.trace) × (old.awaits ≡ false) × (new ≡ old)
-  Begins old beginning.Idle new = (active old.trace ≡ None) × (waiting old.trace ≡ []) × (new ≡ old)
-  Begins old (beginning.Started n) new = MayStart old n × StartsOne old n new
-  Begins old (beginning.Violated n doom) new = PostsViolated old n doom new
+  abbrev pub IsBegun : Book D → Begun → Book D → Type 0
+  IsBegun old beginning.Busy new = IsSome (active old.trace) × (old.awaits ≡ false) × (new ≡ old)
+  IsBegun old beginning.Idle new = (active old.trace ≡ None) × (waiting old.trace ≡ []) × (new ≡ old)
+  IsBegun old (beginning.Started n) new = MayStart old n × StartsOne old n new
+  IsBegun old (beginning.Violated n doom) new = PostsViolated old n doom new
 
   abbrev pub StartsBook : Book D → Starting → Book D → Type 0
   StartsBook old starting.Busy new = IsSome (active old.trace) × (old.awaits ≡ false) × (new ≡ old)

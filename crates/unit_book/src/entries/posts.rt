@@ -13,7 +13,7 @@ ghost use Rattle.unit_book.specs.Dcbs.{doomed, is_refused};
 ghost use Rattle.unit_book.specs.Dooms.{all_posted, after_dooms, purged};
 ghost use Rattle.unit_book.specs.Posts.{posted_value};
 ghost use Rattle.unit_queue.specs.Queue.{queue};
-ghost use Rattle.unit_book.specs.Answers.{Begins, Extends, Takes};
+ghost use Rattle.unit_book.specs.Answers.{IsBegun, Extends, Takes};
 
 use crate::decision::{Begun, Taken};
 use crate::doom::doomed_by_post;
@@ -126,7 +126,7 @@ impl<D: Device> Entries<D> {
     pub(super) fn post_violated(&mut self) -> Result<Begun, AllocError>
         requires first { (name : Name) × FailsCheck D.meaning self.old.mounted name self.old.trace }
         requires settled { Settled D.meaning self.old.mounted self.old.trace }
-        ensures ok { IfOk result (λ begun. Begins D.meaning self.old begun self.new) }
+        ensures ok { IfOk result (λ begun. IsBegun D.meaning self.old begun self.new) }
         ensures err { OnErr result (self.new ≡ self.old) }
         ensures full { OnErr result (StartLacks D.meaning self.old) }
     {

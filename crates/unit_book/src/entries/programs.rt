@@ -5,7 +5,7 @@ ghost use Rattle.ccw_programs.specs.Step.{is_running};
 ghost use Rattle.subchannel.specs.Subchannel.{TakesSeek, after_ssch};
 ghost use Rattle.unit_book.specs.Legal.{Settled};
 ghost use Rattle.unit_book.specs.Refusals.{StartLacks};
-ghost use Rattle.unit_book.specs.Answers.{Begins, RunsBook};
+ghost use Rattle.unit_book.specs.Answers.{IsBegun, RunsBook};
 ghost use Rattle.unit_book.specs.Trace.{active};
 
 use crate::active::Active;
@@ -44,7 +44,7 @@ impl<D: Device> Entries<D> {
     /// doom.
     pub fn start(&mut self) -> Result<Begun, AllocError>
         requires { Settled D.meaning self.old.mounted self.old.trace }
-        ensures ok { IfOk result (λ begun. Begins D.meaning self.old begun self.new) }
+        ensures ok { IfOk result (λ begun. IsBegun D.meaning self.old begun self.new) }
         ensures err { OnErr result (self.new ≡ self.old) }
         ensures full { OnErr result (StartLacks D.meaning self.old) }
     {
@@ -74,7 +74,7 @@ impl<D: Device> Entries<D> {
     fn start_waiting(&mut self) -> Result<Begun, AllocError>
         requires none { active self.old.trace ≡ None }
         requires settled { Settled D.meaning self.old.mounted self.old.trace }
-        ensures ok { IfOk result (λ begun. Begins D.meaning self.old begun self.new) }
+        ensures ok { IfOk result (λ begun. IsBegun D.meaning self.old begun self.new) }
         ensures err { OnErr result (self.new ≡ self.old) }
         ensures full { OnErr result (StartLacks D.meaning self.old) }
     {

@@ -1,6 +1,6 @@
 use Rattle.unit_book.proofs.Names.{refl, subst, ExtentViolated, no_status, Started, Violated}
 use Rattle.unit_book.specs.declared.decision.Begun.{Begun}
-use Rattle.unit_book.specs.Answers.{Begins, PostsViolated, MayStart, StartsOne}
+use Rattle.unit_book.specs.Answers.{IsBegun, PostsViolated, MayStart, StartsOne}
 use Rattle.unit_book.proofs.Dooms.{settled-start}
 use Rattle.unit_book.proofs.Calls.{post-then-sweep, sweep-due}
 use Rattle.unit_book.proofs.Pending.{pending-start}
@@ -12,13 +12,13 @@ use Rattle.unit_book.proofs.book.UnitBook.start.Goals as goal
 started : (g : Over) (c : In-Started g) → MayStart g.D.Device.meaning c.self.inside.entries c.in-Started.name
     × StartsOne c.self.inside.entries c.in-Started.name c.start.new.self
 started g c =
-    subst (λ (x : Begun). Begins g.D.Device.meaning c.self.inside.entries x c.start.new.self) c.in-Started.is c.in_ok-start.ensures.ok
+    subst (λ (x : Begun). IsBegun g.D.Device.meaning c.self.inside.entries x c.start.new.self) c.in-Started.is c.in_ok-start.ensures.ok
 
 -- or the request that waited first was posted
 violated : (g : Over) (c : In-Violated g) →
     PostsViolated g.D.Device.meaning c.self.inside.entries c.in-Violated.name c.in-Violated.doom c.start.new.self
 violated g c =
-    subst (λ (x : Begun). Begins g.D.Device.meaning c.self.inside.entries x c.start.new.self) c.in-Violated.is c.in_ok-start.ensures.ok
+    subst (λ (x : Begun). IsBegun g.D.Device.meaning c.self.inside.entries x c.start.new.self) c.in-Violated.is c.in_ok-start.ensures.ok
 
 pub invariant_of-self-in-Started : goal.invariant_of-self-in-Started
 invariant_of-self-in-Started g c =

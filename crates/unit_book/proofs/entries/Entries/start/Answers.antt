@@ -1,4 +1,4 @@
-use Rattle.unit_book.proofs.Names.{◌≡◌, true, Some, reverse, arith, refl, sym, ap, ◌∙◌, Piece, ssch_started, awaits_by, MayAgain}
+use Rattle.unit_book.proofs.Names.{◌≡◌, true, Some, reverse, arith, sym, ap, ◌∙◌, Piece, ssch_started, awaits_by, MayAgain}
 use Rattle.unit_book.specs.Answers.{Again}
 use Rattle.unit_book.specs.Fields.{awaits_of}
 use Rattle.std.proofs.Common.{rules}
