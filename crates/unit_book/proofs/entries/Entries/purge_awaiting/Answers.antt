@@ -1,5 +1,5 @@
 use Rattle.unit_book.proofs.Names.{◌≡◌, ◌++◌, [], ◌∷◌, Some, length, length-append, append_assoc, map, reverse, arith, refl, sym, ap, ◌∙◌}
-use Rattle.unit_book.proofs.Names.{true, Ties, PostsActive}
+use Rattle.unit_book.proofs.Names.{true, Ties, PostsActive, and_parts, ◌&&◌, is_halt, awaits_by, covers_awaiting}
 use Rattle.unit_book.proofs.Names.{subst, Purged, filter, Queue, queue, Placed, covers, purged}
 use Rattle.unit_book.proofs.Names.{posted_value}
 use Rattle.unit_book.specs.Fields.{kept_by}
@@ -68,17 +68,21 @@ found : (g : Over) (c : After-is_covered_awaiting g) → let i = c.self.inside i
     c.is_covered_awaiting.result ≡ true → (i.active ≡ Some c.in-Some.active)
     × Ties m i.mounted (reverse i.trace.items) i.channel (Some c.in-Some.active) i.waiting.pieces i.dcbs i.out.items
     × FoundAwaiting m i.mounted (reverse i.trace.items) c.in-Some.active c.args.scope c.args.mode
-found g c covers =
+found g c covered =
     let m = g.D.Device.meaning in
     let i = c.self.inside in
     let o : i.active ≡ Some c.in-Some.active = sym c.take.ensures.value ∙ c.in-Some.is in
-    let t = ties-found o c.self.invariant.0 in (
+    let both = and_parts (is_halt c.args.mode && awaits_by c.in-Some.active.standing) (covers c.args.scope c.in-Some.active.piece.value)
+    (sym c.is_covered_awaiting.ensures ∙ covered) in
+    let awaits = and_parts (is_halt c.args.mode) (awaits_by c.in-Some.active.standing) both.0 in (
       o,
-      t,
+      ties-found o c.self.invariant.0,
       record {
         settled = rw (← c.self.view_is) at c.requires.settled;
         can = rw (← c.self.view_is) at c.requires.can;
-        covered = sym (awaiting-is m i.mounted c.args.scope c.args.mode t.activity) ∙ sym c.is_covered_awaiting.ensures ∙ covers;
+        halts = awaits.0;
+        again = awaits.1;
+        covered = both.1;
       },
     )
 
@@ -162,16 +166,20 @@ returns-clause-settled g c =
     let nm = c.name-name.ensures in
     rw (w2, trace_is, w, st, nm) (settled-awaiting g.D.Device.meaning c.self.inside.mounted f.1 f.2)
 
-pub returns-clause-covered : goal.returns-clause-covered
-returns-clause-covered g c =
-    let f = found g (goal.at.returns-clause-covered g c).After-is_covered_awaiting c.if-not-is_covered_awaiting.false in
-    let o = f.0 in
-    rw (← c.self.view_is, o) (sym f.2.covered)
-
-pub returns-then-not-is_covered_awaiting-clause-covered : goal.returns-then-not-is_covered_awaiting-clause-covered
-returns-then-not-is_covered_awaiting-clause-covered g c =
+-- whether the purge covers it, as the trace says
+told : (g : Over) (c : After-is_covered_awaiting g) →
+    c.is_covered_awaiting.result ≡ covers_awaiting c.args.self.now c.args.scope c.args.mode
+told g c =
     let i = c.self.inside in
     let o : i.active ≡ Some c.in-Some.active = sym c.take.ensures.value ∙ c.in-Some.is in
     let t = ties-found o c.self.invariant.0 in
-    rw (← c.self.view_is, o) (sym (sym (awaiting-is g.D.Device.meaning i.mounted c.args.scope c.args.mode t.activity)
-    ∙ sym c.is_covered_awaiting.ensures ∙ c.if-not-is_covered_awaiting.true))
+    rw (← c.self.view_is, o)
+    (c.is_covered_awaiting.ensures ∙ awaiting-is g.D.Device.meaning i.mounted c.args.scope c.args.mode t.activity)
+
+pub returns-clause-covered : goal.returns-clause-covered
+returns-clause-covered g c =
+    sym c.if-not-is_covered_awaiting.false ∙ told g (goal.at.returns-clause-covered g c).After-is_covered_awaiting
+
+pub returns-then-not-is_covered_awaiting-clause-covered : goal.returns-then-not-is_covered_awaiting-clause-covered
+returns-then-not-is_covered_awaiting-clause-covered g c =
+    sym c.if-not-is_covered_awaiting.true ∙ told g (goal.at.returns-then-not-is_covered_awaiting-clause-covered g c).After-is_covered_awaiting
