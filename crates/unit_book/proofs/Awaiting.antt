@@ -9,10 +9,8 @@ use Rattle.unit_book.proofs.Names.{after_purge, halted_by, awaits_by, dcb_at, St
 use Rattle.unit_book.specs.Legal.{verdict_of}
 use Rattle.unit_book.specs.Fields.{kept_by, after_cover, pending_code}
 use Rattle.unit_book.proofs.Lists.{without}
-use Rattle.unit_book.proofs.Dooms.{due-doomed, due-no_halt, doomed-purged, halted-first}
-use Rattle.unit_book.proofs.Purges.{Swept, without_all, ties-dooms, since-is}
-use Rattle.unit_book.proofs.Controls.{doomed-purge, ties-purge}
-use Rattle.unit_book.proofs.Halts.{halts-none}
+use Rattle.unit_book.proofs.Dooms.{due-doomed, due-no_halt, doomed-purged, halted-first, Swept, without_all, ties-dooms, since-is}
+use Rattle.unit_book.proofs.Controls.{doomed-purge, ties-purge, halts-none}
 use Rattle.unit_book.proofs.Decisions.{decides-post}
 use Rattle.unit_book.proofs.ActivePosts.{ties-post, value-is}
 

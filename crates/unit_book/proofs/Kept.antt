@@ -11,7 +11,7 @@ use Rattle.unit_book.specs.Settle.{Steps, ByStart, ByRun, ByInterrupt, Settles, 
 use Rattle.unit_book.proofs.Facts.{Each-behind}
 use Rattle.unit_book.proofs.LegalFacts.{facts}
 use Rattle.unit_book.proofs.Lists.{same-refl}
-use Rattle.unit_book.proofs.Outs.{taken-all}
+use Rattle.unit_book.proofs.Posting.{taken-all}
 use Rattle.unit_book.proofs.WorldBooks.{Keeps, Sound, keeps-same, keeps-start, keeps-run, keeps-interrupt}
 
 -- what follows where a call was done and where it was refused follows of it

@@ -17,8 +17,7 @@ use Rattle.unit_book.specs.Fields.{with_area}
 use Rattle.unit_book.proofs.Lists.{same-is, no_both}
 use Rattle.unit_book.proofs.Facts.{NewestIs}
 use Rattle.unit_book.proofs.LegalFacts.{facts, newest-ran}
-use Rattle.unit_book.proofs.Same.{fits-free}
-use Rattle.unit_book.proofs.Places.{placed-moved}
+use Rattle.unit_book.proofs.Same.{fits-free, placed-moved}
 use Rattle.unit_book.specs.Legal.{RanFits}
 
 -- what still runs has no status pending

@@ -5,7 +5,8 @@ use Rattle.unit_book.proofs.Names.{slice_get, drop, Meaning, Program, after, Cha
 use Rattle.unit_book.proofs.Names.{Placed, Name, Piece, Active, OnChannel, Dcb, Entry, Opened, Start, Ran, same, starts, has_started}
 use Rattle.unit_book.proofs.Names.{waiting, active, request_named, passes_check, is_opened, extents_of, flag, mask_of, Attempt, attempts}
 use Rattle.unit_book.proofs.Names.{stand, newest, current, device, area, Legal, due, Free, First, StartsFirst, posted, Each, ActivityTies}
-use Rattle.unit_book.proofs.Names.{Ties, dcb_at, dcb_of, mask_at}
+use Rattle.unit_book.proofs.Names.{Ties, dcb_at, dcb_of, mask_at, ◌&&◌, ◌++◌, append_assoc, Storage, is_error, Csw, Code, Post, Fits}
+use Rattle.unit_book.proofs.Names.{posted_value, noted}
 use Rattle.std.specs.Global.{Box}
 use Rattle.std.specs.Prelude.{option_map, box_value, MatchOption, IsSomeAnd}
 use Rattle.ccw_programs.specs.Place.{start_place}
@@ -16,10 +17,11 @@ use Rattle.unit_book.specs.Media.{lengthened}
 use Rattle.unit_book.specs.Legal.{passes}
 use Rattle.unit_book.specs.Fields.{extents_at, active_field_count}
 use Rattle.unit_book.proofs.Lists.{same-true, same-refl, same-is, no_both, without, without-first, Apart, first-rest}
-use Rattle.unit_book.proofs.Facts.{active-start, waiting-start, waiting-apart, fits-start, Each-at}
-use Rattle.unit_book.proofs.LegalFacts.{facts, first-waits}
-use Rattle.unit_book.proofs.Same.{fits-free}
+use Rattle.unit_book.proofs.Facts.{active-start, waiting-start, waiting-apart, fits-start, Each-at, waiting-post, active-post_waiting}
+use Rattle.unit_book.proofs.LegalFacts.{facts, first-waits, waits-at}
+use Rattle.unit_book.proofs.Same.{fits-free, activity-same}
 use Rattle.unit_book.proofs.TraceLaws.{start-unposted}
+use Rattle.unit_book.proofs.ActivePosts.{dcb-post}
 
 -- the name of the attempt was started
 abbrev named_within : List Entry → Attempt → Bool
@@ -211,3 +213,52 @@ module _ {D : Type 0} (meaning : Meaning D) (mounted : D) where
       let k = ties-start b settled (subst (λ (x : Piece). StartsFirst meaning mounted x.name H) e s) t (first ∙ ap Some e)
       (mask_is ∙ ap (λ (x : Piece). mask_at (dcb_at table x.dcb)) e) in
       (rw (made_is, e) k, refl)
+
+-- The post of a request that waits first: the fields stay those of the trace.
+
+module _ {D : Type 0} (meaning : Meaning D) (mounted : D) where
+  module _ (r : Piece) (csw : Csw) (sense : ℕ) (code : Code) {H : List Entry} {channel : Channel D} {o : Option Active}
+      {waiters : List Piece} {table : List Dcb} {left : List PostedState}
+      (t : Ties meaning mounted H channel o waiters table left) where
+    -- what is handed out is the value that the trace says
+    pub waiting-value : (i : ℕ) → slice_get (waiting H) i ≡ Some r →
+        posted_value r csw sense code r.area ≡ posted_value (request_named r.name H) csw sense code
+        (area meaning mounted (request_named r.name H) H)
+    waiting-value i there =
+        let w = waits-at meaning mounted r i H (facts meaning mounted H t.legal) there in
+        let issued : area meaning mounted r H ≡ r.area = as-issued meaning mounted r H t.legal w.unstarted in
+        ap (λ (m : Storage). posted_value r csw sense code m) (sym issued)
+        ∙ ap (λ q. posted_value q csw sense code (area meaning mounted q H)) (sym w.known.0)
+
+    pub ties-first_post : {new : List Dcb} → Fits meaning mounted (Post r.name csw sense code) H → slice_get (waiting H) 0 ≡ Some r →
+        ((d : ℕ) → dcb_at new d ≡ noted (is_error code && r.related && eqb r.dcb d) (dcb_at table d)) → length new ≡ length table →
+        Ties meaning mounted (Post r.name csw sense code ∷ H) channel o (drop 1 waiters) new
+        (left ++ posted_value r csw sense code r.area ∷ [])
+    unfolding Legal attempts posted request_named
+    ties-first_post fits there dcbs count =
+        let f = facts meaning mounted H t.legal in
+        let n = r.name in
+        let w = waits-at meaning mounted r 0 H f there in
+        let a = active-post_waiting meaning mounted n csw sense code H w.unstarted in
+        let z = first-rest (waiting H) r there in
+        let apart = subst Apart z (waiting-apart meaning mounted H f) in
+        let v = posted_value r csw sense code r.area in
+        let related = ap (λ (q : Piece). q.related) w.known.0 in
+        let dcb = ap (λ (q : Piece). q.dcb) w.known.0 in
+        record {
+          legal = (fits, t.legal);
+          queue = ap (λ x. drop 1 x) t.queue
+              ∙ sym (waiting-post meaning mounted n csw sense code H ∙ ap (without n) z ∙ without-first r (drop 1 (waiting H)) apart);
+          placed = placed-rest meaning mounted waiters t.placed;
+          device = t.device;
+          activity = activity-same meaning mounted H (Post n csw sense code ∷ H) channel.phase o a
+              (λ m e. record { active = a; request = refl; starts = refl; attempts = refl; halted = refl; covered = refl }) t.activity;
+          count = count ∙ t.count;
+          dcbs = λ d. dcbs d ∙ ap (noted (is_error code && r.related && eqb r.dcb d)) (t.dcbs d)
+              ∙ dcb-post meaning mounted n csw sense code H r.related r.dcb d related dcb;
+          out = (
+            t.out.0,
+            sym (append_assoc t.out.0 left (v ∷ [])) ∙ ap (λ x. x ++ v ∷ []) t.out.1
+                ∙ ap (λ x. posted meaning mounted H ++ x ∷ []) (waiting-value 0 there),
+          );
+        }

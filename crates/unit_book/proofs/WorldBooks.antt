@@ -15,7 +15,7 @@ use Rattle.unit_book.specs.declared.answer.Closing.{Closing}
 use Rattle.unit_book.specs.Legal.{RanFits}
 use Rattle.unit_book.specs.Answers.{OpensBook, RunsOn}
 use Rattle.unit_book.specs.Controls.{PurgesBook, ClosesBy, ClosesBook}
-use Rattle.unit_book.proofs.Purges.{since-is}
+use Rattle.unit_book.proofs.Dooms.{since-is}
 use Rattle.unit_book.proofs.WorldTraces.{Grows, grows-not, grows-open, grows-arrive, grows-start, grows-ran, grows-post, grows-close}
 use Rattle.unit_book.proofs.WorldTraces.{grows-reset, grows-purge, grows-purged}
 

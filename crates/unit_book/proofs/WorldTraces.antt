@@ -10,8 +10,7 @@ use Rattle.unit_book.proofs.Lists.{without}
 use Rattle.unit_book.proofs.Same.{fits-free}
 use Rattle.unit_book.proofs.Counting.{arrivals-after_dooms}
 use Rattle.unit_book.proofs.Dooms.{doomed-purged, due-doomed, due-no_halt, dooms-settle, settled-new, settled-open, settled-ran}
-use Rattle.unit_book.proofs.Dooms.{settled-start, halted-first}
-use Rattle.unit_book.proofs.Purges.{posted-more}
+use Rattle.unit_book.proofs.Dooms.{settled-start, halted-first, posted-more}
 use Rattle.unit_book.proofs.Controls.{settled-reset}
 use Rattle.unit_book.proofs.Facts.{DueIs, Halts, Dooms, due-is}
 

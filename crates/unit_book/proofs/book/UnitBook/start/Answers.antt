@@ -2,8 +2,7 @@ use Rattle.unit_book.proofs.Names.{refl, subst, ExtentViolated, no_status, Start
 use Rattle.unit_book.specs.declared.decision.Begun.{Begun}
 use Rattle.unit_book.specs.Answers.{IsBegun, PostsViolated, MayStart, StartsOne}
 use Rattle.unit_book.proofs.Dooms.{settled-start}
-use Rattle.unit_book.proofs.Calls.{post-then-sweep, sweep-due}
-use Rattle.unit_book.proofs.Pending.{pending-start}
+use Rattle.unit_book.proofs.Calls.{post-then-sweep, sweep-due, pending-start}
 use Rattle.unit_book.proofs.book.UnitBook.start.Given.{Over}
 use Rattle.unit_book.proofs.book.UnitBook.start.Goals.{In-Started, In-Violated}
 use Rattle.unit_book.proofs.book.UnitBook.start.Goals as goal

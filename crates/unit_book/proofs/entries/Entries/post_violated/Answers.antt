@@ -4,11 +4,9 @@ use Rattle.unit_book.specs.Answers.{Violated}
 use Rattle.unit_book.specs.Legal.{FailsCheck}
 use Rattle.unit_book.proofs.Dooms.{doomed-post, doomed-few, due-doomed}
 use Rattle.unit_book.proofs.LegalFacts.{facts, first-waits}
-use Rattle.unit_book.proofs.Same.{fits-free}
-use Rattle.unit_book.proofs.Starts.{none-in_field}
-use Rattle.unit_book.proofs.WaitingPosts.{ties-first_post, waiting-value}
+use Rattle.unit_book.proofs.Same.{fits-free, first-found, on-err}
+use Rattle.unit_book.proofs.Starts.{none-in_field, ties-first_post, waiting-value}
 use Rattle.unit_book.proofs.Opens.{first-opened, opened-row}
-use Rattle.unit_book.proofs.Found.{first-found, on-err}
 use Rattle.unit_book.proofs.Lists.{first-rest}
 use Rattle.unit_book.proofs.entries.Entries.post_violated.Given.{Over}
 use Rattle.unit_book.proofs.entries.Entries.post_violated.Goals.{In-Some}

@@ -3,10 +3,10 @@ use Rattle.unit_book.proofs.Names.{DoomedBy, halted_by, after_halt, running_name
 use Rattle.unit_queue.specs.declared.selection.Selection.TheVariants as selection
 use Rattle.unit_book.specs.Controls.{due_after}
 use Rattle.unit_book.proofs.Controls.{doomed-purge, doomed-purge_few, dooms-halted, doomed-halted_few, ties-purge, ties-purge_none}
+use Rattle.unit_book.proofs.Controls.{halts-none, ties-halt}
 use Rattle.unit_book.proofs.Dooms.{due-doomed, due-no_halt, halted-first}
 use Rattle.unit_book.proofs.Facts.{due-halt}
-use Rattle.unit_book.proofs.Found.{ties-found, name-found, rooms-found}
-use Rattle.unit_book.proofs.Halts.{halts-none, ties-halt}
+use Rattle.unit_book.proofs.Same.{ties-found, name-found, rooms-found}
 use Rattle.unit_book.proofs.entries.Entries.purge.Given.{Over}
 use Rattle.unit_book.proofs.entries.Entries.purge.Goals.{After-take}
 use Rattle.unit_book.proofs.entries.Entries.purge.Goals as goal

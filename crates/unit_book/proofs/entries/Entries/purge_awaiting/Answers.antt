@@ -5,10 +5,10 @@ use Rattle.unit_book.proofs.Names.{posted_value}
 use Rattle.unit_book.specs.Fields.{kept_by}
 use Rattle.unit_book.proofs.Facts.{Each-filter}
 use Rattle.unit_book.proofs.Posting.{length-map}
-use Rattle.unit_book.proofs.Purges.{length-filters}
+use Rattle.unit_book.proofs.Dooms.{length-filters}
 use Rattle.unit_book.proofs.Awaiting.{ties-awaiting, settled-awaiting, since-awaiting, after-is, fits-purged, FoundAwaiting}
 use Rattle.unit_book.proofs.Controls.{awaiting-is}
-use Rattle.unit_book.proofs.Found.{ties-found, rooms-found, swept-found}
+use Rattle.unit_book.proofs.Same.{ties-found, rooms-found, swept-found}
 use Rattle.unit_book.proofs.entries.Entries.purge_awaiting.Given.{Over}
 use Rattle.unit_book.proofs.entries.Entries.purge_awaiting.Goals.{After-is_covered_awaiting}
 use Rattle.unit_book.proofs.entries.Entries.purge_awaiting.Goals as goal

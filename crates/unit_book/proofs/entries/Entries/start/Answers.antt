@@ -3,7 +3,7 @@ use Rattle.unit_book.specs.Answers.{Again}
 use Rattle.unit_book.specs.Fields.{awaits_of}
 use Rattle.std.proofs.Common.{rules}
 use Rattle.unit_book.proofs.Restarts.{FoundAgain, may-restart, restart-fits, ties-restart}
-use Rattle.unit_book.proofs.Found.{ties-found, rooms-found}
+use Rattle.unit_book.proofs.Same.{ties-found, rooms-found}
 use Rattle.unit_book.proofs.entries.Entries.start.Given.{Over}
 use Rattle.unit_book.proofs.entries.Entries.start.Goals.{After-awaits}
 use Rattle.unit_book.proofs.entries.Entries.start.Goals as goal

@@ -4,7 +4,7 @@ use Rattle.unit_book.specs.Answers.{First}
 use Rattle.unit_book.specs.Legal.{passes}
 use Rattle.unit_book.proofs.Seeks.{first-fits, fits-device}
 use Rattle.unit_book.proofs.Starts.{no-first, first-told, ties-first, none-in_field}
-use Rattle.unit_book.proofs.Found.{rooms-found, on-err}
+use Rattle.unit_book.proofs.Same.{rooms-found, on-err}
 use Rattle.unit_book.proofs.Lists.{first-rest}
 use Rattle.unit_book.proofs.entries.Entries.start_waiting.Given.{Over}
 use Rattle.unit_book.proofs.entries.Entries.start_waiting.Goals.{After-passes_check}
