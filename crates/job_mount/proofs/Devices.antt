@@ -12,14 +12,14 @@ use Rattle.ckd_disk.specs.Record.{Record}
 use Rattle.ckd_disk.specs.Track.{TrackState, bytes_of as bytes_of_records}
 use Rattle.ckd_disk.specs.Disk.{DiskState, at_start}
 use Rattle.ckd_disk.specs.Mount.{initial, is_geometry, opening, opening_records, opening_track, stands_on, track_count, track_descriptor}
-use Rattle.ckd_disk.specs.Mount.{track_has_room as has_room_on, is_medium, MountsDevice as MountsDisk}
+use Rattle.ckd_disk.specs.Mount.{has_room as has_room_on, is_medium, Mounts as MountsDisk}
 use Rattle.tape_unit.specs.declared.mount.InitialItem.{InitialItem}
 use Rattle.tape_unit.specs.Item.{is_item}
 use Rattle.tape_unit.specs.Reel.{bytes_of as bytes_of_items}
 use Rattle.tape_unit.specs.Tape.{TapeState}
-use Rattle.tape_unit.specs.Mount.{is_size, initial as item_of, is_medium as is_tape_medium, MountsDevice as MountsTape}
+use Rattle.tape_unit.specs.Mount.{is_size, initial as item_of, is_medium as is_tape_medium, Mounts as MountsTape}
 use Rattle.line_printer.specs.Printer.{PrinterState}
-use Rattle.line_printer.specs.Mount.{is_paper, opening as opening_printer, MountsDevice as MountsPrinter}
+use Rattle.line_printer.specs.Mount.{is_paper, opening as opening_printer, Mounts as MountsPrinter}
 use Rattle.any_device.specs.declared.device.AnyDevice.{AnyDevice}
 use Rattle.any_device.specs.declared.device.AnyDevice.TheVariants.{Disk, Tape, Printer}
 use Rattle.job_script.specs.Said.{disk, printer, tape}

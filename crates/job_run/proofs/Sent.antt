@@ -198,7 +198,8 @@ stops_early task commands old new (errors.Line line name) stopped = stopped
 stops_early task commands old new errors.NoMemory stopped =
     record { before = stopped.before; others = stopped.command ∷ stopped.others; split = stopped.split; sent = stopped.sent }
 
--- what holds anyhow holds of an error
-pub on_err : {A E : Type 0} (r : Result A E) (P : Type 0) → P → OnErr r P
-on_err (Ok x) P p = tt
-on_err (Err e) P p = p
+-- a task that runs out of memory has sent what its first commands send
+pub ends_full : {A : Type 0} (r : Result A TaskError) (task : ℕ) (commands : List Command) (old new : List (List Piece))
+    → IfErr r (λ e. e ≡ errors.NoMemory) → SendsFirst task commands old new → IfErr r (EndsEarly task commands old new)
+ends_full (Ok x) task commands old new full first = tt
+ends_full (Err e) task commands old new full first = rw full first

@@ -3,7 +3,7 @@
 ghost use Rattle.std.specs.Prelude.{◌≡◌, ◌≤◌, All, IfOk, OnOk, vec_len};
 ghost use Rattle.job_mount.specs.Requests.{CanBeDone};
 ghost use Rattle.job_mount.specs.Mounting.{books_of};
-ghost use Rattle.job_mount.specs.Outcomes.{all_known};
+ghost use Rattle.job_mount.specs.Outcomes.{all_without_spare};
 ghost use Rattle.job_script.specs.Outcomes.{Gives};
 ghost use Rattle.job_script.specs.Views.{said};
 ghost use Rattle.job_run.specs.Rooms.{AreBooksOf, AreRowsOf, room_for, room_of_a_unit};
@@ -32,7 +32,7 @@ pub(crate) fn rows_and_books(
 ) -> Result<(Rows, Vec<UnitBook<AnyDevice>>), JobError>
     requires tasks { (1 ≤ script.now.set_up.tasks) × (script.now.set_up.tasks ≤ 64) }
     requires units { (1 ≤ vec_len script.now.set_up.units) × (vec_len script.now.set_up.units ≤ 64) }
-    ensures exact { Gives (λ made. all_known made.1) result (books_of (room_of_a_unit script.now) (said script.now)) }
+    ensures exact { Gives (λ made. all_without_spare made.1) result (books_of (room_of_a_unit script.now) (said script.now)) }
     ensures rows { IfOk result (λ made. AreRowsOf script.now made.0) }
     ensures books { IfOk result (λ made. AreBooksOf script.now made.1.items) }
     ensures requests { OnOk result (All CanBeDone script.now.commands.items) }

@@ -10,7 +10,7 @@ use Rattle.request_piece.specs.declared.piece.Name.{Name}
 use Rattle.unit_book.specs.declared.entry.Entry.{Entry}
 use Rattle.unit_book.specs.declared.entry.Entry.TheVariants.{Opened, Arrive, Start, Ran, Halted, Purge, Close, Reset, Post}
 use Rattle.trace_replay.specs.declared.replay.Step.TheVariants.{Entry as Whole}
-use Rattle.trace_replay.specs.Replayed.{ReplayPlace, next_place, step_to}
+use Rattle.trace_replay.specs.Replayed.{ReplayPlace, place_after, step_to}
 use Rattle.trace_replay.proofs.Entries.{IsSilent}
 use Rattle.trace_replay.proofs.Steps.{IsWhole}
 
@@ -34,7 +34,7 @@ silent-is meaning mounted (Reset d) s r p = (tt, tt)
 silent-is meaning mounted (Post n c k q) s r p = absurd (p n c k q refl)
 
 -- behind an entry that is done as a whole
-pub behind-whole : {D : Type 0} (e : Entry) (p : ReplayPlace D) → IsWhole e → next_place (Some e) p ≡ record p { done = p.done + 1; ran = 0 }
+pub behind-whole : {D : Type 0} (e : Entry) (p : ReplayPlace D) → IsWhole e → place_after (Some e) p ≡ record p { done = p.done + 1; ran = 0 }
 behind-whole (Opened d i x) p w = refl
 behind-whole (Arrive q) p w = refl
 behind-whole (Start n) p w = refl

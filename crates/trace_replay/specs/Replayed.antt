@@ -6,7 +6,7 @@ use Rattle.device_port.specs.declared.kind.Flow.{Flow}
 use Rattle.ccw_programs.specs.declared.fetch.Link.{Link}
 use Rattle.ccw_programs.specs.declared.rule.Refusal.{Refusal}
 use Rattle.ccw_programs.specs.Listings.{Lists}
-use Rattle.ccw_programs.specs.Place.{ReplayPlace as Standing}
+use Rattle.ccw_programs.specs.Place.{Place as Standing}
 use Rattle.ccw_programs.specs.Step.{is_running}
 use Rattle.io_area.specs.Storage.{Storage}
 use Rattle.request_piece.specs.declared.piece.Name.{Name}
@@ -44,13 +44,13 @@ behind_command commands p = if p.ran + 1 == commands then record p { done = p.do
 
 -- THE NEXT PLACE: behind the next entry, or behind its next command where it is of commands that ran; the same at the
 -- end
-abbrev pub next_place : {D : Type 0} → Option Entry → ReplayPlace D → ReplayPlace D
-next_place None p = p
-next_place (Some (Ran n j)) p = behind_command j p
-next_place _ p = record p { done = p.done + 1; ran = 0 }
+abbrev pub place_after : {D : Type 0} → Option Entry → ReplayPlace D → ReplayPlace D
+place_after None p = p
+place_after (Some (Ran n j)) p = behind_command j p
+place_after _ p = record p { done = p.done + 1; ran = 0 }
 
 abbrev pub next_place : {D : Type 0} → ReplayPlace D → ReplayPlace D
-next_place p = next_place (slice_get (reverse p.book.trace) p.done) p
+next_place p = place_after (slice_get (reverse p.book.trace) p.done) p
 
 -- an entry of so many commands that ran
 abbrev pub IsRan : ℕ → Option Entry → Type 0

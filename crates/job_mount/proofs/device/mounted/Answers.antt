@@ -1,9 +1,9 @@
 use Rattle.std.proofs.Common.{List, sym, subst, Err}
 use Rattle.device_port.specs.declared.faults.Fault.{Fault}
 use Rattle.ckd_disk.specs.declared.mount.InitialRecord.{InitialRecord}
-use Rattle.ckd_disk.specs.Mount.{MountsDevice as MountsDisk}
+use Rattle.ckd_disk.specs.Mount.{Mounts as MountsDisk}
 use Rattle.tape_unit.specs.declared.mount.InitialItem.{InitialItem}
-use Rattle.tape_unit.specs.Mount.{MountsDevice as MountsTape}
+use Rattle.tape_unit.specs.Mount.{Mounts as MountsTape}
 use Rattle.job_script.specs.declared.set_up.Medium.{Medium}
 use Rattle.job_script.specs.Views.{medium_said}
 use Rattle.job_mount.specs.Devices.{mounted}

@@ -1,4 +1,4 @@
-use Rattle.job_run.proofs.Sent.{on_err, sends_none}
+use Rattle.job_run.proofs.Sent.{ends_full, sends_none}
 use Rattle.job_run.proofs.job.Job.task.Goals as goal
 
 pub returns-in_err-lines-clause-stopped : goal.returns-in_err-lines-clause-stopped
