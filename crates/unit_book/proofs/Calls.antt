@@ -4,6 +4,7 @@ use Rattle.unit_book.proofs.Names.{◌∙◌, arith, subst, OnOk, OnErr, drop, C
 use Rattle.unit_book.proofs.Names.{Purge, Close, Post, request_named, waiting, opened_count, doomed, area, posted, posted_value, posted_since}
 use Rattle.unit_book.proofs.Names.{PurgesBy, covers_awaiting, halted_by, after_halt, after_dooms, Book, Adds, Extends, RunsBook, Due}
 use Rattle.unit_book.proofs.Names.{ToHalt, ToPost, Free, due, doomed_first}
+use Rattle.unit_book.proofs.Names.{ProcessingMethod}
 use Rattle.std.proofs.Common.{Result}
 use Rattle.std.specs.declared.alloc.AllocError.{AllocError}
 use Rattle.unit_book.specs.declared.answer.Running.{Running}
@@ -20,13 +21,13 @@ run-settled meaning old new max Quiet s r = let e = r.1 in rw e s
 run-settled meaning old new max (Ran c pending) s r = let e = r.adds in rw e (settled-ran meaning old.mounted r.name c old.trace s)
 
 -- `open` keeps a book settled
-pub open-settled : {D : Type 0} (meaning : Meaning D) (old new : Book D) (input : Bool) (extents : List Extent)
+pub open-settled : {D : Type 0} (meaning : Meaning D) (old new : Book D) (method : ProcessingMethod) (extents : List Extent)
     (result : Result ℕ AllocError) → Settled meaning old.mounted old.trace →
-    OnOk result (Adds old (Opened (opened_count old.trace + 1) input extents) new) → OnErr result (new ≡ old) →
+    OnOk result (Adds old (Opened (opened_count old.trace + 1) method extents) new) → OnErr result (new ≡ old) →
     Settled meaning new.mounted new.trace
-open-settled meaning old new input extents (Ok d) s a b = let e = a in rw e
-    (settled-open meaning old.mounted (opened_count old.trace + 1) input extents old.trace s)
-open-settled meaning old new input extents (Err x) s a b = let e = b in rw e s
+open-settled meaning old new method extents (Ok d) s a b = let e = a in rw e
+    (settled-open meaning old.mounted (opened_count old.trace + 1) method extents old.trace s)
+open-settled meaning old new method extents (Err x) s a b = let e = b in rw e s
 
 -- a post and what it dooms, as one step
 module _ {D : Type 0} (meaning : Meaning D) (old mid posting new : Book D) (n : Name) (csw : Csw) (sense : ℕ) (code : Code) where

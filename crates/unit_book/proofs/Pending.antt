@@ -8,6 +8,7 @@ use Rattle.unit_book.proofs.Names.{is_halted, arrived_of, doomed, is_doomed, ope
 use Rattle.unit_book.proofs.Names.{still_runs, active_phase, Due, ToHalt, ToPost, Free, Legal, CanPurge, due, due_by, is_to_halt, Book}
 use Rattle.unit_book.proofs.Names.{running_name_by, Adds, Extends, MayStart, MayFirst, MayAgain, StartsBook, RunsBook, InterruptsBook}
 use Rattle.unit_book.proofs.Names.{PurgesBy, covered_by, covers_awaiting, halted_by, after_halt, after_purge, Each}
+use Rattle.unit_book.proofs.Names.{ProcessingMethod}
 use Rattle.std.proofs.Common.{Result}
 use Rattle.std.specs.declared.alloc.AllocError.{AllocError}
 use Rattle.unit_book.specs.declared.answer.Starting.TheVariants.{Idle}
@@ -136,16 +137,16 @@ module _ {D : Type 0} (meaning : Meaning D) where
       pending-posts old new (Arrive r ∷ old.trace) old.awaits
       (facts meaning old.mounted (Arrive r ∷ old.trace) (fits-free meaning old.mounted (Arrive r) old.trace s n, l)) p
 
-  pub pending-open : (old new : Book D) (dcb : ℕ) (input : Bool) (extents : List Extent) → Adds old (Opened dcb input extents) new →
+  pub pending-open : (old new : Book D) (dcb : ℕ) (method : ProcessingMethod) (extents : List Extent) → Adds old (Opened dcb method extents) new →
       is_pending meaning new ≡ is_pending meaning old
   unfolding active started attempts
-  pending-open old new dcb input extents p = rw p refl
+  pending-open old new dcb method extents p = rw p refl
 
-  pub pending-opening : (old new : Book D) (input : Bool) (extents : List Extent) (result : Result ℕ AllocError) →
-      OnOk result (Adds old (Opened (opened_count old.trace + 1) input extents) new) →
+  pub pending-opening : (old new : Book D) (method : ProcessingMethod) (extents : List Extent) (result : Result ℕ AllocError) →
+      OnOk result (Adds old (Opened (opened_count old.trace + 1) method extents) new) →
       OnErr result (new ≡ old) → is_pending meaning new ≡ is_pending meaning old
-  pending-opening old new input extents (Ok d) a b = pending-open old new (opened_count old.trace + 1) input extents a
-  pending-opening old new input extents (Err x) a b = ap (is_pending meaning) b
+  pending-opening old new method extents (Ok d) a b = pending-open old new (opened_count old.trace + 1) method extents a
+  pending-opening old new method extents (Err x) a b = ap (is_pending meaning) b
 
   pub pending-reset : (old new : Book D) (dcb : ℕ) → Adds old (Reset dcb) new → is_pending meaning new ≡ is_pending meaning old
   unfolding active started attempts

@@ -14,6 +14,7 @@ ghost use Rattle.unit_book.specs.Refusals.{InterruptLacks, RunLacks, StartLacks}
 ghost use Rattle.unit_book.specs.Trace.{active, arrived_of, waiting};
 
 use crate::answer::{ArriveError, Interruption, OpenError, Running, Starting};
+use crate::dcb::ProcessingMethod;
 use crate::decision::{Next, Taken};
 use crate::entries::Entries;
 use crate::entry::Entry;
@@ -117,8 +118,8 @@ impl<D: Device> UnitBook<D> {
     /// Opens a DCB for input or for output, with its extents, and answers its number. It is refused, and
     /// the trace stays, for the first reason that applies: the unit has 65,535 DCBs; the extents are not such
     /// as the device takes (DFSMSdfp Advanced Services, "Data Extent Block Fields"); there is no memory.
-    pub fn open(&mut self, input: bool, extents: &[Extent]) -> Result<u16, OpenError>
-        ensures ok { IfOk result (λ dcb. OpensBook D.meaning self.old dcb input extents.now self.new) }
+    pub fn open(&mut self, method: ProcessingMethod, extents: &[Extent]) -> Result<u16, OpenError>
+        ensures ok { IfOk result (λ dcb. OpensBook D.meaning self.old dcb method extents.now self.new) }
         ensures refused { IfErr result (OpenRefused D.meaning self.old extents.now) }
         ensures err { OnErr result (self.new ≡ record self.old { spare = self.new.spare }) }
         ensures kept { OnErr result (self.old.spare ≤ self.new.spare) }
@@ -134,7 +135,7 @@ impl<D: Device> UnitBook<D> {
             return Err(OpenError::NoMemory);
         }
         self.entries
-            .open(input, extents)
+            .open(method, extents)
             .map_err(|_| OpenError::NoMemory)
     }
 
