@@ -98,21 +98,33 @@ impl<D: Device> UnitBook<D> {
         ensures err { OnErr result (self.new ≡ self.old) }
         ensures pending { is_pending D.meaning self.new ≡ is_pending D.meaning self.old }
     {
-        self.entries.holds();
         if !self.entries.has_room() {
             return Err((ArriveError::Held, request));
         }
-        if self.entries.reserve(2).is_err() {
+        if self.reserve().is_err() {
             return Err((ArriveError::NoMemory, request));
         }
+        self.arrive_reserved(request);
+        Ok(())
+    }
+
+    /// A request arrives, as [`UnitBook::arrive`], for which the book has room and `reserve` has made room. It takes no
+    /// memory.
+    pub fn arrive_reserved(&mut self, request: Request)
+        requires number { request.name.seq ≡ arrived_of request.name.task self.old.trace + 1 }
+        requires room { occupancy self.old < self.old.capacity }
+        requires spare { 2 ≤ self.old.spare }
+        ensures book { Extends D.meaning self.old (after_dooms (Entry.Arrive request ∷ self.old.trace)) self.old.awaits self.new }
+        ensures pending { is_pending D.meaning self.new ≡ is_pending D.meaning self.old }
+    {
+        self.entries.holds();
         let refused = self.entries.is_refused(&request);
         let (issued, work) = request.into_parts();
         if refused {
             self.entries.refuse(issued, work);
-            return Ok(());
+        } else {
+            self.entries.arrive(issued, work);
         }
-        self.entries.arrive(issued, work);
-        Ok(())
     }
 
     /// Opens a DCB for input or for output, with its extents, and answers its number. It is refused, and
