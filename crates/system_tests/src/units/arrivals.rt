@@ -22,7 +22,8 @@ fn full_book(alloc: Global) -> Result<UnitBook<Disk>, AllocError>
             return Ok(book);
         }
         let extents = [Extent::read(&TRACK)];
-        book.open(ProcessingMethod::Output, &extents).map_err(|_| AllocError)?;
+        book.open(ProcessingMethod::Output, &extents)
+            .map_err(|_| AllocError)?;
     }
     Err(AllocError)
 }

@@ -21,7 +21,8 @@ type Case<'e> = (&'e [Extent], Result<u16, OpenError>);
 /// Whether the newest entry of a trace tells that this DCB was opened for input on these extents.
 fn tells_of(trace: &[Entry], number: u16, extents: &[Extent]) -> bool {
     match trace.last() {
-        Some(Entry::Opened(dcb, ProcessingMethod::Input, list)) => *dcb == number && list.as_slice() == extents,
+        Some(Entry::Opened(dcb, ProcessingMethod::Input, list)) => *dcb == number
+            && list.as_slice() == extents,
         _ => false,
     }
 }

@@ -96,7 +96,10 @@ fn open_more<S: Site, R: Wait>(
 {
     for _ in 0..more {
         let extents = [Extent::read(&TRACK)];
-        system.lock_of(0).lock(rt).open(ProcessingMethod::Output, &extents)?;
+        system
+            .lock_of(0)
+            .lock(rt)
+            .open(ProcessingMethod::Output, &extents)?;
     }
     Ok(())
 }
