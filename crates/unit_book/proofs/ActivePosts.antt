@@ -2,7 +2,7 @@
 use Rattle.unit_book.proofs.Names.{◌≡◌, ℕ, Bool, true, ◌&&◌, Some, None, List, [], ◌∷◌, ◌++◌, append_assoc, length, refl, sym, ap, ◌∙◌, eqb}
 use Rattle.unit_book.proofs.Names.{inl, inr, cases_Bool, Storage, is_error, Csw, Code, Meaning, Channel, Phase, Absent, Idle, Running}
 use Rattle.unit_book.proofs.Names.{Pending, PostedState, Name, Piece, Active, Standing, OnChannel, AwaitsRestart, Dcb, Entry, Post, same}
-use Rattle.unit_book.proofs.Names.{request_of, attempts, stand, newest, current, area, StillRunning, HasEnded, active_phase, is_opened}
+use Rattle.unit_book.proofs.Names.{request_named, attempts, stand, newest, current, area, StillRunning, HasEnded, active_phase, is_opened}
 use Rattle.unit_book.proofs.Names.{extents_of, flag, Legal, due, Free, PostsActive, WithVerdict, OfActive, posted, posted_value}
 use Rattle.unit_book.proofs.Names.{doomed_by_post, StandingTies, Ties, dcb_at, dcb_of, noted}
 use Rattle.subchannel.specs.Subchannel.{tested_phase}
@@ -16,17 +16,17 @@ use Rattle.unit_book.proofs.Same.{fits-free}
 
 module _ {D : Type 0} (meaning : Meaning D) (mounted : D) where
   -- the storage of the active request is that of the newest attempt
-  pub area-current : (n : Name) (H : List Entry) → NewestIs n H → area meaning mounted (request_of n H) H ≡ (current meaning mounted H).area
+  pub area-current : (n : Name) (H : List Entry) → NewestIs n H → area meaning mounted (request_named n H) H ≡ (current meaning mounted H).area
   unfolding stand newest
   area-current n H w =
-      let r = request_of n H in
+      let r = request_named n H in
       let s : same r.name w.0.request.name ≡ true = same-is r.name w.0.request.name (ap (λ (x : Piece). x.name) (sym w.3)) in
       let there : (stand meaning mounted (w.0 ∷ w.1)).area r ≡ (newest meaning mounted (w.0 ∷ w.1)).area = rw s refl in
       ap (λ x. (stand meaning mounted x).area r) w.2 ∙ there ∙ sym (ap (λ x. (newest meaning mounted x).area) w.2)
 
   -- a post notes its error at the DCB of its request
   pub dcb-post : (n : Name) (csw : Csw) (sense : ℕ) (code : Code) (H : List Entry) (related : Bool) (dcb d : ℕ) →
-      (request_of n H).related ≡ related → (request_of n H).dcb ≡ dcb →
+      (request_named n H).related ≡ related → (request_named n H).dcb ≡ dcb →
       noted (is_error code && related && eqb dcb d) (dcb_of d H) ≡ dcb_of d (Post n csw sense code ∷ H)
   unfolding flag extents_of
   dcb-post n csw sense code H related dcb d r e =
@@ -53,13 +53,13 @@ module _ {D : Type 0} (meaning : Meaning D) (mounted : D) where
     tested-idle (Pending c s) standing d = refl
 
     -- what is handed out is the value that the trace says
-    pub value-is : posted_value a.piece.value csw sense code a.piece.value.area ≡ posted_value (request_of n H) csw sense code
-        (area meaning mounted (request_of n H) H)
+    pub value-is : posted_value a.piece.value csw sense code a.piece.value.area ≡ posted_value (request_named n H) csw sense code
+        (area meaning mounted (request_named n H) H)
     unfolding posted_value
     value-is =
         let w : NewestIs n H = (facts meaning mounted H t.legal).4 n t.activity.is in
         ap (λ (p : Piece). posted_of p code csw sense) t.activity.request
-        ∙ ap (λ (m : Storage). posted_of (record (request_of n H) { area = m }) code csw sense) (sym (area-current n H w))
+        ∙ ap (λ (m : Storage). posted_of (record (request_named n H) { area = m }) code csw sense) (sym (area-current n H w))
 
     pub ties-post : {new : List Dcb} →
         ((d : ℕ) → dcb_at new d ≡ noted (is_error code && a.piece.value.related && eqb a.piece.value.dcb d) (dcb_at table d)) →
@@ -98,5 +98,5 @@ module _ {D : Type 0} (meaning : Meaning D) (mounted : D) where
   pub doom-is : {H : List Entry} {channel : Channel D} {a : Active} {waiters : List Piece} {table : List Dcb} {left : List PostedState}
       (code : Code) →
       Ties meaning mounted H channel (Some a) waiters table left →
-      doomed_by_post a.piece.value code ≡ doomed_by_post (request_of a.piece.value.name H) code
+      doomed_by_post a.piece.value code ≡ doomed_by_post (request_named a.piece.value.name H) code
   doom-is code t = ap (λ (r : Piece). doomed_by_post r code) t.activity.request

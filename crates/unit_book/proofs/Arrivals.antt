@@ -1,7 +1,7 @@
 -- A request arrives: the fields stay those of the trace.
 use Rattle.unit_book.proofs.Names.{◌≡◌, true, false, Option, List, [], ◌∷◌, ◌++◌, refl, ap, ◌∙◌, sym, inl, inr, subst, cases_Bool, Meaning}
 use Rattle.unit_book.proofs.Names.{Channel, PostedState, Placed, Name, Piece, Active, Dcb, Entry, Arrive, same, has_arrived, active}
-use Rattle.unit_book.proofs.Names.{started, request_of, is_covered, attempts, extents_of, flag, Fits, Legal, due, posted, Ties}
+use Rattle.unit_book.proofs.Names.{started, request_named, is_covered, attempts, extents_of, flag, Fits, Legal, due, posted, Ties}
 use Rattle.unit_book.proofs.Lists.{same-true, no_both}
 use Rattle.unit_book.proofs.Facts.{Each-behind, fresh, fits-arrive, waiting-arrive, active-is}
 use Rattle.unit_book.proofs.LegalFacts.{facts}
@@ -17,17 +17,17 @@ module _ {D : Type 0} (meaning : Meaning D) (mounted : D) where
 
   silent : (r : Piece) (n : Name) (H : List Entry) → has_arrived r.name H ≡ false → has_arrived n H ≡ true →
       Silent meaning mounted H (Arrive r ∷ H) n
-  unfolding active started request_of attempts
+  unfolding active started request_named attempts
   silent r n H new a =
       let s = other r n H new a in
-      let q : request_of n (Arrive r ∷ H) ≡ request_of n H = rw s refl in
+      let q : request_named n (Arrive r ∷ H) ≡ request_named n H = rw s refl in
       record { active = refl; request = q; starts = refl; attempts = refl; halted = refl; covered = ap (λ x. is_covered x H) q }
 
   pub ties-arrive : {r : Piece} {H : List Entry} {channel : Channel D} {o : Option Active} {waiters : List Piece} {table : List Dcb}
       {left : List PostedState} →
       Fits meaning mounted (Arrive r) H → Placed r → Ties meaning mounted H channel o waiters table left →
       Ties meaning mounted (Arrive r ∷ H) channel o (waiters ++ r ∷ []) table left
-  unfolding Legal active started request_of attempts extents_of flag posted
+  unfolding Legal active started request_named attempts extents_of flag posted
   ties-arrive {r} {H} {channel} {o} {waiters} h p t =
       let f = facts meaning mounted H t.legal in
       let new = fresh meaning mounted r H f (fits-arrive meaning mounted r H (due meaning mounted H) h) in

@@ -2,7 +2,7 @@
 use Rattle.unit_book.proofs.Names.{◌≡◌, ℕ, Bool, true, false, not, ◌&&◌, Option, Some, None, List, [], ◌∷◌, ◌++◌, append_assoc, map, refl}
 use Rattle.unit_book.proofs.Names.{sym, ap, ◌∙◌, subst, if◌then◌else◌, filter, is_some, Csw, Purged, Meaning, Kind, Place, State, Channel}
 use Rattle.unit_book.proofs.Names.{Phase, Absent, Idle, Running, Pending, Retry, verdict, PostedState, Name, Piece, covers, Scope, Active}
-use Rattle.unit_book.proofs.Names.{Standing, OnChannel, AwaitsRestart, Dcb, Mode, Entry, Purge, Post, waiting, active, request_of, is_halt}
+use Rattle.unit_book.proofs.Names.{Standing, OnChannel, AwaitsRestart, Dcb, Mode, Entry, Purge, Post, waiting, active, request_named, is_halt}
 use Rattle.unit_book.proofs.Names.{is_halted, doomed, area, current, active_phase, active_phase_by, HasEnded, due, Free, doomed_first}
 use Rattle.unit_book.proofs.Names.{CanPurge, PostsActive, all_posted, after_dooms, purged, posted, posted_since, posted_value}
 use Rattle.unit_book.proofs.Names.{running_name_by, active_of, after_purge, halted_by, awaits_by, dcb_at, StandingTies, Ties, noted}
@@ -180,7 +180,7 @@ module _ {D : Type 0} (meaning : Meaning D) (mounted : D) where
         let e = and-ends (is_halt mode) (awaits_by a.standing) (is_some (active_of scope H)) found.covered in
         let s = rw t.activity.is at e.1 in
         let k : covers scope a.piece.value ≡ true = covers-same meaning mounted scope mode t.activity
-        ∙ some-covers (covers scope (request_of n H)) s in
+        ∙ some-covers (covers scope (request_named n H)) s in
         let h = e.0 in rw (k, h) refl
 
     pub fits-purged : PostsActive meaning mounted n csw sense Purged S
@@ -211,6 +211,6 @@ module _ {D : Type 0} (meaning : Meaning D) (mounted : D) where
     since-awaiting =
         let v = value-is meaning mounted dooms.0.settled swept-ties fits-purged in
         since-is meaning mounted H (Post n csw sense Purged ∷ S) (map purged swept ++ value ∷ [])
-        (ap (λ x. x ++ posted_value (request_of n S) csw sense Purged (area meaning mounted (request_of n S) S) ∷ []) dooms.0.posted_is
+        (ap (λ x. x ++ posted_value (request_named n S) csw sense Purged (area meaning mounted (request_named n S) S) ∷ []) dooms.0.posted_is
         ∙ append_assoc (posted meaning mounted H) (map purged swept) _
         ∙ ap (λ x. posted meaning mounted H ++ (map purged swept ++ x ∷ [])) (sym v))

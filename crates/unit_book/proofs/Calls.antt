@@ -1,7 +1,7 @@
 -- What the calls of a book come to, one step of its entries after another.
 use Rattle.unit_book.proofs.Names.{◌≡◌, ◌≤◌, ◌+◌, ℕ, Bool, true, false, Ok, Err, List, [], ◌∷◌, ◌++◌, append_assoc, length, refl, sym, ap}
 use Rattle.unit_book.proofs.Names.{◌∙◌, arith, subst, OnOk, OnErr, drop, Csw, Code, Extent, Meaning, Name, Scope, Mode, Entry, Opened}
-use Rattle.unit_book.proofs.Names.{Purge, Close, Post, request_of, waiting, opened_count, doomed, area, posted, posted_value, posted_since}
+use Rattle.unit_book.proofs.Names.{Purge, Close, Post, request_named, waiting, opened_count, doomed, area, posted, posted_value, posted_since}
 use Rattle.unit_book.proofs.Names.{PurgesBy, covers_awaiting, halted_by, after_halt, after_dooms, Book, Adds, Extends, RunsBook, Due}
 use Rattle.unit_book.proofs.Names.{ToHalt, ToPost, Free, due, doomed_first}
 use Rattle.std.proofs.Common.{Result}
@@ -34,7 +34,7 @@ module _ {D : Type 0} (meaning : Meaning D) (old mid posting new : Book D) (n : 
       Extends meaning posting (after_dooms posting.trace) posting.awaits new →
       Extends meaning old (after_dooms (Post n csw sense code ∷ old.trace)) false new
   post-then-sweep m p s =
-      let v = posted_value (request_of n old.trace) csw sense code (area meaning old.mounted (request_of n old.trace) old.trace) in
+      let v = posted_value (request_named n old.trace) csw sense code (area meaning old.mounted (request_named n old.trace) old.trace) in
       let since = since-post meaning old.mounted n csw sense code old.trace in
       let q : posting
       ≡ record old {

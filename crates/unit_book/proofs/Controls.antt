@@ -2,7 +2,7 @@
 use Rattle.unit_book.proofs.Names.{◌≡◌, ℕ, ◌≤◌, Bool, true, false, not, ◌&&◌, ◌||◌, Option, Some, None, List, [], ◌∷◌, length, refl, sym}
 use Rattle.unit_book.proofs.Names.{ap, ◌∙◌, eqb, if◌then◌else◌, is_some, Storage, Meaning, Channel, Phase, Absent, Idle, Running, Pending}
 use Rattle.unit_book.proofs.Names.{PostedState, Name, Piece, covers, Scope, Active, Standing, OnChannel, AwaitsRestart, Mode, Entry, Halted}
-use Rattle.unit_book.proofs.Names.{Purge, Close, Reset, waiting, arrivals, active, started, request_of, is_halt, is_covered, doomed}
+use Rattle.unit_book.proofs.Names.{Purge, Close, Reset, waiting, arrivals, active, started, request_named, is_halt, is_covered, doomed}
 use Rattle.unit_book.proofs.Names.{is_doomed, is_open, is_opened, is_closed, flag, extents_of, attempts, current, Legal, Free, due}
 use Rattle.unit_book.proofs.Names.{doomed_first, CanPurge, posted, DoomedBy, active_of, covered_by, awaits_by, ActivityTies, StandingTies}
 use Rattle.unit_book.proofs.Names.{Ties}
@@ -88,14 +88,14 @@ module _ {D : Type 0} (meaning : Meaning D) (mounted : D) where
   module _ {H : List Entry} (scope : Scope) (mode : Mode) where
     -- the purge covers the active request as its piece tells
     pub covers-same : {phase : Phase} {a : Active} → ActiveTies meaning mounted H phase a →
-        covers scope a.piece.value ≡ covers scope (request_of a.piece.value.name H)
-    covers-same {a = a} t = ap (covers scope) t.request ∙ covers-area scope (request_of a.piece.value.name H)
+        covers scope a.piece.value ≡ covers scope (request_named a.piece.value.name H)
+    covers-same {a = a} t = ap (covers scope) t.request ∙ covers-area scope (request_named a.piece.value.name H)
         (current meaning mounted H).area
 
     uncovered : (phase : Phase) (a : Active) (standing : Standing) → ActiveTies meaning mounted H phase a →
         is_halt mode && awaits_by standing && is_some (covered_by scope H (Some a.piece.value.name)) ≡ false →
         awaits_by standing ≡ true → covers scope a.piece.value && is_halt mode ≡ false
-    uncovered phase a standing t h e = by_bools (is_halt mode) (covers scope (request_of a.piece.value.name H)) (covers scope a.piece.value)
+    uncovered phase a standing t h e = by_bools (is_halt mode) (covers scope (request_named a.piece.value.name H)) (covers scope a.piece.value)
         (covers-same t) (rw e at h) where
           by_bools : (halts c d : Bool) → d ≡ c → halts && true && is_some (if c then Some a.piece.value.name else None) ≡ false →
               d && halts ≡ false
@@ -108,7 +108,7 @@ module _ {D : Type 0} (meaning : Meaning D) (mounted : D) where
         (awaits_by standing ≡ true → covers scope a.piece.value && is_halt mode ≡ false) →
         StandingTies meaning mounted H phase a standing →
         StandingTies meaning mounted (Purge scope mode ∷ H) phase (after_cover scope mode a) standing
-    unfolding attempts request_of
+    unfolding attempts request_named
     standing-purge Absent a standing t u d = absurd d
     standing-purge Idle a OnChannel t u d = absurd d
     standing-purge Idle a (AwaitsRestart csw sense) t u d =
@@ -122,7 +122,7 @@ module _ {D : Type 0} (meaning : Meaning D) (mounted : D) where
     active-purge : (phase : Phase) (a : Active) → ActiveTies meaning mounted H phase a →
         (awaits_by a.standing ≡ true → covers scope a.piece.value && is_halt mode ≡ false) →
         ActiveTies meaning mounted (Purge scope mode ∷ H) phase (after_cover scope mode a)
-    unfolding attempts request_of active started
+    unfolding attempts request_named active started
     active-purge phase a t u = record {
       is = t.is;
       request = t.request;
@@ -130,7 +130,7 @@ module _ {D : Type 0} (meaning : Meaning D) (mounted : D) where
       starts = t.starts;
       halted = t.halted;
       covered = ap (λ b. (covers scope a.piece.value && is_halt mode) || b) t.covered
-          ∙ ap (λ b. (b && is_halt mode) || is_covered (request_of a.piece.value.name H) H) (covers-same t);
+          ∙ ap (λ b. (b && is_halt mode) || is_covered (request_named a.piece.value.name H) H) (covers-same t);
       standing = standing-purge phase a a.standing t u t.standing;
     }
 
@@ -140,7 +140,7 @@ module _ {D : Type 0} (meaning : Meaning D) (mounted : D) where
       with-activity : {old new : Option Active} → Ties meaning mounted H channel old waiters table left →
           ActivityTies meaning mounted (Purge scope mode ∷ H) channel.phase new →
           Ties meaning mounted (Purge scope mode ∷ H) channel new waiters table left
-      unfolding Legal waiting arrivals request_of attempts extents_of flag posted
+      unfolding Legal waiting arrivals request_named attempts extents_of flag posted
       with-activity t k = record {
         legal = (fits-free meaning mounted (Purge scope mode) H settled can, t.legal);
         queue = t.queue;

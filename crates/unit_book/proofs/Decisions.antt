@@ -1,7 +1,7 @@
 -- What becomes of the active request when its status is taken.
 use Rattle.unit_book.proofs.Names.{◌≡◌, ℕ, Bool, true, false, Option, Some, None, List, refl, sym, ap, ◌∙◌, subst, Csw, Code, Purged}
 use Rattle.unit_book.proofs.Names.{Meaning, Kind, Channel, Phase, Absent, Idle, Running, Pending, Retry, Final, verdict, PostedState, Name}
-use Rattle.unit_book.proofs.Names.{Piece, Active, Standing, OnChannel, AwaitsRestart, Dcb, Entry, active, request_of, is_covered, HasEnded}
+use Rattle.unit_book.proofs.Names.{Piece, Active, Standing, OnChannel, AwaitsRestart, Dcb, Entry, active, request_named, is_covered, HasEnded}
 use Rattle.unit_book.proofs.Names.{still_runs, active_phase, PostsActive, WithVerdict, StartsAgain, StandingTies, Ties, awaits_by}
 use Rattle.unit_book.proofs.Names.{pending_phase}
 use Rattle.subchannel.specs.Subchannel.{status_of, tested_phase}
@@ -45,7 +45,7 @@ module _ {D : Type 0} (meaning : Meaning D) (mounted : D) where
 
     -- it is posted
     ended-as : (v : Verdict) (covered : Bool) (code : Code) → verdict_of meaning mounted n csw sense H ≡ v →
-        is_covered (request_of n H) H ≡ covered → active_phase meaning mounted n H ≡ HasEnded csw sense →
+        is_covered (request_named n H) H ≡ covered → active_phase meaning mounted n H ≡ HasEnded csw sense →
         ended_code v covered ≡ Some code → PostsAs meaning mounted n csw sense code H
     ended-as (Final c) covered code v k e h = let i : c ≡ code = cc in WithVerdict e (v ∙ ap Final i)
     ended-as Retry true code v k e h = let i : Purged ≡ code = cc in WhileCovered e v k (sym i)

@@ -2,7 +2,7 @@
 use Rattle.unit_book.proofs.Names.{◌≡◌, ◌≤◌, ℕ, Bool, true, false, not, ◌&&◌, ◌||◌, Some, List, [], ◌∷◌, length, arith, refl, sym, ap, ◌∙◌}
 use Rattle.unit_book.proofs.Names.{eqb, inl, inr, subst, if◌then◌else◌, cases_Bool, and_parts, filter, list_all, is_error, Csw, Extent}
 use Rattle.unit_book.proofs.Names.{Code, Purged, Meaning, no_status, Name, Piece, Entry, Opened, Start, Ran, Post, same, waiting, arrivals}
-use Rattle.unit_book.proofs.Names.{active, started, request_of, doomed, is_doomed, is_open, is_opened, is_closed, flag, Free, due}
+use Rattle.unit_book.proofs.Names.{active, started, request_named, doomed, is_doomed, is_open, is_opened, is_closed, flag, Free, due}
 use Rattle.unit_book.proofs.Names.{doomed_first, is_to_halt, Fits, FitsBy, Legal, all_posted, after_dooms, doomed_by_post, DoomedBy}
 use Rattle.unit_book.proofs.Names.{halted_by}
 use Rattle.unit_book.specs.Trace.{is_purged}
@@ -96,14 +96,14 @@ module _ {D : Type 0} (meaning : Meaning D) (mounted : D) where
         by_bools false d f h = refl
 
   pub doomed-post : (n : Name) (csw : Csw) (sense : ℕ) (code : Code) (H : List Entry) → doomed H ≡ [] →
-      DoomedBy (doomed_by_post (request_of n H) code) (Post n csw sense code ∷ H)
+      DoomedBy (doomed_by_post (request_named n H) code) (Post n csw sense code ∷ H)
   unfolding flag without
   doomed-post n csw sense code H e =
       let G = Post n csw sense code ∷ H in
       let all = all-kept (λ r. not (is_doomed H r)) (λ r. not (same n r.name)) (waiting H) (none-pass (is_doomed H) (waiting H) e) in
       let there = subst (λ ws. list_all (λ r. not (is_doomed H r)) ws ≡ true) (sym (waiting-post meaning mounted n csw sense code H)) all in
-      filter-agree (is_doomed G) (is_selected (doomed_by_post (request_of n H) code)) (λ r. not (is_doomed H r))
-      (λ r h. doomed-by (request_of n H) r code (not (is_open r.dcb H)) (is_purged r H) (flag r.dcb H) h) (waiting G) there
+      filter-agree (is_doomed G) (is_selected (doomed_by_post (request_named n H) code)) (λ r. not (is_doomed H r))
+      (λ r h. doomed-by (request_named n H) r code (not (is_open r.dcb H)) (is_purged r H) (flag r.dcb H) h) (waiting G) there
 
   -- no Halted is due
   abbrev pub NoHalt : List Entry → Type 0

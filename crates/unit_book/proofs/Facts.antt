@@ -3,7 +3,7 @@ use Rattle.unit_book.proofs.Names.{◌≡◌, ℕ, zero, suc, ◌+◌, ◌≤◌
 use Rattle.unit_book.proofs.Names.{◌++◌, refl, sym, ap, ◌∙◌, arith, inl, inr, subst, and_from, or_parts, or_left, or_right, cases_Bool}
 use Rattle.unit_book.proofs.Names.{filter-append, filter, list_any, list_all, slice_get, Csw, Meaning, Name, Piece, Code, Entry, Opened}
 use Rattle.unit_book.proofs.Names.{Arrive, Start, Ran, Halted, Purge, Close, Reset, Post, same, arrivals, arrived_of, has_arrived}
-use Rattle.unit_book.proofs.Names.{has_started, is_posted, waiting, started, active, request_of, Each, Attempt, attempts, doomed, is_doomed}
+use Rattle.unit_book.proofs.Names.{has_started, is_posted, waiting, started, active, request_named, Each, Attempt, attempts, doomed, is_doomed}
 use Rattle.unit_book.proofs.Names.{Due, ToHalt, ToPost, Free, due, due_by, doomed_first, is_to_halt, Fits, FitsBy, PostFits, OfActive}
 use Rattle.unit_book.proofs.Names.{OfFirst}
 use Rattle.unit_book.specs.Legal.{FitsFree}
@@ -24,13 +24,13 @@ abbrev pub One : List Entry → Type 0
 One H = (n : Name) → has_started n H ≡ true → is_posted n H ≡ false → active H ≡ Some n
 
 abbrev pub NewestIs : Name → List Entry → Type 0
-NewestIs n H = (a : Attempt) × (rest : List Attempt) × (attempts H ≡ a ∷ rest) × (a.request ≡ request_of n H) × ((request_of n H).name ≡ n)
+NewestIs n H = (a : Attempt) × (rest : List Attempt) × (attempts H ≡ a ∷ rest) × (a.request ≡ request_named n H) × ((request_named n H).name ≡ n)
 
 abbrev pub Newest : List Entry → Type 0
 Newest H = (n : Name) → active H ≡ Some n → NewestIs n H
 
 abbrev pub Known : List Entry → Piece → Type 0
-Known H r = (request_of r.name H ≡ r) × (has_arrived r.name H ≡ true)
+Known H r = (request_named r.name H ≡ r) × (has_arrived r.name H ≡ true)
 
 abbrev pub Facts : List Entry → Type 0
 Facts H = ArrivedStart H × ArrivedPost H × Numbered H × One H × Newest H × Apart (arrivals H) × Each (Known H) (arrivals H)

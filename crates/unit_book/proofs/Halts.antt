@@ -3,7 +3,7 @@ use Rattle.unit_book.proofs.Names.{◌≡◌, ℕ, Bool, true, false, ◌&&◌, 
 use Rattle.unit_book.proofs.Names.{inr, subst, if◌then◌else◌, cases_Bool, and_parts, is_some, Meaning, Place, Channel, Phase, Absent, Idle}
 use Rattle.unit_book.proofs.Names.{Running, Pending, PostedState, Name, Piece, covers, Scope, Active, Standing, OnChannel, AwaitsRestart}
 use Rattle.unit_book.proofs.Names.{Mode, Quiesce, Halt, Entry, Opened, Arrive, Start, Ran, Halted, Purge, Close, Reset, Post, waiting}
-use Rattle.unit_book.proofs.Names.{arrivals, active, started, request_of, doomed, is_open, is_opened, flag, extents_of, attempts, current}
+use Rattle.unit_book.proofs.Names.{arrivals, active, started, request_named, doomed, is_open, is_opened, flag, extents_of, attempts, current}
 use Rattle.unit_book.proofs.Names.{active_phase, still_runs, Fits, FitsBy, Legal, ToHalt, Free, due, due_by, doomed_first, is_to_halt}
 use Rattle.unit_book.proofs.Names.{posted, running_name_by, active_of, covered_by, StandingTies, Ties, dcb_at, dcb_of}
 use Rattle.subchannel.specs.Subchannel.{halted_phase}
@@ -25,12 +25,12 @@ module _ {D : Type 0} (meaning : Meaning D) (mounted : D) where
   -- none, if no program runs
   pub halts-none : (scope : Scope) (mode : Mode) (H : List Entry) → is_some (running_name_by meaning mounted H (active H)) ≡ false →
       due meaning mounted (Purge scope mode ∷ H) ≡ due_after None (doomed (Purge scope mode ∷ H))
-  unfolding active started attempts request_of
+  unfolding active started attempts request_named
   halts-none scope Quiesce H g = quiesces scope H
   halts-none scope Halt H g = due-no_halt meaning mounted (Purge scope Halt ∷ H) (λ n a. still n (rw a at g)) where
     still : (n : Name) → is_some (if still_runs (active_phase meaning mounted n H) then Some n else None) ≡ false →
         is_to_halt meaning mounted (Purge scope Halt ∷ H) n ≡ false
-    still n h = by_bools (still_runs (active_phase meaning mounted n H)) (covers scope (request_of n H)) h where
+    still n h = by_bools (still_runs (active_phase meaning mounted n H)) (covers scope (request_named n H)) h where
       by_bools : (b c : Bool) → is_some (if b then Some n else None) ≡ false → c && b ≡ false
       by_bools true c k = absurd cc
       by_bools false true k = refl
@@ -39,7 +39,7 @@ module _ {D : Type 0} (meaning : Meaning D) (mounted : D) where
   -- the one that it covers, if its program runs
   pub halts-active : (scope : Scope) (H : List Entry) → is_some (running_name_by meaning mounted H (active H)) ≡ true →
       due meaning mounted (Purge scope Halt ∷ H) ≡ due_after (active_of scope H) (doomed (Purge scope Halt ∷ H))
-  unfolding due active started attempts request_of
+  unfolding due active started attempts request_named
   halts-active scope H g = by_active (active H) g where
     P : List Entry
     P = Purge scope Halt ∷ H
@@ -47,7 +47,7 @@ module _ {D : Type 0} (meaning : Meaning D) (mounted : D) where
     by_active : (o : Option Name) → is_some (running_name_by meaning mounted H o) ≡ true →
         due_by meaning mounted P o ≡ due_after (covered_by scope H o) (doomed P)
     by_active None h = absurd cc
-    by_active (Some n) h = by_bools (covers scope (request_of n H)) (still_runs (active_phase meaning mounted n H)) h where
+    by_active (Some n) h = by_bools (covers scope (request_named n H)) (still_runs (active_phase meaning mounted n H)) h where
       by_bools : (c b : Bool) → is_some (if b then Some n else None) ≡ true → (if c && b then ToHalt n else doomed_first (doomed P))
           ≡ due_after (if c then Some n else None) (doomed P)
       by_bools true true k = refl
@@ -58,7 +58,7 @@ module _ {D : Type 0} (meaning : Meaning D) (mounted : D) where
   to-halt : (H : List Entry) (n : Name) → is_to_halt meaning mounted H n ≡ true → still_runs (active_phase meaning mounted n H) ≡ true
   to-halt [] n h = absurd cc
   to-halt (Purge scope Quiesce ∷ H) n h = absurd cc
-  to-halt (Purge scope Halt ∷ H) n h = (and_parts (covers scope (request_of n H)) _ h).1
+  to-halt (Purge scope Halt ∷ H) n h = (and_parts (covers scope (request_named n H)) _ h).1
   to-halt (Opened d i x ∷ H) n h = absurd cc
   to-halt (Arrive r ∷ H) n h = absurd cc
   to-halt (Start m ∷ H) n h = absurd cc
@@ -112,7 +112,7 @@ module _ {D : Type 0} (meaning : Meaning D) (mounted : D) where
 
     pub ties-halt : Ties meaning mounted G (record channel { phase = halted_phase channel.phase })
         (Some (record a { halted = true })) waiters table left
-    unfolding Legal waiting arrivals active started request_of attempts extents_of flag posted
+    unfolding Legal waiting arrivals active started request_named attempts extents_of flag posted
     ties-halt =
         let fits : Fits meaning mounted (Halted n) H = subst (λ x. FitsBy meaning mounted x (Halted n) H) (sym d) refl in
         let s = same-refl n in
@@ -149,7 +149,7 @@ module _ {D : Type 0} (meaning : Meaning D) (mounted : D) where
       (settled : due meaning mounted H ≡ Free) (opened : is_open c H ≡ true) (t : Ties meaning mounted H channel o waiters table left) where
     pub ties-close : {new : List Row} → ((d : ℕ) → dcb_at new d ≡ shut (eqb c d) (dcb_at table d)) → length new ≡ length table →
         Ties meaning mounted (Close c ∷ H) channel o waiters new left
-    unfolding Legal waiting arrivals active started request_of attempts extents_of flag posted
+    unfolding Legal waiting arrivals active started request_named attempts extents_of flag posted
     ties-close rows count = record {
       legal = (fits-free meaning mounted (Close c) H settled opened, t.legal);
       queue = t.queue;
@@ -164,7 +164,7 @@ module _ {D : Type 0} (meaning : Meaning D) (mounted : D) where
 
     pub ties-reset : {new : List Row} → ((d : ℕ) → dcb_at new d ≡ unflagged (eqb c d) (dcb_at table d)) → length new ≡ length table →
         Ties meaning mounted (Reset c ∷ H) channel o waiters new left
-    unfolding Legal waiting arrivals active started request_of attempts extents_of flag posted
+    unfolding Legal waiting arrivals active started request_named attempts extents_of flag posted
     ties-reset rows count = record {
       legal = (fits-free meaning mounted (Reset c) H settled opened, t.legal);
       queue = t.queue;

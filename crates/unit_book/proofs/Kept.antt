@@ -2,7 +2,7 @@
 -- what arrived.
 use Rattle.unit_book.proofs.Names.{◌≡◌, ℕ, true, List, [], ◌∷◌, ◌++◌, append_assoc, length, ◌-◌, refl, sym, ap, ◌∙◌, inl, inr, subst, Ok}
 use Rattle.unit_book.proofs.Names.{Err, OnOk, OnErr, cases_Bool, Csw, Code, Meaning, Storage, PostedState, Name, Piece, Entry, Opened}
-use Rattle.unit_book.proofs.Names.{Arrive, Start, Ran, Halted, Purge, Close, Reset, Post, same, arrivals, has_arrived, request_of, area}
+use Rattle.unit_book.proofs.Names.{Arrive, Start, Ran, Halted, Purge, Close, Reset, Post, same, arrivals, has_arrived, request_named, area}
 use Rattle.unit_book.proofs.Names.{Legal, due, posted, posted_value, Book, Each}
 use Rattle.std.proofs.Common.{take}
 use Rattle.std.specs.Prelude.{IfOk}
@@ -85,8 +85,8 @@ Each-back P [] ys h = h
 Each-back P (x ∷ xs) ys h = Each-back P xs ys h.1
 
 -- the request of a name that arrived is one of the arrivals
-request-among : (P : Piece → Type 0) (n : Name) (H : List Entry) → has_arrived n H ≡ true → Each P (arrivals H) → P (request_of n H)
-unfolding arrivals request_of
+request-among : (P : Piece → Type 0) (n : Name) (H : List Entry) → has_arrived n H ≡ true → Each P (arrivals H) → P (request_named n H)
+unfolding arrivals request_named
 request-among P n [] a h = absurd cc
 request-among P n (Arrive r ∷ H) a h =
     elim (cases_Bool (same r.name n)) [
@@ -116,7 +116,7 @@ module _ {D : Type 0} (meaning : Meaning D) (mounted : D) (P : Piece → Type 0)
   posted-of (Close d ∷ H) l h = posted-of H l.1 h
   posted-of (Reset d ∷ H) l h = posted-of H l.1 h
   posted-of (Post n csw sense code ∷ H) l h =
-      let v = posted_value (request_of n H) csw sense code (area meaning mounted (request_of n H) H) in
+      let v = posted_value (request_named n H) csw sense code (area meaning mounted (request_named n H) H) in
       let arrived : has_arrived n H ≡ true = (facts meaning mounted (Post n csw sense code ∷ H) l).1 n (rw (same-refl n) refl) in
       Each-behind Q (posted meaning mounted H) v (posted-of H l.1 h) (link _ csw sense code _ (request-among P n H arrived h))
 

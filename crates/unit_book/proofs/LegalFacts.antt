@@ -2,7 +2,7 @@
 use Rattle.unit_book.proofs.Names.{sym, ◌≡◌, ℕ, ◌+◌, ◌≤◌, ◌⊎◌, true, false, Some, List, [], ◌∷◌, ◌++◌, length, refl, ap, ◌∙◌, arith, eqb}
 use Rattle.unit_book.proofs.Names.{inl, inr, subst, eq-eqb, or_parts, or_left, or_right, cases_Bool, filter, slice_get, Csw, Meaning, Name}
 use Rattle.unit_book.proofs.Names.{Piece, Code, Entry, Opened, Arrive, Start, Ran, Halted, Purge, Close, Reset, Post, same, arrivals}
-use Rattle.unit_book.proofs.Names.{arrived_of, has_arrived, has_started, is_posted, waiting, started, active, request_of, Each, attempts}
+use Rattle.unit_book.proofs.Names.{arrived_of, has_arrived, has_started, is_posted, waiting, started, active, request_named, Each, attempts}
 use Rattle.unit_book.proofs.Names.{due, Legal, StartFits, First, Again}
 use Rattle.unit_book.proofs.Lists.{same-true, same-refl, same-is, no_both, none_named, Apart, Apart-push}
 use Rattle.unit_book.proofs.Facts.{ArrivedPost, ArrivedStart, Each-behind, Each-weaker, Facts, Known, Newest, NewestIs, Numbered, One}
@@ -11,7 +11,7 @@ use Rattle.unit_book.proofs.Facts.{fresh, post-whom, waits, Each-at}
 
 module _ {D : Type 0} (meaning : Meaning D) (mounted : D) where
   pub newest-ran : (n : Name) (j : ℕ) (H : List Entry) → active H ≡ Some n → NewestIs n H → NewestIs n (Ran n j ∷ H)
-  unfolding attempts request_of
+  unfolding attempts request_named
   newest-ran n j H a w =
       let e = w.2 in
       let s : same w.0.request.name n ≡ true = same-is w.0.request.name n (ap (λ (r : Piece). r.name) w.3 ∙ w.4) in
@@ -41,7 +41,7 @@ module _ {D : Type 0} (meaning : Meaning D) (mounted : D) where
       ]
 
   facts-arrive : (r : Piece) (H : List Entry) → Facts H → r.name.seq ≡ arrived_of r.name.task H + 1 → Facts (Arrive r ∷ H)
-  unfolding arrivals active started attempts request_of
+  unfolding arrivals active started attempts request_named
   facts-arrive r H f e = (starts', posts', numbers, f.3, newest', apart', known') where
     new : has_arrived r.name H ≡ false
     new = fresh meaning mounted r H f e
@@ -80,9 +80,9 @@ module _ {D : Type 0} (meaning : Meaning D) (mounted : D) where
         (rw s refl, or_left (same r.name r.name) (has_arrived r.name H) s)
 
   -- a Start of a name that arrived, has no Post, and is active or nothing is
-  facts-start : (n : Name) (H : List Entry) → Facts H → Known H (request_of n H) → (request_of n H).name ≡ n → is_posted n H ≡ false →
+  facts-start : (n : Name) (H : List Entry) → Facts H → Known H (request_named n H) → (request_named n H).name ≡ n → is_posted n H ≡ false →
       ((m : Name) → active H ≡ Some m → m ≡ n) → Facts (Start n ∷ H)
-  unfolding arrivals attempts request_of
+  unfolding arrivals attempts request_named
   facts-start n H f k e p only = (starts', f.1, f.2, one', newest', f.5, f.6) where
     starts' : ArrivedStart (Start n ∷ H)
     starts' m h =
@@ -105,7 +105,7 @@ module _ {D : Type 0} (meaning : Meaning D) (mounted : D) where
 
   facts-post : (n : Name) (csw : Csw) (sense : ℕ) (code : Code) (H : List Entry) → Facts H →
       ((active H ≡ Some n) ⊎ ((r : Piece) × WaitsAmong H r × (r.name ≡ n))) → Facts (Post n csw sense code ∷ H)
-  unfolding arrivals attempts request_of
+  unfolding arrivals attempts request_named
   facts-post n csw sense code H f whom = (f.0, posts', f.2, one', newest', f.5, f.6) where
     arrived : (active H ≡ Some n) ⊎ ((r : Piece) × WaitsAmong H r × (r.name ≡ n)) → has_arrived n H ≡ true
     arrived (inl a) = f.0 n (active-is n H a).0
@@ -145,26 +145,26 @@ module _ {D : Type 0} (meaning : Meaning D) (mounted : D) where
   first-waits r H f h = waits-at r 0 H f h
 
   -- the request of the name of the first that waits
-  pub first-request : {r : Piece} {n : Name} (H : List Entry) → Facts H → slice_get (waiting H) 0 ≡ Some r → r.name ≡ n → request_of n H ≡ r
-  first-request {r} H f h e = subst (λ (x : Name). request_of x H ≡ r) e (first-waits r H f h).known.0
+  pub first-request : {r : Piece} {n : Name} (H : List Entry) → Facts H → slice_get (waiting H) 0 ≡ Some r → r.name ≡ n → request_named n H ≡ r
+  first-request {r} H f h e = subst (λ (x : Name). request_named x H ≡ r) e (first-waits r H f h).known.0
 
   facts-start_by : (n : Name) (H : List Entry) → Facts H → StartFits meaning mounted n H → Facts (Start n ∷ H)
   facts-start_by n H f (First s) =
       let w = first-waits s.request H f s.first in
-      let q : request_of n H ≡ s.request = subst (λ (x : Name). request_of x H ≡ s.request) s.name w.known.0 in
+      let q : request_named n H ≡ s.request = subst (λ (x : Name). request_named x H ≡ s.request) s.name w.known.0 in
       facts-start n H f (rw q w.known) (rw q s.name) (subst (λ (x : Name). is_posted x H ≡ false) s.name w.unposted)
       (λ m a. let k = sym s.none ∙ a in absurd cc)
   facts-start_by n H f (Again s) =
       let b = active-is n H s.active in
       let w = f.4 n s.active in
       let e = w.4 in
-      facts-start n H f (ap (λ x. request_of x H) e, subst (λ (x : Name). has_arrived x H ≡ true) (sym e) (f.0 n b.0)) e b.1
+      facts-start n H f (ap (λ x. request_named x H) e, subst (λ (x : Name). has_arrived x H ≡ true) (sym e) (f.0 n b.0)) e b.1
       (λ m a. some-is (sym a ∙ s.active)) where
         some-is : {o p : Name} → Some o ≡ Some p → o ≡ p
         some-is k = cc
 
   facts-ran : (n : Name) (j : ℕ) (H : List Entry) → Facts H → active H ≡ Some n → Facts (Ran n j ∷ H)
-  unfolding arrivals active started request_of attempts
+  unfolding arrivals active started request_named attempts
   facts-ran n j H f a = (f.0, f.1, f.2, f.3, newest', f.5, f.6) where
     newest' : Newest (Ran n j ∷ H)
     newest' m b = let i : n ≡ m = cc in subst (λ (x : Name). NewestIs x (Ran n j ∷ H)) i (newest-ran n j H a (f.4 n a))
@@ -175,7 +175,7 @@ module _ {D : Type 0} (meaning : Meaning D) (mounted : D) where
 
   -- THE FACTS HOLD of every legal trace
   pub facts : (H : List Entry) → Legal meaning mounted H → Facts H
-  unfolding Legal arrivals active started attempts request_of
+  unfolding Legal arrivals active started attempts request_named
   facts [] l = no-facts
   facts (Opened d i x ∷ H) l = facts H l.1
   facts (Arrive r ∷ H) l = facts-arrive r H (facts H l.1) (fits-arrive meaning mounted r H (due meaning mounted H) l.0)

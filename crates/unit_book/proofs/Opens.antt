@@ -4,7 +4,7 @@ use Rattle.unit_book.proofs.Names.{◌∷◌, ◌++◌, length, length-append, r
 use Rattle.unit_book.proofs.Names.{cases_Bool, and_parts, or_right, eqb-true, eq-eqb, slice_get-append_right, slice_get, is_error, Csw}
 use Rattle.unit_book.proofs.Names.{Code, Purged, Extent, Meaning, Channel, Idle, PostedState, Name, Piece, Active, Dcb, Entry, Opened}
 use Rattle.unit_book.proofs.Names.{Arrive, Start, Ran, Halted, Purge, Close, Reset, Post, same, has_arrived, has_started, waiting, arrivals}
-use Rattle.unit_book.proofs.Names.{active, started, request_of, is_open, is_opened, is_closed, opened_count, extents_of, flag, attempts}
+use Rattle.unit_book.proofs.Names.{active, started, request_named, is_open, is_opened, is_closed, opened_count, extents_of, flag, attempts}
 use Rattle.unit_book.proofs.Names.{stand, Due, ToHalt, ToPost, Free, due, Fits, FitsBy, Legal, StartFits, First, Again, PostFits, OfActive}
 use Rattle.unit_book.proofs.Names.{OfFirst, posted, Ties, dcb_at, dcb_of}
 use Rattle.unit_book.specs.Trace.{opens}
@@ -87,7 +87,7 @@ module _ {D : Type 0} (meaning : Meaning D) (mounted : D) where
   open-row d H table l count o = opened-row d H table l count (and_parts (is_opened d H) (not (is_closed d H)) o).0
 
   start-opened : (n : Name) (H : List Entry) → Legal meaning mounted H → due meaning mounted H ≡ Free → StartFits meaning mounted n H →
-      (has_started n H ≡ true → is_opened (request_of n H).dcb H ≡ true) → is_opened (request_of n H).dcb H ≡ true
+      (has_started n H ≡ true → is_opened (request_named n H).dcb H ≡ true) → is_opened (request_named n H).dcb H ≡ true
   start-opened n H l d (First s) ih =
       let q = first-request meaning mounted H (facts meaning mounted H l) s.first s.name in
       rw q (first-opened s.request H d s.first)
@@ -95,10 +95,10 @@ module _ {D : Type 0} (meaning : Meaning D) (mounted : D) where
 
   -- THE DCB of a request that was started was opened
   pub started-opened : (n : Name) (H : List Entry) → Legal meaning mounted H → has_started n H ≡ true →
-      is_opened (request_of n H).dcb H ≡ true
-  unfolding Legal request_of
+      is_opened (request_named n H).dcb H ≡ true
+  unfolding Legal request_named
   started-opened n [] l h = absurd cc
-  started-opened n (Opened d i x ∷ H) l h = more (request_of n H).dcb H (Opened d i x) (started-opened n H l.1 h)
+  started-opened n (Opened d i x ∷ H) l h = more (request_named n H).dcb H (Opened d i x) (started-opened n H l.1 h)
   started-opened n (Arrive r ∷ H) l h =
       let f = facts meaning mounted H l.1 in
       let new = fresh meaning mounted r H f (fits-arrive meaning mounted r H (due meaning mounted H) l.0) in
@@ -106,14 +106,14 @@ module _ {D : Type 0} (meaning : Meaning D) (mounted : D) where
       elim (cases_Bool (same r.name n)) [
         | inl s ↦ no_both (has_arrived n H) (f.0 n h) (subst (λ (x : Name). has_arrived x H ≡ false) (same-true r.name n s) new)
         | inr s ↦
-            let q : request_of n (Arrive r ∷ H) ≡ request_of n H = rw s refl in
+            let q : request_named n (Arrive r ∷ H) ≡ request_named n H = rw s refl in
             subst (λ (x : Piece). is_opened x.dcb H ≡ true) (sym q) ih
       ]
   started-opened n (Start m ∷ H) l h =
-      let ih : has_started n H ≡ true → is_opened (request_of n H).dcb H ≡ true = λ k. started-opened n H l.1 k in
-      let own : has_started m H ≡ true → is_opened (request_of m H).dcb H ≡ true = λ k. started-opened m H l.1 k in
+      let ih : has_started n H ≡ true → is_opened (request_named n H).dcb H ≡ true = λ k. started-opened n H l.1 k in
+      let own : has_started m H ≡ true → is_opened (request_named m H).dcb H ≡ true = λ k. started-opened m H l.1 k in
       elim (cases_Bool (same m n)) [
-        | inl s ↦ subst (λ (x : Name). is_opened (request_of x H).dcb H ≡ true) (same-true m n s)
+        | inl s ↦ subst (λ (x : Name). is_opened (request_named x H).dcb H ≡ true) (same-true m n s)
             (start-opened m H l.1 (free-start meaning mounted m H (due meaning mounted H) l.0)
             (fits-start meaning mounted m H (due meaning mounted H) l.0) own)
         | inr s ↦ ih (rw s at h)
@@ -127,16 +127,16 @@ module _ {D : Type 0} (meaning : Meaning D) (mounted : D) where
 
   -- whose post has an error was of an opened DCB
   error-opened : (n : Name) (csw : Csw) (sense : ℕ) (code : Code) (H : List Entry) → Legal meaning mounted H →
-      Fits meaning mounted (Post n csw sense code) H → is_error code ≡ true → is_opened (request_of n H).dcb H ≡ true
+      Fits meaning mounted (Post n csw sense code) H → is_error code ≡ true → is_opened (request_named n H).dcb H ≡ true
   error-opened n csw sense code H l f e = by_due (due meaning mounted H) refl f where
-    free : due meaning mounted H ≡ Free → PostFits meaning mounted n csw sense code H → is_opened (request_of n H).dcb H ≡ true
+    free : due meaning mounted H ≡ Free → PostFits meaning mounted n csw sense code H → is_opened (request_named n H).dcb H ≡ true
     free d (OfActive p) = started-opened n H l (active-is n H p.active).0
     free d (OfFirst p) =
         let q = first-request meaning mounted H (facts meaning mounted H l) p.fails.first p.fails.name in
         rw q (first-opened p.fails.request H d p.fails.first)
 
     by_due : (k : Due) → due meaning mounted H ≡ k → FitsBy meaning mounted k (Post n csw sense code) H →
-        is_opened (request_of n H).dcb H ≡ true
+        is_opened (request_named n H).dcb H ≡ true
     by_due (ToHalt m) d g = absurd cc
     by_due (ToPost m) d g = let p : code ≡ Purged = cc in let k = ap is_error (sym p) ∙ e in absurd cc
     by_due Free d g = free d g
@@ -157,11 +157,11 @@ module _ {D : Type 0} (meaning : Meaning D) (mounted : D) where
       elim (cases_Bool (eqb c d)) [ inl e ↦ let k = rw e at h in absurd cc | inr e ↦ ih (rw e at h) ]
   flag-opened d (Post n c s k ∷ H) l h =
       let ih : flag d H ≡ true → is_opened d H ≡ true = λ g. flag-opened d H l.1 g in
-      elim (cases_Bool (is_error k && (request_of n H).related && eqb (request_of n H).dcb d)) [
+      elim (cases_Bool (is_error k && (request_named n H).related && eqb (request_named n H).dcb d)) [
         | inl e ↦
-            let a = and_parts (is_error k && (request_of n H).related) (eqb (request_of n H).dcb d) e in
-            let b = and_parts (is_error k) (request_of n H).related a.0 in
-            subst (λ (x : ℕ). is_opened x H ≡ true) (eqb-true (request_of n H).dcb d a.1) (error-opened n c s k H l.1 l.0 b.0)
+            let a = and_parts (is_error k && (request_named n H).related) (eqb (request_named n H).dcb d) e in
+            let b = and_parts (is_error k) (request_named n H).related a.0 in
+            subst (λ (x : ℕ). is_opened x H ≡ true) (eqb-true (request_named n H).dcb d a.1) (error-opened n c s k H l.1 l.0 b.0)
         | inr e ↦ ih (rw e at h)
       ]
 
@@ -206,7 +206,7 @@ module _ {D : Type 0} (meaning : Meaning D) (mounted : D) where
       due meaning mounted H ≡ Free → OpenFits meaning mounted d x H → Ties meaning mounted H channel o waiters table left →
       Ties meaning mounted (Opened d input x ∷ H) channel o waiters
       (table ++ record { input = input; extents = x; closed = false; in_error = false } ∷ []) left
-  unfolding Legal waiting arrivals active started request_of attempts posted
+  unfolding Legal waiting arrivals active started request_named attempts posted
   ties-open {d} input {x} {H} {channel} {o} {waiters} {table} settled f t = record {
     legal = (fits-free meaning mounted (Opened d input x) H settled f, t.legal);
     queue = t.queue;

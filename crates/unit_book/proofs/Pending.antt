@@ -3,7 +3,7 @@ use Rattle.unit_book.proofs.Names.{◌≡◌, ℕ, ◌+◌, Bool, true, false, n
 use Rattle.unit_book.proofs.Names.{ap, ◌∙◌, subst, and_parts, is_some, OnOk, OnErr, Extent, ExtentViolated, Purged, Meaning, after}
 use Rattle.unit_book.proofs.Names.{no_status, Name, Piece, covers, Scope, Starting, Busy, Started, Violated, NothingRuns, RanSome}
 use Rattle.unit_book.proofs.Names.{Interruption, NothingPending, TriedAgain, WasPosted, Mode, Quiesce, Halt, Entry, Opened, Arrive, Purge}
-use Rattle.unit_book.proofs.Names.{Close, Reset, Post, waiting, active, started, arrivals, request_of, has_started, is_posted, is_halt}
+use Rattle.unit_book.proofs.Names.{Close, Reset, Post, waiting, active, started, arrivals, request_named, has_started, is_posted, is_halt}
 use Rattle.unit_book.proofs.Names.{is_halted, arrived_of, doomed, is_doomed, opened_count, all_posted, after_dooms, attempts, newest}
 use Rattle.unit_book.proofs.Names.{still_runs, active_phase, Due, ToHalt, ToPost, Free, Legal, CanPurge, due, due_by, is_to_halt, Book}
 use Rattle.unit_book.proofs.Names.{running_name_by, Adds, Extends, MayStart, MayFirst, MayAgain, StartsBook, RunsBook, InterruptsBook}
@@ -75,7 +75,7 @@ module _ {D : Type 0} (meaning : Meaning D) (mounted : D) where
 
   -- A PURGE
   purged-facts : (d : Due) (scope : Scope) (mode : Mode) (H : List Entry) → Facts H → Facts (halted_by d (Purge scope mode ∷ H))
-  unfolding arrivals active started attempts request_of
+  unfolding arrivals active started attempts request_named
   purged-facts (ToHalt n) scope mode H f = f
   purged-facts (ToPost n) scope mode H f = f
   purged-facts Free scope mode H f = f
@@ -106,8 +106,8 @@ module _ {D : Type 0} (meaning : Meaning D) (mounted : D) where
   purge-active scope Quiesce H again (Some n) k = unhalted scope Quiesce H n again refl
       ∙ sym (or-false (pending_by meaning mounted H again (Some n)))
   purge-active scope Halt H again (Some n) k =
-      by_tests (covers scope (request_of n H)) (still_runs (active_phase meaning mounted n H)) again refl refl refl where
-        by_tests : (c g a : Bool) → covers scope (request_of n H) ≡ c → still_runs (active_phase meaning mounted n H) ≡ g → again ≡ a →
+      by_tests (covers scope (request_named n H)) (still_runs (active_phase meaning mounted n H)) again refl refl refl where
+        by_tests : (c g a : Bool) → covers scope (request_named n H) ≡ c → still_runs (active_phase meaning mounted n H) ≡ g → again ≡ a →
             pending_by meaning mounted (halted_by (due_by meaning mounted (Purge scope Halt ∷ H) (Some n)) (Purge scope Halt ∷ H)) again
             (Some n)
             ≡ (pending_by meaning mounted H again (Some n) || is_some (covered_by scope H (running_name_by meaning mounted H (Some n))))
@@ -153,7 +153,7 @@ module _ {D : Type 0} (meaning : Meaning D) where
 
   pub pending-close : (was_open : Bool) (old new : Book D) (dcb : ℕ) → Legal meaning old.mounted old.trace →
       ClosesBy meaning was_open old dcb new → is_pending meaning new ≡ is_pending meaning old
-  unfolding arrivals active started attempts request_of
+  unfolding arrivals active started attempts request_named
   pending-close true old new dcb l p = pending-posts old new (Close dcb ∷ old.trace) old.awaits (facts meaning old.mounted old.trace l) p
   pending-close false old new dcb l p = ap (is_pending meaning) p
 

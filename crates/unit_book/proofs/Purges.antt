@@ -2,7 +2,7 @@
 use Rattle.unit_book.proofs.Names.{◌≡◌, ℕ, ◌+◌, Bool, true, not, Option, List, [], ◌∷◌, ◌++◌, append_assoc, length, map, refl, sym, ap, ◌∙◌}
 use Rattle.unit_book.proofs.Names.{arith, inl, inr, subst, cases_Bool, and_parts, append-nil, filter, drop, Csw, Code, Purged, Meaning}
 use Rattle.unit_book.proofs.Names.{no_status, Channel, PostedState, Placed, Name, Piece, Active, Dcb, Entry, Arrive, Post, same, waiting}
-use Rattle.unit_book.proofs.Names.{request_of, doomed, is_doomed, extents_of, flag, attempts, area, Fits, FitsBy, Legal, due, doomed_first}
+use Rattle.unit_book.proofs.Names.{request_named, doomed, is_doomed, extents_of, flag, attempts, area, Fits, FitsBy, Legal, due, doomed_first}
 use Rattle.unit_book.proofs.Names.{all_posted, after_dooms, purged, posted, posted_since, posted_value, Ties, Each}
 use Rattle.std.proofs.Math.Seq.{drop-append_seam, drop-length}
 use Rattle.unit_book.proofs.Lists.{same-not-sym, no_both, without, none_named, Apart, Apart-filter, all-kept, without-first}
@@ -61,7 +61,7 @@ module _ {D : Type 0} (meaning : Meaning D) (mounted : D) where
         rw (q, issued) refl
 
     ties-purged : Ties meaning mounted (Post r.name no_status 0 Purged ∷ H) channel o (without r.name waiters) table (left ++ purged r ∷ [])
-    unfolding Legal attempts flag extents_of request_of without
+    unfolding Legal attempts flag extents_of request_named without
     ties-purged =
         let n = r.name in
         let a = active-post_waiting meaning mounted n no_status 0 Purged H w.unstarted in
@@ -148,19 +148,19 @@ module _ {D : Type 0} (meaning : Meaning D) (mounted : D) where
   unfolding posted
   posted-more [] G = ([], sym (append-nil (posted meaning mounted G)))
   posted-more (r ∷ rs) G =
-      let v = posted_value (request_of r.name G) no_status 0 Purged (area meaning mounted (request_of r.name G) G) in
+      let v = posted_value (request_named r.name G) no_status 0 Purged (area meaning mounted (request_named r.name G) G) in
       let m = posted-more rs (Post r.name no_status 0 Purged ∷ G) in
       (v ∷ m.0, m.1 ∙ append_assoc (posted meaning mounted G) (v ∷ []) m.0)
 
   -- a post and what it dooms
   pub since-post : (n : Name) (csw : Csw) (sense : ℕ) (code : Code) (H : List Entry) →
       let G = Post n csw sense code ∷ H in
-      posted_since meaning mounted H (after_dooms G) ≡ posted_value (request_of n H) csw sense code
-      (area meaning mounted (request_of n H) H) ∷ posted_since meaning mounted G (after_dooms G)
+      posted_since meaning mounted H (after_dooms G) ≡ posted_value (request_named n H) csw sense code
+      (area meaning mounted (request_named n H) H) ∷ posted_since meaning mounted G (after_dooms G)
   unfolding posted
   since-post n csw sense code H =
       let G = Post n csw sense code ∷ H in
-      let v = posted_value (request_of n H) csw sense code (area meaning mounted (request_of n H) H) in
+      let v = posted_value (request_named n H) csw sense code (area meaning mounted (request_named n H) H) in
       let m = posted-more (doomed G) G in
       let own = since-is meaning mounted G (after_dooms G) m.0 m.1 in
       let all = since-is meaning mounted H (after_dooms G) (v ∷ m.0) (m.1 ∙ append_assoc (posted meaning mounted H) (v ∷ []) m.0) in

@@ -2,7 +2,7 @@
 use Rattle.unit_book.proofs.Names.{◌≡◌, ℕ, ◌+◌, ◌≤◌, Bool, true, false, ◌&&◌, ◌||◌, Some, List, ◌∷◌, refl, sym, ap, ◌∙◌, arith, subst}
 use Rattle.unit_book.proofs.Names.{if◌then◌else◌, and_parts, Csw, Ended, Meaning, Kind, Program, Channel, Phase, Absent, Idle, Running}
 use Rattle.unit_book.proofs.Names.{Pending, ssch_started, Retry, Final, verdict, PostedState, Name, Piece, Active, Standing, OnChannel}
-use Rattle.unit_book.proofs.Names.{AwaitsRestart, Dcb, Entry, Start, same, starts_of, active, request_of, extents_of, flag, mask_of}
+use Rattle.unit_book.proofs.Names.{AwaitsRestart, Dcb, Entry, Start, same, starts_of, active, request_named, extents_of, flag, mask_of}
 use Rattle.unit_book.proofs.Names.{current, device, Legal, due, Free, StartsAgain, posted, StandingTies, Ties, awaits_by, dcb_at, mask_at}
 use Rattle.std.proofs.lemmas.Bool.{leb-true}
 use Rattle.std.specs.Prelude.{nat_le}
@@ -73,16 +73,16 @@ module _ {D : Type 0} (meaning : Meaning D) (mounted : D) where
         let f = seeks meaning mounted H t.legal n (active-is n H t.activity.is).0 in
         let seek_is = ap (λ (r : Piece). r.seek) t.activity.request in
         let device_is = t.device in
-        rw (seek_is, device_is) (fits-device meaning mounted law H (request_of n H).seek f)
+        rw (seek_is, device_is) (fits-device meaning mounted law H (request_named n H).seek f)
 
     pub ties-restart : {mask : ℕ} → mask ≡ mask_at (dcb_at table a.piece.value.dcb) →
         Ties meaning mounted (Start n ∷ H) (ssch_started meaning channel a.piece.value.start a.piece.value.seek mask channel.phase)
         (Some (restarted a)) waiters table left
-    unfolding Legal posted flag extents_of request_of
+    unfolding Legal posted flag extents_of request_named
     ties-restart {mask} mask_is =
         let f = facts meaning mounted H t.legal in
         let G = Start n ∷ H in
-        let q = request_of n H in
+        let q = request_named n H in
         let r = a.piece.value in
         let w : NewestIs n H = f.4 n t.activity.is in
         let self : same n n ≡ true = same-refl n in

@@ -2,7 +2,7 @@
 use Rattle.unit_book.proofs.Names.{◌≡◌, ℕ, ◌≤◌, Bool, true, false, Some, None, List, ◌∷◌, refl, sym, ap, ◌∙◌, arith, subst, Csw, Storage}
 use Rattle.unit_book.proofs.Names.{Meaning, Place, State, Program, after, length_of, is_running, Channel, Phase, Absent, Idle, Running}
 use Rattle.unit_book.proofs.Names.{Pending, PostedState, Piece, Name, Active, Standing, OnChannel, AwaitsRestart, Dcb, Entry, Ran, same}
-use Rattle.unit_book.proofs.Names.{waiting, arrivals, active, started, request_of, is_halted, attempts, stand, newest, current}
+use Rattle.unit_book.proofs.Names.{waiting, arrivals, active, started, request_named, is_halted, attempts, stand, newest, current}
 use Rattle.unit_book.proofs.Names.{active_phase, active_phase_by, still_runs, StillRunning, device, beginning, extents_of, flag, Legal, due}
 use Rattle.unit_book.proofs.Names.{Free, posted, running_name_by, StandingTies, Ties, pending_phase}
 use Rattle.std.specs.Prelude.{min}
@@ -177,7 +177,7 @@ module _ {D : Type 0} (meaning : Meaning D) (mounted : D) where
 
     pub ties-ran : due meaning mounted H ≡ Free → SamePlace a.piece.value.area u.area →
         Ties meaning mounted G u.new (Some (with_area a u.area)) waiters table left
-    unfolding Legal waiting arrivals active started request_of attempts extents_of flag posted
+    unfolding Legal waiting arrivals active started request_named attempts extents_of flag posted
     ties-ran settled place =
         let k = told in
         let q = current meaning mounted G in
@@ -193,7 +193,7 @@ module _ {D : Type 0} (meaning : Meaning D) (mounted : D) where
           device = ap (λ (x : Channel D). x.device) k.channel_is ∙ ap Some (sym (device-current n G k.newest));
           activity = record {
             is = t.activity.is;
-            request = ap (λ p. f p u.area) t.activity.request ∙ ap (f (request_of n H)) k.area_is;
+            request = ap (λ p. f p u.area) t.activity.request ∙ ap (f (request_named n H)) k.area_is;
             placed = placed-moved a.piece.value u.area t.activity.placed place;
             starts = t.activity.starts;
             halted = t.activity.halted;

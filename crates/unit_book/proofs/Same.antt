@@ -1,7 +1,7 @@
 -- What an entry that says nothing of the active request leaves as it is.
 use Rattle.unit_book.proofs.Names.{◌≡◌, ℕ, ◌+◌, ◌<◌, Bool, Option, Some, None, List, length, refl, sym, ap, ◌∙◌, arith, subst, Meaning}
 use Rattle.unit_book.proofs.Names.{Program, Channel, Phase, Absent, Idle, Running, Pending, PostedState, Name, Piece, Active, Standing}
-use Rattle.unit_book.proofs.Names.{OnChannel, AwaitsRestart, Dcb, Entry, waiting, active, request_of, starts_of, is_halted, is_covered}
+use Rattle.unit_book.proofs.Names.{OnChannel, AwaitsRestart, Dcb, Entry, waiting, active, request_named, starts_of, is_halted, is_covered}
 use Rattle.unit_book.proofs.Names.{attempts, newest, current, active_phase, active_phase_by, Fits, FitsBy, due, Free, ActivityTies}
 use Rattle.unit_book.proofs.Names.{StandingTies, Ties}
 use Rattle.unit_book.specs.Media.{ActivePhase}
@@ -13,11 +13,11 @@ module _ {D : Type 0} (meaning : Meaning D) (mounted : D) where
   -- the later trace says of this name what the earlier one does
   pub record Silent (H G : List Entry) (n : Name) : Type 0 where
     pub active : active G ≡ active H
-    pub request : request_of n G ≡ request_of n H
+    pub request : request_named n G ≡ request_named n H
     pub starts : starts_of n G ≡ starts_of n H
     pub attempts : attempts G ≡ attempts H
     pub halted : is_halted n G ≡ is_halted n H
-    pub covered : is_covered (request_of n G) G ≡ is_covered (request_of n H) H
+    pub covered : is_covered (request_named n G) G ≡ is_covered (request_named n H) H
 
   current-same : (H G : List Entry) → attempts G ≡ attempts H → current meaning mounted G ≡ current meaning mounted H
   current-same H G e = ap (newest meaning mounted) e
@@ -49,7 +49,7 @@ module _ {D : Type 0} (meaning : Meaning D) (mounted : D) where
       let with_area : Piece → Program D → Piece = λ r p. record r { area = p.area } in
       record {
         is = s.active ∙ t.is;
-        request = t.request ∙ ap (λ r. with_area r (current meaning mounted H)) (sym s.request) ∙ ap (with_area (request_of n G))
+        request = t.request ∙ ap (λ r. with_area r (current meaning mounted H)) (sym s.request) ∙ ap (with_area (request_named n G))
             (sym (current-same H G s.attempts));
         placed = t.placed;
         starts = t.starts ∙ sym s.starts;

@@ -2,7 +2,7 @@
 use Rattle.unit_book.proofs.Names.{◌≡◌, ℕ, zero, suc, ◌+◌, ◌<◌, ◌≤◌, Bool, true, false, not, ◌&&◌, Option, Some, None, List, [], ◌∷◌}
 use Rattle.unit_book.proofs.Names.{length, refl, ◌∙◌, arith, eqb, inl, inr, subst, cases_Bool, and_parts, and_from, or_parts, list_all}
 use Rattle.unit_book.proofs.Names.{slice_get, Extent, Meaning, Kind, Printer, Name, Piece, Entry, Opened, Arrive, Start, Ran, Halted, Purge}
-use Rattle.unit_book.proofs.Names.{Close, Reset, Post, passes_check, same, has_arrived, has_started, waiting, request_of, is_opened}
+use Rattle.unit_book.proofs.Names.{Close, Reset, Post, passes_check, same, has_arrived, has_started, waiting, request_named, is_opened}
 use Rattle.unit_book.proofs.Names.{is_closed, is_open, extents_of, doomed, is_doomed, Attempt, attempts, stand, device, beginning, Due}
 use Rattle.unit_book.proofs.Names.{ToHalt, ToPost, Free, due, FitsBy, Legal, StartFits, First, Again}
 use Rattle.std.proofs.Common.{◌*◌}
@@ -119,15 +119,15 @@ module _ {D : Type 0} (meaning : Meaning D) (mounted : D) where
   free-start n H Free h = refl
 
   start-fits : (n : Name) (H : List Entry) → Legal meaning mounted H → due meaning mounted H ≡ Free → StartFits meaning mounted n H →
-      (has_started n H ≡ true → SeekFits (request_of n H)) → SeekFits (request_of n H)
+      (has_started n H ≡ true → SeekFits (request_named n H)) → SeekFits (request_named n H)
   start-fits n H l d (First s) ih =
       let q = first-request meaning mounted H (facts meaning mounted H l) s.first s.name in
       rw q (first-fits s.request H l d s.first s.passes)
   start-fits n H l d (Again s) ih = ih (active-is n H s.active).0
 
   -- THE SEEK of a request that was started fits the device
-  pub seeks : (H : List Entry) → Legal meaning mounted H → (n : Name) → has_started n H ≡ true → SeekFits (request_of n H)
-  unfolding Legal request_of
+  pub seeks : (H : List Entry) → Legal meaning mounted H → (n : Name) → has_started n H ≡ true → SeekFits (request_named n H)
+  unfolding Legal request_named
   seeks [] l n h = absurd cc
   seeks (Opened d i x ∷ H) l n h = seeks H l.1 n h
   seeks (Arrive r ∷ H) l n h =
@@ -139,10 +139,10 @@ module _ {D : Type 0} (meaning : Meaning D) (mounted : D) where
         | inr s ↦ rw s ih
       ]
   seeks (Start m ∷ H) l n h =
-      let ih : has_started n H ≡ true → SeekFits (request_of n H) = λ k. seeks H l.1 n k in
-      let own : has_started m H ≡ true → SeekFits (request_of m H) = λ k. seeks H l.1 m k in
+      let ih : has_started n H ≡ true → SeekFits (request_named n H) = λ k. seeks H l.1 n k in
+      let own : has_started m H ≡ true → SeekFits (request_named m H) = λ k. seeks H l.1 m k in
       elim (cases_Bool (same m n)) [
-        | inl s ↦ subst (λ (x : Name). SeekFits (request_of x H)) (same-true m n s)
+        | inl s ↦ subst (λ (x : Name). SeekFits (request_named x H)) (same-true m n s)
             (start-fits m H l.1 (free-start m H (due meaning mounted H) l.0) (fits-start meaning mounted m H (due meaning mounted H) l.0)
             own)
         | inr s ↦ ih (rw s at h)

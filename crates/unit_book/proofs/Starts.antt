@@ -3,7 +3,7 @@ use Rattle.unit_book.proofs.Names.{◌≡◌, ℕ, Bool, true, false, ◌||◌, 
 use Rattle.unit_book.proofs.Names.{inr, subst, cases_Bool, and_parts, and_from, or_parts, or_left, or_right, filter, list_any, list_all}
 use Rattle.unit_book.proofs.Names.{slice_get, drop, Meaning, Program, after, Channel, Phase, Idle, Running, ssch_started, PostedState}
 use Rattle.unit_book.proofs.Names.{Placed, Name, Piece, Active, OnChannel, Dcb, Entry, Opened, Arrive, Start, Ran, Halted, Purge, Close}
-use Rattle.unit_book.proofs.Names.{Reset, Post, same, starts, has_started, waiting, active, request_of, passes_check, is_opened, extents_of}
+use Rattle.unit_book.proofs.Names.{Reset, Post, same, starts, has_started, waiting, active, request_named, passes_check, is_opened, extents_of}
 use Rattle.unit_book.proofs.Names.{flag, mask_of, Attempt, attempts, stand, newest, current, device, area, Legal, due, Free, First}
 use Rattle.unit_book.proofs.Names.{StartsFirst, posted, Each, ActivityTies, Ties, dcb_at, dcb_of, mask_at}
 use Rattle.std.specs.Global.{Box}
@@ -83,7 +83,7 @@ extents-is d H = elim (cases_Bool (is_opened d H)) [ inl o ↦ rw o refl | inr o
 module _ {D : Type 0} (meaning : Meaning D) (mounted : D) where
   -- each attempt is of a name that was started
   pub named : (H : List Entry) → Legal meaning mounted H → list_all (named_within H) (attempts H) ≡ true
-  unfolding Legal attempts request_of
+  unfolding Legal attempts request_named
   named [] l = refl
   named (Opened d i x ∷ H) l = named H l.1
   named (Arrive r ∷ H) l = named H l.1
@@ -91,9 +91,9 @@ module _ {D : Type 0} (meaning : Meaning D) (mounted : D) where
       let f = facts meaning mounted H l.1 in
       let u = start-unposted meaning mounted n H f (fits-start meaning mounted n H (due meaning mounted H) l.0) in
       let w = (facts meaning mounted (Start n ∷ H) l).4 n (active-start meaning mounted n H u) in
-      let e : (request_of n H).name ≡ n = w.4 in
-      and_from (same n (request_of n H).name || has_started (request_of n H).name H) (list_all (named_within (Start n ∷ H)) (attempts H))
-      (or_left (same n (request_of n H).name) (has_started (request_of n H).name H) (same-is n (request_of n H).name (sym e)))
+      let e : (request_named n H).name ≡ n = w.4 in
+      and_from (same n (request_named n H).name || has_started (request_named n H).name H) (list_all (named_within (Start n ∷ H)) (attempts H))
+      (or_left (same n (request_named n H).name) (has_started (request_named n H).name H) (same-is n (request_named n H).name (sym e)))
       (named-more H n (attempts H) (named H l.1))
   named (Ran n j ∷ H) l = lengthened-named H n j (attempts H) (named H l.1)
   named (Halted n ∷ H) l = named H l.1
@@ -120,13 +120,13 @@ module _ {D : Type 0} (meaning : Meaning D) (mounted : D) where
   as-issued r H l u = as-issued_by r H u (attempts H) (named H l)
 
   pub current-start : (n : Name) (H : List Entry) → current meaning mounted (Start n ∷ H) ≡
-      begun (request_of n H).start (meaning.prefix (device meaning mounted H) (request_of n H).seek (mask_of (request_of n H).dcb H))
-      (area meaning mounted (request_of n H) H)
+      begun (request_named n H).start (meaning.prefix (device meaning mounted H) (request_named n H).seek (mask_of (request_named n H).dcb H))
+      (area meaning mounted (request_named n H) H)
   unfolding attempts newest after
   current-start n H = refl
 
   pub device-start : (n : Name) (H : List Entry) → device meaning mounted (Start n ∷ H) ≡ meaning.prefix (device meaning mounted H)
-      (request_of n H).seek (mask_of (request_of n H).dcb H)
+      (request_named n H).seek (mask_of (request_named n H).dcb H)
   unfolding attempts stand after
   device-start n H = refl
 
@@ -168,14 +168,14 @@ module _ {D : Type 0} (meaning : Meaning D) (mounted : D) where
       (first : slice_get (waiting H) 0 ≡ Some b.value) (mask_is : mask ≡ mask_at (dcb_at table b.value.dcb)) where
     pub ties-start : Ties meaning mounted (Start b.value.name ∷ H)
         (ssch_started meaning channel b.value.start b.value.seek mask channel.phase) (Some (held_first b)) (drop 1 waiters) table left
-    unfolding Legal posted flag extents_of request_of
+    unfolding Legal posted flag extents_of request_named
     ties-start =
         let r = b.value in
         let f = facts meaning mounted H t.legal in
         let n = r.name in
         let G = Start n ∷ H in
         let w = first-waits meaning mounted r H f first in
-        let e : request_of n H ≡ r = w.known.0 in
+        let e : request_named n H ≡ r = w.known.0 in
         let self : same n n ≡ true = same-refl n in
         let z = first-rest (waiting H) r first in
         let apart = subst Apart z (waiting-apart meaning mounted H f) in

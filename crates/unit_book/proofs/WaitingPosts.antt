@@ -1,7 +1,7 @@
 -- The post of a request that waits first: the fields stay those of the trace.
 use Rattle.unit_book.proofs.Names.{◌≡◌, ℕ, ◌&&◌, Option, Some, List, [], ◌∷◌, ◌++◌, append_assoc, length, refl, sym, ap, ◌∙◌, eqb, subst}
 use Rattle.unit_book.proofs.Names.{slice_get, drop, Storage, is_error, Csw, Code, Meaning, Channel, PostedState, Piece, Active, Dcb, Entry}
-use Rattle.unit_book.proofs.Names.{Post, waiting, request_of, attempts, area, Fits, Legal, posted, posted_value, Ties, dcb_at, noted}
+use Rattle.unit_book.proofs.Names.{Post, waiting, request_named, attempts, area, Fits, Legal, posted, posted_value, Ties, dcb_at, noted}
 use Rattle.unit_book.proofs.Lists.{without, without-first, Apart, first-rest}
 use Rattle.unit_book.proofs.Facts.{waiting-post, waiting-apart, active-post_waiting}
 use Rattle.unit_book.proofs.LegalFacts.{facts, waits-at}
@@ -15,8 +15,8 @@ module _ {D : Type 0} (meaning : Meaning D) (mounted : D) where
       (t : Ties meaning mounted H channel o waiters table left) where
     -- what is handed out is the value that the trace says
     pub waiting-value : (i : ℕ) → slice_get (waiting H) i ≡ Some r →
-        posted_value r csw sense code r.area ≡ posted_value (request_of r.name H) csw sense code
-        (area meaning mounted (request_of r.name H) H)
+        posted_value r csw sense code r.area ≡ posted_value (request_named r.name H) csw sense code
+        (area meaning mounted (request_named r.name H) H)
     waiting-value i there =
         let w = waits-at meaning mounted r i H (facts meaning mounted H t.legal) there in
         let issued : area meaning mounted r H ≡ r.area = as-issued meaning mounted r H t.legal w.unstarted in
@@ -27,7 +27,7 @@ module _ {D : Type 0} (meaning : Meaning D) (mounted : D) where
         ((d : ℕ) → dcb_at new d ≡ noted (is_error code && r.related && eqb r.dcb d) (dcb_at table d)) → length new ≡ length table →
         Ties meaning mounted (Post r.name csw sense code ∷ H) channel o (drop 1 waiters) new
         (left ++ posted_value r csw sense code r.area ∷ [])
-    unfolding Legal attempts posted request_of
+    unfolding Legal attempts posted request_named
     ties-first_post fits there dcbs count =
         let f = facts meaning mounted H t.legal in
         let n = r.name in

@@ -1,7 +1,7 @@
 -- Worked rows, by computation: the words on concrete traces, newest entry first.
 use Rattle.unit_book.proofs.Names.{◌≡◌, ℕ, Bool, true, false, Some, None, List, [], ◌∷◌, refl, Ended, ExtentViolated, Purged, Extent}
 use Rattle.unit_book.proofs.Names.{Printer, no_status, Retry, Final, Name, Piece, Quiesce, Halt, Entry, Opened, Arrive, Start, Ran, Halted}
-use Rattle.unit_book.proofs.Names.{Purge, Close, Reset, Post, arrivals, arrived_of, waiting, started, active, request_of, starts_of}
+use Rattle.unit_book.proofs.Names.{Purge, Close, Reset, Post, arrivals, arrived_of, waiting, started, active, request_named, starts_of}
 use Rattle.unit_book.proofs.Names.{is_covered, is_halted, passes_check, extents_of, mask_of, flag, doomed, after_dooms}
 use Rattle.io_images.specs.declared.code.Code.TheVariants.{PermanentError}
 use Rattle.io_images.specs.declared.seek.Seek.{Seek}
@@ -75,7 +75,7 @@ related_error_flags_dcb_until_reset : (flag 1 in_error ≡ true) × (doomed in_e
     × (is_refused (r 4 1 true) in_error ≡ true)
     × (is_refused (r 4 1 false) in_error ≡ false) × (flag 1 (Reset 1 ∷ in_error) ≡ false)
     × (is_refused (r 4 1 true) (Reset 1 ∷ in_error) ≡ false)
-unfolding in_error r n waiting arrivals flag request_of
+unfolding in_error r n waiting arrivals flag request_named
 related_error_flags_dcb_until_reset = (refl, refl, refl, refl, refl, refl)
 
 -- 4. The same error of an unrelated request dooms nothing
@@ -85,7 +85,7 @@ unrelated =
     ∷ Opened 1 false [] ∷ []
 
 unrelated_error_dooms_nothing : (flag 1 unrelated ≡ false) × (doomed unrelated ≡ [])
-unfolding unrelated r n waiting arrivals flag request_of
+unfolding unrelated r n waiting arrivals flag request_named
 unrelated_error_dooms_nothing = (refl, refl)
 
 -- 5. A close while r1 is active and r2 waits, then the post of r1
@@ -94,7 +94,7 @@ closing = Close 1 ∷ Start (n 1) ∷ Arrive (r 2 1 false) ∷ Arrive (r 1 1 fal
 
 close_lets_active_retry : (dcb_state 1 closing ≡ Closing) × (doomed closing ≡ r 2 1 false ∷ [])
     × (dcb_state 1 (Post (n 1) no_status 0 Ended ∷ after_dooms closing) ≡ Closed) × (is_refused (r 5 1 false) closing ≡ true)
-unfolding closing r n waiting arrivals active started request_of flag
+unfolding closing r n waiting arrivals active started request_named flag
 close_lets_active_retry = (refl, refl, refl, refl)
 
 -- 6. A DCB that was never opened
@@ -176,5 +176,5 @@ violated = Post (n 1) no_status 0 ExtentViolated ∷ Arrive (r 2 1 true) ∷ Arr
 
 extent_violation_dooms_related : (flag 1 violated ≡ true) × (doomed violated ≡ r 2 1 true ∷ []) × (waiting (after_dooms violated) ≡ [])
     × (first_starts (after_dooms violated) ≡ [])
-unfolding violated r n waiting arrivals flag request_of first_starts
+unfolding violated r n waiting arrivals flag request_named first_starts
 extent_violation_dooms_related = (refl, refl, refl, refl)

@@ -1,7 +1,7 @@
 -- Worked rows of worlds, by computation: one step after another, from an opening world to a finished one.
 use Rattle.unit_book.proofs.Names.{◌≡◌, ℕ, true, false, List, [], ◌∷◌, refl, arith, Csw, Code, Ended, Purged, Meaning, Printer, after}
 use Rattle.unit_book.proofs.Names.{no_status, PostedState, Name, Piece, Started, RanSome, WasPosted, Quiesce, Entry, Opened, Arrive, Ran}
-use Rattle.unit_book.proofs.Names.{Post, arrivals, waiting, started, active, request_of, extents_of, flag, attempts, stand, newest, Legal}
+use Rattle.unit_book.proofs.Names.{Post, arrivals, waiting, started, active, request_named, extents_of, flag, attempts, stand, newest, Legal}
 use Rattle.unit_book.proofs.Names.{WithVerdict, due, posted, posted_value, MayFirst}
 use Rattle.std.proofs.Common.{replicate}
 use Rattle.device_port.specs.declared.kind.Flow.TheVariants.{None as NoFlow}
@@ -98,7 +98,7 @@ unfolding Legal
 stray_opens = record { legal = tt; opened = refl; out = refl; sent = λ task. refl; flight = refl; back = λ task. refl; got = λ task. refl }
 
 stray_is_purged : Reaches quiet (world []) stray_collected
-unfolding arrivals waiting started active request_of flag attempts stand posted posted_value
+unfolding arrivals waiting started active request_named flag attempts stand posted posted_value
 stray_is_purged =
     Go (Go (Go (Go Stay
     (Accept (r 1) (record { of_unit = refl; next = refl; room = omega arith; is = refl })))
@@ -155,7 +155,7 @@ began_opens = record {
 }
 
 request_is_posted : Reaches quiet began done
-unfolding arrivals waiting started active request_of flag extents_of attempts stand newest chain_within step after steps_within posted
+unfolding arrivals waiting started active request_named flag extents_of attempts stand newest chain_within step after steps_within posted
     posted_value
 request_is_posted =
     let w1 : Reaches quiet began ready = Go Stay (Accept (r 1) (record { of_unit = refl; next = refl; room = omega arith; is = refl })) in
@@ -187,7 +187,7 @@ abbrev swept_world : World (Unit {0})
 swept_world = taken swept (value no_status Purged ∷ []) ready
 
 purge_posts : Reaches quiet began swept_world × IsFinished swept_world × (posts_of (n 1) swept_world.book.trace ≡ 1)
-unfolding arrivals waiting started active request_of flag attempts stand posted posted_value due
+unfolding arrivals waiting started active request_named flag attempts stand posted posted_value due
 purge_posts =
     let w1 : Reaches quiet began ready = Go Stay (Accept (r 1) (record { of_unit = refl; next = refl; room = omega arith; is = refl })) in
     let w2 : Reaches quiet began (taken arrived [] ready)

@@ -1,7 +1,7 @@
 -- How the calls of a book lengthen its trace: it stays legal, nothing is due behind it, and its posts grow.
 use Rattle.unit_book.proofs.Names.{◌≡◌, ℕ, ◌+◌, Bool, true, List, [], ◌∷◌, ◌++◌, append_assoc, refl, sym, ap, ◌∙◌, subst, append-nil}
 use Rattle.unit_book.proofs.Names.{list_all, Csw, Code, Purged, Extent, Meaning, PostedState, Name, Piece, Scope, Mode, Entry, Opened}
-use Rattle.unit_book.proofs.Names.{Arrive, Start, Ran, Halted, Purge, Close, Reset, Post, arrivals, arrived_of, request_of, doomed, is_open}
+use Rattle.unit_book.proofs.Names.{Arrive, Start, Ran, Halted, Purge, Close, Reset, Post, arrivals, arrived_of, request_named, doomed, is_open}
 use Rattle.unit_book.proofs.Names.{area, Free, due, doomed_first, FitsBy, Legal, StartFits, PostFits, OfActive, PostsActive, CanPurge}
 use Rattle.unit_book.proofs.Names.{posted, posted_value, after_dooms, halted_by, after_purge}
 use Rattle.unit_book.specs.Trace.{is_opening}
@@ -91,7 +91,7 @@ module _ {D : Type 0} (meaning : Meaning D) (mounted : D) where
   unfolding Legal arrivals posted
   grows-post n csw sense code H l s f =
       let G = Post n csw sense code ∷ H in
-      let v = posted_value (request_of n H) csw sense code (area meaning mounted (request_of n H) H) in
+      let v = posted_value (request_named n H) csw sense code (area meaning mounted (request_named n H) H) in
       grows-dooms H G [] (v ∷ []) (fits-free meaning mounted (Post n csw sense code) H s f, l)
       (due-no_halt meaning mounted G (λ n a. refl)) (sym (append-nil (arrivals H))) refl
 
@@ -138,7 +138,7 @@ module _ {D : Type 0} (meaning : Meaning D) (mounted : D) where
   unfolding Legal arrivals posted without
   grows-purged n csw sense H G g f =
       let K = Post n csw sense Purged ∷ G in
-      let v = posted_value (request_of n G) csw sense Purged (area meaning mounted (request_of n G) G) in
+      let v = posted_value (request_named n G) csw sense Purged (area meaning mounted (request_named n G) G) in
       record {
         legal = (fits-free meaning mounted (Post n csw sense Purged) G g.settled (OfActive f), g.legal);
         settled = due-no_halt meaning mounted K (λ m e. refl)

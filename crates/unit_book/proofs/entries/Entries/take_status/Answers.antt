@@ -1,5 +1,5 @@
 use Rattle.unit_book.proofs.Names.{◌≡◌, ◌-◌, ◌∷◌, [], Some, None, length, length-append, reverse, arith, refl, sym, ap, ◌∙◌, Piece}
-use Rattle.unit_book.proofs.Names.{Ties, waiting, request_of}
+use Rattle.unit_book.proofs.Names.{Ties, waiting, request_named}
 use Rattle.subchannel.specs.Subchannel.{status_of}
 use Rattle.unit_book.specs.Fields.{pending_code}
 use Rattle.unit_book.proofs.ActivePosts.{ties-post, value-is, doom-is}
@@ -78,7 +78,7 @@ note_post-requires g c =
     let opened = started-opened m i.mounted a.piece.value.name H t.legal (active-is a.piece.value.name H t.activity.is).0 in
     let same = ap (λ (r : Piece). r.dcb) t.activity.request in
     let piece_is = c.deref-2.ensures in
-    rw (piece_is, same) (opened-row m i.mounted (request_of a.piece.value.name H).dcb H i.dcbs t.legal t.count opened)
+    rw (piece_is, same) (opened-row m i.mounted (request_named a.piece.value.name H).dcb H i.dcbs t.legal t.count opened)
 
 pub invariant_of-self-2 : goal.invariant_of-self-2
 invariant_of-self-2 g c =
