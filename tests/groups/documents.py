@@ -1,5 +1,5 @@
-"""The documents: their sentences, by tests/sentences; the layers of crates.txt, and the steps of a request in ARCHITECTURE.md; and
-the kit that the README names, of which there is only a warning."""
+"""The documents: their sentences, by tests/sentences; the names of definitions, by tests/definitions; the layers of crates.txt, and the
+steps of a request in ARCHITECTURE.md; and the kit that the README names, of which there is only a warning."""
 
 import re
 import shutil
@@ -58,6 +58,8 @@ def steps_hold():
 def cases(setup):
     yield Case("sentences", lambda: passes("sentences"), "tests/sentences, by CONTRIBUTING.md")
     yield Case("the measure of sentences", lambda: passes("sentences", "--self-test"), "tests/sentences, texts with known measures")
+    yield Case("definitions", lambda: passes("definitions"), "docs/GLOSSARY.md")
+    yield Case("the list of definitions", lambda: passes("definitions", "--self-test"), "tests/definitions, crates with known faults")
     yield Case("layers of crates.txt", layers_hold, "crates.txt, line 1")
     yield Case("steps of a request", steps_hold, "docs/ARCHITECTURE.md, by the sources")
     yield Case("kit of the README", names_kit, "rt version")

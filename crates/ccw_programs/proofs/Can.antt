@@ -14,7 +14,7 @@ use Rattle.ccw_programs.specs.declared.fetch.Link.{Link}
 use Rattle.ccw_programs.specs.declared.rule.Rule.{Rule}
 use Rattle.ccw_programs.specs.declared.rule.Rule.TheVariants.{DataOutside, ListBackward, ListMisaligned, WordOutside}
 use Rattle.ccw_programs.specs.Links.{Sound, is_indirect, skips}
-use Rattle.ccw_programs.specs.Areas.{Areas, Parts, Bad, areas, joined, parts_of, direct_parts, indirect_parts, parts_from, part_of, only_if, with_part, is_usable, word_at, word_rule, room_after, words_needed}
+use Rattle.ccw_programs.specs.Areas.{Areas, Parts, Bad, areas, areas_joined, parts_of, direct_parts, indirect_parts, parts_from, part_of, only_if, with_part, is_usable, word_at, word_rule, room_after, words_needed}
 
 -- each part lies in storage, read upward
 abbrev pub LieUp : Storage → List Segment → Type 0
@@ -101,7 +101,7 @@ parts_of-good Back m ccw ps f c h = cases (is_indirect ccw) (Err ListBackward) (
 
 joined-good : (flow : Flow) (m : Storage) (at : ℕ) (ps : List Segment) (o : Result (List Segment) Rule) (rest : Areas) →
     ((qs : List Segment) → o ≡ Ok qs → Good flow m qs) → ((rs : List Segment) → rest ≡ Parts rs → AllLie flow m rs) →
-    joined at o rest ≡ Parts ps → Good flow m ps
+    areas_joined at o rest ≡ Parts ps → Good flow m ps
 joined-good flow m at ps (Err rule) rest g a h = absurd cc
 joined-good flow m at ps (Ok qs) (Bad b) g a h = absurd cc
 joined-good flow m at ps (Ok qs) (Parts rs) g a h =

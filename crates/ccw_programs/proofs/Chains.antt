@@ -7,19 +7,19 @@ use Rattle.io_area.specs.Storage.{Storage}
 use Rattle.ccw_programs.specs.declared.fetch.Link.{Link}
 use Rattle.ccw_programs.specs.declared.rule.Rule.{Rule}
 use Rattle.ccw_programs.specs.declared.rule.Rule.TheVariants.{FetchLimit}
-use Rattle.ccw_programs.specs.Links.{Fetched, Whole, Broken, behind, behind_all, broken_at, chain_by, chain_within, fetch_at, rule_at}
+use Rattle.ccw_programs.specs.Links.{Fetched, Whole, Broken, after_ccw, behind_all, broken_at, chain_by, chain_within, fetch_at, rule_at}
 
-pub behind_all-append : (ls : List Link) (l : Link) (c : Fetched) → behind_all (ls ++ l ∷ []) c ≡ behind_all ls (behind l c)
+pub behind_all-append : (ls : List Link) (l : Link) (c : Fetched) → behind_all (ls ++ l ∷ []) c ≡ behind_all ls (after_ccw l c)
 behind_all-append [] l c = refl
-behind_all-append (k ∷ ls) l c = ap (behind k) (behind_all-append ls l c)
+behind_all-append (k ∷ ls) l c = ap (after_ccw k) (behind_all-append ls l c)
 
 pub behind_all-whole : (ls ks : List Link) (n : ℕ) → behind_all ls (Whole ks n) ≡ Whole (ls ++ ks) n
 behind_all-whole [] ks n = refl
-behind_all-whole (k ∷ ls) ks n = ap (behind k) (behind_all-whole ls ks n)
+behind_all-whole (k ∷ ls) ks n = ap (after_ccw k) (behind_all-whole ls ks n)
 
 pub behind_all-broken : (ls : List Link) (at : ℕ) (rule : Rule) → behind_all ls (broken_at at rule) ≡ Broken ls (record { at = at; rule = rule })
 behind_all-broken [] at rule = refl
-behind_all-broken (k ∷ ls) at rule = ap (behind k) (behind_all-broken ls at rule)
+behind_all-broken (k ∷ ls) at rule = ap (after_ccw k) (behind_all-broken ls at rule)
 
 -- one fetch of the chain
 pub chain_within-next : (m : Storage) (done : ℕ) (may : Bool) (place at : ℕ) → done < 4096 →

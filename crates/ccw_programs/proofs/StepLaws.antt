@@ -13,7 +13,7 @@ use Rattle.ccw_programs.specs.declared.context.State.{State}
 use Rattle.ccw_programs.specs.declared.context.State.TheVariants.{Running, Ended}
 use Rattle.ccw_programs.specs.declared.ending.Ending.{Ending}
 use Rattle.ccw_programs.specs.declared.rule.Rule.{Rule}
-use Rattle.ccw_programs.specs.Links.{Fetched, Whole, Broken, behind, chain_by, chain_within, fetch_at, rule_at, chain, total_count}
+use Rattle.ccw_programs.specs.Links.{Fetched, Whole, Broken, after_ccw, chain_by, chain_within, fetch_at, rule_at, chain, total_count}
 use Rattle.ccw_programs.specs.Areas.{areas, Areas, Parts, Bad}
 use Rattle.ccw_programs.specs.Place.{Place}
 use Rattle.ccw_programs.specs.Step.{Program, step, step_from, step_on_chain, step_on_areas, after, steps_within, length_of, is_running, placed, goes_on, first_of, last_of, sub_status, ending, moved}
@@ -23,7 +23,7 @@ pub record Later (left fetches : ℕ) : Type 0 where
   pub more : 4096 - left < fetches
   pub few : fetches ≤ 4096
 
-behind-whole : (l : Link) (f : Fetched) (links : List Link) (n : ℕ) → behind l f ≡ Whole links n → (ks : List Link) × (f ≡ Whole ks n)
+behind-whole : (l : Link) (f : Fetched) (links : List Link) (n : ℕ) → after_ccw l f ≡ Whole links n → (ks : List Link) × (f ≡ Whole ks n)
 behind-whole l (Whole ks m) links n h = (ks, ap (Whole ks) (whole-fetches (l ∷ ks) links m n h)) where
   whole-fetches : (ls ms : List Link) (i j : ℕ) → Whole ls i ≡ Whole ms j → i ≡ j
   whole-fetches ls ms i j e = cc

@@ -84,23 +84,23 @@ pub data Areas : Type 0 where
   Parts : List Segment → Areas
   Bad : Refusal → Areas
 
-abbrev pub joined : ℕ → Result (List Segment) Rule → Areas → Areas
-joined at (Err rule) rest = Bad (record { at = at; rule = rule })
-joined at (Ok parts) (Parts more) = Parts (parts ++ more)
-joined at (Ok parts) (Bad other) = Bad other
+abbrev pub areas_joined : ℕ → Result (List Segment) Rule → Areas → Areas
+areas_joined at (Err rule) rest = Bad (record { at = at; rule = rule })
+areas_joined at (Ok parts) (Parts more) = Parts (parts ++ more)
+areas_joined at (Ok parts) (Bad other) = Bad other
 
 abbrev pub areas : Flow → Storage → List Link → Areas
 areas flow m [] = Parts []
-areas flow m (l ∷ ls) = joined l.at (parts_of flow m l.ccw) (areas flow m ls)
+areas flow m (l ∷ ls) = areas_joined l.at (parts_of flow m l.ccw) (areas flow m ls)
 
 -- parts behind others
-abbrev pub prefixed : List Segment → Result (List Segment) Rule → Result (List Segment) Rule
-prefixed old (Err rule) = Err rule
-prefixed old (Ok parts) = Ok (old ++ parts)
+abbrev pub parts_after : List Segment → Result (List Segment) Rule → Result (List Segment) Rule
+parts_after old (Err rule) = Err rule
+parts_after old (Ok parts) = Ok (old ++ parts)
 
 -- the parts were added behind others, or this rule is broken
-abbrev pub Adds : List Segment → Result (List Segment) Rule → Result (Unit {0}) Rule → List Segment → Type 0
-Adds old parts result new = MatchResult result (λ _. prefixed old parts ≡ Ok new) (λ rule. prefixed old parts ≡ Err rule)
+abbrev pub AddsParts : List Segment → Result (List Segment) Rule → Result (Unit {0}) Rule → List Segment → Type 0
+AddsParts old parts result new = MatchResult result (λ _. parts_after old parts ≡ Ok new) (λ rule. parts_after old parts ≡ Err rule)
 
 -- whole areas behind others
 abbrev pub preceded : List Segment → Areas → Areas

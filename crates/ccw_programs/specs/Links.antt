@@ -90,16 +90,16 @@ abbrev pub broken_at : ℕ → Rule → Fetched
 broken_at at rule = Broken [] (record { at = at; rule = rule })
 
 -- the same chain behind one more CCW
-abbrev pub behind : Link → Fetched → Fetched
-behind link (Whole links fetches) = Whole (link ∷ links) fetches
-behind link (Broken links refusal) = Broken (link ∷ links) refusal
+abbrev pub after_ccw : Link → Fetched → Fetched
+after_ccw link (Whole links fetches) = Whole (link ∷ links) fetches
+after_ccw link (Broken links refusal) = Broken (link ∷ links) refusal
 
 -- what a fetch at an address, which is refused by this rule if it is, adds to `rest`, which is what comes from a next
 -- address on
 abbrev pub chain_by : Fetch → Rule → ℕ → ℕ → ℕ → (Bool → ℕ → ℕ → Fetched) → Fetched
 chain_by Refused rule at place fetches rest = broken_at at rule
 chain_by (Transfer to) rule at place fetches rest = rest false place to
-chain_by (More ccw) rule at place fetches rest = behind (record { at = at; ccw = ccw }) (rest true (suc place) (at + 8))
+chain_by (More ccw) rule at place fetches rest = after_ccw (record { at = at; ccw = ccw }) (rest true (suc place) (at + 8))
 chain_by (Last ccw) rule at place fetches rest = Whole (record { at = at; ccw = ccw } ∷ []) fetches
 
 -- the chain from an address on, with so many fetches left of 4,096
@@ -115,12 +115,12 @@ chain m at fetches = chain_within m (4096 - fetches) (not (fetches == 0)) 0 at
 
 -- the chain behind its first CCW, which chains data, after so many fetches
 abbrev pub chained : Storage → Link → ℕ → Fetched
-chained m link fetches = behind link (chain_within m (4096 - fetches) true 1 (link.at + 8))
+chained m link fetches = after_ccw link (chain_within m (4096 - fetches) true 1 (link.at + 8))
 
 -- the same chain behind more CCWs
 abbrev pub behind_all : List Link → Fetched → Fetched
 behind_all [] c = c
-behind_all (l ∷ ls) c = behind l (behind_all ls c)
+behind_all (l ∷ ls) c = after_ccw l (behind_all ls c)
 
 -- the chain behind the CCWs that were fetched, after so many fetches, from an address on, where a transfer may come
 -- next or not
@@ -128,10 +128,10 @@ abbrev pub fetched_on : Storage → List Link → ℕ → Bool → ℕ → Fetch
 fetched_on m links fetches may_transfer at = behind_all links (chain_within m (4096 - fetches) may_transfer (length links) at)
 
 -- how a chain begins
-abbrev pub Begins : Storage → First → Fetched → Type 0
-Begins m (Single link fetches) whole = whole ≡ Whole (link ∷ []) fetches
-Begins m (Chained link fetches) whole = whole ≡ chained m link fetches
-Begins m (Failed at) whole = (rule : Rule) × (whole ≡ broken_at at rule)
+abbrev pub ChainBegins : Storage → First → Fetched → Type 0
+ChainBegins m (Single link fetches) whole = whole ≡ Whole (link ∷ []) fetches
+ChainBegins m (Chained link fetches) whole = whole ≡ chained m link fetches
+ChainBegins m (Failed at) whole = (rule : Rule) × (whole ≡ broken_at at rule)
 
 -- the bytes that the CCWs of a chain count
 abbrev pub total_count : List Link → ℕ

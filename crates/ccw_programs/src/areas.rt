@@ -5,7 +5,7 @@ ghost use Rattle.std.specs.Prelude.{◌≡◌, ◌≤◌, ◌<◌, ◌+◌, ◌*
 ghost use Rattle.io_area.specs.Storage.{lies_in};
 ghost use Rattle.device_port.specs.Moves.{CanAct, segment_lies};
 ghost use Rattle.ccw_programs.specs.Links.{Sound, is_indirect, skips};
-ghost use Rattle.ccw_programs.specs.Areas.{areas, parts_of, parts_from, part_of, word_rule, is_usable, room_after, indirect_parts, direct_parts, word_at, Parts, Bad, Adds};
+ghost use Rattle.ccw_programs.specs.Areas.{areas, parts_of, parts_from, part_of, word_rule, is_usable, room_after, indirect_parts, direct_parts, word_at, Parts, Bad, AddsParts};
 
 use crate::fetch::Link;
 use crate::rule::{Refusal, Rule};
@@ -50,7 +50,7 @@ fn push_direct(chain: &mut Parts, flow: Flow, area: &Area, ccw: &Ccw) -> Result<
     requires room { length chain.old ≤ 495 }
     requires direct { is_indirect ccw.now ≡ false }
     ensures room { length chain.new ≤ length chain.old + 33 }
-    ensures parts { Adds chain.old (direct_parts flow area.now ccw.now) result chain.new }
+    ensures parts { AddsParts chain.old (direct_parts flow area.now ccw.now) result chain.new }
 {
     let segment = part_of(ccw);
     if !segment_lies(flow, area, &segment) {
@@ -64,7 +64,7 @@ fn push_direct(chain: &mut Parts, flow: Flow, area: &Area, ccw: &Ccw) -> Result<
 fn push_indirect(chain: &mut Parts, area: &Area, ccw: &Ccw) -> Result<(), Rule>
     requires room { length chain.old ≤ 495 }
     ensures room { length chain.new ≤ length chain.old + 33 }
-    ensures parts { Adds chain.old (indirect_parts area.now ccw.now) result chain.new }
+    ensures parts { AddsParts chain.old (indirect_parts area.now ccw.now) result chain.new }
 {
     let list = ccw.address.get();
     if list % 4 != 0 {
@@ -89,7 +89,7 @@ fn push_words(
 ) -> Result<(), Rule>
     requires { length chain.old + words ≤ 528 }
     ensures room { length chain.new ≤ length chain.old + words }
-    ensures parts { Adds chain.old (parts_from area.now skip true list words bytes) result chain.new }
+    ensures parts { AddsParts chain.old (parts_from area.now skip true list words bytes) result chain.new }
 {
     let mut at = list;
     let mut count = bytes;
@@ -142,7 +142,7 @@ fn usable_part(
 fn push_parts(chain: &mut Parts, flow: Flow, area: &Area, ccw: &Ccw) -> Result<(), Rule>
     requires { length chain.old ≤ 495 }
     ensures room { length chain.new ≤ length chain.old + 33 }
-    ensures parts { Adds chain.old (parts_of flow area.now ccw.now) result chain.new }
+    ensures parts { AddsParts chain.old (parts_of flow area.now ccw.now) result chain.new }
 {
     match flow {
         Flow::None => Ok(()),

@@ -2,7 +2,7 @@
 //! Chaining" and "Transfer in Channel"; which bits may be on, and the limits, are the profile's).
 
 ghost use Rattle.std.specs.Prelude.{◌≡◌, ◌<◌, ◌≤◌, ◌+◌, ◌-◌, ◌==◌, ◌%◌, length, [], ◌∷◌, false, MatchResult, IfOk, IfErr, OnOk, All};
-ghost use Rattle.ccw_programs.specs.Links.{Tells, TellsKind, rule_at, rule_of_kind, fetch_at, fetched_on, kind_of_fetch, is_transfer, is_allowed, chain, Begins, IsSound, Whole, Broken, Sound};
+ghost use Rattle.ccw_programs.specs.Links.{Tells, TellsKind, rule_at, rule_of_kind, fetch_at, fetched_on, kind_of_fetch, is_transfer, is_allowed, chain, ChainBegins, IsSound, Whole, Broken, Sound};
 ghost use Rattle.io_images.specs.Images.{ccw_of};
 
 use crate::rule::{Refusal, Rule};
@@ -117,7 +117,7 @@ pub type Links = ShortList<Link, 16>;
 #[inline(always)]
 pub(crate) fn fetch_first(area: &Area, start: u32, fetches: u16) -> First
     requires { fetches ≤ 4096 }
-    ensures chain { Begins area.now result (chain area.now start fetches) }
+    ensures chain { ChainBegins area.now result (chain area.now start fetches) }
     ensures sound { IsSound result }
 {
     let mut at = start;

@@ -18,7 +18,7 @@ use Rattle.ckd_disk.specs.declared.access.Armed.TheVariants as by
 use Rattle.device_port.specs.Faults.{Ordinals}
 use Rattle.ckd_disk.specs.Access.{access_of, IsPlaced}
 use Rattle.ckd_disk.specs.Disk.{no_track, IsDisk}
-use Rattle.ckd_disk.specs.Record.{Record, ckd, packed, size_of, Fits}
+use Rattle.ckd_disk.specs.Record.{Record, ckd, packed, size_of, FitsCountArea}
 use Rattle.ckd_disk.specs.Track.{TrackState, bytes_of, with_last}
 use Rattle.ckd_disk.specs.Mount.{track_count, track_descriptor, initial, track_of_initial, stands_on, bytes_on, opening_records, has_room, opening_track, opening_tracks}
 use Rattle.ckd_disk.specs.MountFacts.{IsGeometry, IsInitial}
@@ -47,7 +47,7 @@ unfolding others
 one_elsewhere g xs r track e =
     opening-append g xs (r ∷ []) track ∙ ap (λ (b : Bool). opening_records g xs track ++ map initial (cond b (r ∷ []) [])) (ne_eqb (track_of_initial g r) track e) ∙ append-nil (opening_records g xs track)
 
-Fits-initial : (g : Geometry) (r : InitialRecord) → IsInitial g r → Fits (initial r)
+Fits-initial : (g : Geometry) (r : InitialRecord) → IsInitial g r → FitsCountArea (initial r)
 Fits-initial g r ok = record { id = refl; key = omega (arith, ok.key); content = omega (arith, ok.content) }
 
 -- how many bytes stand on a track

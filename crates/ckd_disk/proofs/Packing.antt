@@ -2,14 +2,14 @@
 use Rattle.std.proofs.Common.{◌≡◌, ℕ, ◌+◌, ◌*◌, ◌-◌, ◌/◌, ◌%◌, ◌^◌, ◌<◌, ◌≤◌, List, [], ◌∷◌, ◌++◌, length, get_or, take, drop, replicate, sym, ap, ◌∙◌, append_assoc, arith}
 use Rattle.std.proofs.lemmas.List.{take_at, drop_at, take-append-drop, take_all, length-append, length-take, length-drop, get_or_append_left, get_or-append_right, get_or-take, drop-drop, drop_more}
 use Rattle.device_port.specs.Moves.{padded, written}
-use Rattle.device_port.specs.Packed.{Reads}
+use Rattle.device_port.specs.Packed.{ReadsBack}
 use Rattle.device_port.proofs.Items.{length-padded, written-written}
-use Rattle.ckd_disk.specs.Record.{Record, ckd, count_area, packed, size_of, Fits, key_len, content_len, record_at, size_at, IsRecord}
+use Rattle.ckd_disk.specs.Record.{Record, ckd, count_area, packed, size_of, FitsCountArea, key_len, content_len, record_at, size_at, IsRecord}
 
-pub length-count_area : (r : Record) → Fits r → length (count_area r) ≡ 8
+pub length-count_area : (r : Record) → FitsCountArea r → length (count_area r) ≡ 8
 length-count_area r fits = length-append r.id _ ∙ omega (arith, fits.id)
 
-pub length-packed : (r : Record) → Fits r → length (packed r) ≡ size_of r
+pub length-packed : (r : Record) → FitsCountArea r → length (packed r) ≡ size_of r
 length-packed r fits = length-append (count_area r) (r.key ++ r.content) ∙ omega (arith, length-count_area r fits, length-append r.key r.content)
 
 -- a packed record, field by field
@@ -23,27 +23,27 @@ after_count : (r : Record) (rest : List ℕ) → packed r ++ rest ≡ count_area
 after_count r rest = simp append_assoc
 
 -- the count area's fields, whatever follows
-pub key_len-packed : (r : Record) (rest : List ℕ) → Fits r → key_len (packed r ++ rest) ≡ length r.key
+pub key_len-packed : (r : Record) (rest : List ℕ) → FitsCountArea r → key_len (packed r ++ rest) ≡ length r.key
 key_len-packed r rest fits = ap key_len (packed-fields r rest) ∙ get_or-append_right r.id _ 5 5 0 fits.id (omega arith)
 
-pub content_len-packed : (r : Record) (rest : List ℕ) → Fits r → content_len (packed r ++ rest) ≡ length r.content
+pub content_len-packed : (r : Record) (rest : List ℕ) → FitsCountArea r → content_len (packed r ++ rest) ≡ length r.content
 content_len-packed r rest fits =
     let high : get_or (fields r rest) 6 0 ≡ length r.content / 256 % 256 = get_or-append_right r.id _ 5 6 0 fits.id (omega arith) in
     let low : get_or (fields r rest) 7 0 ≡ length r.content % 256 = get_or-append_right r.id _ 5 7 0 fits.id (omega arith) in
     let fit = fits.content in
     ap content_len (packed-fields r rest) ∙ omega (arith, high, low, fit)
 
-size_at-packed : (r : Record) (rest : List ℕ) → Fits r → size_at (packed r ++ rest) ≡ size_of r
+size_at-packed : (r : Record) (rest : List ℕ) → FitsCountArea r → size_at (packed r ++ rest) ≡ size_of r
 size_at-packed r rest fits = omega (arith, key_len-packed r rest fits, content_len-packed r rest fits)
 
 -- the parts behind the count area
-drop-count_area : (r : Record) (rest : List ℕ) → Fits r → drop 8 (packed r ++ rest) ≡ r.key ++ (r.content ++ rest)
+drop-count_area : (r : Record) (rest : List ℕ) → FitsCountArea r → drop 8 (packed r ++ rest) ≡ r.key ++ (r.content ++ rest)
 drop-count_area r rest fits = ap (drop 8) (after_count r rest) ∙ drop_at (count_area r) (r.key ++ (r.content ++ rest)) 8 (length-count_area r fits)
 
-drop-key : (r : Record) (rest : List ℕ) (k : ℕ) → Fits r → k ≡ length r.key → drop (8 + k) (packed r ++ rest) ≡ r.content ++ rest
+drop-key : (r : Record) (rest : List ℕ) (k : ℕ) → FitsCountArea r → k ≡ length r.key → drop (8 + k) (packed r ++ rest) ≡ r.content ++ rest
 drop-key r rest k fits e = sym (drop-drop k 8 (packed r ++ rest)) ∙ ap (drop k) (drop-count_area r rest fits) ∙ drop_at r.key (r.content ++ rest) k (sym e)
 
-record_at-packed : (r : Record) (rest : List ℕ) → Fits r → record_at (packed r ++ rest) ≡ r
+record_at-packed : (r : Record) (rest : List ℕ) → FitsCountArea r → record_at (packed r ++ rest) ≡ r
 unfolding record_at
 record_at-packed r rest fits =
     let bytes = packed r ++ rest in
@@ -57,7 +57,7 @@ record_at-packed r rest fits =
     ∙ ap (λ x. record { id = r.id; key = r.key; content = x }) content
 
 -- THE LAWS OF THE SPELLING
-pub reads : Reads ckd
+pub reads : ReadsBack ckd
 reads = record { item = record_at-packed; size = λ r rest fits. size_at-packed r rest fits ∙ sym (length-packed r fits) }
 
 -- ---- the record that given bytes make
@@ -68,7 +68,7 @@ IsBytes bytes = (i : ℕ) → get_or bytes i 0 < 256
 halfword : (high low : ℕ) → high < 256 → low < 256 → ((high * 256 + low) / 256 % 256 ≡ high) × ((high * 256 + low) % 256 ≡ low)
 halfword high low h l = (omega arith, omega arith)
 
-pub Fits-record_at : (bytes : List ℕ) → IsBytes bytes → IsRecord bytes → Fits (record_at bytes)
+pub Fits-record_at : (bytes : List ℕ) → IsBytes bytes → IsRecord bytes → FitsCountArea (record_at bytes)
 unfolding record_at
 Fits-record_at bytes fits whole = record {
   id = length-take 5 bytes ∙ omega arith;

@@ -6,7 +6,7 @@ use Rattle.device_port.specs.Moves.{padded, written}
 use Rattle.device_port.specs.Packed.{HoldsItems, items_at, image_of, Begins}
 use Rattle.device_port.proofs.Items.{Packs, packs-held, held-packs, length-padded, length-written, begins_at, Fits-at, offset_of-more, offset_of-within, used-within, image_of-wide, item_put, item_pushed, item_patched}
 use Rattle.ckd_disk.specs.declared.track.spot.Spot.{Spot}
-use Rattle.ckd_disk.specs.Record.{Record, blank, ckd, count_area, packed, size_of, size_at, Fits, record_written}
+use Rattle.ckd_disk.specs.Record.{Record, blank, ckd, count_area, packed, size_of, size_at, FitsCountArea, record_written}
 use Rattle.ckd_disk.specs.Track.{TrackState, record_of, bytes_of, bytes_before, IsSpot, with_record, with_content, with_key_and_content, with_record_behind, with_last}
 use Rattle.ckd_disk.proofs.Packing.{IsBytes, reads, length-packed, Fits-record_at, packed-record_at, written_whole}
 
@@ -37,7 +37,7 @@ kept t bytes used count s =
       view = ap (λ (l : List Record). record { size = length bytes; records = l }) h.1 ∙ ap (λ (n : ℕ). record { size = n; records = t.records }) s.size;
     }
 
-pub packed-wide : (r : Record) → Fits r → 8 ≤ length (packed r)
+pub packed-wide : (r : Record) → FitsCountArea r → 8 ≤ length (packed r)
 packed-wide r fits = omega (arith, length-packed r fits)
 
 -- the image is as long as the track, and its records take at least eight bytes each
@@ -71,13 +71,13 @@ pub record Ends (t : TrackState) (bytes : List ℕ) (spot : Spot) : Type 0 where
   pub end : bytes_before t.records (spot.place + 1) ≡ spot.offset + size_of (record_of t.records spot.place)
   pub within : bytes_before t.records (spot.place + 1) ≤ length bytes
   pub offset : spot.offset ≤ length bytes
-  pub fits : Fits (record_of t.records spot.place)
+  pub fits : FitsCountArea (record_of t.records spot.place)
 
 pub spot_ends : (t : TrackState) (bytes : List ℕ) (used count : ℕ) (spot : Spot) → HoldsItems ckd bytes used count → seen bytes count ≡ t → IsSpot t.records spot → Ends t bytes spot
 spot_ends t bytes used count spot h e at =
     let s = shown t bytes used count h e in
     let r = record_of t.records spot.place in
-    let fits : Fits r = Fits-at ckd t.records spot.place blank s.packs.fits at.there in
+    let fits : FitsCountArea r = Fits-at ckd t.records spot.place blank s.packs.fits at.there in
     let end : bytes_before t.records (spot.place + 1) ≡ spot.offset + size_of r = omega (arith, offset_of-more ckd t.records spot.place blank at.there, length-packed r fits, at.offset) in
     let within : bytes_before t.records (spot.place + 1) ≤ length bytes = omega (arith, offset_of-within ckd t.records (spot.place + 1), s.packs.taken, used-within ckd t.records bytes used count s.packs) in
     record { end = end; within = within; offset = omega (arith, end, within); fits = fits }
@@ -87,7 +87,7 @@ spot_ends t bytes used count spot h e at =
 pub blank_kept : (size : ℕ) (bytes : List ℕ) → length bytes ≡ size → Kept (record { size = size; records = [] }) bytes 0 0
 blank_kept size bytes e = kept (record { size = size; records = [] }) bytes 0 0 (record { packs = record { unused = bytes; parts = refl; fits = tt; taken = refl; counted = refl }; size = e })
 
-pub appended : (t : TrackState) (bytes after : List ℕ) (used count : ℕ) (r : Record) → HoldsItems ckd bytes used count → seen bytes count ≡ t → Fits r
+pub appended : (t : TrackState) (bytes after : List ℕ) (used count : ℕ) (r : Record) → HoldsItems ckd bytes used count → seen bytes count ≡ t → FitsCountArea r
     → bytes_of t.records + size_of r ≤ t.size → after ≡ written bytes used (packed r) → Kept (with_last t r) after (used + size_of r) (count + 1)
 appended t bytes after used count r h e fit room after-is =
     let s = shown t bytes used count h e in
@@ -111,7 +111,7 @@ pub record Rewritten (t : TrackState) (bytes : List ℕ) (used count : ℕ) (spo
   pub stands : IsSpot (items_at ckd count bytes) spot
 
 patched : (t : TrackState) (bytes after : List ℕ) (used count : ℕ) (spot : Spot) (r : Record) (at : ℕ) (head old new : List ℕ)
-    → HoldsItems ckd bytes used count → seen bytes count ≡ t → IsSpot t.records spot → Fits r
+    → HoldsItems ckd bytes used count → seen bytes count ≡ t → IsSpot t.records spot → FitsCountArea r
     → packed (record_of t.records spot.place) ≡ head ++ old → packed r ≡ head ++ new → length new ≡ length old → at + length old ≡ bytes_before t.records (spot.place + 1)
     → after ≡ written bytes at new → Rewritten (with_record t spot.place r) after used count spot
 patched t bytes after used count spot r at head old new h e here fit old-is new-is len end after-is =
@@ -143,7 +143,7 @@ content_written t bytes after used count spot given at len h e here len-is end a
     let new = padded (length r.content) given in
     let new-len = length-padded (length r.content) given in
     let fit = (spot_ends t bytes used count spot h e here).fits in
-    let fit' : Fits (record r { content = new }) = record { id = fit.id; key = fit.key; content = omega (arith, fit.content, new-len) } in
+    let fit' : FitsCountArea (record r { content = new }) = record { id = fit.id; key = fit.key; content = omega (arith, fit.content, new-len) } in
     patched t bytes after used count spot (record r { content = new }) at (count_area r ++ r.key) r.content new h e here fit'
     (sym (append_assoc (count_area r) r.key r.content)) (packed-content r new new-len) new-len (omega (arith, len-is, end))
     (after-is ∙ ap (λ (n : ℕ). written bytes at (padded n given)) len-is)
@@ -162,7 +162,7 @@ parts_written t bytes after used count spot given at len h e here len-is end aft
     let key-len : length key ≡ k = length-take k new ∙ omega (arith, new-len) in
     let content-len : length content ≡ length r.content = length-drop k new ∙ omega (arith, new-len) in
     let fit = (spot_ends t bytes used count spot h e here).fits in
-    let fit' : Fits (record r { key = key; content = content }) = record { id = fit.id; key = omega (arith, fit.key, key-len); content = omega (arith, fit.content, content-len) } in
+    let fit' : FitsCountArea (record r { key = key; content = content }) = record { id = fit.id; key = omega (arith, fit.key, key-len); content = omega (arith, fit.content, content-len) } in
     let joined : packed (record r { key = key; content = content }) ≡ count_area r ++ new =
     packed-parts r key content key-len content-len ∙ ap (λ (l : List ℕ). count_area r ++ l) (take-append-drop k new) in
     patched t bytes after used count spot (record r { key = key; content = content }) at (count_area r) (r.key ++ r.content) new h e here fit'

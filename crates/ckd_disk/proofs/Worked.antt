@@ -6,7 +6,7 @@ use Rattle.device_port.specs.Meaning.{Outcome}
 use Rattle.ckd_disk.specs.Record.{record_at}
 use Rattle.ckd_disk.specs.Track.{bytes_of}
 use Rattle.ckd_disk.specs.Mount.{track_descriptor, id_on}
-use Rattle.ckd_disk.specs.Disk.{DiskState, at_start, current, act}
+use Rattle.ckd_disk.specs.Disk.{DiskState, at_start, current_track, act}
 
 -- a track of 40 bytes, R1 with this key and data area, and a file mask
 abbrev fixture : List ℕ → List ℕ → ℕ → List Fault → DiskState
@@ -59,7 +59,7 @@ formatted bytes = act (found (fixture [] four 0x18 [])).device 0x1D bytes
 formatting_write_fits_track :
     ((formatted (0 ∷ 0 ∷ 0 ∷ 0 ∷ 2 ∷ 0 ∷ 0 ∷ 5 ∷ 1 ∷ 2 ∷ 3 ∷ 4 ∷ 5 ∷ [])).acted ≡ unit_check 0x0040)
     × ((formatted (0 ∷ 0 ∷ 0 ∷ 0 ∷ 2 ∷ 0 ∷ 0 ∷ 4 ∷ 1 ∷ 2 ∷ 3 ∷ 4 ∷ [])).acted ≡ normal_end 12)
-    × (bytes_of (current (formatted (0 ∷ 0 ∷ 0 ∷ 0 ∷ 2 ∷ 0 ∷ 0 ∷ 4 ∷ 1 ∷ 2 ∷ 3 ∷ 4 ∷ [])).device).records ≡ 40)
+    × (bytes_of (current_track (formatted (0 ∷ 0 ∷ 0 ∷ 0 ∷ 2 ∷ 0 ∷ 0 ∷ 4 ∷ 1 ∷ 2 ∷ 3 ∷ 4 ∷ [])).device).records ≡ 40)
 unfolding record_at
 formatting_write_fits_track = (refl, refl, refl)
 

@@ -53,8 +53,8 @@ abbrev pub track_of : List TrackState → ℕ → TrackState
 track_of tracks number = slice_index_or tracks number no_track
 
 -- the track under the heads
-abbrev pub current : DiskState → TrackState
-current disk = track_of disk.tracks disk.track
+abbrev pub current_track : DiskState → TrackState
+current_track disk = track_of disk.tracks disk.track
 
 abbrev pub track_number : ℕ → ℕ → ℕ → ℕ
 track_number heads cylinder head = cylinder * heads + head
@@ -107,18 +107,18 @@ control_on disk control.SetFileMask = answered disk (set_file_mask disk.access)
 
 abbrev pub read_on : DiskState → ReadCommand → Outcome DiskState
 read_on disk read.Sense = answered disk (sense disk.access)
-read_on disk read.Count = answered disk (read_count (current disk) disk.access)
-read_on disk read.Data = answered disk (read_data (current disk) disk.access)
-read_on disk read.KeyAndData = answered disk (read_key_and_data (current disk) disk.access)
-read_on disk read.CountKeyAndData = answered disk (read_count_key_and_data (current disk) disk.access)
+read_on disk read.Count = answered disk (read_count (current_track disk) disk.access)
+read_on disk read.Data = answered disk (read_data (current_track disk) disk.access)
+read_on disk read.KeyAndData = answered disk (read_key_and_data (current_track disk) disk.access)
+read_on disk read.CountKeyAndData = answered disk (read_count_key_and_data (current_track disk) disk.access)
 
 abbrev pub write_on : DiskState → WriteCommand → List ℕ → Outcome DiskState
 write_on disk write.Seek given = seek disk given
-write_on disk write.SearchId given = answered disk (search_id (current disk) disk.access given)
-write_on disk write.SearchKey given = answered disk (search_key (current disk) disk.access given)
-write_on disk write.Data given = wrote disk (write_data (current disk) disk.access given)
-write_on disk write.KeyAndData given = wrote disk (write_key_and_data (current disk) disk.access given)
-write_on disk write.CountKeyAndData given = wrote disk (write_count_key_and_data (current disk) disk.access given)
+write_on disk write.SearchId given = answered disk (search_id (current_track disk) disk.access given)
+write_on disk write.SearchKey given = answered disk (search_key (current_track disk) disk.access given)
+write_on disk write.Data given = wrote disk (write_data (current_track disk) disk.access given)
+write_on disk write.KeyAndData given = wrote disk (write_key_and_data (current_track disk) disk.access given)
+write_on disk write.CountKeyAndData given = wrote disk (write_count_key_and_data (current_track disk) disk.access given)
 
 -- a code that is not listed is rejected
 abbrev pub command_on : DiskState → Option Command → List ℕ → Outcome DiskState
@@ -154,5 +154,5 @@ disk = record {
 pub record IsDisk (disk : DiskState) (access : Access) : Type 0 where
   pub all : length disk.tracks ≡ disk.cylinders * disk.heads
   pub here : disk.track < length disk.tracks
-  pub placed : IsPlaced access (current disk)
+  pub placed : IsPlaced access (current_track disk)
   pub filled : AllByRecursion (λ t. 0 < length t.records) disk.tracks

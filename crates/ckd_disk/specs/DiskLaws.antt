@@ -17,7 +17,7 @@ use Rattle.ckd_disk.specs.Access.{AccessState}
 use Rattle.ckd_disk.specs.Walk.{Reached, next_record, key_record, content_record}
 use Rattle.ckd_disk.specs.Command.{command_of, flow_of}
 use Rattle.ckd_disk.specs.Commands.{read_count_at, read_part}
-use Rattle.ckd_disk.specs.Disk.{DiskState, disk, current, act_by, act, command_on, is_seek, seek_given}
+use Rattle.ckd_disk.specs.Disk.{DiskState, disk, current_track, act_by, act, command_on, is_seek, seek_given}
 
 -- a command keeps the geometry
 record Keeps (before after : DiskState) : Type 0 where
@@ -74,10 +74,10 @@ command_gives d None given = refl
 command_gives d (Some (Control control.NoOperation)) given = refl
 command_gives d (Some (Control control.SetFileMask)) given = refl
 command_gives d (Some (Read read.Sense)) given = refl
-command_gives d (Some (Read read.Count)) given = count_gives (current d) d.access (next_record d.access.orientation (length (current d).records))
-command_gives d (Some (Read read.Data)) given = part_gives (λ r. r.content) (current d) d.access (content_record d.access.orientation (length (current d).records))
-command_gives d (Some (Read read.KeyAndData)) given = part_gives (λ r. r.key ++ r.content) (current d) d.access (key_record d.access.orientation (length (current d).records))
-command_gives d (Some (Read read.CountKeyAndData)) given = part_gives packed (current d) d.access (next_record d.access.orientation (length (current d).records))
+command_gives d (Some (Read read.Count)) given = count_gives (current_track d) d.access (next_record d.access.orientation (length (current_track d).records))
+command_gives d (Some (Read read.Data)) given = part_gives (λ r. r.content) (current_track d) d.access (content_record d.access.orientation (length (current_track d).records))
+command_gives d (Some (Read read.KeyAndData)) given = part_gives (λ r. r.key ++ r.content) (current_track d) d.access (key_record d.access.orientation (length (current_track d).records))
+command_gives d (Some (Read read.CountKeyAndData)) given = part_gives packed (current_track d) d.access (next_record d.access.orientation (length (current_track d).records))
 command_gives d (Some (Write command)) given = tt
 
 gives_by : (fault : Option Fault) (d : DiskState) (code : ℕ) (given : List ℕ) → GivesWhatItWants (flow_of (command_of code)) (act_by fault d code given)

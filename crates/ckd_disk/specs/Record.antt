@@ -30,7 +30,7 @@ abbrev pub size_of : Record → ℕ
 size_of r = 8 + length r.key + length r.content
 
 -- a count area can describe the record
-pub record Fits (r : Record) : Type 0 where
+pub record FitsCountArea (r : Record) : Type 0 where
   pub id : length r.id ≡ 5
   pub key : length r.key < 256
   pub content : length r.content < 2 ^ 16
@@ -60,7 +60,7 @@ IsRecord bytes = length bytes ≡ size_at bytes
 
 -- how a track spells its records
 abbrev pub ckd : Spelling Record
-ckd = record { packed = packed; item_at = record_at; size_at = size_at; Fits = Fits }
+ckd = record { packed = packed; item_at = record_at; size_at = size_at; Fits = FitsCountArea }
 
 -- the record that is written when a program gives these bytes, with zeros for those that are missing (profile)
 abbrev pub record_written : List ℕ → Record

@@ -6,7 +6,7 @@ mod stored;
 
 ghost use Rattle.std.specs.Prelude.{◌≡◌, ℕ, ◌+◌, ◌*◌, ◌<◌, ◌≤◌, ◌^◌, ◌↔◌, IsTrue, IfOk, MatchOption, [], ◌++◌, length};
 ghost use Rattle.device_port.specs.Packed.{Begins};
-ghost use Rattle.ckd_disk.specs.Record.{Fits, record_with, ckd, count_area, packed, size_of, record_at, size_at, IsRecord, record_written};
+ghost use Rattle.ckd_disk.specs.Record.{FitsCountArea, record_with, ckd, count_area, packed, size_of, record_at, size_at, IsRecord, record_written};
 ghost use Rattle.ckd_disk.specs.Track.{record_of, bytes_of, bytes_before, IsSpot, IsBehind, with_content, with_key_and_content, with_record_behind, with_last};
 
 use device_port::{Given, fill_at};
@@ -151,7 +151,7 @@ impl Track {
         ensures packed { result.now ≡ packed (record_of self.now.records spot.place) }
         ensures found { record_at result.now ≡ record_of self.now.records spot.place }
         ensures whole { IsRecord result.now }
-        ensures fits { Fits (record_of self.now.records spot.place) }
+        ensures fits { FitsCountArea (record_of self.now.records spot.place) }
         ensures len { length result.now ≡ size_of (record_of self.now.records spot.place) }
     {
         first(self.from(spot))

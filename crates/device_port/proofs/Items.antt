@@ -5,7 +5,7 @@ use Rattle.std.proofs.lemmas.List.{take_at, take_all, drop_at, take-append-drop,
 use Rattle.std.proofs.lemmas.List.Concat.{flat_map-cons, flat_map-append}
 use Rattle.std.proofs.lemmas.List.Elements.{All-from_recursion}
 use Rattle.device_port.specs.Moves.{padded, written}
-use Rattle.device_port.specs.Packed.{Spelling, Reads, image_of, offset_of, items_at, HoldsItems, Begins}
+use Rattle.device_port.specs.Packed.{Spelling, ReadsBack, image_of, offset_of, items_at, HoldsItems, Begins}
 
 -- ---- writes into a buffer
 
@@ -153,7 +153,7 @@ module _ {X : Type 0} (s : Spelling X) where
 
 -- ---- what is read back
 
-module _ {X : Type 0} (s : Spelling X) (reads : Reads s) where
+module _ {X : Type 0} (s : Spelling X) (reads : ReadsBack s) where
   -- items that were packed are read back, whatever follows
   pub items_at-packed : (items : List X) (rest : List ℕ) → AllByRecursion s.Fits items → items_at s (length items) (image_of s items ++ rest) ≡ items
   unfolding items_at

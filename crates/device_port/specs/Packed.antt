@@ -10,7 +10,7 @@ pub record Spelling (X : Type 0) : Type 1 where
   pub Fits : X → Type 0
 
 -- what is spelled is read back, whatever follows
-pub record Reads {X : Type 0} (s : Spelling X) : Type 0 where
+pub record ReadsBack {X : Type 0} (s : Spelling X) : Type 0 where
   pub item : (x : X) (rest : List ℕ) → s.Fits x → s.item_at (s.packed x ++ rest) ≡ x
   pub size : (x : X) (rest : List ℕ) → s.Fits x → s.size_at (s.packed x ++ rest) ≡ length (s.packed x)
 

@@ -11,7 +11,7 @@ mod report;
 mod workload;
 
 use cycles::Cycles;
-use report::Request;
+use report::Arguments;
 use std::io;
 use std::process::ExitCode;
 use std::time::Instant;
@@ -26,21 +26,21 @@ fn main(rt: HostRuntime) -> ExitCode {
 
 /// Runs and prints each workload that is wanted.
 fn measure(rt: &HostRuntime) -> io::Result<()> {
-    let request = Request::read(rt)?;
+    let arguments = Arguments::read(rt)?;
     for workload in &Workload::ALL {
-        if request.wants(workload.name()) {
-            measure_channel(rt, &request, *workload)?;
+        if arguments.wants(workload.name()) {
+            measure_channel(rt, &arguments, *workload)?;
         }
     }
-    if request.wants("book cycles") {
-        measure_book(rt, &request)?;
+    if arguments.wants("book cycles") {
+        measure_book(rt, &arguments)?;
     }
     Ok(())
 }
 
 /// Runs a channel program once a round.
-fn measure_channel(rt: &HostRuntime, request: &Request, workload: Workload) -> io::Result<()> {
-    let rounds = request.rounds();
+fn measure_channel(rt: &HostRuntime, arguments: &Arguments, workload: Workload) -> io::Result<()> {
+    let rounds = arguments.rounds();
     let mut channel = workload.channel(rt.alloc())?;
     let begin = Instant::now(rt)?;
     let steps = channel.attempts(rounds);
@@ -49,13 +49,13 @@ fn measure_channel(rt: &HostRuntime, request: &Request, workload: Workload) -> i
     } else {
         u64::from(rounds)
     };
-    request.print(rt, workload.name(), count, &begin)
+    arguments.print(rt, workload.name(), count, &begin)
 }
 
 /// Does a cycle of a book a round.
-fn measure_book(rt: &HostRuntime, request: &Request) -> io::Result<()> {
+fn measure_book(rt: &HostRuntime, arguments: &Arguments) -> io::Result<()> {
     let mut cycles = Cycles::new(rt.alloc())?;
     let begin = Instant::now(rt)?;
-    let done = cycles.run(rt.alloc(), request.rounds())?;
-    request.print(rt, "book cycles", done, &begin)
+    let done = cycles.run(rt.alloc(), arguments.rounds())?;
+    arguments.print(rt, "book cycles", done, &begin)
 }

@@ -5,12 +5,12 @@ use std::{env, io};
 
 /// The rounds that were asked for, and the one thing to measure, if not all.
 #[derive(Drop)]
-pub struct Request {
+pub struct Arguments {
     rounds: Option<u32>,
     only: Option<String>,
 }
 
-impl Request {
+impl Arguments {
     /// The words behind the program's name: ROUNDS and the first words of a name.
     pub fn read(rt: &HostRuntime) -> io::Result<Self> {
         let mut arguments = env::args(rt)?;
@@ -19,7 +19,7 @@ impl Request {
             Some(word) => word.as_str().parse::<u32>().ok(),
             None => None,
         };
-        Ok(Request {
+        Ok(Arguments {
             rounds,
             only: arguments.next(),
         })

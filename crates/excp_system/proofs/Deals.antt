@@ -6,7 +6,7 @@ use Rattle.std.proofs.lemmas.List.{length-set, length-replicate}
 use mathlib.Core.Logic.{dite}
 use native.Mathlib.Decide.{ℕ_discrete}
 use Rattle.fifo_row.specs.Ends.{Sending, Taking, Fresh, Seats, unseated, fresh_sender, fresh_taker}
-use Rattle.excp_system.specs.Sites.{Reached, end_of, taker_of}
+use Rattle.excp_system.specs.Sites.{ReachedRows, end_of, taker_of}
 use Rattle.excp_system.specs.Fans.{FanState}
 use Rattle.excp_system.specs.Opening.{AreFans, AreTakers}
 use Rattle.excp_system.proofs.Places.{get_set_same, get_set_other, get_snoc, replicate_more, some_is}
@@ -37,14 +37,14 @@ module _ {I : Type 0} (count place dealt : ℕ) (fans : List (FanState I)) (d : 
           after = λ j g above e. let ne : j ≢ dealt = λ same. absurd (omega (arith, same)) in d.after j g (omega arith) (sym (get_set_other fans dealt j new ne) ∙ e);
         }
 
-    pub end_is : (r : Reached) (s : Sending I) → s ≡ end_of r dealt place [] → s ≡ end_of r f.number (length f.sent) s.sent
+    pub end_is : (r : ReachedRows) (s : Sending I) → s ≡ end_of r dealt place [] → s ≡ end_of r f.number (length f.sent) s.sent
     end_is r s is =
         let number : dealt ≡ f.number = sym (ap (λ (g : FanState I). g.number) fan_is) in
         let reached : place ≡ length f.sent = sym (ap (λ (g : FanState I). length g.sent) fan_is ∙ length-replicate place []) in
         is ∙ (λ i. end_of r (number i) (reached i) (sym (ap (λ (x : Sending I). x.sent) is) i))
 
 -- the ends that a row gives, at its place among the rows that are reached
-module _ {I : Type 0} (r : Reached) (count place : ℕ) (row : Fresh) (is : row ≡ unseated (r.row place) r.capacity place count) (ends : List (Sending I)) (taker : Taking I) (seats : Seats ends taker row) where
+module _ {I : Type 0} (r : ReachedRows) (count place : ℕ) (row : Fresh) (is : row ≡ unseated (r.row place) r.capacity place count) (ends : List (Sending I)) (taker : Taking I) (seats : Seats ends taker row) where
   pub seat_count : length ends ≡ count
   seat_count = seats.count ∙ ap (λ (f : Fresh). f.senders) is
 

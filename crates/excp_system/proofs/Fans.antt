@@ -5,11 +5,11 @@ use Rattle.std.proofs.lemmas.List.{map-set, get_or-map, map-append, length-map}
 use Rattle.std.proofs.lemmas.Option.{slice_get-get_or}
 use Rattle.fifo_row.specs.Ends.{Sending}
 use Rattle.fifo_row.specs.Steps.{WasFull}
-use Rattle.excp_system.specs.Sites.{Reached, end_of}
+use Rattle.excp_system.specs.Sites.{ReachedRows, end_of}
 use Rattle.excp_system.specs.Fans.{FanState, IsFan}
 use Rattle.excp_system.proofs.Places.{get_seam}
 
-module _ {I : Type 0} (r : Reached) (number : ℕ) (ends : List (Sending I)) (fan : IsFan r number ends) (i k : ℕ) (here : i ≡ k) (lt : k < length ends) (e : Sending I) (is : e ≡ get_or ends i e) where
+module _ {I : Type 0} (r : ReachedRows) (number : ℕ) (ends : List (Sending I)) (fan : IsFan r number ends) (i k : ℕ) (here : i ≡ k) (lt : k < length ends) (e : Sending I) (is : e ≡ get_or ends i e) where
   old_sent : slice_index_or (map (λ s. s.sent) ends) k [] ≡ e.sent
   old_sent = get_or-map (λ (s : Sending I). s.sent) ends k e [] lt ∙ sym (ap (λ (s : Sending I). s.sent) (is ∙ ap (λ j. get_or ends j e) here))
 
@@ -30,7 +30,7 @@ module _ {I : Type 0} (r : Reached) (number : ℕ) (ends : List (Sending I)) (fa
   fan_full from fact full = subst (WasFull from fact) end_is full
 
 -- the last end is taken off
-module _ {I : Type 0} (r : Reached) (number : ℕ) (ends rest : List (Sending I)) (e : Sending I) (v : FanState I) (fan : IsFan r number ends) (last : ends ≡ rest ++ e ∷ []) (is : record { number = number; sent = map (λ s. s.sent) ends } ≡ v) where
+module _ {I : Type 0} (r : ReachedRows) (number : ℕ) (ends rest : List (Sending I)) (e : Sending I) (v : FanState I) (fan : IsFan r number ends) (last : ends ≡ rest ++ e ∷ []) (is : record { number = number; sent = map (λ s. s.sent) ends } ≡ v) where
   pub popped_end : e ≡ end_of r v.number (length (map (λ s. s.sent) rest)) e.sent
   popped_end =
       let there : slice_get ends (length rest) ≡ Some e = ap (λ l. slice_get l (length rest)) last ∙ get_seam rest [] e in

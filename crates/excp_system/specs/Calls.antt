@@ -16,8 +16,8 @@ abbrev pub Issues : TaskState → Piece → TaskState → Type 0
 Issues old r new = new ≡ record old { sent = slice_set old.sent r.unit (sent_by old r.unit ++ r ∷ []) }
 
 -- the task has collected one more posted value
-abbrev pub Collects : TaskState → PostedState → TaskState → Type 0
-Collects old value new = new ≡ record old { got = old.got ++ value ∷ [] }
+abbrev pub TaskCollects : TaskState → PostedState → TaskState → Type 0
+TaskCollects old value new = new ≡ record old { got = old.got ++ value ∷ [] }
 
 -- the handler has taken the notice of one more unit
 abbrev pub TakesNotice : HandlerState → ℕ → HandlerState → Type 0

@@ -20,16 +20,16 @@ InBook old new = new ≡ record old { book = new.book }
 
 module _ {D : Type 0} (s : SiteRows) where
   -- a notice is sent; or it is owed, and the row of the subclass was full at one moment
-  abbrev pub Sends : Bool → Locked D → Locked D → Type 0
-  Sends false old new = new ≡ record old { book = new.book; notified = old.notified ++ notice_of old ∷ []; owes = false }
-  Sends true old new =
+  abbrev pub SendsNotice : Bool → Locked D → Locked D → Type 0
+  SendsNotice false old new = new ≡ record old { book = new.book; notified = old.notified ++ notice_of old ∷ []; owes = false }
+  SendsNotice true old new =
       (new ≡ record old { book = new.book; owes = true })
       × WasFull notifier_of NoFact (end_of (notice_rows s) old.unit old.book.isc old.notified)
 
   -- a call that has a notice to send, or none
   abbrev pub Notifies : Bool → Locked D → Locked D → Type 0
   Notifies false old new = InBook old new
-  Notifies true old new = Sends new.owes old new
+  Notifies true old new = SendsNotice new.owes old new
 
 -- a notice is owed from now on where a call stopped with a status pending
 abbrev pub OwesIf : {D : Type 0} → Bool → Locked D → Locked D → Type 0

@@ -4,7 +4,7 @@ use Rattle.std.specs.List.{list_all}
 use Rattle.unit_book.specs.Book.{Book}
 use Rattle.unit_book.specs.Trace.{is_opening}
 use Rattle.fifo_row.specs.Ends.{Fresh, Taking, no_name, unseated}
-use Rattle.excp_system.specs.Sites.{SiteRows, Reached, taker_of}
+use Rattle.excp_system.specs.Sites.{SiteRows, ReachedRows, taker_of}
 use Rattle.excp_system.specs.Fans.{FanState}
 use Rattle.excp_system.specs.States.{TaskState, HandlerState}
 
@@ -49,7 +49,7 @@ pub record AreFresh (v : RowsState) : Type 0 where
   pub notices : ArePlain v.units 8 v.units v.notice
 
 -- each row is the one that is reached at its place, and gave no seats yet
-abbrev pub AreRows : Reached → ℕ → List Fresh → Type 0
+abbrev pub AreRows : ReachedRows → ℕ → List Fresh → Type 0
 AreRows r senders rows = (k : ℕ) (f : Fresh) → slice_get rows k ≡ Some f → f ≡ unseated (r.row k) r.capacity k senders
 
 -- so many senders' ends of the first `rows` rows, into which nothing was sent
@@ -58,7 +58,7 @@ pub record AreFans {I : Type 0} (count rows : ℕ) (fans : List (FanState I)) : 
   pub each : (t : ℕ) (f : FanState I) → slice_get fans t ≡ Some f → f ≡ record { number = t; sent = replicate rows [] }
 
 -- the takers of so many rows, which have taken nothing
-pub record AreTakers {I : Type 0} (r : Reached) (senders count : ℕ) (takers : List (Taking I)) : Type 0 where
+pub record AreTakers {I : Type 0} (r : ReachedRows) (senders count : ℕ) (takers : List (Taking I)) : Type 0 where
   pub count_is : length takers ≡ count
   pub each : (k : ℕ) (w : Taking I) → slice_get takers k ≡ Some w → w ≡ taker_of r senders k []
 

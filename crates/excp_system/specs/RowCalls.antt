@@ -21,7 +21,7 @@ use Rattle.excp_system.specs.States.{Locked}
 
 module _ {D : Type 0} (meaning : Meaning D) (s : SiteRows) where
   -- the first request of the intake row arrives at the book: it is the next of its task, and for this unit
-  pub record Takes (old : Locked D) (name : Name) (new : Locked D) : Type 0 where
+  pub record UnitTakes (old : Locked D) (name : Name) (new : Locked D) : Type 0 where
     pub request : Piece
     pub named : request.name ≡ name
     pub of_task : request.name.task < s.tasks
@@ -36,7 +36,7 @@ module _ {D : Type 0} (meaning : Meaning D) (s : SiteRows) where
       (occupancy old.book < old.book.capacity)
       × (new ≡ record old { book = record old.book { spare = new.book.spare } }) × (2 ≤ new.book.spare)
       × WasEmpty task_of RequestFact (taker_of (intake_rows s) s.tasks old.unit (arrivals old.book.trace))
-  TakesIn old (intake.Took name) new = (occupancy old.book < old.book.capacity) × Takes old name new × InBook old new
+  TakesIn old (intake.Took name) new = (occupancy old.book < old.book.capacity) × UnitTakes old name new × InBook old new
 
   -- the first posted value that is out
   pub record IsFirst (b : Book D) (name : Name) (value : PostedState) : Type 0 where
@@ -45,11 +45,11 @@ module _ {D : Type 0} (meaning : Meaning D) (s : SiteRows) where
     pub of_task : value.name.task < s.tasks
 
   -- what `deliver` answers: quiet where nothing is out, full where the post row of the task was
-  abbrev pub Delivers : Locked D → Delivery → Locked D → Type 0
-  Delivers old delivery.Quiet new = (old.book.out ≡ []) × (new ≡ old)
-  Delivers old (delivery.Delivered name) new =
+  abbrev pub UnitDelivers : Locked D → Delivery → Locked D → Type 0
+  UnitDelivers old delivery.Quiet new = (old.book.out ≡ []) × (new ≡ old)
+  UnitDelivers old (delivery.Delivered name) new =
       (value : PostedState) × IsFirst old.book name value × (new ≡ record old { book = record old.book { out = drop 1 old.book.out } })
       × (given meaning new.book ≡ given meaning old.book ++ value ∷ [])
-  Delivers old (delivery.Full name) new =
+  UnitDelivers old (delivery.Full name) new =
       (value : PostedState) × IsFirst old.book name value × (new ≡ old)
       × WasFull unit_of NoFact (end_of (post_rows s) old.unit value.name.task (of for_task value.name.task (given meaning old.book)))

@@ -7,7 +7,7 @@ use Rattle.fifo_row.specs.Ends.{RowName, Sending, Taking, no_name}
 use Rattle.excp_system.specs.declared.item.Notice.{Notice}
 
 -- several rows that one sender reaches: how many items each holds, and which row has which tag
-pub record Reached : Type 0 where
+pub record ReachedRows : Type 0 where
   pub capacity : ℕ
   pub row : ℕ → RowName
 
@@ -33,14 +33,14 @@ no_rows = record {
   notice = λ isc. no_name;
 }
 
-abbrev pub intake_rows : SiteRows → Reached
+abbrev pub intake_rows : SiteRows → ReachedRows
 intake_rows s = record { capacity = s.intake_capacity; row = s.intake }
 
-abbrev pub post_rows : SiteRows → Reached
+abbrev pub post_rows : SiteRows → ReachedRows
 post_rows s = record { capacity = s.post_capacity; row = s.post }
 
 -- a notice row has room for a notice of each unit
-abbrev pub notice_rows : SiteRows → Reached
+abbrev pub notice_rows : SiteRows → ReachedRows
 notice_rows s = record { capacity = s.units; row = s.notice }
 
 -- what a row keeps of a request: its number is its place among those of its task, and its unit is the row's
@@ -66,9 +66,9 @@ abbrev pub for_task : PostedState → ℕ
 for_task p = p.name.task
 
 -- the end of the row k that sender `number` holds, into which it has sent this
-abbrev pub end_of : {I : Type 0} → Reached → ℕ → ℕ → List I → Sending I
+abbrev pub end_of : {I : Type 0} → ReachedRows → ℕ → ℕ → List I → Sending I
 end_of r number k sent = record { row = r.row k; capacity = r.capacity; tag = k; number = number; sent = sent }
 
 -- the end of the row k that takes, which has met nobody
-abbrev pub taker_of : {I : Type 0} → Reached → ℕ → ℕ → List I → Taking I
+abbrev pub taker_of : {I : Type 0} → ReachedRows → ℕ → ℕ → List I → Taking I
 taker_of r senders k taken = record { row = r.row k; capacity = r.capacity; tag = k; senders = senders; taken = taken; met = [] }

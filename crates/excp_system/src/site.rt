@@ -18,9 +18,9 @@ impl Site for Brand {
 
 /// Which rows one sender reaches.
 pub trait Reach {
-    ghost use Rattle.excp_system.specs.Sites.{Reached};
+    ghost use Rattle.excp_system.specs.Sites.{ReachedRows};
 
-    ghost reached: { Reached };
+    ghost reached: { ReachedRows };
 }
 
 /// All intake rows of a site.

@@ -2,7 +2,7 @@
 
 ghost use Rattle.std.specs.Prelude.{◌≡◌, ◌<◌, ◌≤◌, ◌-◌, ◌^◌, length, IfErr, IfNone, IfSome, OnErr, OnOk};
 ghost use Rattle.fifo_row.specs.Lists.{of};
-ghost use Rattle.excp_system.specs.Calls.{Collects, IntakeWasFull, Issues, PostRowWasEmpty, next_name};
+ghost use Rattle.excp_system.specs.Calls.{TaskCollects, IntakeWasFull, Issues, PostRowWasEmpty, next_name};
 ghost use Rattle.excp_system.specs.Sites.{unit_of};
 ghost use Rattle.excp_system.specs.States.{IsTask, sent_by};
 
@@ -110,7 +110,7 @@ impl<'r, S: Site> Task<'r, S> {
     /// Collects the next posted value, and none only where the row was empty at one moment of the call. It takes no
     /// memory and no unit's lock.
     pub fn take_post<R: Wait>(&mut self, rt: &R) -> Option<Posted>
-        ensures collected { IfSome result (λ value. Collects self.old value self.new) }
+        ensures collected { IfSome result (λ value. TaskCollects self.old value self.new) }
         ensures of_unit { IfSome result (λ value. value.unit < S.rows.units) }
         ensures unchanged { IfNone result (self.new ≡ self.old) }
         ensures was_empty { IfNone result (PostRowWasEmpty S.rows self.old) }

@@ -8,7 +8,7 @@ ghost use Rattle.unit_book.specs.Book.{given, occupancy};
 ghost use Rattle.unit_book.specs.Legal.{Legal, Settled};
 ghost use Rattle.unit_book.specs.Posts.{posted};
 ghost use Rattle.unit_book.specs.Trace.{arrivals, arrived_of};
-ghost use Rattle.excp_system.specs.RowCalls.{Delivers, TakesIn};
+ghost use Rattle.excp_system.specs.RowCalls.{UnitDelivers, TakesIn};
 ghost use Rattle.excp_system.specs.Fans.{sent_to};
 ghost use Rattle.excp_system.specs.Sites.{end_of, for_task, intake_rows, notice_rows, taker_of};
 ghost use Rattle.excp_system.specs.States.{AreOf, IsUnit, owing_nothing};
@@ -167,7 +167,7 @@ impl<'r, S: Site, D: Device> UnitState<'r, S, D> {
 
     /// Sends the first posted value that is out back to its task. It takes no memory.
     pub fn deliver<R: Wait>(&mut self, rt: &R) -> Delivery
-        ensures { Delivers D.meaning S.rows self.old result self.new }
+        ensures { UnitDelivers D.meaning S.rows self.old result self.new }
     {
         self.book.holds();
         match self.book.take_out() {

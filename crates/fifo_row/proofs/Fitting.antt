@@ -4,7 +4,7 @@ use mathlib.Core.Option.{some, some-injective, some-ne-none}
 use lib.ListN.{get_elem?}
 use Rattle.fifo_row.specs.declared.view.View.{View}
 use Rattle.fifo_row.specs.Views.{opening_view, sender_view, taker_view, spent_view}
-use Rattle.fifo_row.specs.Rule.{FitsSender, FitsTaker, Fits, Kept}
+use Rattle.fifo_row.specs.Rule.{FitsSender, FitsTaker, PassFits, Kept}
 use Rattle.fifo_row.specs.Steps.{IsState}
 use Rattle.crossbeam_queue.specs.Fifo.{Learns}
 use Rattle.fifo_row.proofs.Places.{no_met}
@@ -21,16 +21,16 @@ not_none a e = absurd (cc e)
 module _ {I : Type 0} (from : I → ℕ) where
   -- a sender's pass fits where its seat does
   pub as_sender : (tag reader : ℕ) (seat : ℕ → Option ℕ) (all taken : List I) (pass t number : ℕ) (sent : List I)
-      → FitsSender from tag seat all pass (sender_view t number sent) → Fits from tag reader seat all taken pass (sender_view t number sent)
+      → FitsSender from tag seat all pass (sender_view t number sent) → PassFits from tag reader seat all taken pass (sender_view t number sent)
   as_sender tag reader seat all taken pass t number sent fits = record { as_sender = λ _. fits; as_taker = λ p. off p }
 
   -- the taker's pass fits where its seat does
   pub as_taker : (tag reader : ℕ) (seat : ℕ → Option ℕ) (all taken : List I) (pass t made : ℕ) (got : List I) (met : List (ℕ × List I))
-      → FitsTaker from tag reader seat all taken pass (taker_view t made got met) → Fits from tag reader seat all taken pass (taker_view t made got met)
+      → FitsTaker from tag reader seat all taken pass (taker_view t made got met) → PassFits from tag reader seat all taken pass (taker_view t made got met)
   as_taker tag reader seat all taken pass t made got met fits = record { as_sender = λ p. off p; as_taker = λ _. fits }
 
   -- a spent pass fits
-  pub spent_fits : (tag reader : ℕ) (seat : ℕ → Option ℕ) (all taken : List I) (pass : ℕ) → Fits from tag reader seat all taken pass spent_view
+  pub spent_fits : (tag reader : ℕ) (seat : ℕ → Option ℕ) (all taken : List I) (pass : ℕ) → PassFits from tag reader seat all taken pass spent_view
   spent_fits tag reader seat all taken pass = record { as_sender = λ p. off p; as_taker = λ p. off p }
 
   -- another pass that sends has another number
@@ -54,7 +54,7 @@ module _ {I : Type 0} (from : I → ℕ) (fact : I → ℕ → ℕ → ℕ → T
       few = λ k. omega arith;
       fits = λ j u e.
           let at = one_view opening_view u j e in
-          subst (λ (y : ℕ × View I). Fits from 0 0 (λ k. None) [] [] y.0 y.1) (λ i. (sym at.0 i, at.1 i))
+          subst (λ (y : ℕ × View I). PassFits from 0 0 (λ k. None) [] [] y.0 y.1) (λ i. (sym at.0 i, at.1 i))
           (as_taker from 0 0 (λ k. None) [] [] 0 0 0 [] []
           (record { here = refl; tag_is = λ _. refl; taken_is = refl; later = λ k _. (refl, refl); ended = λ k xs m. no_met k xs m }));
     };

@@ -1,7 +1,7 @@
 -- What the rule of a row says between any two steps.
 use Rattle.std.proofs.Common.{◌≡◌, ℕ, List, ◌++◌, ap, sym, ◌∙◌, subst}
 use Rattle.fifo_row.specs.declared.view.View.{View}
-use Rattle.fifo_row.specs.Lists.{of, Lawful}
+use Rattle.fifo_row.specs.Lists.{of, HaveFacts}
 use Rattle.fifo_row.specs.Rule.{FitsTaker}
 use Rattle.fifo_row.specs.Flows.{IsTaker, SeatedFlows, MetFlows, OfSenders, KeepsFacts}
 
@@ -25,5 +25,5 @@ module _ {I : Type 0} (from : I → ℕ) (fact : I → ℕ → ℕ → ℕ → T
 
   pub keeps_facts : KeepsFacts from fact
   keeps_facts items views v k t some_made =
-      subst (λ tag. Lawful fact tag k (of from k (v.taken ++ items))) (sym ((seat_of items views v t).tag_is some_made))
-      (subst (Lawful fact t.kept.tag k) (sym (of_all items views v t k)) (t.kept.fair.lawful k))
+      subst (λ tag. HaveFacts fact tag k (of from k (v.taken ++ items))) (sym ((seat_of items views v t).tag_is some_made))
+      (subst (HaveFacts fact t.kept.tag k) (sym (of_all items views v t k)) (t.kept.fair.lawful k))

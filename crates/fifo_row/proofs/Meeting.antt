@@ -9,7 +9,7 @@ use Rattle.crossbeam_queue.proofs.Lists.{at_set}
 use Rattle.fifo_row.specs.declared.view.View.{View}
 use Rattle.fifo_row.specs.Lists.{of}
 use Rattle.fifo_row.specs.Views.{sender_view, taker_view, spent_view}
-use Rattle.fifo_row.specs.Rule.{FitsSender, FitsTaker, Fits, Fair, Kept}
+use Rattle.fifo_row.specs.Rule.{FitsSender, FitsTaker, PassFits, Fair, Kept}
 use Rattle.fifo_row.proofs.Places.{all_set, met_cons}
 use Rattle.fifo_row.proofs.Fitting.{not_none, as_taker, spent_fits, apart}
 use Rattle.fifo_row.proofs.Seating.{seat_with, seat-same, seat-other}
@@ -40,7 +40,7 @@ module _ {I : Type 0} (from : I → ℕ) (fact : I → ℕ → ℕ → ℕ → T
     }
 
     -- another pass is no taker, and a sender's that was not met
-    others : (j : ℕ) (u : View I) → j ≢ pass → Fits from tag reader seat all taken j u → j ≢ other → Fits from tag reader seats all taken j u
+    others : (j : ℕ) (u : View I) → j ≢ pass → PassFits from tag reader seat all taken j u → j ≢ other → PassFits from tag reader seats all taken j u
     others j u ne old away = record {
       as_sender = λ p.
           let s = old.as_sender p in
@@ -51,7 +51,7 @@ module _ {I : Type 0} (from : I → ℕ) (fact : I → ℕ → ℕ → ℕ → T
     meets_fair : (views : List (View I)) → Fair from fact tag reader seat all taken views → Fair from fact tag reader seats all taken (set (set views pass (taker_view t made got ((number, sent) ∷ met))) other spent_view)
     meets_fair views f =
         let both : View I = taker_view t made got ((number, sent) ∷ met) in
-        let unless_spent : ℕ → View I → Type 0 = λ j u. j ≢ other → Fits from tag reader seats all taken j u in
+        let unless_spent : ℕ → View I → Type 0 = λ j u. j ≢ other → PassFits from tag reader seats all taken j u in
         let first : (j : ℕ) (u : View I) → get_elem? (set views pass both) j ≡ some u → unless_spent j u =
         all_set unless_spent views pass both
         (λ _. as_taker from tag reader seats all taken pass t made got ((number, sent) ∷ met) met_one)
@@ -59,7 +59,7 @@ module _ {I : Type 0} (from : I → ℕ) (fact : I → ℕ → ℕ → ℕ → T
         record {
           lawful = f.lawful;
           few = f.few;
-          fits = all_set (Fits from tag reader seats all taken) (set views pass both) other spent_view (spent_fits from tag reader seats all taken other) (λ j u ne e. first j u e ne);
+          fits = all_set (PassFits from tag reader seats all taken) (set views pass both) other spent_view (spent_fits from tag reader seats all taken other) (λ j u ne e. first j u e ne);
         }
 
   meets : (pass t made : ℕ) (got : List I) (met : List (ℕ × List I)) (other t' number : ℕ) (sent : List I)

@@ -3,7 +3,7 @@ use Rattle.std.proofs.Common.{◌≡◌, ◌≢◌, ◌⊎◌, ℕ, zero, suc, L
 use mathlib.Core.Option.{some, some-injective, some-ne-none}
 use lib.ListN.{get_elem?}
 use Rattle.crossbeam_queue.proofs.Lists.{at_set}
-use Rattle.fifo_row.specs.Lists.{Lawful, Met}
+use Rattle.fifo_row.specs.Lists.{HaveFacts, Met}
 
 module _ {A : Type 0} where
   -- what stands in a list with one more at the end
@@ -38,7 +38,7 @@ module _ {A : Type 0} where
       (snoc_cases (set l i w) last u j e)
 
   -- one more lawful item
-  pub lawful_snoc : (fact : A → ℕ → ℕ → ℕ → Type 0) (tag k : ℕ) (xs : List A) (x : A) → Lawful fact tag k xs → fact x k (suc (length xs)) tag → Lawful fact tag k (xs ++ x ∷ [])
+  pub lawful_snoc : (fact : A → ℕ → ℕ → ℕ → Type 0) (tag k : ℕ) (xs : List A) (x : A) → HaveFacts fact tag k xs → fact x k (suc (length xs)) tag → HaveFacts fact tag k (xs ++ x ∷ [])
   lawful_snoc fact tag k xs x old new i y e =
       ⊎_elim (λ t. old i y t) (λ (t : (i ≡ length xs) × (x ≡ y)). subst (λ (p : A × ℕ). fact p.0 k (suc p.1) tag) (λ j. (t.1 j, sym t.0 j)) new) (snoc_cases xs x y i e)
 

@@ -8,7 +8,7 @@ use Rattle.crossbeam_queue.specs.Fifo.{Forks}
 use Rattle.fifo_row.specs.declared.view.View.{View}
 use Rattle.fifo_row.specs.Lists.{of}
 use Rattle.fifo_row.specs.Views.{sender_view, taker_view}
-use Rattle.fifo_row.specs.Rule.{FitsTaker, Fits, Fair, Kept}
+use Rattle.fifo_row.specs.Rule.{FitsTaker, PassFits, Fair, Kept}
 use Rattle.fifo_row.proofs.Places.{all_set_snoc}
 use Rattle.fifo_row.proofs.Fitting.{not_none, as_sender, as_taker}
 
@@ -70,7 +70,7 @@ module _ {I : Type 0} (from : I → ℕ) (fact : I → ℕ → ℕ → ℕ → T
     }
 
     -- another pass is no taker, and a sender's that was seated before
-    others : (j : ℕ) (u : View I) → j ≢ pass → Fits from tag reader seat all taken j u → Fits from tag reader seats all taken j u
+    others : (j : ℕ) (u : View I) → j ≢ pass → PassFits from tag reader seat all taken j u → PassFits from tag reader seats all taken j u
     others j u ne old = record {
       as_sender = λ p.
           let s = old.as_sender p in
@@ -83,7 +83,7 @@ module _ {I : Type 0} (from : I → ℕ) (fact : I → ℕ → ℕ → ℕ → T
     seats_fair f = record {
       lawful = f.lawful;
       few = f.few;
-      fits = all_set_snoc (Fits from tag reader seats all taken) views pass (taker_view tag (made + 1) got met) (sender_view tag made [])
+      fits = all_set_snoc (PassFits from tag reader seats all taken) views pass (taker_view tag (made + 1) got met) (sender_view tag made [])
           (as_taker from tag reader seats all taken pass tag (made + 1) got met made_one)
           (λ j u ne e. others j u ne (f.fits j u e))
           (as_sender from tag reader seats all taken (length views) tag made [] (record { here = seat-same seat made (Some (length views)); tag_is = refl; sent_is = free.1 }));

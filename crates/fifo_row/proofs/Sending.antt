@@ -4,9 +4,9 @@ use mathlib.Core.Logic.{dite}
 use native.Mathlib.Decide.{ℕ_discrete}
 use Rattle.crossbeam_queue.specs.Fifo.{Pushes}
 use Rattle.fifo_row.specs.declared.view.View.{View}
-use Rattle.fifo_row.specs.Lists.{of, Lawful}
+use Rattle.fifo_row.specs.Lists.{of, HaveFacts}
 use Rattle.fifo_row.specs.Views.{sender_view}
-use Rattle.fifo_row.specs.Rule.{FitsSender, FitsTaker, Fits, Fair, Kept}
+use Rattle.fifo_row.specs.Rule.{FitsSender, FitsTaker, PassFits, Fair, Kept}
 use Rattle.fifo_row.specs.Steps.{Sends}
 use Rattle.fifo_row.proofs.Filters.{of-snoc_same, of-snoc_other}
 use Rattle.fifo_row.proofs.Places.{all_set, lawful_snoc}
@@ -45,12 +45,12 @@ module _ {I : Type 0} (from : I → ℕ) (fact : I → ℕ → ℕ → ℕ → T
     sends_fair : (views : List (View I)) → Fair from fact tag reader seat all taken views → fact x number (suc (length sent)) t → length sent < 2 ^ 62
         → Fair from fact tag reader seat (all ++ x ∷ []) taken (set views pass (sender_view t number (sent ++ x ∷ [])))
     sends_fair views f it few =
-        let lawful : Lawful fact tag number sent = subst (Lawful fact tag number) mine.sent_is (f.lawful number) in
+        let lawful : HaveFacts fact tag number sent = subst (HaveFacts fact tag number) mine.sent_is (f.lawful number) in
         let it' : fact x number (suc (length sent)) tag = subst (λ j. fact x number (suc (length sent)) j) mine.tag_is it in
         record {
-          lawful = each (Lawful fact tag) (lawful_snoc fact tag number sent x lawful it') f.lawful;
+          lawful = each (HaveFacts fact tag) (lawful_snoc fact tag number sent x lawful it') f.lawful;
           few = each (λ k l. length l ≤ 2 ^ 62) (omega (arith, length-append sent (x ∷ []))) f.few;
-          fits = all_set (Fits from tag reader seat (all ++ x ∷ []) taken) views pass (sender_view t number (sent ++ x ∷ []))
+          fits = all_set (PassFits from tag reader seat (all ++ x ∷ []) taken) views pass (sender_view t number (sent ++ x ∷ []))
               (as_sender from tag reader seat (all ++ x ∷ []) taken pass t number (sent ++ x ∷ []) (record { here = mine.here; tag_is = mine.tag_is; sent_is = of_mine }))
               (λ j u ne e. let old = f.fits j u e in record { as_sender = λ p. other_sender j u ne (old.as_sender p); as_taker = λ p. the_taker j u (old.as_taker p) });
         }

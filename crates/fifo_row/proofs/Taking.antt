@@ -7,11 +7,11 @@ use native.Mathlib.Decide.{dec_le}
 use lib.ListN.{get_elem?}
 use Rattle.crossbeam_queue.specs.Fifo.{Pops, Held}
 use Rattle.fifo_row.specs.declared.view.View.{View}
-use Rattle.fifo_row.specs.Lists.{of, Met, Begins}
+use Rattle.fifo_row.specs.Lists.{of, Met, BeginsWith}
 use Rattle.fifo_row.specs.Ends.{Taking, AllEnded}
 use Rattle.fifo_row.specs.Views.{taker_view}
-use Rattle.fifo_row.specs.Rule.{Fits, Fair, Kept}
-use Rattle.fifo_row.specs.Steps.{Takes, IsState, WasEmpty}
+use Rattle.fifo_row.specs.Rule.{PassFits, Fair, Kept}
+use Rattle.fifo_row.specs.Steps.{TakesItem, IsState, WasEmpty}
 use Rattle.fifo_row.proofs.Filters.{of-append, of-at}
 use Rattle.fifo_row.proofs.Places.{get-seam, all_set}
 use Rattle.fifo_row.proofs.Fitting.{as_taker}
@@ -26,13 +26,13 @@ module _ {I : Type 0} (from : I → ℕ) (fact : I → ℕ → ℕ → ℕ → T
       record {
         lawful = f.lawful;
         few = f.few;
-        fits = all_set (Fits from tag reader seat all (taken ++ x ∷ [])) views pass (taker_view t made (got ++ x ∷ []) met)
+        fits = all_set (PassFits from tag reader seat all (taken ++ x ∷ [])) views pass (taker_view t made (got ++ x ∷ []) met)
             (as_taker from tag reader seat all (taken ++ x ∷ []) pass t made (got ++ x ∷ []) met
             (record { here = mine.here; tag_is = mine.tag_is; taken_is = ap (λ l. l ++ x ∷ []) mine.taken_is; later = mine.later; ended = mine.ended }))
             (λ j u ne e. record { as_sender = (f.fits j u e).as_sender; as_taker = λ p. absurd (ne (((f.fits j u e).as_taker p).here ∙ sym mine.here)) });
       }
 
-  takes : (pass t made : ℕ) (got : List I) (met : List (ℕ × List I)) → Pops (Kept from fact) pass (taker_view t made got met) (Takes from fact (taker_view t made got met))
+  takes : (pass t made : ℕ) (got : List I) (met : List (ℕ × List I)) → Pops (Kept from fact) pass (taker_view t made got met) (TakesItem from fact (taker_view t made got met))
   takes pass t made got met x items views h at =
       let mine = (h.fair.fits pass (taker_view t made got met) at).as_taker refl in
       let all : List I = h.taken ++ x ∷ items in
@@ -58,8 +58,8 @@ module _ {I : Type 0} (from : I → ℕ) (fact : I → ℕ → ℕ → ℕ → T
       )
 
   -- the step, at a view that is the taker's
-  pub takes_as : (pass : ℕ) (v : View I) (t made : ℕ) → v ≡ taker_view t made v.taken v.met → Pops (Kept from fact) pass v (Takes from fact v)
-  takes_as pass v t made is = subst (λ (u : View I). Pops (Kept from fact) pass u (Takes from fact u)) (sym is) (takes pass t made v.taken v.met)
+  pub takes_as : (pass : ℕ) (v : View I) (t made : ℕ) → v ≡ taker_view t made v.taken v.met → Pops (Kept from fact) pass v (TakesItem from fact v)
+  takes_as pass v t made is = subst (λ (u : View I). Pops (Kept from fact) pass u (TakesItem from fact u)) (sym is) (takes pass t made v.taken v.met)
 
   none_left : (items : List I) → length items ≡ 0 → items ≡ []
   none_left [] e = refl
@@ -77,7 +77,7 @@ module _ {I : Type 0} (from : I → ℕ) (fact : I → ℕ → ℕ → ℕ → T
 
   -- what was taken of a sender that was met begins all that it sent
   pub begins_as : (v : View I) (t made : ℕ) (taken : List I) (met : List (ℕ × List I)) (k : ℕ) (sent : List I)
-      → v ≡ taker_view t made taken met → ((items : List I) × IsState from fact v items) → Met met k sent → Begins (of from k taken) sent
+      → v ≡ taker_view t made taken met → ((items : List I) × IsState from fact v items) → Met met k sent → BeginsWith (of from k taken) sent
   begins_as v t made taken met k sent is seen m =
       let u : View I = taker_view t made taken met in
       let (views, pass, h, at) = subst (λ (x : View I). IsState from fact x seen.0) is seen.1 in

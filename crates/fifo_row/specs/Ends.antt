@@ -64,7 +64,7 @@ pub record Seats {I : Type 0} (senders : List (Sending I)) (taker : Taking I) (r
 
 -- an item is the next of its sender: that sender is of the row, and the item has its fact at the place behind those
 -- that were taken
-pub record IsNext {I : Type 0} (from : I → ℕ) (fact : I → ℕ → ℕ → ℕ → Type 0) (t : Taking I) (x : I) : Type 0 where
+pub record IsNextItem {I : Type 0} (from : I → ℕ) (fact : I → ℕ → ℕ → ℕ → Type 0) (t : Taking I) (x : I) : Type 0 where
   pub of_row : from x < t.senders
   pub lawful : fact x (from x) (suc (length (of from (from x) t.taken))) t.tag
 

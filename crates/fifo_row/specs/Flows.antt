@@ -3,7 +3,7 @@ use Rattle.std.specs.Prelude.{◌≡◌, ℕ, ◌≤◌, ◌<◌, List, [], ◌+
 use mathlib.Core.Option.{some}
 use lib.ListN.{get_elem?}
 use Rattle.fifo_row.specs.declared.view.View.{View}
-use Rattle.fifo_row.specs.Lists.{of, Lawful, Met}
+use Rattle.fifo_row.specs.Lists.{of, HaveFacts, Met}
 use Rattle.fifo_row.specs.Rule.{Kept}
 
 module _ {I : Type 0} (from : I → ℕ) (fact : I → ℕ → ℕ → ℕ → Type 0) where
@@ -28,4 +28,4 @@ module _ {I : Type 0} (from : I → ℕ) (fact : I → ℕ → ℕ → ℕ → T
 
   -- each item that was taken or is held has its fact, at its place among its sender's
   abbrev pub KeepsFacts : Type 0
-  KeepsFacts = (items : List I) (views : List (View I)) (v : View I) (k : ℕ) → IsTaker items views v → 0 < v.made → Lawful fact v.tag k (of from k (v.taken ++ items))
+  KeepsFacts = (items : List I) (views : List (View I)) (v : View I) (k : ℕ) → IsTaker items views v → 0 < v.made → HaveFacts fact v.tag k (of from k (v.taken ++ items))

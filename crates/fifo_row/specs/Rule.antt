@@ -9,7 +9,7 @@ use Rattle.std.specs.Prelude.{◌≡◌, ℕ, ◌≤◌, ◌<◌, ◌^◌, List,
 use mathlib.Core.Option.{some}
 use lib.ListN.{get_elem?}
 use Rattle.fifo_row.specs.declared.view.View.{View}
-use Rattle.fifo_row.specs.Lists.{of, Lawful, Met}
+use Rattle.fifo_row.specs.Lists.{of, HaveFacts, Met}
 
 -- In what follows `all` is what was taken, and then what the row holds; `seat k` is the pass of sender k, and none
 -- before it is made and once it was met; `reader` is the taker's pass.
@@ -30,16 +30,16 @@ pub record FitsTaker {I : Type 0} (from : I → ℕ) (tag reader : ℕ) (seat : 
   pub ended : (k : ℕ) (sent : List I) → Met v.met k sent → (k < v.made) × (seat k ≡ None) × (of from k all ≡ sent)
 
 -- a pass that is neither a sender's nor the taker's is spent, and may know anything
-pub record Fits {I : Type 0} (from : I → ℕ) (tag reader : ℕ) (seat : ℕ → Option ℕ) (all taken : List I) (pass : ℕ) (v : View I) : Type 0 where
+pub record PassFits {I : Type 0} (from : I → ℕ) (tag reader : ℕ) (seat : ℕ → Option ℕ) (all taken : List I) (pass : ℕ) (v : View I) : Type 0 where
   pub as_sender : v.sends ≡ true → FitsSender from tag seat all pass v
   pub as_taker : v.takes ≡ true → FitsTaker from tag reader seat all taken pass v
 
 module _ {I : Type 0} (from : I → ℕ) (fact : I → ℕ → ℕ → ℕ → Type 0) where
   -- each item has its fact, no sender's items are more than a number can count, and each pass fits
   pub record Fair (tag reader : ℕ) (seat : ℕ → Option ℕ) (all taken : List I) (views : List (View I)) : Type 0 where
-    pub lawful : (k : ℕ) → Lawful fact tag k (of from k all)
+    pub lawful : (k : ℕ) → HaveFacts fact tag k (of from k all)
     pub few : (k : ℕ) → length (of from k all) ≤ 2 ^ 62
-    pub fits : (pass : ℕ) (v : View I) → get_elem? views pass ≡ some v → Fits from tag reader seat all taken pass v
+    pub fits : (pass : ℕ) (v : View I) → get_elem? views pass ≡ some v → PassFits from tag reader seat all taken pass v
 
   -- the rule of a row that holds these items, and whose passes know these views
   pub record Kept (items : List I) (views : List (View I)) : Type 0 where

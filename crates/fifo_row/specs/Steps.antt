@@ -18,8 +18,8 @@ Sends v x w = w ≡ sender_view v.tag v.number (v.sent ++ x ∷ [])
 
 module _ {I : Type 0} (from : I → ℕ) (fact : I → ℕ → ℕ → ℕ → Type 0) where
   -- a pop that takes: the item is behind what was taken, is of one of the senders, and has its fact at its place
-  abbrev pub Takes : View I → I → View I → Type 0
-  Takes v x w =
+  abbrev pub TakesItem : View I → I → View I → Type 0
+  TakesItem v x w =
       (w ≡ taker_view v.tag v.made (v.taken ++ x ∷ []) v.met)
       × (from x < v.made)
       × fact x (from x) (suc (length (of from (from x) v.taken))) v.tag

@@ -40,9 +40,9 @@ impl<I: Item> Lesson<I, View<I>> for Push {
 pub struct Pop;
 
 impl<I: Item> Outcome<I, View<I>> for Pop {
-    ghost use Rattle.fifo_row.specs.Steps.{Takes};
+    ghost use Rattle.fifo_row.specs.Steps.{TakesItem};
 
-    ghost then = { Takes I.from I.fact };
+    ghost then = { TakesItem I.from I.fact };
 }
 
 impl<I: Item> Lesson<I, View<I>> for Pop {

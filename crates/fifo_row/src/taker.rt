@@ -1,8 +1,8 @@
 //! The end of a row that takes.
 ghost use Rattle.std.specs.Prelude.{◌≡◌, ◌<◌, ◌∷◌, ◌++◌, [], length, replicate, IfNone, IfSome};
 ghost use Rattle.crossbeam_queue.specs.Passes.{IsPassOf, ruled_capacity};
-ghost use Rattle.fifo_row.specs.Lists.{Begins, of};
-ghost use Rattle.fifo_row.specs.Ends.{AllEnded, IsNext, first_taking};
+ghost use Rattle.fifo_row.specs.Lists.{BeginsWith, of};
+ghost use Rattle.fifo_row.specs.Ends.{AllEnded, IsNextItem, first_taking};
 ghost use Rattle.fifo_row.specs.Steps.{WasEmpty};
 ghost use Rattle.fifo_row.specs.Views.{known, taker_view};
 
@@ -80,7 +80,7 @@ impl<'r, I: Item> Taker<'r, I> {
     /// taken.
     pub fn take<R: Wait>(&mut self, rt: &R) -> Option<I>
         ensures taken { IfSome result (λ item. self.new ≡ record self.old { taken = self.old.taken ++ item ∷ [] }) }
-        ensures next { IfSome result (IsNext I.from I.fact self.old) }
+        ensures next { IfSome result (IsNextItem I.from I.fact self.old) }
         ensures unchanged { IfNone result (self.new ≡ self.old) }
         ensures was_empty { IfNone result (WasEmpty I.from I.fact self.old) }
         ensures all_ended { IfNone result (AllEnded I.from self.old) }
@@ -102,7 +102,7 @@ impl<'r, I: Item> Taker<'r, I> {
     pub fn meet(&mut self, sender: Sender<'r, I>)
         requires { sender.row ≡ self.old.row }
         ensures met { self.new ≡ record self.old { met = (sender.entry.number, sender.entry.sent) ∷ self.old.met } }
-        ensures begins { Begins (of I.from sender.entry.number self.old.taken) sender.entry.sent }
+        ensures begins { BeginsWith (of I.from sender.entry.number self.old.taken) sender.entry.sent }
     {
         let queue = self.queue;
         queue.absorb::<Meet>(&mut self.pass, sender.into_pass());

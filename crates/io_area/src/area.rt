@@ -2,7 +2,7 @@
 
 ghost use Rattle.std.specs.Prelude.{◌≡◌, ◌==◌, ◌+◌, ◌<◌, ◌≤◌, ◌^◌, length, true, false, IfErr, IfOk, IfSome, IsOk, IsSome, MatchOption, if◌then◌else◌};
 ghost use Rattle.io_area.specs.Storage.{IsOffset, SamePlace, bytes_at, lies_in, with_bytes};
-ghost use Rattle.io_area.specs.AreaFault.{AreaFault, NoFault};
+ghost use Rattle.io_area.specs.AreaFault.{AreaFault, NoAreaFault};
 
 use crate::error::AreaError;
 use std::alloc::{AllocError, Global};
@@ -38,7 +38,7 @@ impl Area {
     /// there is no memory (profile).
     pub fn new(alloc: Global, base: u32, bytes: &[u8]) -> Result<Area, AreaError>
         ensures area { IfOk result (λ a. a ≡ record { base = base; bytes = bytes.now }) }
-        ensures ok { IsOk result → NoFault base (length bytes.now) }
+        ensures ok { IsOk result → NoAreaFault base (length bytes.now) }
         ensures fault { IfErr result (AreaFault base (length bytes.now)) }
     {
         if base % 8 != 0 {

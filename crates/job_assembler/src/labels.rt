@@ -1,7 +1,7 @@
 //! The labels of an area.
 
 use crate::finding::{Refusal, Wrong};
-use command_names::flag_bit;
+use command_table::flag_bit;
 use std::alloc::Global;
 use std::collections::BTreeMap;
 

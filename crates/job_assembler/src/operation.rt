@@ -1,7 +1,7 @@
 //! What a statement is called, and on which boundary it lies.
 
 use crate::line::first_word;
-use command_names::code_of;
+use command_table::code_of;
 
 /// What a statement makes or does.
 #[derive(Clone, Copy)]

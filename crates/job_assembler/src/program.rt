@@ -4,7 +4,7 @@ use crate::address::number_to;
 use crate::area::Area;
 use crate::finding::{Refusal, Wrong};
 use crate::line::{Operands, parts_operands};
-use command_names::flag_bit;
+use command_table::flag_bit;
 use io_images::{Address, Ccw, CcwFlags};
 
 /// The command code of a transfer in channel.

@@ -3,7 +3,7 @@
 ghost use Rattle.std.specs.Prelude.{◌+◌};
 ghost use Rattle.job_script.specs.Reading.{ReadsAtMost};
 
-use crate::finding::{Finding, SCRIPT, Told, add, tell};
+use crate::finding::{Finding, FindingKind, SCRIPT, add, tell};
 use crate::media::check_unit;
 use crate::notes::{AreaUse, early, note_doubles, note_unused};
 use crate::programs::{Issued, note_requests};
@@ -139,8 +139,8 @@ impl<'a> Check<'a> {
             Ok(()) => Ok(()),
             Err(Refusal::NoMemory) => Err(AllocError),
             Err(Refusal::Caused(cause)) => {
-                let told = Told::Fault(cause.name, cause.message);
-                self.findings.push(Finding { line, bytes, told })?;
+                let kind = FindingKind::Fault(cause.name, cause.message);
+                self.findings.push(Finding { line, bytes, kind })?;
                 self.assume(alloc, line, &words)
             }
         }
@@ -196,7 +196,7 @@ impl<'a> Check<'a> {
         };
         if let Some(issued) = *unwaited {
             if let Some(note) = early(command, issued) {
-                add(&mut self.findings, command.line, Told::Note(note))?;
+                add(&mut self.findings, command.line, FindingKind::Note(note))?;
             }
         }
         match &command.action {

@@ -11,7 +11,7 @@ pub const SCRIPT: usize = usize::MAX;
 
 /// What is found: a fault, which has a name, or a note.
 #[derive(Clone, Copy)]
-pub enum Told {
+pub enum FindingKind {
     Fault(FaultName, Message),
     Note(Message),
     /// A note that a CCW breaks a rule.
@@ -23,7 +23,7 @@ pub enum Told {
 pub struct Finding<'a> {
     pub line: usize,
     pub bytes: &'a [u8],
-    pub told: Told,
+    pub kind: FindingKind,
 }
 
 impl<'a> Found for Finding<'a> {
@@ -32,36 +32,40 @@ impl<'a> Found for Finding<'a> {
     }
 
     fn is_fault(&self) -> bool {
-        matches!(self.told, Told::Fault(_, _))
+        matches!(self.kind, FindingKind::Fault(_, _))
     }
 }
 
 /// Adds why a line is refused, in a text without words of the line.
 pub fn tell(findings: &mut Vec<Finding<'_>>, line: usize, cause: Cause) -> Result<(), AllocError> {
-    let told = Told::Fault(cause.name, cause.message);
-    add(findings, line, told)
+    let kind = FindingKind::Fault(cause.name, cause.message);
+    add(findings, line, kind)
 }
 
 /// Adds a finding in a line, in a text without words of the line.
-pub fn add(findings: &mut Vec<Finding<'_>>, line: usize, told: Told) -> Result<(), AllocError> {
+pub fn add(
+    findings: &mut Vec<Finding<'_>>,
+    line: usize,
+    kind: FindingKind,
+) -> Result<(), AllocError> {
     let bytes = &[];
-    findings.push(Finding { line, bytes, told })?;
+    findings.push(Finding { line, bytes, kind })?;
     Ok(())
 }
 
 impl<'a> fmt::Display for Finding<'a> {
     fn fmt<W: fmt::Write>(&self, f: &mut fmt::Formatter<W>) -> fmt::Result {
         let bytes = self.bytes;
-        match self.told {
-            Told::Fault(name, message) => {
+        match self.kind {
+            FindingKind::Fault(name, message) => {
                 write!(f, "{name}: ")?;
                 message.write(f, bytes)
             }
-            Told::Note(message) => {
+            FindingKind::Note(message) => {
                 f.write_str("note: ")?;
                 message.write(f, bytes)
             }
-            Told::Broken(BrokenRule { at, rule }) => {
+            FindingKind::Broken(BrokenRule { at, rule }) => {
                 write!(f, "note: the CCW at {at:06X} is a program check: {rule}")
             }
         }

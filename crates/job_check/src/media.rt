@@ -2,6 +2,7 @@
 
 use crate::assumed::is_assumed;
 use crate::finding::{Finding, tell};
+use any_device::AnyDevice;
 use ckd_disk::{Geometry, GeometryRefusal, InitialRecord, RecordRefusal, first_overfull};
 use device_port::{Fault, Kind, MountError, is_script};
 use job_mount::mounted;
@@ -10,7 +11,6 @@ use line_printer::{PaperRefusal, paper_refusal};
 use std::alloc::{AllocError, Global};
 use tape_unit::{InitialItem, overrun_of};
 use unit_book::{ExtentRefusal, ExtentsRefusal, extents_refusal};
-use unit_device::UnitDevice;
 
 /// The status and sense bytes that a fault may have.
 const STATUS: &str =
@@ -23,7 +23,7 @@ pub fn check_unit(
     unit: &UnitSetup,
     assumed: &[usize],
     findings: &mut Vec<Finding<'_>>,
-) -> Result<Option<UnitDevice>, AllocError> {
+) -> Result<Option<AnyDevice>, AllocError> {
     if is_assumed(assumed, unit.line) {
         return Ok(None);
     }

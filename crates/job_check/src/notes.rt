@@ -2,7 +2,7 @@
 //! wait.
 
 use crate::assumed::is_assumed;
-use crate::finding::{Finding, Told, add};
+use crate::finding::{Finding, FindingKind, add};
 use job_script::{Action, Command, DcbName, Medium, Message, UnitSetup};
 use std::alloc::{AllocError, Global};
 
@@ -37,7 +37,7 @@ pub fn note_unused(
     for (number, area) in areas.iter().enumerate() {
         if !area.used && !is_assumed(assumed, area.line) {
             let note = Message::new("no excp uses area {n}", &[number as u64]);
-            add(findings, area.line, Told::Note(note))?;
+            add(findings, area.line, FindingKind::Note(note))?;
         }
     }
     Ok(())
@@ -71,7 +71,7 @@ pub fn note_doubles(
             add(
                 findings,
                 *second,
-                Told::Note(Message::new(DOUBLE, &numbers)),
+                FindingKind::Note(Message::new(DOUBLE, &numbers)),
             )?;
         }
     }

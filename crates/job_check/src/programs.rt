@@ -4,7 +4,8 @@ ghost use Rattle.std.specs.Prelude.{◌≡◌};
 ghost use Rattle.ccw_programs.specs.declared.context.State.{State};
 
 use crate::assumed::is_assumed;
-use crate::finding::{Finding, Told, add};
+use crate::finding::{Finding, FindingKind, add};
+use any_device::AnyDevice;
 use ccw_programs::{Context, Link, Listing, Rule, Workspace, look};
 use device_port::{Device, Flow, Kind};
 use io_area::Area;
@@ -12,7 +13,6 @@ use io_images::{Address, FileMask, Iob, Seek};
 use job_script::{Excp, Message, Opening, UnitSetup};
 use std::alloc::AllocError;
 use unit_book::{extents_refusal, passes_check};
-use unit_device::UnitDevice;
 
 /// The most commands of a program that are looked at.
 const MOST_COMMANDS: usize = 64;
@@ -47,7 +47,7 @@ pub struct Issued {
 pub fn note_requests(
     number: usize,
     unit: &UnitSetup,
-    device: &UnitDevice,
+    device: &AnyDevice,
     requests: &[Issued],
     assumed: &[usize],
     findings: &mut Vec<Finding<'_>>,
@@ -60,8 +60,8 @@ pub fn note_requests(
         if is_assumed(assumed, opening.line) {
             continue;
         }
-        if let Some(told) = sure_failure(&request.excp, opening, device, &mut workspace) {
-            add(findings, request.line, told)?;
+        if let Some(kind) = sure_failure(&request.excp, opening, device, &mut workspace) {
+            add(findings, request.line, kind)?;
         }
     }
     Ok(())
@@ -81,9 +81,9 @@ fn opening_of<'a>(unit: &'a UnitSetup, number: usize, excp: &Excp) -> Option<&'a
 fn sure_failure(
     excp: &Excp,
     opening: &Opening,
-    device: &UnitDevice,
+    device: &AnyDevice,
     workspace: &mut Workspace,
-) -> Option<Told> {
+) -> Option<FindingKind> {
     let mut image = [0; 40];
     image.copy_from_slice(excp.area.get(excp.iob, 40)?);
     let iob = Iob::read(&image);
@@ -105,14 +105,14 @@ fn sure_failure(
 }
 
 /// The note that a seek address is in no extent of the DCB.
-fn violated(seek: &Seek) -> Told {
+fn violated(seek: &Seek) -> FindingKind {
     let numbers = [
         u64::from(seek.extent),
         u64::from(seek.bin),
         u64::from(seek.cylinder),
         u64::from(seek.head),
     ];
-    Told::Note(Message::new(VIOLATED, &numbers))
+    FindingKind::Note(Message::new(VIOLATED, &numbers))
 }
 
 /// The file mask that the supervisor sets for a DCB.
@@ -127,7 +127,7 @@ fn mask_of(opening: &Opening) -> FileMask {
 /// A walk through the commands of a program as its CCWs are now. No command is done.
 #[derive(Drop)]
 struct Walk<'a> {
-    device: &'a UnitDevice,
+    device: &'a AnyDevice,
     area: &'a Area,
     /// Whether the supervisor has sought, and has set a file mask that forbids further seeks.
     is_masked: bool,
@@ -138,18 +138,18 @@ struct Walk<'a> {
 #[derive(Clone, Copy)]
 enum Step {
     /// The walk ends, with a note or without.
-    Ends(Option<Told>),
+    Ends(Option<FindingKind>),
     /// The program goes on at an address. A search that finds its record goes on one CCW further.
     GoesOn { next: u32, searches: bool },
 }
 
 impl<'a> Walk<'a> {
     /// The note on the first CCW that ends the program if the program comes to it.
-    fn first_note(&mut self, start: Address, workspace: &mut Workspace) -> Option<Told> {
+    fn first_note(&mut self, start: Address, workspace: &mut Workspace) -> Option<FindingKind> {
         let mut next = None;
         for _ in 0..MOST_COMMANDS {
             match self.step(start, next, workspace) {
-                Step::Ends(told) => return told,
+                Step::Ends(kind) => return kind,
                 Step::GoesOn {
                     next: at,
                     searches: false,
@@ -158,8 +158,8 @@ impl<'a> Walk<'a> {
                     next: at,
                     searches: true,
                 } => {
-                    if let Step::Ends(Some(told)) = self.step(start, Some(at), workspace) {
-                        return Some(told);
+                    if let Step::Ends(Some(kind)) = self.step(start, Some(at), workspace) {
+                        return Some(kind);
                     }
                     next = Some(at.saturating_add(8));
                 }
@@ -174,9 +174,9 @@ impl<'a> Walk<'a> {
         let context = standing(start, next);
         let listing = look(&context, self.device, self.area, workspace);
         if let Some(refusal) = listing.refusal {
-            let is_told = !self.reads.cover(refusal.at)
+            let is_noted = !self.reads.cover(refusal.at)
                 && (self.reads.is_empty() || !is_of_word(refusal.rule));
-            return Step::Ends(is_told.then_some(Told::Broken(refusal)));
+            return Step::Ends(is_noted.then_some(FindingKind::Broken(refusal)));
         }
         if listing.links.iter().any(|link| self.reads.cover(link.at)) {
             return Step::Ends(None);
@@ -185,7 +185,7 @@ impl<'a> Walk<'a> {
             return Step::Ends(None);
         };
         if let Some(note) = self.masked(first) {
-            return Step::Ends(Some(Told::Note(note)));
+            return Step::Ends(Some(FindingKind::Note(note)));
         }
         if !last.ccw.flags.chains_command() {
             return Step::Ends(None);

@@ -20,13 +20,13 @@ use Rattle.tape_unit.specs.Tape.{TapeState}
 use Rattle.tape_unit.specs.Mount.{is_size, initial as item_of, is_medium as is_tape_medium, Mounts as MountsTape}
 use Rattle.line_printer.specs.Printer.{PrinterState}
 use Rattle.line_printer.specs.Mount.{is_paper, opening as opening_printer, Mounts as MountsPrinter}
-use Rattle.unit_device.specs.declared.device.UnitDevice.{UnitDevice}
-use Rattle.unit_device.specs.declared.device.UnitDevice.TheVariants.{Disk, Tape, Printer}
+use Rattle.any_device.specs.declared.device.AnyDevice.{AnyDevice}
+use Rattle.any_device.specs.declared.device.AnyDevice.TheVariants.{Disk, Tape, Printer}
 use Rattle.job_script.specs.Said.{disk, printer, tape}
 use Rattle.job_script.specs.Views.{record_said}
-use Rattle.job_mount.specs.Devices.{disk_with, fits_disk, fits_tape, has_room, if_mountable, is_record, lies_on, mounted, record_on}
+use Rattle.job_mount.specs.Devices.{disk_with, fits_disk, fits_tape, track_has_room, if_mountable, is_record, lies_on, mounted, record_on}
 use Rattle.job_mount.specs.Devices.{records_on, tape_with, track_with}
-use Rattle.job_mount.specs.Outcomes.{Mounts}
+use Rattle.job_mount.specs.Outcomes.{MountsDevice}
 
 kept : {A B C : Type 0} (f : A → C) (g : B → C) (b : Bool) (x : A) (y : B) (xs : List A) (ys : List B)
     → f x ≡ g y → map f xs ≡ map g ys → map f (cond b (x ∷ xs) xs) ≡ map g (cond b (y ∷ ys) ys)
@@ -43,10 +43,10 @@ same_records : (g : Geometry) (rs : List InitialRecord) (t : ℕ) → records_on
 same_records g rs t = ap (λ (l : List Record). track_descriptor (t / g.heads) (t % g.heads) ∷ l) (on_track g t rs)
 
 same_room : (g : Geometry) (all rs : List InitialRecord)
-    → list_all (has_room g (map record_said all)) (map record_said rs) ≡ list_all (has_room_on g all) rs
+    → list_all (track_has_room g (map record_said all)) (map record_said rs) ≡ list_all (has_room_on g all) rs
 same_room g all [] = refl
 same_room g all (r ∷ rs) =
-    ap (λ (l : List Record). nat_le (bytes_of_records l) g.track_bytes && list_all (has_room g (map record_said all)) (map record_said rs))
+    ap (λ (l : List Record). nat_le (bytes_of_records l) g.track_bytes && list_all (track_has_room g (map record_said all)) (map record_said rs))
     (same_records g all (r.cylinder * g.heads + r.head))
     ∙ ap (λ (b : Bool). has_room_on g all r && b) (same_room g all rs)
 
@@ -74,13 +74,13 @@ same_disk g rs faults = ap
     (same_tracks g rs (range_with_len 0 (track_count g)))
 
 -- a device that passes both tests, or fails one
-passes : (a b : Bool) (d e : UnitDevice) → a ≡ true → b ≡ true → d ≡ e → if_mountable (a && b) d ≡ Ok e
+passes : (a b : Bool) (d e : AnyDevice) → a ≡ true → b ≡ true → d ≡ e → if_mountable (a && b) d ≡ Ok e
 passes a b d e p q same = rw (p, q, same) refl
 
-fails_first : (a b : Bool) (d : UnitDevice) → a ≡ false → Mounts (if_mountable (a && b) d) (Err BadGeometry)
+fails_first : (a b : Bool) (d : AnyDevice) → a ≡ false → MountsDevice (if_mountable (a && b) d) (Err BadGeometry)
 fails_first a b d p = rw p refl
 
-fails_second : (a b : Bool) (d : UnitDevice) → a ≡ true → b ≡ false → Mounts (if_mountable (a && b) d) (Err BadMedium)
+fails_second : (a b : Bool) (d : AnyDevice) → a ≡ true → b ≡ false → MountsDevice (if_mountable (a && b) d) (Err BadMedium)
 fails_second a b d p q = rw (p, q) refl
 
 pub disk_mounted : (g : Geometry) (rs : List InitialRecord) (faults : List Fault) (d : DiskState)
@@ -90,7 +90,7 @@ disk_mounted g rs faults d (p, q, same) =
     p (same_fit g rs faults ∙ q) (ap Disk (same_disk g rs faults ∙ sym same))
 
 pub disk_refused : (g : Geometry) (rs : List InitialRecord) (faults : List Fault) (e : MountError)
-    → MountsDisk g rs faults (Err e) → Mounts (mounted (disk g (map record_said rs)) faults) (Err e)
+    → MountsDisk g rs faults (Err e) → MountsDevice (mounted (disk g (map record_said rs)) faults) (Err e)
 disk_refused g rs faults BadGeometry p = fails_first (is_geometry g) (fits_disk g (map record_said rs) faults) _ p
 disk_refused g rs faults BadMedium (p, q) =
     fails_second (is_geometry g) (fits_disk g (map record_said rs) faults) _ p (same_fit g rs faults ∙ q)
@@ -108,7 +108,7 @@ tape_mounted bytes items faults t (p, q, same) =
     p (same_items bytes items faults ∙ q) (ap Tape (sym same))
 
 pub tape_refused : (bytes : ℕ) (items : List InitialItem) (faults : List Fault) (e : MountError)
-    → MountsTape bytes items faults (Err e) → Mounts (mounted (tape bytes (map item_of items)) faults) (Err e)
+    → MountsTape bytes items faults (Err e) → MountsDevice (mounted (tape bytes (map item_of items)) faults) (Err e)
 tape_refused bytes items faults BadGeometry p = fails_first (is_size bytes) (fits_tape bytes (map item_of items) faults) _ p
 tape_refused bytes items faults BadMedium (p, q) =
     fails_second (is_size bytes) (fits_tape bytes (map item_of items) faults) _ p (same_items bytes items faults ∙ q)
@@ -120,7 +120,7 @@ printer_mounted lines pages faults d (p, q, same) =
     passes (is_paper lines pages) (is_script faults) (Printer (opening_printer lines pages faults)) (Printer d) p q (ap Printer (sym same))
 
 pub printer_refused : (lines pages : ℕ) (faults : List Fault) (e : MountError)
-    → MountsPrinter lines pages faults (Err e) → Mounts (mounted (printer lines pages) faults) (Err e)
+    → MountsPrinter lines pages faults (Err e) → MountsDevice (mounted (printer lines pages) faults) (Err e)
 printer_refused lines pages faults BadGeometry p = fails_first (is_paper lines pages) (is_script faults) _ p
 printer_refused lines pages faults BadMedium (p, q) = fails_second (is_paper lines pages) (is_script faults) _ p q
 printer_refused lines pages faults NoMemory h = tt

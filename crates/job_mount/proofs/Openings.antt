@@ -9,8 +9,8 @@ use Rattle.unit_book.specs.declared.entry.Entry.TheVariants.{Opened}
 use Rattle.unit_book.specs.Answers.{OpensBook, OpenRefused}
 use Rattle.unit_book.specs.Book.{Book, opening}
 use Rattle.unit_book.specs.Dcbs.{opened_count}
-use Rattle.unit_device.specs.declared.device.UnitDevice.{UnitDevice}
-use Rattle.unit_device.specs.Devices.{unit_device}
+use Rattle.any_device.specs.declared.device.AnyDevice.{AnyDevice}
+use Rattle.any_device.specs.Devices.{any_device}
 use Rattle.job_script.specs.declared.fault.JobError.{JobError}
 use Rattle.job_script.specs.declared.fault.JobError.TheVariants as faults
 use Rattle.job_script.specs.declared.fault.FaultName.TheVariants as names
@@ -26,10 +26,10 @@ use Rattle.job_script.specs.Said.{OpeningSaid, UnitSaid}
 use Rattle.job_mount.specs.Devices.{device_of}
 use Rattle.job_mount.specs.Mounting.{◌>>=◌, at, at_extent, devices_of, opened, tried, units_with}
 use Rattle.job_mount.specs.Openings.{beside, earlier, open_all, with_dcb}
-use Rattle.job_mount.specs.Outcomes.{MountsBook, all_known, known}
+use Rattle.job_mount.specs.Outcomes.{MountsBook, all_without_spare, without_spare}
 
 abbrev Books : Type 0
-Books = List (Book UnitDevice)
+Books = List (Book AnyDevice)
 
 -- the least line that was found, and the books that are done, before the books of the units that are left
 pub joined : Option ℕ → Books → Result Books ℕ → Result Books ℕ
@@ -45,7 +45,7 @@ after capacity found done rest = devices_of rest >>= λ devices. at_extent (join
 min_assoc : (a b c : ℕ) → min a (min b c) ≡ min (min a b) c
 min_assoc a b c = omega arith
 
-one_more : (found : Option ℕ) (done : Books) (book : Book UnitDevice) (rest : Result Books ℕ)
+one_more : (found : Option ℕ) (done : Books) (book : Book AnyDevice) (rest : Result Books ℕ)
     → joined found done (beside (Ok book) rest) ≡ joined found (done ++ book ∷ []) rest
 unfolding joined
 one_more None done book (Ok books) = ap (λ (l : Books). Ok l) (sym (append_assoc done (book ∷ []) books))
@@ -62,18 +62,18 @@ one_fault (Some f) done line (Ok books) = refl
 one_fault (Some f) done line (Err other) = ap (λ (n : ℕ). Err n) (min_assoc f line other)
 
 -- a unit's book, or the line of a DCB that cannot be opened
-pub one_unit : Option ℕ → Books → Result (Book UnitDevice) ℕ → Option ℕ × Books
+pub one_unit : Option ℕ → Books → Result (Book AnyDevice) ℕ → Option ℕ × Books
 one_unit found done (Ok book) = (found, done ++ book ∷ [])
 one_unit found done (Err line) = (Some (earlier found line), done)
 
-joined_one : (found : Option ℕ) (done : Books) (one : Result (Book UnitDevice) ℕ) (rest : Result Books ℕ)
+joined_one : (found : Option ℕ) (done : Books) (one : Result (Book AnyDevice) ℕ) (rest : Result Books ℕ)
     → joined found done (beside one rest) ≡ joined (one_unit found done one).0 (one_unit found done one).1 rest
 unfolding one_unit
 joined_one found done (Ok book) rest = one_more found done book rest
 joined_one found done (Err line) rest = one_fault found done line rest
 
-after_one : (capacity : ℕ) (found : Option ℕ) (done : Books) (unit : UnitSaid) (others : List UnitSaid) (device : UnitDevice)
-    (devices : Result (List UnitDevice) FaultAt)
+after_one : (capacity : ℕ) (found : Option ℕ) (done : Books) (unit : UnitSaid) (others : List UnitSaid) (device : AnyDevice)
+    (devices : Result (List AnyDevice) FaultAt)
     → ((devices >>= λ ds. Ok (device ∷ ds)) >>= λ ds. at_extent (joined found done (opened capacity (unit ∷ others) ds)))
     ≡ (devices >>= λ ds. at_extent (joined (one_unit found done (open_all (opening device unit.isc capacity) unit.openings)).0
     (one_unit found done (open_all (opening device unit.isc capacity) unit.openings)).1 (opened capacity others ds)))
@@ -83,13 +83,13 @@ after_one capacity found done unit others device (Ok ds) =
 after_one capacity found done unit others device (Err fault) = refl
 
 -- a unit that is mounted
-next_unit : (capacity : ℕ) (found : Option ℕ) (done : Books) (unit : UnitSaid) (others : List UnitSaid) (device : UnitDevice)
-    (one : Result (Book UnitDevice) ℕ) → device_of unit ≡ Ok device → open_all (opening device unit.isc capacity) unit.openings ≡ one
+next_unit : (capacity : ℕ) (found : Option ℕ) (done : Books) (unit : UnitSaid) (others : List UnitSaid) (device : AnyDevice)
+    (one : Result (Book AnyDevice) ℕ) → device_of unit ≡ Ok device → open_all (opening device unit.isc capacity) unit.openings ≡ one
     → after capacity found done (unit ∷ others) ≡ after capacity (one_unit found done one).0 (one_unit found done one).1 others
 unfolding after devices_of
 next_unit capacity found done unit others device one e is =
     rw e (after_one capacity found done unit others device (devices_of others))
-    ∙ ap (λ (r : Result (Book UnitDevice) ℕ). after capacity (one_unit found done r).0 (one_unit found done r).1 others) is
+    ∙ ap (λ (r : Result (Book AnyDevice) ℕ). after capacity (one_unit found done r).0 (one_unit found done r).1 others) is
 
 -- a unit that cannot be mounted
 no_unit : (capacity : ℕ) (found : Option ℕ) (done : Books) (unit : UnitSaid) (others : List UnitSaid) (fault : FaultAt)
@@ -103,7 +103,7 @@ unfolding joined
 unjoined (Ok books) = refl
 unjoined (Err line) = refl
 
-first : (capacity : ℕ) (units : List UnitSaid) (devices : Result (List UnitDevice) FaultAt)
+first : (capacity : ℕ) (units : List UnitSaid) (devices : Result (List AnyDevice) FaultAt)
     → (devices >>= λ ds. at_extent (joined None [] (opened capacity units ds))) ≡ (devices >>= λ ds. at_extent (opened capacity units ds))
 first capacity units (Ok ds) = ap (λ (r : Result Books ℕ). at_extent r) (unjoined (opened capacity units ds))
 first capacity units (Err fault) = refl
@@ -131,40 +131,40 @@ none_left_of f xs k over = ap (map f) (drop_all k xs over)
 
 -- a unit is mounted, and its DCBs are opened
 pub unit_opened : (capacity : ℕ) (found : Option ℕ) (books : Books) (units : List UnitSetup) (k : ℕ) (unit : UnitSetup)
-    (mounted book : Book UnitDevice) (whole : Result Books FaultAt) → k < length units → unit ≡ get_or units k unit
+    (mounted book : Book AnyDevice) (whole : Result Books FaultAt) → k < length units → unit ≡ get_or units k unit
     → MountsBook capacity (unit_said unit) (Ok mounted)
-    → open_all (known mounted) (map opening_said unit.openings.items) ≡ Ok (known book)
-    → after capacity found (map known books) (map unit_said (drop k units)) ≡ whole
-    → after capacity found (map known (books ++ book ∷ [])) (map unit_said (drop (k + 1) units)) ≡ whole
+    → open_all (without_spare mounted) (map opening_said unit.openings.items) ≡ Ok (without_spare book)
+    → after capacity found (map without_spare books) (map unit_said (drop k units)) ≡ whole
+    → after capacity found (map without_spare (books ++ book ∷ [])) (map unit_said (drop (k + 1) units)) ≡ whole
 unfolding one_unit
 unit_opened capacity found books units k unit mounted book whole within is (device, fresh) opens so_far =
-    let one = subst (λ b. open_all b (map opening_said unit.openings.items) ≡ Ok (known book)) fresh opens in
+    let one = subst (λ b. open_all b (map opening_said unit.openings.items) ≡ Ok (without_spare book)) fresh opens in
     let left = left_of unit_said units k unit within is in
-    let next = next_unit capacity found (map known books) (unit_said unit) (map unit_said (drop (k + 1) units)) mounted.mounted (Ok (known book)) device one in
-    ap (λ (done : Books). after capacity found done (map unit_said (drop (k + 1) units))) (map-append known books (book ∷ []))
-    ∙ sym next ∙ ap (after capacity found (map known books)) (sym left) ∙ so_far
+    let next = next_unit capacity found (map without_spare books) (unit_said unit) (map unit_said (drop (k + 1) units)) mounted.mounted (Ok (without_spare book)) device one in
+    ap (λ (done : Books). after capacity found done (map unit_said (drop (k + 1) units))) (map-append without_spare books (book ∷ []))
+    ∙ sym next ∙ ap (after capacity found (map without_spare books)) (sym left) ∙ so_far
 
 -- a unit is mounted, and one of its DCBs cannot be opened
 pub unit_at_fault : (capacity : ℕ) (found : Option ℕ) (books : Books) (units : List UnitSetup) (k : ℕ) (unit : UnitSetup)
-    (mounted : Book UnitDevice) (line : ℕ) (whole : Result Books FaultAt) → k < length units → unit ≡ get_or units k unit
+    (mounted : Book AnyDevice) (line : ℕ) (whole : Result Books FaultAt) → k < length units → unit ≡ get_or units k unit
     → MountsBook capacity (unit_said unit) (Ok mounted)
-    → open_all (known mounted) (map opening_said unit.openings.items) ≡ Err line
-    → after capacity found (map known books) (map unit_said (drop k units)) ≡ whole
-    → after capacity (Some (earlier found line)) (map known books) (map unit_said (drop (k + 1) units)) ≡ whole
+    → open_all (without_spare mounted) (map opening_said unit.openings.items) ≡ Err line
+    → after capacity found (map without_spare books) (map unit_said (drop k units)) ≡ whole
+    → after capacity (Some (earlier found line)) (map without_spare books) (map unit_said (drop (k + 1) units)) ≡ whole
 unfolding one_unit
 unit_at_fault capacity found books units k unit mounted line whole within is (device, fresh) opens so_far =
     let one = subst (λ b. open_all b (map opening_said unit.openings.items) ≡ Err line) fresh opens in
     let left = left_of unit_said units k unit within is in
-    let next = next_unit capacity found (map known books) (unit_said unit) (map unit_said (drop (k + 1) units)) mounted.mounted (Err line) device one in
-    sym next ∙ ap (after capacity found (map known books)) (sym left) ∙ so_far
+    let next = next_unit capacity found (map without_spare books) (unit_said unit) (map unit_said (drop (k + 1) units)) mounted.mounted (Err line) device one in
+    sym next ∙ ap (after capacity found (map without_spare books)) (sym left) ∙ so_far
 
 -- a unit cannot be mounted
 pub unit_refused : (capacity : ℕ) (found : Option ℕ) (books : Books) (units : List UnitSetup) (k : ℕ) (unit : UnitSetup) (fault : JobError)
     (whole : Result Books FaultAt) → k < length units → unit ≡ get_or units k unit → MountsBook capacity (unit_said unit) (Err fault)
-    → after capacity found (map known books) (map unit_said (drop k units)) ≡ whole → Gives all_known (Err fault) whole
+    → after capacity found (map without_spare books) (map unit_said (drop k units)) ≡ whole → Gives all_without_spare (Err fault) whole
 unit_refused capacity found books units k unit (faults.Line line name) whole within is refused so_far =
-    sym so_far ∙ ap (after capacity found (map known books)) (left_of unit_said units k unit within is)
-    ∙ no_unit capacity found (map known books) (unit_said unit) (map unit_said (drop (k + 1) units)) (record { line = line; name = name }) refused
+    sym so_far ∙ ap (after capacity found (map without_spare books)) (left_of unit_said units k unit within is)
+    ∙ no_unit capacity found (map without_spare books) (unit_said unit) (map unit_said (drop (k + 1) units)) (record { line = line; name = name }) refused
 unit_refused capacity found books units k unit faults.NoMemory whole within is refused so_far = tt
 unit_refused capacity found books units k unit faults.TooLong whole within is refused so_far = absurd refused
 unit_refused capacity found books units k unit faults.Unreadable whole within is refused so_far = absurd refused
@@ -174,33 +174,33 @@ unit_refused capacity found books units k unit faults.NoThread whole within is r
 
 -- all units are mounted
 pub units_opened : (capacity : ℕ) (books : Books) (units : List UnitSetup) (k : ℕ) (whole : Result Books FaultAt) → length units ≤ k
-    → after capacity None (map known books) (map unit_said (drop k units)) ≡ whole → whole ≡ Ok (map known books)
+    → after capacity None (map without_spare books) (map unit_said (drop k units)) ≡ whole → whole ≡ Ok (map without_spare books)
 units_opened capacity books units k whole over so_far =
-    sym so_far ∙ ap (after capacity None (map known books)) (none_left_of unit_said units k over) ∙ all_opened capacity (map known books)
+    sym so_far ∙ ap (after capacity None (map without_spare books)) (none_left_of unit_said units k over) ∙ all_opened capacity (map without_spare books)
 
 pub units_at_fault : (capacity : ℕ) (line : ℕ) (books : Books) (units : List UnitSetup) (k : ℕ) (whole : Result Books FaultAt) → length units ≤ k
-    → after capacity (Some line) (map known books) (map unit_said (drop k units)) ≡ whole
+    → after capacity (Some line) (map without_spare books) (map unit_said (drop k units)) ≡ whole
     → whole ≡ Err (record { line = line; name = names.Extent })
 units_at_fault capacity line books units k whole over so_far =
-    sym so_far ∙ ap (after capacity (Some line) (map known books)) (none_left_of unit_said units k over)
-    ∙ one_not_opened capacity line (map known books)
+    sym so_far ∙ ap (after capacity (Some line) (map without_spare books)) (none_left_of unit_said units k over)
+    ∙ one_not_opened capacity line (map without_spare books)
 
 -- one DCB is opened
-one_more_dcb : (old new : Book UnitDevice) (dcb : ℕ) (o : OpeningSaid) → OpensBook unit_device old dcb o.input o.extents new
-    → with_dcb (known old) o ≡ known new
+one_more_dcb : (old new : Book AnyDevice) (dcb : ℕ) (o : OpeningSaid) → OpensBook any_device old dcb o.input o.extents new
+    → with_dcb (without_spare old) o ≡ without_spare new
 one_more_dcb old new dcb o h =
-    ap (λ (n : ℕ). record (known old) { trace = Opened n o.input o.extents ∷ old.trace }) (sym h.fits.next) ∙ sym (ap known h.adds)
+    ap (λ (n : ℕ). record (without_spare old) { trace = Opened n o.input o.extents ∷ old.trace }) (sym h.fits.next) ∙ sym (ap without_spare h.adds)
 
-one_opened : (old new : Book UnitDevice) (dcb : ℕ) (o : OpeningSaid) (others : List OpeningSaid)
-    → OpensBook unit_device old dcb o.input o.extents new → open_all (known old) (o ∷ others) ≡ open_all (known new) others
+one_opened : (old new : Book AnyDevice) (dcb : ℕ) (o : OpeningSaid) (others : List OpeningSaid)
+    → OpensBook any_device old dcb o.input o.extents new → open_all (without_spare old) (o ∷ others) ≡ open_all (without_spare new) others
 unfolding open_all
 one_opened old new dcb o others h =
     let few : nat_lt (opened_count old.trace) 65535 ≡ true = grind (arith, nat_tests, h.fits.next, h.fits.few) in
-    rw (few, h.fits.taken) (ap (λ (b : Book UnitDevice). open_all b others) (one_more_dcb old new dcb o h))
+    rw (few, h.fits.taken) (ap (λ (b : Book AnyDevice). open_all b others) (one_more_dcb old new dcb o h))
 
 -- one DCB cannot be opened
-one_refused : (old : Book UnitDevice) (o : OpeningSaid) (others : List OpeningSaid) (e : OpenError)
-    → OpenRefused unit_device old o.extents e → (e ≡ opening_errors.NoMemory → ⊥) → open_all (known old) (o ∷ others) ≡ Err o.line
+one_refused : (old : Book AnyDevice) (o : OpeningSaid) (others : List OpeningSaid) (e : OpenError)
+    → OpenRefused any_device old o.extents e → (e ≡ opening_errors.NoMemory → ⊥) → open_all (without_spare old) (o ∷ others) ≡ Err o.line
 unfolding open_all
 one_refused old o others opening_errors.TooManyDcbs h other =
     let few : nat_lt (opened_count old.trace) 65535 ≡ false = grind (arith, nat_tests, h) in
@@ -210,29 +210,29 @@ one_refused old o others opening_errors.BadExtent (few, bad) other =
     rw (few, bad) refl
 one_refused old o others opening_errors.NoMemory h other = absurd (other refl)
 
-none_left : (book : Book UnitDevice) → open_all book [] ≡ Ok book
+none_left : (book : Book AnyDevice) → open_all book [] ≡ Ok book
 unfolding open_all
 none_left book = refl
 
 -- the DCBs of a unit, one after another
-pub dcb_opened : (old new : Book UnitDevice) (dcb : ℕ) (openings : List Opening) (k : ℕ) (o : Opening) (whole : Result (Book UnitDevice) ℕ)
-    → k < length openings → o ≡ get_or openings k o → OpensBook unit_device old dcb o.input o.extents.items new
-    → open_all (known old) (map opening_said (drop k openings)) ≡ whole → open_all (known new) (map opening_said (drop (k + 1) openings)) ≡ whole
+pub dcb_opened : (old new : Book AnyDevice) (dcb : ℕ) (openings : List Opening) (k : ℕ) (o : Opening) (whole : Result (Book AnyDevice) ℕ)
+    → k < length openings → o ≡ get_or openings k o → OpensBook any_device old dcb o.input o.extents.items new
+    → open_all (without_spare old) (map opening_said (drop k openings)) ≡ whole → open_all (without_spare new) (map opening_said (drop (k + 1) openings)) ≡ whole
 dcb_opened old new dcb openings k o whole within is opens so_far =
     sym (one_opened old new dcb (opening_said o) (map opening_said (drop (k + 1) openings)) opens)
-    ∙ ap (open_all (known old)) (sym (left_of opening_said openings k o within is)) ∙ so_far
+    ∙ ap (open_all (without_spare old)) (sym (left_of opening_said openings k o within is)) ∙ so_far
 
-pub dcb_refused : (old : Book UnitDevice) (openings : List Opening) (k : ℕ) (o : Opening) (e : OpenError) (whole : Result (Book UnitDevice) ℕ)
-    → k < length openings → o ≡ get_or openings k o → OpenRefused unit_device old o.extents.items e → (e ≡ opening_errors.NoMemory → ⊥)
-    → open_all (known old) (map opening_said (drop k openings)) ≡ whole → whole ≡ Err o.line
+pub dcb_refused : (old : Book AnyDevice) (openings : List Opening) (k : ℕ) (o : Opening) (e : OpenError) (whole : Result (Book AnyDevice) ℕ)
+    → k < length openings → o ≡ get_or openings k o → OpenRefused any_device old o.extents.items e → (e ≡ opening_errors.NoMemory → ⊥)
+    → open_all (without_spare old) (map opening_said (drop k openings)) ≡ whole → whole ≡ Err o.line
 dcb_refused old openings k o e whole within is refused other so_far =
-    sym so_far ∙ ap (open_all (known old)) (left_of opening_said openings k o within is)
+    sym so_far ∙ ap (open_all (without_spare old)) (left_of opening_said openings k o within is)
     ∙ one_refused old (opening_said o) (map opening_said (drop (k + 1) openings)) e refused other
 
-pub dcbs_opened : (book : Book UnitDevice) (openings : List Opening) (k : ℕ) (whole : Result (Book UnitDevice) ℕ) → length openings ≤ k
-    → open_all (known book) (map opening_said (drop k openings)) ≡ whole → whole ≡ Ok (known book)
+pub dcbs_opened : (book : Book AnyDevice) (openings : List Opening) (k : ℕ) (whole : Result (Book AnyDevice) ℕ) → length openings ≤ k
+    → open_all (without_spare book) (map opening_said (drop k openings)) ≡ whole → whole ≡ Ok (without_spare book)
 dcbs_opened book openings k whole over so_far =
-    sym so_far ∙ ap (open_all (known book)) (none_left_of opening_said openings k over) ∙ none_left (known book)
+    sym so_far ∙ ap (open_all (without_spare book)) (none_left_of opening_said openings k over) ∙ none_left (without_spare book)
 
 -- the requests, one after another
 pub command_tried : (commands : List Command) (k : ℕ) (command : Command) (whole : Result (Unit {0}) FaultAt)

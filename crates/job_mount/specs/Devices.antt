@@ -14,19 +14,19 @@ use Rattle.tape_unit.specs.Reel.{bytes_of as bytes_of_items}
 use Rattle.tape_unit.specs.Tape.{TapeState}
 use Rattle.tape_unit.specs.Mount.{is_size}
 use Rattle.line_printer.specs.Mount.{is_paper, opening as opening_printer}
-use Rattle.unit_device.specs.declared.device.UnitDevice.{UnitDevice}
-use Rattle.unit_device.specs.declared.device.UnitDevice.TheVariants.{Disk, Tape, Printer}
+use Rattle.any_device.specs.declared.device.AnyDevice.{AnyDevice}
+use Rattle.any_device.specs.declared.device.AnyDevice.TheVariants.{Disk, Tape, Printer}
 use Rattle.job_script.specs.declared.fault.FaultName.{FaultName}
 use Rattle.job_script.specs.declared.fault.FaultName.TheVariants as names
 use Rattle.job_script.specs.Said.{MediumSaid, RecordSaid, UnitSaid, disk, printer, tape}
 
 -- the number of a record's track
-abbrev pub track_of : Geometry → RecordSaid → ℕ
-track_of g r = track_number g.heads r.cylinder r.head
+abbrev pub track_number_of : Geometry → RecordSaid → ℕ
+track_number_of g r = track_number g.heads r.cylinder r.head
 
 -- a record lies on this track
 abbrev pub lies_on : Geometry → ℕ → RecordSaid → Bool
-lies_on g track r = track_of g r == track
+lies_on g track r = track_number_of g r == track
 
 -- a record as it lies on its track
 abbrev pub record_on : RecordSaid → Record
@@ -44,12 +44,12 @@ is_record g r =
     && nat_le (length r.key) 255 && nat_le (length r.content) 65_535
 
 -- the track of a record has room for all its records
-abbrev pub has_room : Geometry → List RecordSaid → RecordSaid → Bool
-has_room g records r = nat_le (bytes_of_records (records_on g records (track_of g r))) g.track_bytes
+abbrev pub track_has_room : Geometry → List RecordSaid → RecordSaid → Bool
+track_has_room g records r = nat_le (bytes_of_records (records_on g records (track_number_of g r))) g.track_bytes
 
 -- the records and the faults are such as a disk of this geometry may have
 abbrev pub fits_disk : Geometry → List RecordSaid → List DeviceFault → Bool
-fits_disk g records faults = is_script faults && list_all (is_record g) records && list_all (has_room g records) records
+fits_disk g records faults = is_script faults && list_all (is_record g) records && list_all (track_has_room g records) records
 
 -- a track
 abbrev pub track_with : Geometry → List RecordSaid → ℕ → TrackState
@@ -79,15 +79,15 @@ tape_with bytes items faults = record {
 }
 
 -- a device that can be mounted, or the fault Medium
-abbrev pub if_mountable : Bool → UnitDevice → Result UnitDevice FaultName
+abbrev pub if_mountable : Bool → AnyDevice → Result AnyDevice FaultName
 if_mountable can device = if can then Ok device else Err names.Medium
 
 -- a medium with these faults, mounted
-abbrev pub mounted : MediumSaid → List DeviceFault → Result UnitDevice FaultName
+abbrev pub mounted : MediumSaid → List DeviceFault → Result AnyDevice FaultName
 mounted (disk g records) faults = if_mountable (is_geometry g && fits_disk g records faults) (Disk (disk_with g records faults))
 mounted (tape bytes items) faults = if_mountable (is_size bytes && fits_tape bytes items faults) (Tape (tape_with bytes items faults))
 mounted (printer lines pages) faults = if_mountable (is_paper lines pages && is_script faults) (Printer (opening_printer lines pages faults))
 
 -- THE DEVICE OF A UNIT
-abbrev pub device_of : UnitSaid → Result UnitDevice FaultName
+abbrev pub device_of : UnitSaid → Result AnyDevice FaultName
 device_of unit = mounted unit.medium unit.faults

@@ -2,7 +2,7 @@
 -- All units are mounted first, then all DCBs are opened, then all requests are tried.
 use Rattle.std.specs.Prelude.{ℕ, List, [], ◌∷◌, if◌then◌else◌, Result, Ok, Err}
 use Rattle.unit_book.specs.Book.{Book, opening}
-use Rattle.unit_device.specs.declared.device.UnitDevice.{UnitDevice}
+use Rattle.any_device.specs.declared.device.AnyDevice.{AnyDevice}
 use Rattle.job_script.specs.declared.fault.FaultName.{FaultName}
 use Rattle.job_script.specs.declared.fault.FaultName.TheVariants as names
 use Rattle.job_script.specs.Grammar.{FaultAt}
@@ -28,7 +28,7 @@ at_extent (Ok x) = Ok x
 at_extent (Err line) = Err (record { line = line; name = names.Extent })
 
 -- the devices of units in the order of their numbers, or the fault of the first that cannot be mounted, at its line
-unfoldable pub devices_of : List UnitSaid → Result (List UnitDevice) FaultAt
+unfoldable pub devices_of : List UnitSaid → Result (List AnyDevice) FaultAt
 devices_of [] = Ok []
 devices_of (unit ∷ others) = do
   device ← at unit.line (device_of unit)
@@ -36,14 +36,14 @@ devices_of (unit ∷ others) = do
   Ok (device ∷ devices)
 
 -- the books of units with these devices and all DCBs open, or the first line, of all units, whose DCB cannot be opened
-unfoldable pub opened : ℕ → List UnitSaid → List UnitDevice → Result (List (Book UnitDevice)) ℕ
+unfoldable pub opened : ℕ → List UnitSaid → List AnyDevice → Result (List (Book AnyDevice)) ℕ
 opened capacity [] devices = Ok []
 opened capacity (unit ∷ others) [] = Ok []
 opened capacity (unit ∷ others) (device ∷ devices) =
     beside (open_all (opening device unit.isc capacity) unit.openings) (opened capacity others devices)
 
 -- the units mounted, and then their DCBs opened
-unfoldable pub units_with : ℕ → List UnitSaid → Result (List (Book UnitDevice)) FaultAt
+unfoldable pub units_with : ℕ → List UnitSaid → Result (List (Book AnyDevice)) FaultAt
 units_with capacity units = do
   devices ← devices_of units
   at_extent (opened capacity units devices)
@@ -55,7 +55,7 @@ tried (command ∷ others) =
     if is_doable command.action then tried others else Err (record { line = command.line; name = names.Request })
 
 -- THE BOOKS OF A SCRIPT, each for this many requests at a time, or its first fault
-unfoldable pub books_of : ℕ → Said → Result (List (Book UnitDevice)) FaultAt
+unfoldable pub books_of : ℕ → Said → Result (List (Book AnyDevice)) FaultAt
 books_of capacity s = do
   books ← units_with capacity s.set_up.units
   _ ← tried s.commands

@@ -5,7 +5,7 @@ use Rattle.std.specs.declared.alloc.Global.{Global}
 use Rattle.device_port.specs.declared.device.MountError.{MountError}
 use Rattle.device_port.specs.declared.device.MountError.TheVariants.{BadGeometry, BadMedium, NoMemory}
 use Rattle.unit_book.specs.Book.{Book, opening}
-use Rattle.unit_device.specs.declared.device.UnitDevice.{UnitDevice}
+use Rattle.any_device.specs.declared.device.AnyDevice.{AnyDevice}
 use Rattle.job_script.specs.declared.fault.JobError.{JobError}
 use Rattle.job_script.specs.declared.fault.JobError.TheVariants as faults
 use Rattle.job_script.specs.declared.fault.FaultName.{FaultName}
@@ -17,19 +17,19 @@ use Rattle.job_mount.specs.Mounting.{at}
 use Rattle.job_mount.specs.Openings.{open_all}
 
 -- a book apart from the room that its trace has
-abbrev pub known : Book UnitDevice → Book UnitDevice
-known book = record book { spare = 0 }
+abbrev pub without_spare : Book AnyDevice → Book AnyDevice
+without_spare book = record book { spare = 0 }
 
 -- the books of units in the order of their numbers
-abbrev pub all_known : Vec (Book UnitDevice) Global → List (Book UnitDevice)
-all_known books = map known books.items
+abbrev pub all_without_spare : Vec (Book AnyDevice) Global → List (Book AnyDevice)
+all_without_spare books = map without_spare books.items
 
 -- a call mounted this device, or found that it cannot be mounted
-abbrev pub Mounts : Result UnitDevice FaultName → Result UnitDevice MountError → Type 0
-Mounts read (Ok device) = read ≡ Ok device
-Mounts read (Err BadGeometry) = read ≡ Err names.Medium
-Mounts read (Err BadMedium) = read ≡ Err names.Medium
-Mounts read (Err NoMemory) = Unit {0}
+abbrev pub MountsDevice : Result AnyDevice FaultName → Result AnyDevice MountError → Type 0
+MountsDevice read (Ok device) = read ≡ Ok device
+MountsDevice read (Err BadGeometry) = read ≡ Err names.Medium
+MountsDevice read (Err BadMedium) = read ≡ Err names.Medium
+MountsDevice read (Err NoMemory) = Unit {0}
 
 -- a call ended with the fault that was to be read, out of memory apart
 abbrev pub Refuses : {X : Type 0} → Result X FaultAt → JobError → Type 0
@@ -42,14 +42,14 @@ Refuses read faults.Unmatched = ⊥
 Refuses read faults.NoThread = ⊥
 
 -- a call made the book of a unit, without a DCB, or found that the unit cannot be mounted
-abbrev pub MountsBook : ℕ → UnitSaid → Result (Book UnitDevice) JobError → Type 0
-MountsBook capacity unit (Ok book) = (device_of unit ≡ Ok book.mounted) × (known book ≡ opening book.mounted unit.isc capacity)
+abbrev pub MountsBook : ℕ → UnitSaid → Result (Book AnyDevice) JobError → Type 0
+MountsBook capacity unit (Ok book) = (device_of unit ≡ Ok book.mounted) × (without_spare book ≡ opening book.mounted unit.isc capacity)
 MountsBook capacity unit (Err fault) = Refuses (at unit.line (device_of unit)) fault
 
 -- a call opened the DCBs of a unit, or found the line of the first that cannot be opened
-abbrev pub Opens : Book UnitDevice → List OpeningSaid → Result (Option ℕ) AllocError → Book UnitDevice → Type 0
-Opens old openings (Ok None) new = open_all (known old) openings ≡ Ok (known new)
-Opens old openings (Ok (Some line)) new = open_all (known old) openings ≡ Err line
+abbrev pub Opens : Book AnyDevice → List OpeningSaid → Result (Option ℕ) AllocError → Book AnyDevice → Type 0
+Opens old openings (Ok None) new = open_all (without_spare old) openings ≡ Ok (without_spare new)
+Opens old openings (Ok (Some line)) new = open_all (without_spare old) openings ≡ Err line
 Opens old openings (Err e) new = Unit {0}
 
 -- a call found that each request can be made, or the first that cannot

@@ -5,19 +5,19 @@ use Rattle.ckd_disk.specs.declared.mount.Geometry.{Geometry}
 use Rattle.line_printer.specs.Mount.{opening as opening_printer}
 use Rattle.tape_unit.specs.Item.{tape_mark}
 use Rattle.unit_book.specs.Book.{Book, opening}
-use Rattle.unit_device.specs.declared.device.UnitDevice.{UnitDevice}
-use Rattle.unit_device.specs.declared.device.UnitDevice.TheVariants.{Disk, Printer, Tape}
+use Rattle.any_device.specs.declared.device.AnyDevice.{AnyDevice}
+use Rattle.any_device.specs.declared.device.AnyDevice.TheVariants.{Disk, Printer, Tape}
 use Rattle.job_script.specs.declared.fault.FaultName.{FaultName}
 use Rattle.job_script.specs.declared.fault.FaultName.TheVariants.{Medium, Extent, Request}
 use Rattle.job_script.specs.Grammar.{script_of}
-use Rattle.job_script.specs.Runs.{one_track, small, stored, text_of, whole_track}
+use Rattle.job_script.specs.Runs.{one_track, small, stored_script, text_of, whole_track}
 use Rattle.job_script.specs.Said.{OpeningSaid, RecordSaid}
 use Rattle.job_mount.specs.Devices.{disk_with, tape_with}
 use Rattle.job_mount.specs.Mounting.{◌>>=◌, books_of}
 use Rattle.job_mount.specs.Openings.{with_dcb}
 
 -- a script of these lines has these books, each for one request at a time
-abbrev pub HasBooks : List (List ℕ) → List (Book UnitDevice) → Type 0
+abbrev pub HasBooks : List (List ℕ) → List (Book AnyDevice) → Type 0
 HasBooks ls books = script_of (text_of ls) >>= books_of 1 ≡ Ok books
 
 -- its first fault is this one
@@ -33,20 +33,20 @@ abbrev pub output_dcb : OpeningSaid
 output_dcb = record { line = 4; input = false; extents = whole_track ∷ [] }
 
 -- the book of the stored script
-abbrev pub stored_book : Book UnitDevice
+abbrev pub stored_book : Book AnyDevice
 stored_book = with_dcb (opening (Disk (disk_with one_track (four_bytes ∷ []) [])) 0 1) output_dcb
 
 -- the stored script with this line after it
 abbrev pub then_line : List ℕ → List (List ℕ)
-then_line text = stored ++ text ∷ []
+then_line text = stored_script ++ text ∷ []
 
 -- two tracks, the first record of which lies on the second track
 abbrev pub two_tracks : Geometry
 two_tracks = record { cylinders = 1; heads = 2; track_bytes = 40 }
 
 -- a command's unit check
-abbrev pub unit_check : ℕ → DeviceFault
-unit_check ordinal = record { ordinal = ordinal; unit = record { 0 = 14 }; sub = record { 0 = 0 }; sense = 4096 }
+abbrev pub check_at : ℕ → DeviceFault
+check_at ordinal = record { ordinal = ordinal; unit = record { 0 = 14 }; sub = record { 0 = 0 }; sense = 4096 }
 
 -- the runs
 pub record MountRuns : Type 0 where
@@ -76,4 +76,4 @@ pub record MountRuns : Type 0 where
       ∷ codes "rec 0 0 1 1 - C1C2C3C4" ∷ codes "mark 1" ∷ codes "fault 2 1 0E 00 1000" ∷ codes "fault 2 3 0E 00 1000" ∷ [])
       (opening (Disk (disk_with two_tracks (record four_bytes { head = 1 } ∷ []) [])) 7 1
       ∷ opening (Tape (tape_with 12 (tape_mark ∷ []) [])) 3 1
-      ∷ opening (Printer (opening_printer 5 1 (unit_check 1 ∷ unit_check 3 ∷ []))) 0 1 ∷ [])
+      ∷ opening (Printer (opening_printer 5 1 (check_at 1 ∷ check_at 3 ∷ []))) 0 1 ∷ [])

@@ -4,18 +4,18 @@ ghost use Rattle.std.specs.Prelude.{◌≡◌, ◌≤◌, All, IfOk, OnOk, lengt
 ghost use Rattle.job_mount.specs.Books.{HasRoom, IsFresh};
 ghost use Rattle.job_mount.specs.Mounting.{books_of, tried, units_with};
 ghost use Rattle.job_mount.specs.Openings.{earlier};
-ghost use Rattle.job_mount.specs.Outcomes.{MountsBook, Opens, Tries, all_known};
+ghost use Rattle.job_mount.specs.Outcomes.{MountsBook, Opens, Tries, all_without_spare};
 ghost use Rattle.job_mount.specs.Requests.{CanBeDone};
 ghost use Rattle.job_script.specs.Outcomes.{Gives};
 ghost use Rattle.job_script.specs.Views.{command_said, opening_said, said, unit_said};
 
 use crate::device::mounted;
 use crate::requests::can_be_done;
+use any_device::AnyDevice;
 use device_port::MountError;
 use job_script::{Command, FaultName, JobError, Opening, Script, UnitSetup};
 use std::alloc::{AllocError, Global};
 use unit_book::{OpenError, UnitBook};
-use unit_device::UnitDevice;
 
 /// The books of a script's units, in the order of their numbers, each for up to `capacity` requests at a time (1 to
 /// 65,536), with the DCBs of the script open. The first of these faults ends it: of a medium, in the order of
@@ -25,10 +25,10 @@ pub fn books(
     alloc: Global,
     script: &Script,
     capacity: usize,
-) -> Result<Vec<UnitBook<UnitDevice>>, JobError>
+) -> Result<Vec<UnitBook<AnyDevice>>, JobError>
     requires some { 1 ≤ capacity }
     requires few { capacity ≤ 65536 }
-    ensures exact { Gives all_known result (books_of capacity (said script.now)) }
+    ensures exact { Gives all_without_spare result (books_of capacity (said script.now)) }
     ensures count { IfOk result (λ books. vec_len books ≡ vec_len script.now.set_up.units) }
     ensures fresh { IfOk result (λ books. All IsFresh books.items) }
     ensures room { IfOk result (λ books. All (HasRoom capacity) books.items) }
@@ -44,10 +44,10 @@ fn opened_books(
     alloc: Global,
     units: &[UnitSetup],
     capacity: usize,
-) -> Result<Vec<UnitBook<UnitDevice>>, JobError>
+) -> Result<Vec<UnitBook<AnyDevice>>, JobError>
     requires some { 1 ≤ capacity }
     requires few { capacity ≤ 65536 }
-    ensures exact { Gives all_known result (units_with capacity (map unit_said units.now)) }
+    ensures exact { Gives all_without_spare result (units_with capacity (map unit_said units.now)) }
     ensures count { IfOk result (λ books. vec_len books ≡ length units.now) }
     ensures fresh { IfOk result (λ books. All IsFresh books.items) }
     ensures room { IfOk result (λ books. All (HasRoom capacity) books.items) }
@@ -75,7 +75,7 @@ fn mounted_book(
     alloc: Global,
     unit: &UnitSetup,
     capacity: usize,
-) -> Result<UnitBook<UnitDevice>, JobError>
+) -> Result<UnitBook<AnyDevice>, JobError>
     requires some { 1 ≤ capacity }
     requires few { capacity ≤ 65536 }
     ensures exact { MountsBook capacity (unit_said unit.now) result }
@@ -94,7 +94,7 @@ fn mounted_book(
 
 /// Opens the DCBs of a unit, in the order of their lines. Returns the line of the first that cannot be opened.
 fn open_dcbs(
-    book: &mut UnitBook<UnitDevice>,
+    book: &mut UnitBook<AnyDevice>,
     openings: &[Opening],
 ) -> Result<Option<usize>, AllocError>
     requires { IsFresh book.old }

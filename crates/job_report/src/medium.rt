@@ -4,13 +4,13 @@ mod disk;
 mod printer;
 mod tape;
 
+use any_device::AnyDevice;
 use disk::write_disk;
 use job_script::{Medium, UnitSetup};
 use printer::write_printer;
 use std::io;
 use std::io::Write;
 use tape::write_tape;
-use unit_device::UnitDevice;
 
 /// The unit that a line speaks of: its number, and its interruption subclass.
 #[derive(Clone, Copy)]
@@ -25,16 +25,16 @@ pub(crate) fn write_medium<W: Write>(
     out: &mut W,
     number: usize,
     unit: &UnitSetup,
-    device: &UnitDevice,
+    device: &AnyDevice,
 ) -> io::Result<()> {
     let isc = unit.isc;
     let at = Unit { number, isc };
     match (&unit.medium, device) {
-        (Medium::Disk(geometry, _), UnitDevice::Disk(disk)) => {
+        (Medium::Disk(geometry, _), AnyDevice::Disk(disk)) => {
             write_disk(out, at, *geometry, disk)
         }
-        (Medium::Tape(bytes, _), UnitDevice::Tape(tape)) => write_tape(out, at, *bytes, tape),
-        (Medium::Printer { lines, pages }, UnitDevice::Printer(printer)) => {
+        (Medium::Tape(bytes, _), AnyDevice::Tape(tape)) => write_tape(out, at, *bytes, tape),
+        (Medium::Printer { lines, pages }, AnyDevice::Printer(printer)) => {
             write_printer(out, at, *lines, *pages, printer)
         }
         // no device comes to this: it was mounted as its set-up says

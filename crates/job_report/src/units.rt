@@ -3,10 +3,10 @@
 ghost use Rattle.std.specs.Prelude.{◌≡◌, IfErr, false};
 
 use crate::medium::write_medium;
-use job_script::{JobError, SetUp};
+use any_device::AnyDevice;
+use job_script::SetUp;
 use std::io::Write;
 use unit_book::UnitBook;
-use unit_device::UnitDevice;
 use unit_history::{HistoryError, OpenDcbs, write_history};
 
 /// Writes of each unit of a script its history, with `steps` each command of it too, and its medium, as its book has
@@ -15,22 +15,16 @@ use unit_history::{HistoryError, OpenDcbs, write_history};
 pub fn write_units<W: Write>(
     out: &mut W,
     set_up: &SetUp,
-    books: &[UnitBook<UnitDevice>],
+    books: &[UnitBook<AnyDevice>],
     steps: bool,
     open: &mut OpenDcbs,
-) -> Result<(), JobError>
-    ensures { steps ≡ false → IfErr result (λ fault. fault ≡ JobError.NotWritten) }
+) -> Result<(), HistoryError>
+    ensures { steps ≡ false → IfErr result (λ fault. fault ≡ HistoryError.NotWritten) }
 {
     for (number, (unit, book)) in set_up.units.iter().zip(books).enumerate() {
         let faults = steps.then_some(unit.faults.as_slice());
-        match write_history(out, number, book, faults, open) {
-            Ok(()) => {}
-            Err(HistoryError::NoMemory) => return Err(JobError::NoMemory),
-            Err(HistoryError::NotWritten) => return Err(JobError::NotWritten),
-        }
-        if write_medium(out, number, unit, book.device()).is_err() {
-            return Err(JobError::NotWritten);
-        }
+        write_history(out, number, book, faults, open)?;
+        write_medium(out, number, unit, book.device())?;
     }
     Ok(())
 }

@@ -1,3 +1,4 @@
--- The books of a script, and what its commands send.
+-- The books of a script, by what a run ends, and what commands send.
 pub mod Books
+pub mod Ends
 pub mod Sent

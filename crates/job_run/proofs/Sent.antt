@@ -1,14 +1,16 @@
 -- What the commands of a script send, from one place of a task's commands to the next.
 use Rattle.std.proofs.Common.{◌≡◌, ◌<◌, ◌≤◌, ◌+◌, suc, drop, drop-cons, Result, Ok, Err, OnOk, OnErr, IfErr, ◌==◌, ℕ, Bool, true, false, List, [], ◌∷◌, ◌++◌, length, get_or, cond, refl, sym, subst, ap, ◌∙◌, arith, append_assoc, length-append}
+use Rattle.std.specs.Result.{IsErrAnd}
 use Rattle.std.proofs.lemmas.List.{append-nil, drop_all}
 use Rattle.std.proofs.Math.Seq.{get_or-append_seam}
 use Rattle.std.proofs.lemmas.Bool.{eq-eqb, eqb-true}
 use Rattle.request_piece.specs.declared.piece.Piece.{Piece}
 use Rattle.job_script.specs.declared.command.Command.{Command}
-use Rattle.job_script.specs.declared.fault.JobError.{JobError}
+use Rattle.job_run.specs.declared.task_error.TaskError.{TaskError}
+use Rattle.job_run.specs.declared.task_error.TaskError.TheVariants as errors
 use Rattle.job_script.specs.Tasks.{places_from, places_of}
 use Rattle.job_run.specs.Faults.{fault_at}
-use Rattle.job_run.specs.Sending.{Fails, SendsFirst, StopsAt, sends, sends_all}
+use Rattle.job_run.specs.Sending.{EndsEarly, Fails, SendsFirst, StopsAt, sends, sends_all}
 use Rattle.job_run.specs.declared.command_fault.CommandFault.{CommandFault}
 
 -- some commands after others
@@ -151,7 +153,7 @@ goes_on task commands old command places sent new n does =
     }
 
 -- the command fails
-pub stops : (task : ℕ) (commands : List Command) (old : List (List Piece)) (command : Command) (places : List ℕ) (sent new : List (List Piece)) (cause : CommandFault) (fault : JobError)
+pub stops : (task : ℕ) (commands : List Command) (old : List (List Piece)) (command : Command) (places : List ℕ) (sent new : List (List Piece)) (cause : CommandFault) (fault : TaskError)
     → IsNext task commands old command places sent → new ≡ sent → Fails command.action sent cause → fault ≡ fault_at cause command.line
     → StopsAt task commands old new fault
 stops task commands old command places sent new cause fault n unsent fails named = record {
@@ -184,13 +186,21 @@ pub sends_none : (task : ℕ) (commands : List Command) (sent : List (List Piece
 unfolding sends_all
 sends_none task commands sent = record { before = []; others = commands; split = refl; sent = refl }
 
-pub sends_some : (task : ℕ) (commands : List Command) (old new : List (List Piece)) (done : Result (Unit {0}) JobError)
+pub sends_some : (task : ℕ) (commands : List Command) (old new : List (List Piece)) (done : Result (Unit {0}) TaskError)
     → OnOk done (new ≡ sends_all task commands old) → IfErr done (StopsAt task commands old new) → SendsFirst task commands old new
 sends_some task commands old new (Ok x) all stopped = record { before = commands; others = []; split = sym (append-nil commands); sent = all }
 sends_some task commands old new (Err fault) all stopped =
     record { before = stopped.before; others = stopped.command ∷ stopped.others; split = stopped.split; sent = stopped.sent }
 
--- what holds anyhow holds of an error
-pub on_err : {A E : Type 0} (r : Result A E) (P : Type 0) → P → OnErr r P
-on_err (Ok x) P p = tt
-on_err (Err e) P p = p
+-- a task that stops ends early; so does one that runs out of memory
+pub stops_early : (task : ℕ) (commands : List Command) (old new : List (List Piece)) (fault : TaskError) → StopsAt task commands old new fault
+    → EndsEarly task commands old new fault
+stops_early task commands old new (errors.Line _ _) stopped = stopped
+stops_early task commands old new errors.NoMemory stopped =
+    record { before = stopped.before; others = stopped.command ∷ stopped.others; split = stopped.split; sent = stopped.sent }
+
+-- a task that runs out of memory has sent what its first commands send
+pub ends_full : {A : Type 0} (r : Result A TaskError) (task : ℕ) (commands : List Command) (old new : List (List Piece))
+    → IsErrAnd r (λ e. e ≡ errors.NoMemory) → SendsFirst task commands old new → IfErr r (EndsEarly task commands old new)
+ends_full (Ok x) task commands old new full first = tt
+ends_full (Err e) task commands old new full first = rw full first

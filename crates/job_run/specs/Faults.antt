@@ -3,16 +3,33 @@ use Rattle.std.specs.Prelude.{◌≡◌, ℕ, Bool, false}
 use Rattle.job_script.specs.declared.fault.JobError.{JobError}
 use Rattle.job_script.specs.declared.fault.JobError.TheVariants as faults
 use Rattle.job_script.specs.declared.fault.FaultName.TheVariants as names
+use Rattle.job_run.specs.declared.task_error.TaskError.{TaskError}
+use Rattle.job_run.specs.declared.task_error.TaskError.TheVariants as errors
 use Rattle.job_run.specs.declared.command_fault.CommandFault.{CommandFault}
 use Rattle.job_run.specs.declared.command_fault.CommandFault.TheVariants.{NoNumber, NotOpen, NoMemory}
 use Rattle.job_run.specs.declared.output.Output.{Output}
 use Rattle.job_run.specs.declared.output.Output.TheVariants.{Posts, Report}
 
 -- what ends the task, by the line of the command
-abbrev pub fault_at : CommandFault → ℕ → JobError
-fault_at NoNumber line = faults.Line line names.Request
-fault_at NotOpen line = faults.Line line names.Name
-fault_at NoMemory line = faults.NoMemory
+abbrev pub fault_at : CommandFault → ℕ → TaskError
+fault_at NoNumber line = errors.Line line names.Request
+fault_at NotOpen line = errors.Line line names.Name
+fault_at NoMemory line = errors.NoMemory
+
+-- what ends the run, if a task ends by this
+abbrev pub job_error : TaskError → JobError
+job_error (errors.Line line name) = faults.Line line name
+job_error errors.NoMemory = faults.NoMemory
+
+-- why a report or posts are not written, after the run
+abbrev pub IsWriteFault : JobError → Type 0
+IsWriteFault faults.NotWritten = Unit {0}
+IsWriteFault faults.NoMemory = Unit {0}
+IsWriteFault (faults.Line _ _) = ⊥
+IsWriteFault faults.TooLong = ⊥
+IsWriteFault faults.Unreadable = ⊥
+IsWriteFault faults.Unmatched = ⊥
+IsWriteFault faults.NoThread = ⊥
 
 -- every fault but that of a write leaves the writer as it was
 abbrev pub LeavesWriter : {W : Type 0} → JobError → W → W → Type 0

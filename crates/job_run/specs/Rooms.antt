@@ -3,7 +3,7 @@ use Rattle.std.specs.Prelude.{◌≡◌, ℕ, List, max, min, vec_len}
 use Rattle.std.specs.List.{All}
 use Rattle.unit_book.specs.Book.{Book}
 use Rattle.excp_system.specs.Opening.{AreBooks, AreFresh, RowsState}
-use Rattle.job_script.specs.Commands.{most, requests_of, requests_to}
+use Rattle.job_script.specs.Commands.{most, request_count_of, request_count_to}
 use Rattle.job_script.specs.declared.script.Script.{Script}
 
 -- the room for so many requests: 1 at least, and 65,536 at most
@@ -12,10 +12,10 @@ room_for requests = min (max requests 1) 65536
 
 -- the room for the requests that the script issues to one unit, and for those of one task, where these are the most
 abbrev pub room_of_a_unit : Script → ℕ
-room_of_a_unit script = room_for (most (requests_to script.commands.items) (vec_len script.set_up.units))
+room_of_a_unit script = room_for (most (request_count_to script.commands.items) (vec_len script.set_up.units))
 
 abbrev pub room_of_a_task : Script → ℕ
-room_of_a_task script = room_for (most (requests_of script.commands.items) script.set_up.tasks)
+room_of_a_task script = room_for (most (request_count_of script.commands.items) script.set_up.tasks)
 
 -- the unused rows of the tasks and units of a script: an intake row has room for the requests to a unit, a post row for
 -- those of a task

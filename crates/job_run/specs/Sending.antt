@@ -8,7 +8,8 @@ use Rattle.job_script.specs.declared.command.Action.{Action}
 use Rattle.job_script.specs.declared.command.Action.TheVariants.{Excp, Purge, PurgeTask, Close, Reset, Wait}
 use Rattle.job_script.specs.declared.command.Command.{Command}
 use Rattle.job_script.specs.declared.command.Excp.{Excp as OneExcp}
-use Rattle.job_script.specs.declared.fault.JobError.{JobError}
+use Rattle.job_run.specs.declared.task_error.TaskError.{TaskError}
+use Rattle.job_run.specs.declared.task_error.TaskError.TheVariants as errors
 use Rattle.job_run.specs.declared.command_fault.CommandFault.{CommandFault}
 use Rattle.job_run.specs.declared.command_fault.CommandFault.TheVariants.{NoNumber, NotOpen, NoMemory}
 use Rattle.job_run.specs.Faults.{fault_at}
@@ -58,7 +59,7 @@ Fails Wait sent fault = fault ≡ NoMemory
 
 -- a task stops at one of its commands, which fails: it has sent what the commands before send, and the fault names the
 -- command's line
-pub record StopsAt (task : ℕ) (commands : List Command) (old new : List (List Piece)) (fault : JobError) : Type 0 where
+pub record StopsAt (task : ℕ) (commands : List Command) (old new : List (List Piece)) (fault : TaskError) : Type 0 where
   pub before : List Command
   pub command : Command
   pub others : List Command
@@ -75,3 +76,8 @@ pub record SendsFirst (task : ℕ) (commands : List Command) (old new : List (Li
   pub others : List Command
   pub split : commands ≡ before ++ others
   pub sent : new ≡ sends_all task before old
+
+-- a task ends before its last command: it stops at one of its commands, or runs out of memory
+abbrev pub EndsEarly : ℕ → List Command → List (List Piece) → List (List Piece) → TaskError → Type 0
+EndsEarly task commands old new (errors.Line line name) = StopsAt task commands old new (errors.Line line name)
+EndsEarly task commands old new errors.NoMemory = SendsFirst task commands old new

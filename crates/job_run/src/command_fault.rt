@@ -5,7 +5,8 @@ ghost use Rattle.job_run.specs.Faults.{fault_at};
 ghost use Rattle.job_run.specs.Sending.{DcbFails};
 ghost use Rattle.job_run.specs.declared.command_fault.CommandFault.TheVariants as command_faults;
 
-use job_script::{FaultName, JobError};
+use crate::task_error::TaskError;
+use job_script::FaultName;
 use std::alloc::AllocError;
 use unit_book::DcbError;
 
@@ -21,15 +22,15 @@ pub(crate) enum CommandFault {
 
 impl CommandFault {
     /// What ends the task, by the line of the command.
-    pub fn at(self, line: usize) -> JobError
+    pub fn at(self, line: usize) -> TaskError
         ensures { result ≡ fault_at self line }
     {
         let name = match self {
             CommandFault::NoNumber => FaultName::Request,
             CommandFault::NotOpen => FaultName::Name,
-            CommandFault::NoMemory => return JobError::NoMemory,
+            CommandFault::NoMemory => return TaskError::NoMemory,
         };
-        JobError::Line { line, name }
+        TaskError::Line { line, name }
     }
 }
 

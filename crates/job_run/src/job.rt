@@ -3,20 +3,21 @@
 ghost use Rattle.std.specs.Prelude.{◌≡◌, ◌<◌, All, IfErr, OnErr, OnOk, vec_len};
 ghost use Rattle.job_mount.specs.Requests.{CanBeDone, CanIssue};
 ghost use Rattle.job_script.specs.Commands.{NamesUnits};
-ghost use Rattle.job_run.specs.Sending.{ExcpFails, Fails, SendsFirst, StopsAt, sends, sends_all, sends_excp};
+ghost use Rattle.job_run.specs.Sending.{EndsEarly, ExcpFails, Fails, StopsAt, sends, sends_all, sends_excp};
 
 use crate::command_fault::CommandFault;
 use crate::lines::Lines;
+use crate::task_error::TaskError;
 use crate::unit_calls::{close, purge, purge_task, reset};
+use any_device::AnyDevice;
 use crossbeam_utils::Backoff;
 use excp_system::{Site, System};
 use fifo_row::Full;
 use job_mount::request;
-use job_script::{Action, Command, Excp, JobError, Script};
+use job_script::{Action, Command, Excp, Script};
 use std::alloc::{AllocError, Global};
 use std::sync::Wait;
 use system_threads::{Alarm, Client};
-use unit_device::UnitDevice;
 
 /// The most requests that a task has under way, so that the storage of a run does not grow with all its requests
 /// (profile).
@@ -26,7 +27,7 @@ const MOST_UNDER_WAY: usize = 256;
 #[derive(Drop)]
 pub struct Job<'a, 'r, S: Site> {
     script: &'a Script,
-    system: &'a System<'r, S, UnitDevice>,
+    system: &'a System<'r, S, AnyDevice>,
     alarm: &'a Alarm,
     ghost units_are: { vec_len script.now.set_up.units ≡ S.rows.units },
     ghost requests_can_be_made: { All CanBeDone script.now.commands.items },
@@ -36,11 +37,12 @@ impl<'a, 'r, S: Site> Job<'a, 'r, S> {
     /// The job of a script, whose requests can be made, on the system of its units.
     pub fn new(
         script: &'a Script,
-        system: &'a System<'r, S, UnitDevice>,
+        system: &'a System<'r, S, AnyDevice>,
         alarm: &'a Alarm,
     ) -> Job<'a, 'r, S>
         requires units { vec_len script.now.set_up.units ≡ S.rows.units }
         requires requests { All CanBeDone script.now.commands.items }
+        ensures { result.script.now ≡ script.now }
     {
         Job {
             script,
@@ -56,10 +58,10 @@ impl<'a, 'r, S: Site> Job<'a, 'r, S> {
         rt: &R,
         alloc: Global,
         client: &mut Client<'_, S>,
-    ) -> Result<Lines, JobError>
+    ) -> Result<Lines, TaskError>
         ensures number { client.new.number ≡ client.old.number }
         ensures sent { OnOk result (client.new.sent ≡ sends_all client.old.number self.now.script.now.commands.items client.old.sent) }
-        ensures stopped { OnErr result (SendsFirst client.old.number self.now.script.now.commands.items client.old.sent client.new.sent) }
+        ensures stopped { IfErr result (EndsEarly client.old.number self.now.script.now.commands.items client.old.sent client.new.sent) }
     {
         let mut lines = Lines::of_task(alloc, self.script, client.number())?;
         let done = self.commands(rt, alloc, client, &mut lines);
@@ -76,7 +78,7 @@ impl<'a, 'r, S: Site> Job<'a, 'r, S> {
         alloc: Global,
         client: &mut Client<'_, S>,
         lines: &mut Lines,
-    ) -> Result<(), JobError>
+    ) -> Result<(), TaskError>
         ensures number { client.new.number ≡ client.old.number }
         ensures sent { OnOk result (client.new.sent ≡ sends_all client.old.number self.now.script.now.commands.items client.old.sent) }
         ensures stopped { IfErr result (StopsAt client.old.number self.now.script.now.commands.items client.old.sent client.new.sent) }

@@ -20,6 +20,7 @@ mod output;
 mod rooms;
 mod run;
 mod script_tasks;
+mod task_error;
 mod unit_calls;
 
 pub use job::Job;
@@ -28,3 +29,4 @@ pub use output::{Output, write};
 pub use run::{Finished, ended, report_script, run_on, run_script};
 pub use script_tasks::ScriptTasks;
 pub use system_threads::Workers;
+pub use task_error::TaskError;

@@ -3,10 +3,11 @@
 
 ghost use Rattle.std.specs.Prelude.{◌≡◌, ◌≤◌, All, IfErr, false, length};
 ghost use Rattle.job_run.specs.Complete.{IsComplete, IsWhole};
-ghost use Rattle.job_run.specs.Faults.{LeavesWriter, has_steps};
+ghost use Rattle.job_run.specs.Faults.{IsWriteFault, LeavesWriter, has_steps};
 
 use crate::late_writer::LateWriter;
 use crate::lines::{End, Line, Lines};
+use any_device::AnyDevice;
 use digits::{put_decimal, put_digits, write_bytes};
 use job_report::write_units;
 use job_script::{JobError, SetUp};
@@ -14,8 +15,7 @@ use std::alloc::Global;
 use std::io;
 use std::io::{BufWriter, Write};
 use unit_book::UnitBook;
-use unit_device::UnitDevice;
-use unit_history::OpenDcbs;
+use unit_history::{HistoryError, OpenDcbs};
 
 /// What a run prints.
 #[derive(Drop)]
@@ -26,7 +26,7 @@ pub enum Output<'a> {
     /// and what lies on its medium.
     Report {
         set_up: &'a SetUp,
-        books: &'a [UnitBook<UnitDevice>],
+        books: &'a [UnitBook<AnyDevice>],
         steps: bool,
     },
 }
@@ -41,7 +41,8 @@ pub fn write<W: Write>(
     writer: &mut W,
 ) -> Result<(), JobError>
     requires { All IsComplete lines.now }
-    ensures { has_steps output.entry ≡ false → IfErr result (λ fault. LeavesWriter fault writer.old writer.new) }
+    ensures unwritten { has_steps output.entry ≡ false → IfErr result (λ fault. LeavesWriter fault writer.old writer.new) }
+    ensures fault { IfErr result IsWriteFault }
 {
     match output {
         Output::Posts => write_posts(alloc, lines, writer),
@@ -56,7 +57,8 @@ pub fn write<W: Write>(
 /// Writes the posts alone.
 fn write_posts<W: Write>(alloc: Global, lines: &[Lines], writer: &mut W) -> Result<(), JobError>
     requires { All IsComplete lines.now }
-    ensures { IfErr result (λ fault. LeavesWriter fault writer.old writer.new) }
+    ensures unwritten { IfErr result (λ fault. LeavesWriter fault writer.old writer.new) }
+    ensures fault { IfErr result IsWriteFault }
 {
     let Ok(mut out) = BufWriter::new(alloc, LateWriter::new()) else {
         return Err(JobError::NoMemory);
@@ -71,12 +73,13 @@ fn write_report<W: Write>(
     alloc: Global,
     lines: &[Lines],
     set_up: &SetUp,
-    books: &[UnitBook<UnitDevice>],
+    books: &[UnitBook<AnyDevice>],
     steps: bool,
     writer: &mut W,
 ) -> Result<(), JobError>
     requires { All IsComplete lines.now }
-    ensures { steps ≡ false → IfErr result (λ fault. LeavesWriter fault writer.old writer.new) }
+    ensures unwritten { steps ≡ false → IfErr result (λ fault. LeavesWriter fault writer.old writer.new) }
+    ensures fault { IfErr result IsWriteFault }
 {
     let mut open = OpenDcbs::of_units(alloc, books)?;
     let Ok(mut out) = BufWriter::new(alloc, LateWriter::new()) else {
@@ -84,8 +87,11 @@ fn write_report<W: Write>(
     };
     out.get_mut().set(writer);
     put_posts(&mut out, lines)?;
-    write_units(&mut out, set_up, books, steps, &mut open)?;
-    out.flush().or(Err(JobError::NotWritten))
+    match write_units(&mut out, set_up, books, steps, &mut open) {
+        Ok(()) => out.flush().or(Err(JobError::NotWritten)),
+        Err(HistoryError::NotWritten) => Err(JobError::NotWritten),
+        Err(HistoryError::NoMemory) => Err(JobError::NoMemory),
+    }
 }
 
 fn put_posts<W: Write>(out: &mut W, lines: &[Lines]) -> Result<(), JobError>

@@ -2,14 +2,18 @@
 
 ghost use Rattle.std.specs.Prelude.{◌≡◌, ◌≤◌, All, IfOk, OnOk, vec_len};
 ghost use Rattle.job_mount.specs.Requests.{CanBeDone};
-ghost use Rattle.job_run.specs.Rooms.{AreBooksOf, AreRowsOf, room_for};
+ghost use Rattle.job_mount.specs.Mounting.{books_of};
+ghost use Rattle.job_mount.specs.Outcomes.{all_without_spare};
+ghost use Rattle.job_script.specs.Outcomes.{Gives};
+ghost use Rattle.job_script.specs.Views.{said};
+ghost use Rattle.job_run.specs.Rooms.{AreBooksOf, AreRowsOf, room_for, room_of_a_unit};
 
+use any_device::AnyDevice;
 use excp_system::Rows;
 use job_mount::books;
 use job_script::{JobError, Script};
 use std::alloc::Global;
 use unit_book::UnitBook;
-use unit_device::UnitDevice;
 
 /// The most requests that a row or a book holds (profile).
 const MOST_HELD: usize = 65_536;
@@ -25,9 +29,10 @@ fn room_for(requests: usize) -> usize
 pub(crate) fn rows_and_books(
     alloc: Global,
     script: &Script,
-) -> Result<(Rows, Vec<UnitBook<UnitDevice>>), JobError>
+) -> Result<(Rows, Vec<UnitBook<AnyDevice>>), JobError>
     requires tasks { (1 ≤ script.now.set_up.tasks) × (script.now.set_up.tasks ≤ 64) }
     requires units { (1 ≤ vec_len script.now.set_up.units) × (vec_len script.now.set_up.units ≤ 64) }
+    ensures exact { Gives (λ made. all_without_spare made.1) result (books_of (room_of_a_unit script.now) (said script.now)) }
     ensures rows { IfOk result (λ made. AreRowsOf script.now made.0) }
     ensures books { IfOk result (λ made. AreBooksOf script.now made.1.items) }
     ensures requests { OnOk result (All CanBeDone script.now.commands.items) }

@@ -1,9 +1,10 @@
 //! The run of a script: its tasks on threads of their own, beside channel workers and interruption handlers.
 
-ghost use Rattle.std.specs.Prelude.{◌≡◌, ◌≤◌, ◌<◌, ◌+◌, All, IfErr, IfOk, false, length, vec_len};
+ghost use Rattle.std.specs.Prelude.{◌≡◌, ◌≤◌, ◌<◌, ◌+◌, All, IfErr, IfOk, OnOk, false, length, vec_len};
 ghost use Rattle.job_mount.specs.Requests.{CanBeDone};
 ghost use Rattle.job_script.specs.Reading.{ReadsAtMost};
 ghost use Rattle.job_run.specs.Complete.{IsComplete};
+ghost use Rattle.job_run.specs.Ending.{EndsBy, IsLate, RunsWhole};
 ghost use Rattle.job_run.specs.Faults.{LeavesWriter};
 ghost use Rattle.excp_system.specs.Opening.{AreBooks, AreFresh};
 ghost use Rattle.post_ledger.specs.Report.{IsFor};
@@ -13,6 +14,8 @@ use crate::lines::Lines;
 use crate::output::{Output, write};
 use crate::rooms::rows_and_books;
 use crate::script_tasks::ScriptTasks;
+use crate::task_error::TaskError;
+use any_device::AnyDevice;
 use excp_system::Rows;
 use job_script::{JobError, LIMIT, Script, read_script};
 use post_ledger::Report;
@@ -22,13 +25,12 @@ use std::sync::Wait;
 use std::thread::Threads;
 use system_threads::{RunError, Workers, run_program};
 use unit_book::UnitBook;
-use unit_device::UnitDevice;
 
 /// A run that was brought to its end: what is printed of the requests of each task, and the account of its units.
 #[derive(Drop)]
 pub struct Finished {
     pub lines: Vec<Lines>,
-    pub report: Report<UnitDevice>,
+    pub report: Report<AnyDevice>,
     ghost complete: { All IsComplete lines.items },
 }
 
@@ -44,6 +46,8 @@ pub fn run_script<R: Threads + Wait + Sync, I: Read, W: Write>(
 ) -> Result<(), JobError>
     ensures bounded { ReadsAtMost (LIMIT + 1) (I.remaining reader.old) (I.remaining reader.new) }
     ensures unwritten { IfErr result (λ fault. LeavesWriter fault writer.old writer.new) }
+    ensures ran { OnOk result (RunsWhole LIMIT (I.remaining reader.old) (I.remaining reader.new)) }
+    ensures fault { IfErr result (EndsBy LIMIT (I.remaining reader.old) (I.remaining reader.new)) }
 {
     match read_and_run(rt, alloc, reader, workers) {
         Ok((_, run)) => write(alloc, &run.lines, Output::Posts, writer),
@@ -65,6 +69,8 @@ pub fn report_script<R: Threads + Wait + Sync, I: Read, W: Write>(
 ) -> Result<(), JobError>
     ensures bounded { ReadsAtMost (LIMIT + 1) (I.remaining reader.old) (I.remaining reader.new) }
     ensures unwritten { steps ≡ false → IfErr result (λ fault. LeavesWriter fault writer.old writer.new) }
+    ensures ran { OnOk result (RunsWhole LIMIT (I.remaining reader.old) (I.remaining reader.new)) }
+    ensures fault { IfErr result (EndsBy LIMIT (I.remaining reader.old) (I.remaining reader.new)) }
 {
     let (script, run) = read_and_run(rt, alloc, reader, workers)?;
     let output = Output::Report {
@@ -82,7 +88,9 @@ fn read_and_run<R: Threads + Wait + Sync, I: Read>(
     reader: &mut I,
     workers: Workers,
 ) -> Result<(Script, Finished), JobError>
-    ensures { ReadsAtMost (LIMIT + 1) (I.remaining reader.old) (I.remaining reader.new) }
+    ensures bounded { ReadsAtMost (LIMIT + 1) (I.remaining reader.old) (I.remaining reader.new) }
+    ensures ran { OnOk result (RunsWhole LIMIT (I.remaining reader.old) (I.remaining reader.new)) }
+    ensures fault { IfErr result (EndsBy LIMIT (I.remaining reader.old) (I.remaining reader.new)) }
 {
     let text = read_script(alloc, reader)?;
     let script = Script::parse(alloc, &text)?;
@@ -97,7 +105,7 @@ pub fn run_on<R: Threads + Wait + Sync>(
     rt: &R,
     alloc: Global,
     rows: Rows,
-    books: Vec<UnitBook<UnitDevice>>,
+    books: Vec<UnitBook<AnyDevice>>,
     script: &Script,
     workers: Workers,
 ) -> Result<Finished, JobError>
@@ -106,6 +114,7 @@ pub fn run_on<R: Threads + Wait + Sync>(
     requires units { vec_len script.now.set_up.units ≡ rows.units }
     requires few { (rows.units ≤ 64) × (rows.tasks ≤ 64) }
     requires requests { All CanBeDone script.now.commands.items }
+    ensures { IfErr result IsLate }
 {
     let tasks = ScriptTasks::new(script);
     match run_program(rt, alloc, rows, books, workers, &tasks) {
@@ -120,13 +129,14 @@ pub fn run_on<R: Threads + Wait + Sync>(
 /// the first such task, and where a line has no post of its own.
 pub fn ended(
     alloc: Global,
-    report: Report<UnitDevice>,
-    outcomes: Vec<Result<Lines, JobError>>,
+    report: Report<AnyDevice>,
+    outcomes: Vec<Result<Lines, TaskError>>,
 ) -> Result<Finished, JobError>
     requires lists { IsFor (length report.books) (length outcomes.items) report }
     requires few_units { length report.books ≤ 64 }
     requires few_tasks { length outcomes.items ≤ 64 }
-    ensures { IfOk result (λ finished. finished.report ≡ report) }
+    ensures report { IfOk result (λ finished. finished.report ≡ report) }
+    ensures fault { IfErr result IsLate }
 {
     let mut lines = lines_of(alloc, outcomes)?;
     add_rest(&mut lines, &report);
@@ -137,11 +147,11 @@ pub fn ended(
 }
 
 /// What is printed of the requests of each task; or want of memory, if a task ended for it, or the first fault.
-fn lines_of(alloc: Global, outcomes: Vec<Result<Lines, JobError>>) -> Result<Vec<Lines>, JobError>
+fn lines_of(alloc: Global, outcomes: Vec<Result<Lines, TaskError>>) -> Result<Vec<Lines>, TaskError>
     ensures { IfOk result (λ lines. length lines.items ≡ length outcomes.items) }
 {
     if outcomes.iter().any(wants_memory) {
-        return Err(JobError::NoMemory);
+        return Err(TaskError::NoMemory);
     }
     let mut lines = Vec::with_capacity(alloc, outcomes.len())?;
     for outcome in outcomes {
@@ -151,12 +161,12 @@ fn lines_of(alloc: Global, outcomes: Vec<Result<Lines, JobError>>) -> Result<Vec
 }
 
 /// Whether a task ended for want of memory.
-fn wants_memory(outcome: &Result<Lines, JobError>) -> bool {
-    matches!(outcome, Err(JobError::NoMemory))
+fn wants_memory(outcome: &Result<Lines, TaskError>) -> bool {
+    matches!(outcome, Err(TaskError::NoMemory))
 }
 
 /// Adds what the report of a run lists to the lines of each task.
-fn add_rest(lines: &mut [Lines], report: &Report<UnitDevice>)
+fn add_rest(lines: &mut [Lines], report: &Report<AnyDevice>)
     requires lists { IsFor (length report.now.books) (length lines.old) report.now }
     requires few_units { length report.now.books ≤ 64 }
     requires few_tasks { length lines.old ≤ 64 }
@@ -168,7 +178,7 @@ fn add_rest(lines: &mut [Lines], report: &Report<UnitDevice>)
 }
 
 /// Adds what the report of a run lists for a task to its lines.
-fn add_listed(lines: &mut Lines, report: &Report<UnitDevice>, task: u16, units: u16)
+fn add_listed(lines: &mut Lines, report: &Report<AnyDevice>, task: u16, units: u16)
     requires task { task < length report.now.lists }
     requires units { length (lists_of report.now.lists task) ≡ units }
 {

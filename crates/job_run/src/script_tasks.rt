@@ -5,12 +5,13 @@ ghost use Rattle.job_mount.specs.Requests.{CanBeDone};
 
 use crate::job::Job;
 use crate::lines::Lines;
+use crate::task_error::TaskError;
+use any_device::AnyDevice;
 use excp_system::{Site, System};
-use job_script::{JobError, Script};
+use job_script::Script;
 use std::alloc::Global;
 use std::sync::Wait;
-use system_threads::{Alarm, Client, Program};
-use unit_device::UnitDevice;
+use system_threads::{Alarm, Client, TaskProgram};
 
 /// Each task does its commands of the script, up to its first fault, and waits until all its requests were posted. It
 /// leaves what is printed of them, or why it ended; want of memory of a worker outranks the fault of a line.
@@ -30,8 +31,8 @@ impl<'a> ScriptTasks<'a> {
     }
 }
 
-impl<'a> Program<UnitDevice> for ScriptTasks<'a> {
-    type Outcome = Result<Lines, JobError>;
+impl<'a> TaskProgram<AnyDevice> for ScriptTasks<'a> {
+    type Outcome = Result<Lines, TaskError>;
 
     ghost units = { λ tasks. vec_len tasks.script.now.set_up.units };
 
@@ -39,10 +40,10 @@ impl<'a> Program<UnitDevice> for ScriptTasks<'a> {
         &self,
         rt: &R,
         alloc: Global,
-        system: &System<'_, S, UnitDevice>,
+        system: &System<'_, S, AnyDevice>,
         alarm: &Alarm,
         client: &mut Client<'_, S>,
-    ) -> Result<Lines, JobError> {
+    ) -> Result<Lines, TaskError> {
         Job::new(self.script, system, alarm).task(rt, alloc, client)
     }
 }

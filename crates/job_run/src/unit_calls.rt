@@ -2,17 +2,17 @@
 
 ghost use Rattle.std.specs.Prelude.{◌<◌};
 
+use any_device::AnyDevice;
 use excp_system::{Site, System, UnitPurging};
 use job_script::DcbName;
 use std::alloc::AllocError;
 use std::sync::Wait;
 use unit_book::{DcbError, Mode};
-use unit_device::UnitDevice;
 
 /// Purges the requests of a DCB.
 pub(crate) fn purge<S: Site, R: Wait>(
     rt: &R,
-    system: &System<'_, S, UnitDevice>,
+    system: &System<'_, S, AnyDevice>,
     dcb: DcbName,
     mode: Mode,
 ) -> Result<(), DcbError>
@@ -28,7 +28,7 @@ pub(crate) fn purge<S: Site, R: Wait>(
 /// Purges the requests of a task on all units.
 pub(crate) fn purge_task<S: Site, R: Wait>(
     rt: &R,
-    system: &System<'_, S, UnitDevice>,
+    system: &System<'_, S, AnyDevice>,
     task: u16,
     mode: Mode,
 ) -> Result<(), AllocError> {
@@ -43,7 +43,7 @@ pub(crate) fn purge_task<S: Site, R: Wait>(
 /// Closes a DCB.
 pub(crate) fn close<S: Site, R: Wait>(
     rt: &R,
-    system: &System<'_, S, UnitDevice>,
+    system: &System<'_, S, AnyDevice>,
     dcb: DcbName,
 ) -> Result<(), DcbError>
     requires { dcb.unit < S.rows.units }
@@ -55,7 +55,7 @@ pub(crate) fn close<S: Site, R: Wait>(
 /// Clears the error flag of a DCB; one that is not open is passed over.
 pub(crate) fn reset<S: Site, R: Wait>(
     rt: &R,
-    system: &System<'_, S, UnitDevice>,
+    system: &System<'_, S, AnyDevice>,
     dcb: DcbName,
 ) -> Result<(), AllocError>
     requires { dcb.unit < S.rows.units }

@@ -1,5 +1,5 @@
 -- A change of one unit, and what has a number.
-use Rattle.std.proofs.Common.{◌≡◌, ◌<◌, ◌≤◌, ℕ, zero, suc, List, [], ◌∷◌, length, map, get_or, set, refl, sym, arith, leb, cond, Ok, Err, Result}
+use Rattle.std.proofs.Common.{◌≡◌, ◌<◌, ◌≤◌, ℕ, zero, suc, List, [], ◌∷◌, length, map, get_or, set, refl, sym, ap, ◌∙◌, arith, leb, cond, Ok, Err, OnErr, Result}
 use Rattle.std.proofs.lemmas.List.{length-map, map-set}
 use Rattle.job_script.specs.declared.command.DcbName.{DcbName}
 use Rattle.job_script.specs.declared.cause.Refusal.{Refusal}
@@ -50,6 +50,21 @@ pub changes : (r : Result (Unit {0}) Refusal) (change : UnitSaid → Result Unit
 changes (Ok x) change s units n old new e within is leads = changed change s units n old new e within (rw (sym is) leads)
 changes (Err (Caused cause)) change s units n old new e within is leads = failed change s units n old cause.name e within (rw (sym is) leads)
 changes (Err NoMemory) change s units n old new e within is leads = tt
+
+-- a unit that says what it said before
+said_again : (units : List UnitSetup) (n : ℕ) (old new : UnitSetup) → n < length units → unit_said new ≡ unit_said (get_or units n old)
+    → map unit_said (set units n new) ≡ map unit_said units
+said_again [] n old new within same = absurd (omega arith)
+said_again (x ∷ xs) zero old new within same = ap (λ said. said ∷ map unit_said xs) same
+said_again (x ∷ xs) (suc n) old new within same = ap (λ others. unit_said x ∷ others) (said_again xs n old new (omega arith) same)
+
+-- a call that changes one unit, and keeps what it says after an error
+pub keeps : (r : Result (Unit {0}) Refusal) (s : SetUpSaid) (units : List UnitSetup) (n : ℕ) (old new : UnitSetup) → s.units ≡ map unit_said units
+    → n < length units → old ≡ get_or units n old → OnErr r (unit_said new ≡ unit_said old)
+    → OnErr r (record s { units = map unit_said (set units n new) } ≡ s)
+keeps (Ok x) s units n old new e within is kept = kept
+keeps (Err refusal) s units n old new e within is kept =
+    ap (λ said. record s { units = said }) (said_again units n old new within (kept ∙ ap unit_said is) ∙ sym e)
 
 -- the DCBs of one unit
 pub dcb_past : (dcb : DcbName) (s : SetUpSaid) (units : List UnitSetup) → s.units ≡ map unit_said units → length units ≤ dcb.unit

@@ -126,8 +126,8 @@ abbrev pub excp_on : ExcpLine → Storage → ExcpSaid
 excp_on e area = record { dcb = e.dcb; iob = e.iob; area = area; show = e.show; len = e.len }
 
 -- the command of an EXCP, on the area with the number that the line names
-unfoldable pub excp_of : ExcpLine → SetUpSaid → Result CommandSaid FaultName
-excp_of e s = do
+unfoldable pub excp_command : ExcpLine → SetUpSaid → Result CommandSaid FaultName
+excp_command e s = do
   area ← numbered e.area s.areas
   Ok (record { line = e.line; task = e.task; action = excp (excp_on e area) })
 
@@ -144,5 +144,5 @@ add_line (says_set_up line) s = do
   _ ← is_early s
   set_up ← add_set_up line s.set_up
   Ok (record s { set_up = set_up })
-add_line (says_excp e) s = excp_of e s.set_up >>= λ command. add_command command s
+add_line (says_excp e) s = excp_command e s.set_up >>= λ command. add_command command s
 add_line (says_command command) s = add_command command s

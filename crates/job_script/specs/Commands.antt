@@ -9,17 +9,17 @@ use Rattle.job_script.specs.declared.command.Action.TheVariants.{Excp, Purge, Pu
 use Rattle.job_script.specs.declared.command.Command.{Command}
 
 -- the DCB that a command names, if it names one
-abbrev pub dcb_of : Action → Option DcbName
-dcb_of (Excp e) = Some e.dcb
-dcb_of (Purge dcb mode) = Some dcb
-dcb_of (PurgeTask task mode) = None
-dcb_of (Close dcb) = Some dcb
-dcb_of (Reset dcb) = Some dcb
-dcb_of Wait = None
+abbrev pub named_dcb : Action → Option DcbName
+named_dcb (Excp e) = Some e.dcb
+named_dcb (Purge dcb mode) = Some dcb
+named_dcb (PurgeTask task mode) = None
+named_dcb (Close dcb) = Some dcb
+named_dcb (Reset dcb) = Some dcb
+named_dcb Wait = None
 
 -- the DCB that it names, if it names one, is of one of the first so many units
 abbrev pub NamesUnits : ℕ → Command → Type 0
-NamesUnits units c = ForSome (dcb_of c.action) (λ dcb. dcb.unit < units)
+NamesUnits units c = ForSome (named_dcb c.action) (λ dcb. dcb.unit < units)
 
 -- the command is an EXCP
 abbrev pub is_excp : Action → Bool
@@ -48,11 +48,11 @@ abbrev pub issues_of : ℕ → Command → Bool
 issues_of task c = is_excp c.action && (c.task == task)
 
 -- how many requests they issue to the unit, and how many the task issues
-abbrev pub requests_to : List Command → ℕ → ℕ
-requests_to commands unit = length (filter (issues_to unit) commands)
+abbrev pub request_count_to : List Command → ℕ → ℕ
+request_count_to commands unit = length (filter (issues_to unit) commands)
 
-abbrev pub requests_of : List Command → ℕ → ℕ
-requests_of commands task = length (filter (issues_of task) commands)
+abbrev pub request_count_of : List Command → ℕ → ℕ
+request_count_of commands task = length (filter (issues_of task) commands)
 
 -- the largest of the first so many numbers, and 0 of none
 unfoldable pub most : (ℕ → ℕ) → ℕ → ℕ

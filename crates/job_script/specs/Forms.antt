@@ -75,8 +75,8 @@ abbrev pub extents : List Word → Result (List Extent) FaultName
 extents ws = formed (each extent ws)
 
 -- the number of a unit, and of one of its DCBs
-unfoldable pub dcb_of : Word → Word → Result DcbName FaultName
-dcb_of u d = do
+unfoldable pub dcb_name : Word → Word → Result DcbName FaultName
+dcb_name u d = do
   unit ← index u
   dcb ← number_in 1 65535 d
   Ok (record { unit = unit; number = dcb })

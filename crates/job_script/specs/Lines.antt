@@ -11,7 +11,7 @@ use Rattle.job_script.specs.declared.line.verb.SetUpVerb.{SetUpVerb}
 use Rattle.job_script.specs.declared.line.verb.SetUpVerb.TheVariants as set_up_verbs
 use Rattle.job_script.specs.Steps.{◌>>=◌}
 use Rattle.job_script.specs.Forms.{Word, word, has, has_least, number, number_in, index, subclass, digits, address}
-use Rattle.job_script.specs.Forms.{bytes, joined_bytes, extents, dcb_of, input_of, mode_of}
+use Rattle.job_script.specs.Forms.{bytes, joined_bytes, extents, dcb_name, input_of, mode_of}
 use Rattle.job_script.specs.Said.{CommandSaid, LineSaid, MediumSaid, SetUpLineSaid, UnitSaid}
 use Rattle.job_script.specs.Said.{close, disk, printer, purge, purge_task, reset, tape, wait}
 use Rattle.job_script.specs.Said.{says_area, says_fault, says_item, says_opening, says_record, says_tasks, says_unit}
@@ -120,7 +120,7 @@ unfoldable pub excp_line : ℕ → List Word → Result ExcpLine FaultName
 excp_line line ws = do
   _ ← has 8 ws
   task ← index (word 1 ws)
-  dcb ← dcb_of (word 2 ws) (word 3 ws)
+  dcb ← dcb_name (word 2 ws) (word 3 ws)
   iob ← address (word 4 ws)
   area ← number (word 5 ws)
   show ← address (word 6 ws)
@@ -132,7 +132,7 @@ unfoldable pub purge_line : ℕ → List Word → Result CommandSaid FaultName
 purge_line line ws = do
   _ ← has 5 ws
   task ← index (word 1 ws)
-  dcb ← dcb_of (word 2 ws) (word 3 ws)
+  dcb ← dcb_name (word 2 ws) (word 3 ws)
   mode ← mode_of (word 4 ws)
   Ok (record { line = line; task = task; action = purge dcb mode })
 
@@ -150,7 +150,7 @@ unfoldable pub close_line : ℕ → List Word → Result CommandSaid FaultName
 close_line line ws = do
   _ ← has 4 ws
   task ← index (word 1 ws)
-  dcb ← dcb_of (word 2 ws) (word 3 ws)
+  dcb ← dcb_name (word 2 ws) (word 3 ws)
   Ok (record { line = line; task = task; action = close dcb })
 
 -- reset T U DCB
@@ -158,7 +158,7 @@ unfoldable pub reset_line : ℕ → List Word → Result CommandSaid FaultName
 reset_line line ws = do
   _ ← has 4 ws
   task ← index (word 1 ws)
-  dcb ← dcb_of (word 2 ws) (word 3 ws)
+  dcb ← dcb_name (word 2 ws) (word 3 ws)
   Ok (record { line = line; task = task; action = reset dcb })
 
 -- wait T
@@ -197,16 +197,16 @@ is_comment [] = false
 is_comment (byte ∷ more) = byte == 35
 
 -- the kind that a first word begins
-abbrev pub known : Option Verb → Result (Option Verb) FaultName
-known None = Err names.Words
-known (Some verb) = Ok (Some verb)
+abbrev pub known_verb : Option Verb → Result (Option Verb) FaultName
+known_verb None = Err names.Words
+known_verb (Some verb) = Ok (Some verb)
 
 -- the kind of a line: a line without words and a comment have none, whatever bytes they hold; any other line is printable
-unfoldable pub kind_of : Bool → List Word → Result (Option Verb) FaultName
-kind_of printable ws =
+unfoldable pub line_kind : Bool → List Word → Result (Option Verb) FaultName
+line_kind printable ws =
     if length ws == 0 then Ok None
     else if is_comment (word 0 ws) then Ok None
-    else if printable then known (verb_of (word 0 ws))
+    else if printable then known_verb (verb_of (word 0 ws))
     else Err names.Words
 
 -- what a line of this kind says; one of no kind says nothing
@@ -216,4 +216,4 @@ by_kind (Some verb) line ws = by_verb verb line ws
 
 -- the line with this number
 abbrev pub line_of : ℕ → List ℕ → Result LineSaid FaultName
-line_of line text = kind_of (is_printable text) (words text) >>= λ kind. by_kind kind line (words text)
+line_of line text = line_kind (is_printable text) (words text) >>= λ kind. by_kind kind line (words text)

@@ -26,8 +26,8 @@ abbrev pub small : List (List ℕ)
 small = codes "tasks 1" ∷ codes "disk 0 0 1 1 40" ∷ []
 
 -- the same with a record of four bytes on the disk, a DCB for output, and an area with an IOB, an ECB and a channel program
-abbrev pub stored : List (List ℕ)
-stored =
+abbrev pub stored_script : List (List ℕ)
+stored_script =
     small ++ codes "rec 0 0 0 1 - C1C2C3C4"
     ∷ codes "open 0 out 18000000000000000000000000000001"
     ∷ (codes "area 0 001000 4200000000001028 0000000000000000 0000103000000001 0000000000000000 0000000000000001 "
@@ -91,8 +91,8 @@ stored_area = record {
 }
 
 -- the EXCP of the stored script on a line
-abbrev pub read_on : ℕ → CommandSaid
-read_on line = record {
+abbrev pub stored_excp_on : ℕ → CommandSaid
+stored_excp_on line = record {
   line = line;
   task = 0;
   action = excp (record { dcb = record { unit = 0; number = 1 }; iob = 4096; area = stored_area; show = 4192; len = 4 });
@@ -114,11 +114,11 @@ excp_line = codes "excp 0 0 1 001000 0 001060 4"
 pub record Runs : Type 0 where
   pub empty : Faults [] 0 Order
   pub no_command : Says small small_says
-  pub one_request : Says (stored ++ excp_line ∷ []) (stored_with (read_on 6 ∷ []))
-  pub two_requests : Says (stored ++ excp_line ∷ codes "wait 0" ∷ excp_line ∷ []) (stored_with (read_on 6 ∷ wait_on_7 ∷ read_on 8 ∷ []))
-  pub unknown_dcb : Faults (stored ++ codes "excp 0 0 2 001000 0 001060 4" ∷ []) 6 Name
-  pub unknown_area : Faults (stored ++ codes "excp 0 0 1 001000 1 001060 4" ∷ []) 6 Name
-  pub unknown_task : Faults (stored ++ codes "excp 1 0 1 001000 0 001060 4" ∷ []) 6 Name
+  pub one_request : Says (stored_script ++ excp_line ∷ []) (stored_with (stored_excp_on 6 ∷ []))
+  pub two_requests : Says (stored_script ++ excp_line ∷ codes "wait 0" ∷ excp_line ∷ []) (stored_with (stored_excp_on 6 ∷ wait_on_7 ∷ stored_excp_on 8 ∷ []))
+  pub unknown_dcb : Faults (stored_script ++ codes "excp 0 0 2 001000 0 001060 4" ∷ []) 6 Name
+  pub unknown_area : Faults (stored_script ++ codes "excp 0 0 1 001000 1 001060 4" ∷ []) 6 Name
+  pub unknown_task : Faults (stored_script ++ codes "excp 1 0 1 001000 0 001060 4" ∷ []) 6 Name
   pub no_task : Faults (codes "disk 0 0 1 1 40" ∷ []) 0 Order
   pub no_unit : Faults (codes "tasks 1" ∷ []) 0 Order
   pub unknown_word : Faults (codes "tasks 1" ∷ codes "disc 0 0 1 1 40" ∷ []) 2 Words

@@ -4,7 +4,7 @@
 ghost use Rattle.std.specs.Prelude.{◌≡◌};
 ghost use Rattle.job_script.specs.declared.cause.Refusal.TheVariants as refusals;
 
-use crate::fault::{FaultName, JobError};
+use crate::fault::FaultName;
 use crate::message::Message;
 use std::alloc::{AllocError, AllocFailed};
 
@@ -31,19 +31,6 @@ impl Cause {
 pub enum Refusal {
     Caused(Cause),
     NoMemory,
-}
-
-impl Refusal {
-    /// The fault of the line with this number.
-    pub fn at(self, line: usize) -> JobError {
-        match self {
-            Refusal::Caused(cause) => JobError::Line {
-                line,
-                name: cause.name,
-            },
-            Refusal::NoMemory => JobError::NoMemory,
-        }
-    }
 }
 
 impl From<Cause> for Refusal {

@@ -2,7 +2,7 @@
 
 ghost use Rattle.std.specs.Prelude.{◌≡◌, ◌<◌, ◌≤◌, IfOk};
 ghost use Rattle.std.specs.Prelude.{drop};
-ghost use Rattle.job_script.specs.Forms.{address, bytes, dcb_of, digits, extent, extents, has, has_least, index, input_of, joined_bytes, mode_of, number, number_in, subclass, word};
+ghost use Rattle.job_script.specs.Forms.{address, bytes, dcb_name, digits, extent, extents, has, has_least, index, input_of, joined_bytes, mode_of, number, number_in, subclass, word};
 ghost use Rattle.job_script.specs.Lines.{is_comment};
 ghost use Rattle.job_script.specs.Outcomes.{IsNoBytes, Reads, Returns, words_in};
 ghost use Rattle.job_script.specs.declared.fault.FaultName.TheVariants as names;
@@ -252,11 +252,11 @@ fn extent(word: &[u8]) -> Option<Extent>
 
 /// Reads the number of a unit and of one of its DCBs, at least 1.
 #[inline(always)]
-#[tactic(auto, unfolding(crate::specs::Forms::dcb_of))]
+#[tactic(auto, unfolding(crate::specs::Forms::dcb_name))]
 pub fn dcb_of(line: &Words<'_>, unit: usize, dcb: usize) -> Result<DcbName, Cause>
     requires unit { unit < 8 }
     requires dcb { dcb < 8 }
-    ensures { Reads result (dcb_of (word unit (words_in line.now)) (word dcb (words_in line.now))) }
+    ensures { Reads result (dcb_name (word unit (words_in line.now)) (word dcb (words_in line.now))) }
 {
     let unit = index(line, unit)?;
     let number = number_in(line, dcb, 1, 65535)?;

@@ -180,15 +180,15 @@ impl SetUpLine {
 }
 
 impl Verb {
-    ghost use Rattle.job_script.specs.Lines.{kind_of};
+    ghost use Rattle.job_script.specs.Lines.{line_kind};
     ghost use Rattle.script_words.specs.Text.{is_printable};
     ghost use Rattle.job_script.specs.Outcomes.{Reads, words_in};
 
     /// What kind of line it is, or none if it says nothing.
     #[inline(always)]
-    #[tactic(auto, unfolding(crate::specs::Lines::kind_of))]
+    #[tactic(auto, unfolding(crate::specs::Lines::line_kind))]
     pub fn of_line(line: &Words<'_>) -> Result<Option<Verb>, Cause>
-        ensures { Reads result (kind_of (is_printable line.now.line.now) (words_in line.now)) }
+        ensures { Reads result (line_kind (is_printable line.now.line.now) (words_in line.now)) }
     {
         if line.count() == 0 {
             return Ok(None);

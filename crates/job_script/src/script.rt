@@ -1,7 +1,7 @@
 //! A script: its set-up and its commands, as its lines say, and the first fault of its lines.
 
 ghost use Rattle.std.specs.Prelude.{◌≡◌, ◌<◌, ◌≤◌, ◌==◌, ◌++◌, ◌∷◌, [], ℕ, All, Contains, IfOk, OnErr, OnOk, get_or, if◌then◌else◌, vec_len};
-ghost use Rattle.job_script.specs.Commands.{NamesUnits, most, requests_of, requests_to};
+ghost use Rattle.job_script.specs.Commands.{NamesUnits, most, request_count_of, request_count_to};
 ghost use Rattle.job_script.specs.Outcomes.{IsNamed};
 ghost use Rattle.job_script.specs.Tasks.{list_of, places_of};
 ghost use Rattle.job_script.specs.declared.command.Command.{Command as OneCommand};
@@ -39,7 +39,7 @@ pub struct Script {
 
 impl Script {
     ghost use Rattle.job_script.specs.Adding.{add_command, add_line};
-    ghost use Rattle.job_script.specs.Grammar.{adds, adds_set_up, lacks, script_of, with_line};
+    ghost use Rattle.job_script.specs.Grammar.{adds, adds_set_up, lacks, script_of, script_with_line};
     ghost use Rattle.job_script.specs.LineViews.{set_up_line_said};
     ghost use Rattle.job_script.specs.Outcomes.{Gives, Leads, LeadsAt, words_in};
     ghost use Rattle.job_script.specs.Lines.{by_verb, set_up_line};
@@ -89,7 +89,7 @@ impl Script {
         number: usize,
         line: &Words<'_>,
     ) -> Result<(), JobError>
-        ensures { LeadsAt number result (said self.new) (with_line number line.now.line.now (said self.old)) }
+        ensures { LeadsAt number result (said self.new) (script_with_line number line.now.line.now (said self.old)) }
     {
         match self.read_line(alloc, number, line) {
             Ok(()) => Ok(()),
@@ -104,7 +104,7 @@ impl Script {
     /// Adds what the line with this number says.
     #[tactic(auto, unfolding(crate::specs::Adding::add_line))]
     fn read_line(&mut self, alloc: Global, number: usize, line: &Words<'_>) -> Result<(), Refusal>
-        ensures { Leads result (said self.new) (with_line number line.now.line.now (said self.old)) }
+        ensures { Leads result (said self.new) (script_with_line number line.now.line.now (said self.old)) }
     {
         match Verb::of_line(line)? {
             None => Ok(()),
@@ -206,7 +206,7 @@ impl Script {
 
     /// The largest number of requests that it issues to one unit.
     pub fn most_to_a_unit(&self) -> usize
-        ensures { result ≡ most (requests_to self.now.commands.items) (vec_len self.now.set_up.units) }
+        ensures { result ≡ most (request_count_to self.now.commands.items) (vec_len self.now.set_up.units) }
     {
         let counts = self.requests_to_units();
         let mut largest = 0;
@@ -218,7 +218,7 @@ impl Script {
 
     /// For each unit, how many requests it issues to the unit.
     fn requests_to_units(&self) -> [usize; 64]
-        ensures { (unit : ℕ) → unit < 64 → get_or result unit 0 ≡ requests_to self.now.commands.items unit }
+        ensures { (unit : ℕ) → unit < 64 → get_or result unit 0 ≡ request_count_to self.now.commands.items unit }
     {
         let mut counts = [0; 64];
         for command in &self.commands {
@@ -231,7 +231,7 @@ impl Script {
 
     /// The largest number of requests that one of its tasks issues.
     pub fn most_of_a_task(&self) -> usize
-        ensures { result ≡ most (requests_of self.now.commands.items) self.now.set_up.tasks }
+        ensures { result ≡ most (request_count_of self.now.commands.items) self.now.set_up.tasks }
     {
         let counts = self.requests_of_tasks();
         let mut largest = 0;
@@ -243,7 +243,7 @@ impl Script {
 
     /// For each task, how many requests it issues.
     fn requests_of_tasks(&self) -> [usize; 64]
-        ensures { (task : ℕ) → task < 64 → get_or result task 0 ≡ requests_of self.now.commands.items task }
+        ensures { (task : ℕ) → task < 64 → get_or result task 0 ≡ request_count_of self.now.commands.items task }
     {
         let mut counts = [0; 64];
         for command in &self.commands {

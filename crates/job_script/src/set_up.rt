@@ -1,7 +1,7 @@
 //! What the set-up lines of a script declare: its tasks, units, DCBs and areas; and the faults of such lines: of their
 //! order, of names, of kinds and of areas.
 
-ghost use Rattle.std.specs.Prelude.{◌≡◌, ◌≤◌, ◌<◌, OnOk, vec_len};
+ghost use Rattle.std.specs.Prelude.{◌≡◌, ◌≤◌, ◌<◌, OnErr, OnOk, vec_len};
 ghost use Rattle.std.specs.Arc.{arc_value};
 ghost use Rattle.job_script.specs.Commands.{NamesUnits};
 ghost use Rattle.job_script.specs.Outcomes.{IsNamed, IsNoArea, MakesArea};
@@ -66,7 +66,7 @@ pub struct SetUp {
 }
 
 impl SetUp {
-    ghost use Rattle.job_script.specs.Adding.{add_area, add_set_up, add_tasks, add_unit, excp_of, names_command, is_dcb, is_task};
+    ghost use Rattle.job_script.specs.Adding.{add_area, add_set_up, add_tasks, add_unit, excp_command, names_command, is_dcb, is_task};
     ghost use Rattle.job_script.specs.Adding.{add_fault, add_item, add_opening, add_record, change_unit, numbered};
     ghost use Rattle.job_script.specs.LineViews.{set_up_line_said, unit_line_said};
     ghost use Rattle.job_script.specs.Outcomes.{Leads, Reads, Returns};
@@ -147,9 +147,9 @@ impl SetUp {
 
     /// The command of an EXCP, with its area.
     #[inline(always)]
-    #[tactic(auto, unfolding(crate::specs::Adding::excp_of))]
+    #[tactic(auto, unfolding(crate::specs::Adding::excp_command))]
     pub fn excp(&self, line: ExcpLine) -> Result<Command, Refusal>
-        ensures { Returns command_said result (excp_of line (set_up_said self.now)) }
+        ensures { Returns command_said result (excp_command line (set_up_said self.now)) }
     {
         let area = self.area(line.area)?;
         Ok(Command {
@@ -163,7 +163,8 @@ impl SetUp {
     #[inline(always)]
     #[tactic(auto, unfolding(crate::specs::Adding::add_set_up))]
     pub fn add(&mut self, alloc: Global, number: usize, line: SetUpLine) -> Result<(), Refusal>
-        ensures { Leads result (set_up_said self.new) (add_set_up (set_up_line_said line) (set_up_said self.old)) }
+        ensures adds { Leads result (set_up_said self.new) (add_set_up (set_up_line_said line) (set_up_said self.old)) }
+        ensures kept { OnErr result (set_up_said self.new ≡ set_up_said self.old) }
     {
         match line {
             SetUpLine::Tasks(line) => self.add_tasks(line),
@@ -180,7 +181,8 @@ impl SetUp {
     #[inline(always)]
     #[tactic(auto, unfolding(crate::specs::Adding::add_tasks))]
     fn add_tasks(&mut self, line: TasksLine) -> Result<(), Refusal>
-        ensures { Leads result (set_up_said self.new) (add_tasks line.tasks (set_up_said self.old)) }
+        ensures adds { Leads result (set_up_said self.new) (add_tasks line.tasks (set_up_said self.old)) }
+        ensures kept { OnErr result (set_up_said self.new ≡ set_up_said self.old) }
     {
         if self.tasks != 0 {
             return Err(order("the number of tasks is declared once", &[]));
@@ -193,7 +195,8 @@ impl SetUp {
     #[inline(always)]
     #[tactic(auto, unfolding(crate::specs::Adding::add_unit))]
     fn add_unit(&mut self, alloc: Global, line: UnitLine) -> Result<(), Refusal>
-        ensures { Leads result (set_up_said self.new) (add_unit line.number (unit_line_said line) (set_up_said self.old)) }
+        ensures adds { Leads result (set_up_said self.new) (add_unit line.number (unit_line_said line) (set_up_said self.old)) }
+        ensures kept { OnErr result (set_up_said self.new ≡ set_up_said self.old) }
     {
         if usize::from(line.number) != self.units.len() {
             let numbers = [u64::from(line.number), self.units.len() as u64];
@@ -206,7 +209,8 @@ impl SetUp {
     /// A record lies on a disk.
     #[inline(always)]
     fn add_record(&mut self, place: usize, line: usize, added: InitialRecord) -> Result<(), Refusal>
-        ensures { Leads result (set_up_said self.new) (change_unit place (add_record (record_said added)) (set_up_said self.old)) }
+        ensures adds { Leads result (set_up_said self.new) (change_unit place (add_record (record_said added)) (set_up_said self.old)) }
+        ensures kept { OnErr result (set_up_said self.new ≡ set_up_said self.old) }
     {
         if place >= self.units.len() {
             return Err(Refusal::Caused(self.no_unit(place)));
@@ -218,7 +222,8 @@ impl SetUp {
     /// A block or a mark lies on a tape.
     #[inline(always)]
     fn add_item(&mut self, place: usize, line: usize, item: InitialItem) -> Result<(), Refusal>
-        ensures { Leads result (set_up_said self.new) (change_unit place (add_item (initial item)) (set_up_said self.old)) }
+        ensures adds { Leads result (set_up_said self.new) (change_unit place (add_item (initial item)) (set_up_said self.old)) }
+        ensures kept { OnErr result (set_up_said self.new ≡ set_up_said self.old) }
     {
         if place >= self.units.len() {
             return Err(Refusal::Caused(self.no_unit(place)));
@@ -230,7 +235,8 @@ impl SetUp {
     /// A unit meets a fault.
     #[inline(always)]
     fn add_fault(&mut self, place: usize, line: usize, fault: DeviceFault) -> Result<(), Refusal>
-        ensures { Leads result (set_up_said self.new) (change_unit place (add_fault fault) (set_up_said self.old)) }
+        ensures adds { Leads result (set_up_said self.new) (change_unit place (add_fault fault) (set_up_said self.old)) }
+        ensures kept { OnErr result (set_up_said self.new ≡ set_up_said self.old) }
     {
         if place >= self.units.len() {
             return Err(Refusal::Caused(self.no_unit(place)));
@@ -242,7 +248,8 @@ impl SetUp {
     /// A DCB has the next number of its unit.
     #[inline(always)]
     fn add_opening(&mut self, place: usize, opening: Opening) -> Result<(), Refusal>
-        ensures { Leads result (set_up_said self.new) (change_unit place (add_opening (opening_said opening)) (set_up_said self.old)) }
+        ensures adds { Leads result (set_up_said self.new) (change_unit place (add_opening (opening_said opening)) (set_up_said self.old)) }
+        ensures kept { OnErr result (set_up_said self.new ≡ set_up_said self.old) }
     {
         if place >= self.units.len() {
             return Err(Refusal::Caused(self.no_unit(place)));
@@ -255,7 +262,8 @@ impl SetUp {
     #[inline(always)]
     #[tactic(auto, unfolding(crate::specs::Adding::add_area))]
     fn add_area(&mut self, alloc: Global, line: AreaLine) -> Result<(), Refusal>
-        ensures { Leads result (set_up_said self.new) (add_area line.number (record { base = line.base; bytes = line.bytes.items }) (set_up_said self.old)) }
+        ensures adds { Leads result (set_up_said self.new) (add_area line.number (record { base = line.base; bytes = line.bytes.items }) (set_up_said self.old)) }
+        ensures kept { OnErr result (set_up_said self.new ≡ set_up_said self.old) }
     {
         let expected = self.areas.len() as u64;
         if line.number != expected {
@@ -306,51 +314,59 @@ impl UnitSetup {
         line: usize,
         added: InitialRecord,
     ) -> Result<(), Refusal>
-        ensures { Leads result (unit_said self.new) (add_record (record_said added) (unit_said self.old)) }
+        ensures adds { Leads result (unit_said self.new) (add_record (record_said added) (unit_said self.old)) }
+        ensures kept { OnErr result (unit_said self.new ≡ unit_said self.old) }
     {
         match &mut self.medium {
             Medium::Disk(_, records) => {
                 records.reserve(1)?;
+                self.content_lines.reserve(1)?;
                 records.push_reserved(added);
             }
             Medium::Tape(_, _) => return Err(kind("unit {n} is no disk", number)),
             Medium::Printer { .. } => return Err(kind("unit {n} is no disk", number)),
         }
-        self.content_lines.push(line)?;
+        self.content_lines.push_reserved(line);
         Ok(())
     }
 
     /// An item of the line lies on it, if it is a tape. Its number serves the message.
     #[inline(always)]
     fn add_item(&mut self, number: usize, line: usize, item: InitialItem) -> Result<(), Refusal>
-        ensures { Leads result (unit_said self.new) (add_item (initial item) (unit_said self.old)) }
+        ensures adds { Leads result (unit_said self.new) (add_item (initial item) (unit_said self.old)) }
+        ensures kept { OnErr result (unit_said self.new ≡ unit_said self.old) }
     {
         match &mut self.medium {
             Medium::Tape(_, items) => {
                 items.reserve(1)?;
+                self.content_lines.reserve(1)?;
                 items.push_reserved(item);
             }
             Medium::Disk(_, _) => return Err(kind("unit {n} is no tape", number)),
             Medium::Printer { .. } => return Err(kind("unit {n} is no tape", number)),
         }
-        self.content_lines.push(line)?;
+        self.content_lines.push_reserved(line);
         Ok(())
     }
 
     /// It meets a fault of the line.
     #[inline(always)]
     fn add_fault(&mut self, line: usize, fault: DeviceFault) -> Result<(), Refusal>
-        ensures { Leads result (unit_said self.new) (add_fault fault (unit_said self.old)) }
+        ensures adds { Leads result (unit_said self.new) (add_fault fault (unit_said self.old)) }
+        ensures kept { OnErr result (unit_said self.new ≡ unit_said self.old) }
     {
-        self.faults.push(fault)?;
-        self.fault_lines.push(line)?;
+        self.faults.reserve(1)?;
+        self.fault_lines.reserve(1)?;
+        self.faults.push_reserved(fault);
+        self.fault_lines.push_reserved(line);
         Ok(())
     }
 
     /// It has one more DCB.
     #[inline(always)]
     fn add_opening(&mut self, opening: Opening) -> Result<(), Refusal>
-        ensures { Leads result (unit_said self.new) (add_opening (opening_said opening) (unit_said self.old)) }
+        ensures adds { Leads result (unit_said self.new) (add_opening (opening_said opening) (unit_said self.old)) }
+        ensures kept { OnErr result (unit_said self.new ≡ unit_said self.old) }
     {
         self.openings.push(opening)?;
         Ok(())

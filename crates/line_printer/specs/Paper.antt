@@ -20,12 +20,12 @@ abbrev pub skipped : Position → Position
 skipped at = record { page = at.page + 1; line = 1 }
 
 -- WHERE A MOTION LEADS
-abbrev pub moved : Motion → Position → Position
-moved motion.Suppress at = at
-moved motion.SpaceOne at = spaced 1 at
-moved motion.SpaceTwo at = spaced 2 at
-moved motion.SpaceThree at = spaced 3 at
-moved motion.SkipToChannelOne at = skipped at
+abbrev pub after_motion : Motion → Position → Position
+after_motion motion.Suppress at = at
+after_motion motion.SpaceOne at = spaced 1 at
+after_motion motion.SpaceTwo at = spaced 2 at
+after_motion motion.SpaceThree at = spaced 3 at
+after_motion motion.SkipToChannelOne at = skipped at
 
 -- where the paper stands when it is put in
 abbrev pub first_line : Position

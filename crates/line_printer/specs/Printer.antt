@@ -12,7 +12,7 @@ use Rattle.line_printer.specs.declared.command.Command.{Command}
 use Rattle.line_printer.specs.declared.command.Command.TheVariants.{NoOperation, Sense, Print, Move}
 use Rattle.line_printer.specs.declared.paper.Motion.{Motion}
 use Rattle.line_printer.specs.declared.paper.Position.{Position}
-use Rattle.line_printer.specs.Paper.{Line, moved}
+use Rattle.line_printer.specs.Paper.{Line, after_motion}
 use Rattle.line_printer.specs.Command.{command_of, flow_of}
 
 -- A PRINTER: how many lines and pages it prints at most, the lines that it has printed, the oldest first, and the
@@ -44,7 +44,7 @@ with_line printer bytes to = record printer { printed = printer.printed ++ recor
 -- channel 1. Without room for the line, or behind the last page, the operator has to put paper in
 abbrev pub print : PrinterState → Motion → List ℕ → Outcome PrinterState
 print printer motion given =
-    let to = moved motion printer.at in
+    let to = after_motion motion printer.at in
     let bytes = columns_of given in
     if is_full printer || is_past printer to then checked printer intervention_required
     else unchanged (with_line printer bytes to) (normal_end (length bytes))
@@ -52,7 +52,7 @@ print printer motion given =
 -- MOVE the paper at once: 0B by one line, 13 by two, 1B by three, 8B to channel 1
 abbrev pub move : PrinterState → Motion → Outcome PrinterState
 move printer motion =
-    let to = moved motion printer.at in
+    let to = after_motion motion printer.at in
     if is_past printer to then checked printer intervention_required else unchanged (record printer { at = to }) (normal_end 0)
 
 -- ---- the printer as a device

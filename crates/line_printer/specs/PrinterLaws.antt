@@ -6,7 +6,7 @@ use Rattle.device_port.specs.Meaning.{Outcome, Lawful, GivesWhatItWants}
 use Rattle.device_port.specs.MeaningLaws.{gives_nothing}
 use Rattle.line_printer.specs.declared.command.Command.{Command}
 use Rattle.line_printer.specs.declared.command.Command.TheVariants.{NoOperation, Sense, Print, Move}
-use Rattle.line_printer.specs.Paper.{moved}
+use Rattle.line_printer.specs.Paper.{after_motion}
 use Rattle.line_printer.specs.Command.{command_of, flow_of}
 use Rattle.line_printer.specs.Printer.{PrinterState, printer, is_past, command_on, act_by}
 
@@ -20,7 +20,7 @@ command_gives p None given = refl
 command_gives p (Some NoOperation) given = refl
 command_gives p (Some Sense) given = refl
 command_gives p (Some (Print motion)) given = tt
-command_gives p (Some (Move motion)) given = either_wants (is_past p (moved motion p.at)) _ _ refl refl
+command_gives p (Some (Move motion)) given = either_wants (is_past p (after_motion motion p.at)) _ _ refl refl
 
 gives_by : (fault : Option Fault) (p : PrinterState) (code : ℕ) (given : List ℕ)
     → GivesWhatItWants (flow_of (command_of code)) (act_by fault p code given)

@@ -1,7 +1,7 @@
 //! Where the paper stands, and how it moves.
 
 ghost use Rattle.std.specs.Prelude.{◌≡◌, ◌≤◌, ◌<◌, ◌^◌};
-ghost use Rattle.line_printer.specs.Paper.{IsOnPage, moved, spaced};
+ghost use Rattle.line_printer.specs.Paper.{IsOnPage, after_motion, spaced};
 
 /// The lines of a page.
 const PAGE_LINES: u8 = 66;
@@ -30,7 +30,7 @@ impl Position {
     pub fn moved(self, motion: Motion) -> Self
         requires on_page { IsOnPage self }
         requires small { self.page < 2 ^ 15 }
-        ensures position { result ≡ moved motion self }
+        ensures position { result ≡ after_motion motion self }
         ensures on_page { IsOnPage result }
     {
         match motion {

@@ -18,7 +18,7 @@ use Rattle.fifo_row.specs.Lists.{of}
 use Rattle.excp_system.specs.Drained.{Drained, IsDrained}
 use Rattle.excp_system.specs.Sites.{task_of, for_task}
 use Rattle.excp_system.specs.States.{Locked, TaskState}
-use Rattle.post_ledger.specs.Parting.{AreSettled, IsSound, book_of}
+use Rattle.post_ledger.specs.Parting.{AreSettled, BookKeeps, book_of}
 use Rattle.post_ledger.specs.Report.{AreIdle, AreLegal, PostedOnce, Received, ReportState, ReturnedRest}
 use Rattle.post_ledger.specs.Work.{list_of, lists_of}
 use Rattle.post_ledger.proofs.Pairs.{all_get, all_map, all_weaker, get_map}
@@ -28,11 +28,11 @@ module _ {D : Type 0} (meaning : Meaning D) (units : List (Locked D)) (tasks : L
   unit_at : (u : ℕ) (b : Book D) → slice_get report.books u ≡ Some b → (v : Locked D) × (slice_get units u ≡ Some v) × (b ≡ v.book)
   unit_at u b e = get_map book_of units u b (ap (λ l. slice_get l u) (sym are) ∙ e)
 
-  pub are_legal : All (λ (v : Locked D). IsSound meaning v.book) units → AreLegal meaning report
+  pub are_legal : All (λ (v : Locked D). BookKeeps meaning v.book) units → AreLegal meaning report
   are_legal sound =
       subst (All (λ (b : Book D). Legal meaning b.mounted b.trace)) (sym are)
       (all_map book_of (λ (b : Book D). Legal meaning b.mounted b.trace) units
-      (all_weaker (λ (v : Locked D). IsSound meaning v.book) (λ (v : Locked D). Legal meaning v.book.mounted v.book.trace) units (λ v s. s.legal) sound))
+      (all_weaker (λ (v : Locked D). BookKeeps meaning v.book) (λ (v : Locked D). Legal meaning v.book.mounted v.book.trace) units (λ v s. s.legal) sound))
 
   pub are_idle : All (λ (v : Locked D). IsIdle v.book.trace) units → AreIdle report
   are_idle idle = subst (All (λ (b : Book D). IsIdle b.trace)) (sym are) (all_map book_of (λ (b : Book D). IsIdle b.trace) units idle)
@@ -49,13 +49,13 @@ module _ {D : Type 0} (meaning : Meaning D) (units : List (Locked D)) (tasks : L
         (Each-filter (λ r. posts_of r.name b.trace ≡ 1) (λ (r : Piece). r.name.task == t) (arrivals b.trace) (law b.mounted b.trace l i.none_waits i.none_active))
 
     -- nothing is out, so that all that was posted was given
-    all_given : (v : Locked D) → IsSound meaning v.book → v.book.out ≡ [] → given meaning v.book ≡ posted meaning v.book.mounted v.book.trace
+    all_given : (v : Locked D) → BookKeeps meaning v.book → v.book.out ≡ [] → given meaning v.book ≡ posted meaning v.book.mounted v.book.trace
     all_given v sound none = sym (append-nil (given meaning v.book)) ∙ (ap (λ l. given meaning v.book ++ l) (sym none) ∙ sound.given)
 
-    pub returned_rest : (lists : List (List (List PostedState))) → report.lists ≡ lists → All (λ (v : Locked D). IsSound meaning v.book) units → Drained meaning units tasks → ReturnedRest meaning lists report tasks
+    pub returned_rest : (lists : List (List (List PostedState))) → report.lists ≡ lists → All (λ (v : Locked D). BookKeeps meaning v.book) units → Drained meaning units tasks → ReturnedRest meaning lists report tasks
     returned_rest lists same sound drained u t b w e e' before got =
         let v = unit_at u b e in
-        let s = all_get (λ (x : Locked D). IsSound meaning x.book) units u v.0 sound v.1 in
+        let s = all_get (λ (x : Locked D). BookKeeps meaning x.book) units u v.0 sound v.1 in
         let d = all_get (IsDrained meaning tasks) units u v.0 drained v.1 in
         ap (λ l. before ++ list_of (lists_of l t) u) same
         ∙ (sym got

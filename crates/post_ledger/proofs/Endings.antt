@@ -14,11 +14,11 @@ use Rattle.excp_system.specs.Sites.{unit_of}
 use Rattle.excp_system.specs.States.{Locked, TaskState, sent_by}
 use Rattle.post_ledger.specs.Parting.{Paired, book_of}
 use Rattle.post_ledger.specs.Report.{PostedOnce, Received, ReportState, ReturnedRest}
-use Rattle.post_ledger.specs.Work.{Collects, Gathers, Grew, Works, list_of, lists_of}
+use Rattle.post_ledger.specs.Work.{CollectsAll, Gathers, Grew, Works, list_of, lists_of}
 use Rattle.post_ledger.proofs.Pairs.{get_map, get_there}
 
 -- a task that has collected has sent what it had sent
-module _ {D : Type 0} (units : ℕ) (first tasks : List TaskState) (before after : List (List (List PostedState))) (c : Collects units first tasks before after) (report : ReportState D) where
+module _ {D : Type 0} (units : ℕ) (first tasks : List TaskState) (before after : List (List (List PostedState))) (c : CollectsAll units first tasks before after) (report : ReportState D) where
   later : (t : ℕ) (w : TaskState) → slice_get first t ≡ Some w → (v : TaskState) × (slice_get tasks t ≡ Some v) × Gathers units w v (lists_of before t) (lists_of after t)
   later t w e = let v = get_there tasks first t w (sym c.count) e in (v.0, v.1, c.each t w v.0 e v.1)
 

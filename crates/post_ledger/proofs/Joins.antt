@@ -8,14 +8,14 @@ use Rattle.std.proofs.Math.ListN.{length-set}
 use mathlib.Core.Logic.{dite}
 use native.Mathlib.Decide.{ℕ_discrete}
 use Rattle.fifo_row.specs.Ends.{Sending, Taking}
-use Rattle.fifo_row.specs.Lists.{of, Begins}
+use Rattle.fifo_row.specs.Lists.{of, BeginsWith}
 use Rattle.excp_system.proofs.Places.{get_set_same, get_set_other, get_seam, some_is}
-use Rattle.excp_system.specs.Sites.{Reached, end_of}
+use Rattle.excp_system.specs.Sites.{ReachedRows, end_of}
 use Rattle.excp_system.specs.Fans.{FanState, sent_to}
 use Rattle.post_ledger.specs.Rows.{AreDrained, AreEnds, shorter}
 
 -- a beginning as long as the whole is the whole
-pub whole : {A : Type 0} (xs ys : List A) → Begins xs ys → length ys ≡ length xs → xs ≡ ys
+pub whole : {A : Type 0} (xs ys : List A) → BeginsWith xs ys → length ys ≡ length xs → xs ≡ ys
 whole [] [] p e = refl
 whole [] (y ∷ ys) p e = absurd (omega arith)
 whole (x ∷ xs) [] p e = absurd (omega arith)
@@ -28,7 +28,7 @@ pub record Turn {I : Type 0} (from : I → ℕ) (k t : ℕ) (taken : List I) (ol
   pub after : (j : ℕ) → t ≤ j → slice_get now j ≡ slice_get old j
   pub done : (j : ℕ) (f : FanState I) → j < t → slice_get old j ≡ Some f → of from j taken ≡ sent_to f k
 
-module _ {I : Type 0} (from : I → ℕ) (r : Reached) (k t : ℕ) (taken : List I) (old now : List (FanState I)) (turn : Turn from k t taken old now) (d : AreDrained from taken k old) (lt : t < length now) (f : FanState I) (at : f ≡ get_or now t f) where
+module _ {I : Type 0} (from : I → ℕ) (r : ReachedRows) (k t : ℕ) (taken : List I) (old now : List (FanState I)) (turn : Turn from k t taken old now) (d : AreDrained from taken k old) (lt : t < length now) (f : FanState I) (at : f ≡ get_or now t f) where
   there : slice_get old t ≡ Some f
   there = sym (turn.after t (omega arith)) ∙ (slice_get-get_or now t f lt ∙ ap Some (sym at))
 
@@ -54,9 +54,9 @@ module _ {I : Type 0} (from : I → ℕ) (r : Reached) (k t : ℕ) (taken : List
       sent = sym (ap (λ (g : FanState I). take k g.sent) popped.1 ∙ (ap (λ j. take j (f'.sent ++ s.sent ∷ [])) (sym left) ∙ take-append_seam f'.sent (s.sent ∷ []))) i;
     }
 
-    pub next_turn : Begins (of from s.number taken) s.sent → Turn from k (t + 1) taken old (set now t f')
+    pub next_turn : BeginsWith (of from s.number taken) s.sent → Turn from k (t + 1) taken old (set now t f')
     next_turn begins =
-        let begins' : Begins (of from t taken) s.sent = subst (λ j. Begins (of from j taken) s.sent) number_is begins in
+        let begins' : BeginsWith (of from t taken) s.sent = subst (λ j. BeginsWith (of from j taken) s.sent) number_is begins in
         let long : length s.sent ≡ length (of from t taken) = ap length (sym last_is) ∙ (d t f there).drained in
         let mine : of from t taken ≡ s.sent = whole (of from t taken) s.sent begins' long in
         record {
@@ -83,7 +83,7 @@ module _ {I : Type 0} (from : I → ℕ) (k t : ℕ) (taken : List I) (old now :
 
 -- rows that are joined from the last one on
 pub record Rest {I : Type 0} (from : I → ℕ) (takers₀ takers : List (Taking I)) (fans₀ fans : List (FanState I)) : Type 0 where
-  pub begins : Begins takers takers₀
+  pub begins : BeginsWith takers takers₀
   pub count : length fans ≡ length fans₀
   pub fans_are : (t : ℕ) (f : FanState I) → slice_get fans₀ t ≡ Some f → slice_get fans t ≡ Some (shorter (length takers) f)
   pub done : (k t : ℕ) (w : Taking I) (f : FanState I) → length takers ≤ k → slice_get takers₀ k ≡ Some w → slice_get fans₀ t ≡ Some f → of from t w.taken ≡ sent_to f k
@@ -98,7 +98,7 @@ take_less zero xs = refl
 take_less (suc k) [] = rw add-one refl
 take_less (suc k) (x ∷ xs) = rw add-one (ap (λ l. x ∷ l) (ap (λ n. take k (take n xs)) (sym (add-one k)) ∙ take_less k xs))
 
-module _ {I : Type 0} (from : I → ℕ) (r : Reached) (takers₀ : List (Taking I)) (fans₀ : List (FanState I)) (ends : AreEnds from r takers₀ fans₀) where
+module _ {I : Type 0} (from : I → ℕ) (r : ReachedRows) (takers₀ : List (Taking I)) (fans₀ : List (FanState I)) (ends : AreEnds from r takers₀ fans₀) where
   pub rest_init : Rest from takers₀ takers₀ fans₀ fans₀
   rest_init = record {
     begins = ([], append-nil takers₀);

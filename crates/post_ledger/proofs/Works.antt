@@ -30,7 +30,7 @@ use Rattle.excp_system.specs.States.{Locked, TaskState}
 use Rattle.excp_system.specs.declared.answer.Intake.{Intake}
 use Rattle.excp_system.specs.declared.answer.Intake.TheVariants as intake
 use Rattle.post_ledger.specs.Parting.{Paired}
-use Rattle.post_ledger.specs.Work.{Collects, Gathers, Works, is_work, list_of, lists_of, values_of}
+use Rattle.post_ledger.specs.Work.{CollectsAll, Gathers, Works, is_work, list_of, lists_of, items_of_all}
 use Rattle.post_ledger.proofs.Pairs.{get_there, new_is, there}
 
 -- what was added, to a list of entries
@@ -147,21 +147,21 @@ module _ (units : ℕ) where
 
   -- the same in a vector of lists, one of which has the value pushed
   pub gathers_push : {A : Type 0} (old new : TaskState) (lists : List (Vec PostedState A)) (list longer : Vec PostedState A) (p : PostedState) → p.unit < length lists → list ≡ get_or lists p.unit list →
-      longer.items ≡ list.items ++ p ∷ [] → new ≡ record old { got = old.got ++ p ∷ [] } → Gathers units old new (values_of lists) (values_of (set lists p.unit longer))
+      longer.items ≡ list.items ++ p ∷ [] → new ≡ record old { got = old.got ++ p ∷ [] } → Gathers units old new (items_of_all lists) (items_of_all (set lists p.unit longer))
   gathers_push {A} old new lists list longer p lt at pushed is =
       let items = λ (v : Vec PostedState A). v.items in
-      let there : list_of (values_of lists) p.unit ≡ list.items = get_or-map items lists p.unit list [] lt ∙ ap items (sym at) in
-      let after : set (values_of lists) p.unit (list_of (values_of lists) p.unit ++ p ∷ []) ≡ values_of (set lists p.unit longer) =
-      ap (λ l. set (values_of lists) p.unit (l ++ p ∷ [])) there ∙ ap (set (values_of lists) p.unit) (sym pushed) ∙ sym (map-set items lists p.unit longer) in
-      subst (Gathers units old new (values_of lists)) after (gathers_one old new (values_of lists) p (omega (arith, lt, length-map lists items)) is)
+      let there : list_of (items_of_all lists) p.unit ≡ list.items = get_or-map items lists p.unit list [] lt ∙ ap items (sym at) in
+      let after : set (items_of_all lists) p.unit (list_of (items_of_all lists) p.unit ++ p ∷ []) ≡ items_of_all (set lists p.unit longer) =
+      ap (λ l. set (items_of_all lists) p.unit (l ++ p ∷ [])) there ∙ ap (set (items_of_all lists) p.unit) (sym pushed) ∙ sym (map-set items lists p.unit longer) in
+      subst (Gathers units old new (items_of_all lists)) after (gathers_one old new (items_of_all lists) p (omega (arith, lt, length-map lists items)) is)
 
-  pub collects_none : (tasks : List TaskState) (lists : List (List (List PostedState))) → Collects units tasks tasks lists lists
+  pub collects_none : (tasks : List TaskState) (lists : List (List (List PostedState))) → CollectsAll units tasks tasks lists lists
   collects_none tasks lists = record {
     count = refl;
     each = λ t w v e e'. subst (λ (q : TaskState). Gathers units w q (lists_of lists t) (lists_of lists t)) (some_is w v (sym e ∙ e')) (gathers_none w (lists_of lists t));
   }
 
-  pub collects_more : {a b c : List TaskState} {k l m : List (List (List PostedState))} → Collects units a b k l → Collects units b c l m → Collects units a c k m
+  pub collects_more : {a b c : List TaskState} {k l m : List (List (List PostedState))} → CollectsAll units a b k l → CollectsAll units b c l m → CollectsAll units a c k m
   collects_more {a = a} {b = b} {c = c} {k = k} {l = l} {m = m} x y = record {
     count = y.count ∙ x.count;
     each = λ t w v e e'.
@@ -172,7 +172,7 @@ module _ (units : ℕ) where
   -- one task and its lists go on
   module _ (tasks : List TaskState) (lists : List (List (List PostedState))) (i : ℕ) (old new : TaskState) (from to : List (List PostedState))
       (lt : i < length tasks) (lt' : i < length lists) (at : old ≡ get_or tasks i old) (at' : from ≡ get_or lists i from) where
-    collects_set : Gathers units old new from to → Collects units tasks (set tasks i new) lists (set lists i to)
+    collects_set : Gathers units old new from to → CollectsAll units tasks (set tasks i new) lists (set lists i to)
     collects_set step = record {
       count = length-set tasks i new;
       each = λ t w v e e'. dite (ℕ_discrete t i)
@@ -188,10 +188,10 @@ module _ (units : ℕ) where
           subst (λ (q : TaskState × List (List PostedState)). Gathers units w q.0 (lists_of lists t) q.1) (λ j. (w_is j, same j)) (gathers_none w (lists_of lists t)));
     }
 
-    pub collects_next : {first : List TaskState} {kept : List (List (List PostedState))} → Collects units first tasks kept lists → Gathers units old new from to → Collects units first (set tasks i new) kept (set lists i to)
+    pub collects_next : {first : List TaskState} {kept : List (List (List PostedState))} → CollectsAll units first tasks kept lists → Gathers units old new from to → CollectsAll units first (set tasks i new) kept (set lists i to)
     collects_next so_far step = collects_more so_far (collects_set step)
 
-  pub placed_tasks : (count : ℕ) {first tasks : List TaskState} {before after : List (List (List PostedState))} → ArePlaced (λ (w : TaskState). w.number) count first → Collects units first tasks before after →
+  pub placed_tasks : (count : ℕ) {first tasks : List TaskState} {before after : List (List (List PostedState))} → ArePlaced (λ (w : TaskState). w.number) count first → CollectsAll units first tasks before after →
       ArePlaced (λ (w : TaskState). w.number) count tasks
   placed_tasks count {first = first} {tasks = tasks} placed c = record {
     count_is = c.count ∙ placed.count_is;
@@ -201,7 +201,7 @@ module _ (units : ℕ) where
   }
 
   -- values that stood in lists that were as these
-  pub collects_from : (a b : List TaskState) (k l m : List (List (List PostedState))) → ((t u : ℕ) → list_of (lists_of l t) u ≡ list_of (lists_of k t) u) → Collects units a b l m → Collects units a b k m
+  pub collects_from : (a b : List TaskState) (k l m : List (List (List PostedState))) → ((t u : ℕ) → list_of (lists_of l t) u ≡ list_of (lists_of k t) u) → CollectsAll units a b l m → CollectsAll units a b k m
   collects_from a b k l m same c = record {
     count = c.count;
     each = λ t w v e e'.

@@ -36,7 +36,7 @@ pub record Paired {A B : Type 0} (P : A → B → Type 0) (xs : List A) (ys : Li
 
 module _ {D : Type 0} (meaning : Meaning D) where
   -- what a book keeps: its trace is legal, and what it posted was given or is out
-  pub record IsSound (b : Book D) : Type 0 where
+  pub record BookKeeps (b : Book D) : Type 0 where
     pub legal : Legal meaning b.mounted b.trace
     pub given : given meaning b ++ b.out ≡ posted meaning b.mounted b.trace
 

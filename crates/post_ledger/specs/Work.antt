@@ -30,8 +30,8 @@ pub record Works {D : Type 0} (old new : Locked D) : Type 0 where
   pub book : Grew old.book new.book
 
 -- what is in each of several vectors
-abbrev pub values_of : {X A : Type 0} → List (Vec X A) → List (List X)
-values_of vectors = map (λ vector. vector.items) vectors
+abbrev pub items_of_all : {X A : Type 0} → List (Vec X A) → List (List X)
+items_of_all vectors = map (λ vector. vector.items) vectors
 
 -- the list of a unit, of one list for each
 abbrev pub list_of : List (List PostedState) → ℕ → List PostedState
@@ -48,7 +48,7 @@ pub record Gathers (units : ℕ) (old new : TaskState) (before after : List (Lis
   pub lists : (unit : ℕ) → unit < units → list_of after unit ≡ list_of before unit ++ of unit_of unit values
 
 -- each task has collected values, which stand in its lists
-pub record Collects (units : ℕ) (old new : List TaskState) (before after : List (List (List PostedState))) : Type 0 where
+pub record CollectsAll (units : ℕ) (old new : List TaskState) (before after : List (List (List PostedState))) : Type 0 where
   pub count : length new ≡ length old
   pub each : (t : ℕ) (w v : TaskState) → slice_get old t ≡ Some w → slice_get new t ≡ Some v →
       Gathers units w v (lists_of before t) (lists_of after t)

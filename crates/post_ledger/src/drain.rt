@@ -5,7 +5,7 @@ ghost use Rattle.std.specs.List.{All};
 ghost use Rattle.unit_book.specs.Settle.{IsIdle};
 ghost use Rattle.excp_system.specs.Drained.{ArePlaced, Drained};
 ghost use Rattle.post_ledger.specs.Parting.{Paired};
-ghost use Rattle.post_ledger.specs.Work.{Collects, Works};
+ghost use Rattle.post_ledger.specs.Work.{CollectsAll, Works};
 
 use crate::posts::Posts;
 use device_port::Device;
@@ -81,7 +81,7 @@ fn gather_all<S: Site, R: Wait>(
 ) -> Result<(), AllocError>
     requires count { length posts.old.items ≡ length tasks.old.items }
     requires lists { All (λ lists. length lists ≡ S.rows.units) posts.old.items }
-    ensures collects { Collects S.rows.units tasks.old.items tasks.new.items posts.old.items posts.new.items }
+    ensures collects { CollectsAll S.rows.units tasks.old.items tasks.new.items posts.old.items posts.new.items }
     ensures count { length posts.new.items ≡ length posts.old.items }
     ensures lists { All (λ lists. length lists ≡ S.rows.units) posts.new.items }
 {
@@ -106,7 +106,7 @@ pub(crate) fn drain<S: Site, D: Device, R: Wait>(
     requires count { length posts.old.items ≡ length tasks.old.items }
     requires lists { All (λ lists. length lists ≡ S.rows.units) posts.old.items }
     ensures works { Paired Works units.old.items units.new.items }
-    ensures collects { Collects S.rows.units tasks.old.items tasks.new.items posts.old.items posts.new.items }
+    ensures collects { CollectsAll S.rows.units tasks.old.items tasks.new.items posts.old.items posts.new.items }
     ensures count { length posts.new.items ≡ length posts.old.items }
     ensures lists { All (λ lists. length lists ≡ S.rows.units) posts.new.items }
     ensures idle { OnOk result (All (λ unit. IsIdle unit.book.trace) units.new.items) }

@@ -3,7 +3,7 @@
 ghost use Rattle.std.specs.Prelude.{◌≡◌, ◌≤◌, [], length, map, vec_capacity, vec_len, IfOk};
 ghost use Rattle.std.specs.List.{All};
 ghost use Rattle.excp_system.specs.Drained.{ArePlaced, Drained};
-ghost use Rattle.post_ledger.specs.Parting.{AreSettled, IsBack, IsSound, Paired, book_of, intake_end, out_of, post_end};
+ghost use Rattle.post_ledger.specs.Parting.{AreSettled, IsBack, BookKeeps, Paired, book_of, intake_end, out_of, post_end};
 
 use crate::join::join_rows;
 use device_port::Device;
@@ -73,7 +73,7 @@ fn split_units<'r, S: Site, D: Device>(
     ensures books { result.books.items ≡ map book_of units.entry.items }
     ensures intakes { result.intakes.items ≡ map (intake_end S.rows) units.entry.items }
     ensures backs { Paired (IsBack D.meaning S.rows) units.entry.items result.backs.items }
-    ensures sound { All (λ unit. IsSound D.meaning unit.book) units.entry.items }
+    ensures sound { All (λ unit. BookKeeps D.meaning unit.book) units.entry.items }
 {
     let UnitParts {
         mut books,
@@ -124,7 +124,7 @@ pub(crate) fn join_all<'r, S: Site, D: Device>(
     requires tasks { ArePlaced (λ task. task.number) S.rows.tasks tasks.items }
     requires drained { Drained D.meaning units.items tasks.items }
     ensures books { result.items ≡ map book_of units.entry.items }
-    ensures sound { All (λ unit. IsSound D.meaning unit.book) units.entry.items }
+    ensures sound { All (λ unit. BookKeeps D.meaning unit.book) units.entry.items }
     ensures settled { AreSettled D.meaning units.entry.items tasks.entry.items }
 {
     let Room {

@@ -2,7 +2,7 @@
 
 ghost use Rattle.std.specs.Prelude.{◌≡◌, ◌≤◌, ◌<◌, ℕ, [], length, replicate, IfOk, OnOk, vec_capacity, vec_len};
 ghost use Rattle.std.specs.List.{All};
-ghost use Rattle.post_ledger.specs.Work.{Gathers, list_of, lists_of, values_of};
+ghost use Rattle.post_ledger.specs.Work.{Gathers, list_of, lists_of, items_of_all};
 
 use excp_system::{Site, Task};
 use request_piece::Posted;
@@ -19,11 +19,11 @@ pub(crate) struct Posts {
 impl Model for Posts {
     ghost use Rattle.std.specs.Prelude.{List};
     ghost use Rattle.request_piece.specs.PostedState.{PostedState};
-    ghost use Rattle.post_ledger.specs.Work.{values_of};
+    ghost use Rattle.post_ledger.specs.Work.{items_of_all};
 
     ghost Value = { List (List PostedState) };
 
-    ghost view = { λ p. values_of p.units.items };
+    ghost view = { λ p. items_of_all p.units.items };
 }
 
 impl Posts {
@@ -67,7 +67,7 @@ fn gather<S: Site, R: Wait>(
     lists: &mut Vec<Vec<Posted>>,
 ) -> Result<(), AllocError>
     requires { length lists.old.items ≡ S.rows.units }
-    ensures gathers { Gathers S.rows.units task.old task.new (values_of lists.old.items) (values_of lists.new.items) }
+    ensures gathers { Gathers S.rows.units task.old task.new (items_of_all lists.old.items) (items_of_all lists.new.items) }
     ensures count { length lists.new.items ≡ S.rows.units }
 {
     for _ in rt.forever() {
@@ -85,7 +85,7 @@ fn gather<S: Site, R: Wait>(
 
 /// Makes room for one more value in each list.
 fn make_room(lists: &mut Vec<Vec<Posted>>) -> Result<(), AllocError>
-    ensures values { values_of lists.new.items ≡ values_of lists.old.items }
+    ensures values { items_of_all lists.new.items ≡ items_of_all lists.old.items }
     ensures room { OnOk result (All (λ list. vec_len list < vec_capacity list) lists.new.items) }
 {
     for place in 0..lists.len() {

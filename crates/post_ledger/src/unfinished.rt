@@ -7,7 +7,7 @@ ghost use Rattle.excp_system.specs.Drained.{ArePlaced, Drained};
 ghost use Rattle.post_ledger.specs.Left.{AreLists, GrewInto, IsCause, WorkOn};
 ghost use Rattle.post_ledger.specs.Parting.{Paired, book_of};
 ghost use Rattle.post_ledger.specs.Report.{AreIdle, AreLegal, IsFor, PostedOnce, Received, Returned, ReturnedRest};
-ghost use Rattle.post_ledger.specs.Work.{Collects, Works};
+ghost use Rattle.post_ledger.specs.Work.{CollectsAll, Works};
 
 use crate::cause::Cause;
 use crate::drain::drain;
@@ -73,7 +73,7 @@ impl<'r, S: Site, D: Device> Unfinished<'r, S, D> {
         ensures posted_once { IfOk result (λ report. PostedOnce report self.entry.tasks) }
         ensures returned { IfOk result (λ report. ReturnedRest D.meaning self.entry.lists report self.entry.tasks) }
         ensures grew { IfOk result (λ report. GrewInto self.entry.units report.books) }
-        ensures collects { IfErr result (λ left. Collects S.rows.units self.entry.tasks left.tasks self.entry.lists left.lists) }
+        ensures collects { IfErr result (λ left. CollectsAll S.rows.units self.entry.tasks left.tasks self.entry.lists left.lists) }
         ensures works { IfErr result (λ left. WorkOn self.entry.units left.units) }
         ensures cause { IfErr result (λ left. IsCause S.rows.units left.cause left.units) }
     {
@@ -124,7 +124,7 @@ pub fn finish<'r, S: Site, D: Device, R: Wait>(
     ensures received { IfOk result (λ report. Received report tasks.entry.items) }
     ensures posted_once { IfOk result (λ report. PostedOnce report tasks.entry.items) }
     ensures returned { IfOk result (λ report. Returned D.meaning report tasks.entry.items) }
-    ensures collects { IfErr result (λ left. Collects S.rows.units tasks.entry.items left.tasks [] left.lists) }
+    ensures collects { IfErr result (λ left. CollectsAll S.rows.units tasks.entry.items left.tasks [] left.lists) }
     ensures cause { IfErr result (λ left. IsCause S.rows.units left.cause left.units) }
 {
     let run = Unfinished {
@@ -155,7 +155,7 @@ fn go_on<'r, S: Site, D: Device, R: Wait>(
     ensures posted_once { IfOk result (λ report. PostedOnce report tasks.entry.items) }
     ensures returned { IfOk result (λ report. ReturnedRest D.meaning posts.items report tasks.entry.items) }
     ensures grew { IfOk result (λ report. GrewInto (Some units.entry.items) report.books) }
-    ensures collects { IfErr result (λ left. Collects S.rows.units tasks.entry.items left.tasks posts.items left.lists) }
+    ensures collects { IfErr result (λ left. CollectsAll S.rows.units tasks.entry.items left.tasks posts.items left.lists) }
     ensures works { IfErr result (λ left. WorkOn (Some units.entry.items) left.units) }
     ensures cause { IfErr result (λ left. IsCause S.rows.units left.cause left.units) }
 {
@@ -193,7 +193,7 @@ fn make_ready<'r, S: Site, D: Device, R: Wait>(
     requires tasks { ArePlaced (λ task. task.number) S.rows.tasks tasks.old.items }
     requires lists { AreLists S.rows.units S.rows.tasks posts.old.items }
     ensures works { Paired Works units.old.items units.new.items }
-    ensures collects { Collects S.rows.units tasks.old.items tasks.new.items posts.old.items posts.new.items }
+    ensures collects { CollectsAll S.rows.units tasks.old.items tasks.new.items posts.old.items posts.new.items }
     ensures lists { AreLists S.rows.units S.rows.tasks posts.new.items }
     ensures all { OnOk result (length posts.new.items ≡ S.rows.tasks) }
     ensures idle { OnOk result (All (λ unit. IsIdle unit.book.trace) units.new.items) }

@@ -2,14 +2,14 @@
 
 ghost use Rattle.std.specs.Prelude.{◌≡◌, ◌<◌, ◌≤◌};
 
+use any_device::AnyDevice;
 use anyhow::{Result, bail, ensure};
 use excp_system::{Site, System};
 use io_area::Area;
 use io_images::{Address, Ccw, CcwFlags, Code, Iob, UnitStatus};
 use std::alloc::Global;
 use std::sync::Wait;
-use system_threads::{Alarm, Client, Program};
-use unit_device::UnitDevice;
+use system_threads::{Alarm, Client, TaskProgram};
 
 pub const TAPE: u16 = 0;
 
@@ -22,7 +22,7 @@ const MOST: u16 = 133;
 /// waits behind it too.
 pub struct CopyTape;
 
-impl Program<UnitDevice> for CopyTape {
+impl TaskProgram<AnyDevice> for CopyTape {
     type Outcome = Result<()>;
 
     ghost units = { λ _. 2 };
@@ -31,7 +31,7 @@ impl Program<UnitDevice> for CopyTape {
         &self,
         rt: &R,
         alloc: Global,
-        _: &System<'_, S, UnitDevice>,
+        _: &System<'_, S, AnyDevice>,
         alarm: &Alarm,
         client: &mut Client<'_, S>,
     ) -> Result<()> {

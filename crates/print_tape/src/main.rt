@@ -11,6 +11,7 @@ ghost use Rattle.excp_system.specs.Opening.{AreBooks};
 
 mod copy;
 
+use any_device::AnyDevice;
 use anyhow::Result;
 use copy::{CopyTape, PRINTER};
 use excp_system::Rows;
@@ -20,7 +21,6 @@ use std::io::Write;
 use system_threads::{Workers, run_program};
 use tape_unit::{InitialItem, Tape};
 use unit_book::UnitBook;
-use unit_device::UnitDevice;
 use unit_history::Text;
 
 /// The blocks of the tape, in EBCDIC; the file `stdout` of this crate has them as they are printed.
@@ -48,7 +48,7 @@ fn main(rt: HostRuntime) -> Result<()> {
 }
 
 /// The books of the tape and of the printer, in order of their numbers.
-fn books(alloc: Global) -> Result<Vec<UnitBook<UnitDevice>>>
+fn books(alloc: Global) -> Result<Vec<UnitBook<AnyDevice>>>
     ensures { IfOk result (λ books. AreBooks 2 books.items) }
 {
     let mut items = Vec::new(alloc);
@@ -59,13 +59,13 @@ fn books(alloc: Global) -> Result<Vec<UnitBook<UnitDevice>>>
     let tape = Tape::mount(alloc, &items, 1024, &[])?;
     let printer = Printer::mount(alloc, 100, 2, &[])?;
     let mut books = Vec::with_capacity(alloc, 2)?;
-    books.push_reserved(book(alloc, UnitDevice::Tape(tape))?);
-    books.push_reserved(book(alloc, UnitDevice::Printer(printer))?);
+    books.push_reserved(book(alloc, AnyDevice::Tape(tape))?);
+    books.push_reserved(book(alloc, AnyDevice::Printer(printer))?);
     Ok(books)
 }
 
 /// The book of a unit on subclass 0 with room for two requests, and with DCB 1.
-fn book(alloc: Global, device: UnitDevice) -> Result<UnitBook<UnitDevice>>
+fn book(alloc: Global, device: AnyDevice) -> Result<UnitBook<AnyDevice>>
     ensures { IfOk result (λ book. list_all is_opening book.trace ≡ true) }
 {
     let mut book = UnitBook::new(alloc, device, 0, 2)?;
@@ -74,9 +74,9 @@ fn book(alloc: Global, device: UnitDevice) -> Result<UnitBook<UnitDevice>>
 }
 
 /// Writes the printed lines of the printer among these units, each behind its page and line.
-fn write_paper<W: Write>(out: &mut W, units: &[UnitBook<UnitDevice>]) -> Result<()> {
+fn write_paper<W: Write>(out: &mut W, units: &[UnitBook<AnyDevice>]) -> Result<()> {
     let unit = units.get(usize::from(PRINTER)).map(|book| book.device());
-    let Some(UnitDevice::Printer(printer)) = unit else {
+    let Some(AnyDevice::Printer(printer)) = unit else {
         anyhow::bail!("unit {PRINTER} is no printer");
     };
     for line in printer.printed() {

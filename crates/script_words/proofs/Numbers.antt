@@ -8,7 +8,7 @@ use Rattle.std.proofs.lemmas.Bool.{lt-ltb, le-ltb, le-leb, lt-leb, eq-eqb, ne_eq
 use Rattle.std.proofs.lemmas.List.{take_all, append-nil, get_or-drop, drop-drop, take_more_set}
 use Rattle.std.proofs.lemmas.List.Folds.{list_all_at}
 use Rattle.std.proofs.lemmas.Int.Digits.{digits_value-lt}
-use Rattle.script_words.specs.Forms.{after, all_digits, decimal, hexadecimal, pairs, sized_pairs}
+use Rattle.script_words.specs.Forms.{put_after, all_digits, decimal, hexadecimal, pairs, sized_pairs}
 
 pub all_true : (base : ℕ) (word : List ℕ) → AllDigits base word → all_digits base word ≡ true
 all_true base [] d = refl
@@ -74,64 +74,64 @@ both_good : (a b : ℕ) (more : List ℕ) → digit_value a < 16 → digit_value
 unfolding pairs
 both_good a b more h l = simp (lt-ltb (digit_value a) 16 h, lt-ltb (digit_value b) 16 l)
 
-after_bad : (front : List ℕ) (read whole : Option (List ℕ)) → after front read ≡ whole → read ≡ None → whole ≡ None
+after_bad : (front : List ℕ) (read whole : Option (List ℕ)) → put_after front read ≡ whole → read ≡ None → whole ≡ None
 after_bad front read whole e h = sym e ∙ rw h refl
 
 regroup : (front : List ℕ) (byte : ℕ) (read : Option (List ℕ))
-    → after front (option_map (λ bytes. byte ∷ bytes) read) ≡ after (front ++ byte ∷ []) read
+    → put_after front (option_map (λ bytes. byte ∷ bytes) read) ≡ put_after (front ++ byte ∷ []) read
 regroup front byte (Some x) = ap (λ (bytes : List ℕ). Some bytes) (simp append_assoc)
 regroup front byte None = refl
 
 -- the next pair is none: its first digit, or its second
-pub pair_high : (front rest : List ℕ) (d : ℕ) (whole : Option (List ℕ)) → after front (pairs rest) ≡ whole → 2 ≤ length rest
+pub pair_high : (front rest : List ℕ) (d : ℕ) (whole : Option (List ℕ)) → put_after front (pairs rest) ≡ whole → 2 ≤ length rest
     → d ≡ digit_value (get_or rest 0 0) → 16 ≤ d → whole ≡ None
 pair_high front [] d whole e long is high = absurd (omega arith)
 pair_high front (a ∷ []) d whole e long is high = absurd (omega arith)
 pair_high front (a ∷ b ∷ more) d whole e long is high =
     after_bad front (pairs (a ∷ b ∷ more)) whole e (high_bad a b more (rw (sym is) high))
 
-pub pair_low : (front rest : List ℕ) (d : ℕ) (whole : Option (List ℕ)) → after front (pairs rest) ≡ whole → 2 ≤ length rest
+pub pair_low : (front rest : List ℕ) (d : ℕ) (whole : Option (List ℕ)) → put_after front (pairs rest) ≡ whole → 2 ≤ length rest
     → d ≡ digit_value (get_or rest 1 0) → 16 ≤ d → whole ≡ None
 pair_low front [] d whole e long is low = absurd (omega arith)
 pair_low front (a ∷ []) d whole e long is low = absurd (omega arith)
 pair_low front (a ∷ b ∷ more) d whole e long is low = after_bad front (pairs (a ∷ b ∷ more)) whole e (low_bad a b more (rw (sym is) low))
 
 -- it is one
-pub pair_next : (front rest new : List ℕ) (high low : ℕ) (whole : Option (List ℕ)) → after front (pairs rest) ≡ whole → 2 ≤ length rest
+pub pair_next : (front rest new : List ℕ) (high low : ℕ) (whole : Option (List ℕ)) → put_after front (pairs rest) ≡ whole → 2 ≤ length rest
     → high ≡ digit_value (get_or rest 0 0) → low ≡ digit_value (get_or rest 1 0) → high < 16 → low < 16
-    → new ≡ front ++ (high * 16 + low) ∷ [] → after new (pairs (drop 2 rest)) ≡ whole
+    → new ≡ front ++ (high * 16 + low) ∷ [] → put_after new (pairs (drop 2 rest)) ≡ whole
 pair_next front [] new high low whole e long ish isl h l n = absurd (omega arith)
 pair_next front (a ∷ []) new high low whole e long ish isl h l n = absurd (omega arith)
 pair_next front (a ∷ b ∷ more) new high low whole e long ish isl h l n =
-    let one : after front (pairs (a ∷ b ∷ more)) ≡ after (front ++ (high * 16 + low) ∷ []) (pairs more) =
+    let one : put_after front (pairs (a ∷ b ∷ more)) ≡ put_after (front ++ (high * 16 + low) ∷ []) (pairs more) =
     rw (both_good a b more (rw (sym ish) h) (rw (sym isl) l), sym ish, sym isl) (regroup front (high * 16 + low) (pairs more)) in
     rw n (sym one ∙ e)
 
-pub pair_more : (front rest new : List ℕ) (high low : ℕ) (whole : Option (List ℕ)) → after front (pairs rest) ≡ whole → 2 ≤ length rest
+pub pair_more : (front rest new : List ℕ) (high low : ℕ) (whole : Option (List ℕ)) → put_after front (pairs rest) ≡ whole → 2 ≤ length rest
     → high ≡ digit_value (get_or rest 0 0) → low ≡ digit_value (get_or rest 1 0) → high < 16 → low < 16
-    → new ≡ front ++ (high * 16 + low) ∷ [] → after new (pairs (take (length rest - 2) (drop 2 rest))) ≡ whole
+    → new ≡ front ++ (high * 16 + low) ∷ [] → put_after new (pairs (take (length rest - 2) (drop 2 rest))) ≡ whole
 pair_more front rest new high low whole e long ish isl h l n =
     let left : take (length rest - 2) (drop 2 rest) ≡ drop 2 rest =
     take_all (length rest - 2) (drop 2 rest) (omega (arith, length-drop 2 rest)) in
     rw left (pair_next front rest new high low whole e long ish isl h l n)
 
 -- no pair is left, or one digit
-pub pairs_end : (front rest : List ℕ) (whole : Option (List ℕ)) → after front (pairs rest) ≡ whole → length rest ≡ 0 → whole ≡ Some front
+pub pairs_end : (front rest : List ℕ) (whole : Option (List ℕ)) → put_after front (pairs rest) ≡ whole → length rest ≡ 0 → whole ≡ Some front
 unfolding pairs
 pairs_end front [] whole e none = sym e ∙ ap (λ (bytes : List ℕ). Some bytes) (append-nil front)
 pairs_end front (a ∷ more) whole e none = absurd (omega arith)
 
-pub pairs_odd : (front rest : List ℕ) (whole : Option (List ℕ)) → after front (pairs rest) ≡ whole → length rest < 2 → length rest ≢ 0
+pub pairs_odd : (front rest : List ℕ) (whole : Option (List ℕ)) → put_after front (pairs rest) ≡ whole → length rest < 2 → length rest ≢ 0
     → whole ≡ None
 unfolding pairs
 pairs_odd front [] whole e short some = absurd (some refl)
 pairs_odd front (a ∷ []) whole e short some = sym e
 pairs_odd front (a ∷ b ∷ more) whole e short some = absurd (omega arith)
 
-pub after_none : (front : List ℕ) → after front (Some []) ≡ Some front
+pub after_none : (front : List ℕ) → put_after front (Some []) ≡ Some front
 after_none front = ap (λ (bytes : List ℕ). Some bytes) (append-nil front)
 
-pub after_nothing : (read : Option (List ℕ)) → after [] read ≡ read
+pub after_nothing : (read : Option (List ℕ)) → put_after [] read ≡ read
 after_nothing (Some x) = refl
 after_nothing None = refl
 
@@ -148,7 +148,7 @@ sized_is size word read e is = rw (eq-eqb (length word) (2 * size) e) (sym is)
 first_digit : (word : List ℕ) (at : ℕ) → get_or (drop at word) 0 0 ≡ get_or word at 0
 first_digit word at = get_or-drop at word 0 0 ∙ ap (λ (k : ℕ). get_or word k 0) (add-zero at)
 
-pub place_high : (bytes word : List ℕ) (place d : ℕ) → after (take place bytes) (pairs (drop (2 * place) word)) ≡ pairs word
+pub place_high : (bytes word : List ℕ) (place d : ℕ) → put_after (take place bytes) (pairs (drop (2 * place) word)) ≡ pairs word
     → 2 * place + 2 ≤ length word
     → d ≡ digit_value (get_or word (2 * place) 0) → 16 ≤ d → pairs word ≡ None
 place_high bytes word place d e within is high =
@@ -156,7 +156,7 @@ place_high bytes word place d e within is high =
     let long : 2 ≤ length rest = omega (arith, length-drop (2 * place) word) in
     pair_high (take place bytes) rest d (pairs word) e long (rw (first_digit word (2 * place)) is) high
 
-pub place_low : (bytes word : List ℕ) (place d : ℕ) → after (take place bytes) (pairs (drop (2 * place) word)) ≡ pairs word
+pub place_low : (bytes word : List ℕ) (place d : ℕ) → put_after (take place bytes) (pairs (drop (2 * place) word)) ≡ pairs word
     → 2 * place + 2 ≤ length word
     → d ≡ digit_value (get_or word (2 * place + 1) 0) → 16 ≤ d → pairs word ≡ None
 place_low bytes word place d e within is low =
@@ -164,10 +164,10 @@ place_low bytes word place d e within is low =
     let long : 2 ≤ length rest = omega (arith, length-drop (2 * place) word) in
     pair_low (take place bytes) rest d (pairs word) e long (rw (get_or-drop (2 * place) word 1 0) is) low
 
-pub place_more : (bytes word : List ℕ) (place high low : ℕ) → after (take place bytes) (pairs (drop (2 * place) word)) ≡ pairs word
+pub place_more : (bytes word : List ℕ) (place high low : ℕ) → put_after (take place bytes) (pairs (drop (2 * place) word)) ≡ pairs word
     → 2 * place + 2 ≤ length word → place < length bytes
     → high ≡ digit_value (get_or word (2 * place) 0) → low ≡ digit_value (get_or word (2 * place + 1) 0) → high < 16 → low < 16
-    → after (take (place + 1) (set bytes place (high * 16 + low))) (pairs (drop (2 * (place + 1)) word)) ≡ pairs word
+    → put_after (take (place + 1) (set bytes place (high * 16 + low))) (pairs (drop (2 * (place + 1)) word)) ≡ pairs word
 place_more bytes word place high low e within room ish isl h l =
     let rest = drop (2 * place) word in
     let long : 2 ≤ length rest = omega (arith, length-drop (2 * place) word) in
@@ -178,7 +178,7 @@ place_more bytes word place high low e within room ish isl h l =
     rw (sym tail)
     (pair_next (take place bytes) rest _ high low (pairs word) e long high_is low_is h l (take_more_set bytes place (high * 16 + low) room))
 
-pub place_ends : (bytes word : List ℕ) (place size : ℕ) → after (take place bytes) (pairs (drop (2 * place) word)) ≡ pairs word
+pub place_ends : (bytes word : List ℕ) (place size : ℕ) → put_after (take place bytes) (pairs (drop (2 * place) word)) ≡ pairs word
     → length word ≡ 2 * size → place ≡ size → length bytes ≡ size
     → Some bytes ≡ sized_pairs size word
 place_ends bytes word place size e long end room =

@@ -62,9 +62,9 @@ unfoldable pub joined : List (List ℕ) → Option (List ℕ)
 joined ws = option_map concat (each hex_bytes ws)
 
 -- elements after others, if they were read
-abbrev pub after : {X : Type 0} → List X → Option (List X) → Option (List X)
-after front None = None
-after front (Some others) = Some (front ++ others)
+abbrev pub put_after : {X : Type 0} → List X → Option (List X) → Option (List X)
+put_after front None = None
+put_after front (Some others) = Some (front ++ others)
 
 -- a call that changes a value has left what was to be read, or reports that nothing was, out of memory apart
 abbrev pub Leaves : {S : Type 0} → Result (Unit {0}) FormError → S → Option S → Type 0
@@ -73,7 +73,7 @@ Leaves (Err NotOfForm) new read = read ≡ None
 Leaves (Err OutOfMemory) new read = Unit {0}
 
 -- a call has returned what was to be read, or reports that nothing was, out of memory apart
-abbrev pub Returns : {X Y : Type 0} → (X → Y) → Result X FormError → Option Y → Type 0
-Returns view (Ok x) read = read ≡ Some (view x)
-Returns view (Err NotOfForm) read = read ≡ None
-Returns view (Err OutOfMemory) read = Unit {0}
+abbrev pub ReturnsForm : {X Y : Type 0} → (X → Y) → Result X FormError → Option Y → Type 0
+ReturnsForm view (Ok x) read = read ≡ Some (view x)
+ReturnsForm view (Err NotOfForm) read = read ≡ None
+ReturnsForm view (Err OutOfMemory) read = Unit {0}

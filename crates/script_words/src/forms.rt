@@ -1,7 +1,7 @@
 //! The forms of words.
 
 ghost use Rattle.std.specs.Prelude.{◌≡◌, ◌<◌, ◌≤◌, ◌^◌, Some, None, IfSome};
-ghost use Rattle.script_words.specs.Forms.{Leaves, Returns, after, decimal, decimal_in, hex_bytes, hexadecimal, pairs, sized_pairs};
+ghost use Rattle.script_words.specs.Forms.{Leaves, ReturnsForm, put_after, decimal, decimal_in, hex_bytes, hexadecimal, pairs, sized_pairs};
 ghost use Rattle.script_words.specs.declared.forms.FormError.TheVariants as form_errors;
 
 use digits::digit;
@@ -104,7 +104,7 @@ pub fn two_bytes(word: &[u8]) -> Option<u16>
 
 /// Adds bytes of two hexadecimal digits each. After an error `bytes` may hold some of them.
 fn push_pairs(bytes: &mut Vec<u8>, word: &[u8]) -> Result<(), FormError>
-    ensures { Leaves result bytes.new.items (after bytes.old.items (pairs word.now)) }
+    ensures { Leaves result bytes.new.items (put_after bytes.old.items (pairs word.now)) }
 {
     bytes.reserve(word.len() / 2)?;
     let mut rest = word;
@@ -131,7 +131,7 @@ fn push_pairs(bytes: &mut Vec<u8>, word: &[u8]) -> Result<(), FormError>
 /// some of them.
 #[tactic(auto, using(crate::proofs::Numbers::after_none), unfolding(crate::specs::Forms::hex_bytes))]
 pub fn push_bytes(bytes: &mut Vec<u8>, word: &[u8]) -> Result<(), FormError>
-    ensures { Leaves result bytes.new.items (after bytes.old.items (hex_bytes word.now)) }
+    ensures { Leaves result bytes.new.items (put_after bytes.old.items (hex_bytes word.now)) }
 {
     if word == b"-".as_slice() {
         return Ok(());
@@ -142,7 +142,7 @@ pub fn push_bytes(bytes: &mut Vec<u8>, word: &[u8]) -> Result<(), FormError>
 /// Reads the bytes of a word: an even number of hexadecimal digits, or `-` for no byte.
 #[tactic(auto, using(crate::proofs::Numbers::after_nothing))]
 pub fn bytes_of(alloc: Global, word: &[u8]) -> Result<Vec<u8>, FormError>
-    ensures { Returns (λ v. v.items) result (hex_bytes word.now) }
+    ensures { ReturnsForm (λ v. v.items) result (hex_bytes word.now) }
 {
     let mut bytes = Vec::new(alloc);
     push_bytes(&mut bytes, word)?;

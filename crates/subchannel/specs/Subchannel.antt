@@ -76,9 +76,9 @@ phase_of place state.Running = Running place
 phase_of place (state.Ended csw sense) = Pending csw sense
 
 -- the device takes the seek, if there is a device
-abbrev pub Fits : {D : Type 0} → Meaning D → Option D → Seek → Type 0
-Fits meaning None seek = Unit {0}
-Fits meaning (Some d) seek = fits meaning d seek ≡ true
+abbrev pub TakesSeek : {D : Type 0} → Meaning D → Option D → Seek → Type 0
+TakesSeek meaning None seek = Unit {0}
+TakesSeek meaning (Some d) seek = fits meaning d seek ≡ true
 
 module _ {D : Type 0} (meaning : Meaning D) where
   abbrev pub prefixed : Option D → Seek → ℕ → Option D
@@ -86,11 +86,11 @@ module _ {D : Type 0} (meaning : Meaning D) where
   prefixed (Some d) seek mask = Some (meaning.prefix d seek mask)
 
   -- SSCH starts a program where the subchannel is idle, and changes nothing elsewhere
-  abbrev pub started : Channel D → ℕ → Seek → ℕ → Phase → Channel D
-  started c start seek mask Idle = record { isc = c.isc; device = prefixed c.device seek mask; phase = Running (start_place start) }
-  started c start seek mask Absent = c
-  started c start seek mask (Running place) = c
-  started c start seek mask (Pending csw sense) = c
+  abbrev pub after_ssch : Channel D → ℕ → Seek → ℕ → Phase → Channel D
+  after_ssch c start seek mask Idle = record { isc = c.isc; device = prefixed c.device seek mask; phase = Running (start_place start) }
+  after_ssch c start seek mask Absent = c
+  after_ssch c start seek mask (Running place) = c
+  after_ssch c start seek mask (Pending csw sense) = c
 
   -- as many command steps of this program as the answer says, which are `max` or as many as it has left
   pub record RunsFrom (p : Program D) (isc max : ℕ) (b : Burst) (new : Channel D) (n : Storage) : Type 0 where

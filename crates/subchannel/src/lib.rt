@@ -8,7 +8,7 @@
 ghost use Rattle.std.specs.Prelude.{◌≡◌, ◌≤◌, Some, None, MatchOption, min};
 ghost use Rattle.io_area.specs.Storage.{SamePlace};
 ghost use Rattle.ccw_programs.specs.Step.{program};
-ghost use Rattle.subchannel.specs.Subchannel.{Channel, Absent, Idle, Fits, started, ssch_code, hsch_code, tsch_code, halted_phase, running_program, RunsAs, status_of, tested_phase, is_pending};
+ghost use Rattle.subchannel.specs.Subchannel.{Channel, Absent, Idle, TakesSeek, after_ssch, ssch_code, hsch_code, tsch_code, halted_phase, running_program, RunsAs, status_of, tested_phase, is_pending};
 
 use ccw_programs::{Burst, Context, State, Workspace, burst};
 use device_port::Device;
@@ -92,9 +92,9 @@ impl<D: Device> Subchannel<D> {
     /// Condition code 0 started, 1 status pending, 2 function in progress, 3 not operational; with another
     /// code than 0 nothing has changed.
     pub fn ssch(&mut self, start: Address, seek: &Seek, mask: u8) -> u8
-        requires { Fits D.meaning self.old.device seek.now }
+        requires { TakesSeek D.meaning self.old.device seek.now }
         ensures code { result ≡ ssch_code self.old.phase }
-        ensures state { self.new ≡ started D.meaning self.old start seek.now mask self.old.phase }
+        ensures state { self.new ≡ after_ssch D.meaning self.old start seek.now mask self.old.phase }
     {
         let Some(device) = &mut self.device else {
             return 3;

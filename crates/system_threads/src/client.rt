@@ -2,7 +2,7 @@
 
 ghost use Rattle.std.specs.Prelude.{◌≡◌, ◌<◌, ◌≤◌, ◌-◌, ◌^◌, length, IfErr, IfNone, IfOk, IfSome, OnErr, OnOk};
 ghost use Rattle.request_piece.specs.Requests.{request_of};
-ghost use Rattle.excp_system.specs.Calls.{Collects, IntakeWasFull, Issues, PostRowWasEmpty, next_name};
+ghost use Rattle.excp_system.specs.Calls.{TaskCollects, IntakeWasFull, Issues, PostRowWasEmpty, next_name};
 ghost use Rattle.excp_system.specs.States.{sent_by};
 ghost use Rattle.system_threads.specs.Issuing.{IssueRefused};
 
@@ -139,7 +139,7 @@ impl<'r, S: Site> Client<'r, S> {
         rt: &R,
         alarm: &Alarm,
     ) -> Result<Option<Posted>, AllocError>
-        ensures collected { IfOk result (λ next. IfSome next (λ posted. Collects self.old posted self.new)) }
+        ensures collected { IfOk result (λ next. IfSome next (λ posted. TaskCollects self.old posted self.new)) }
         ensures of_unit { IfOk result (λ next. IfSome next (λ posted. posted.unit < S.rows.units)) }
         ensures none { IfOk result (λ next. IfNone next (self.new ≡ self.old)) }
         ensures was_empty { IfOk result (λ next. IfNone next (PostRowWasEmpty S.rows self.old)) }

@@ -23,15 +23,20 @@ pub struct Workers {
 
 /// The units that one channel worker serves.
 #[derive(Drop)]
-pub struct Channel<S: Site> {
+pub struct ChannelWorker<S: Site> {
     pub units: Vec<u16>,
     of: PhantomData<S>,
     ghost of_the_site: { All (λ unit. unit < S.rows.units) units.items },
 }
 
-impl<S: Site> Channel<S> {
+impl<S: Site> ChannelWorker<S> {
     /// The units that worker `number` of `count` serves: those whose number has that remainder.
-    fn new(alloc: Global, units: u16, count: u16, number: u16) -> Result<Channel<S>, AllocError>
+    fn new(
+        alloc: Global,
+        units: u16,
+        count: u16,
+        number: u16,
+    ) -> Result<ChannelWorker<S>, AllocError>
         requires units { units ≡ S.rows.units }
         requires count { 0 < count }
         ensures { IfOk result (λ channel. channel.units.items ≡ share_of (λ unit. unit) count number (below units)) }
@@ -42,7 +47,7 @@ impl<S: Site> Channel<S> {
                 served.push(unit)?;
             }
         }
-        Ok(Channel {
+        Ok(ChannelWorker {
             units: served,
             of: PhantomData,
         })
@@ -53,7 +58,7 @@ impl<S: Site> Channel<S> {
 /// its subclasses.
 #[derive(Drop)]
 pub struct Crew<'r, S: Site> {
-    pub channels: Vec<Channel<S>>,
+    pub channels: Vec<ChannelWorker<S>>,
     pub handlers: Vec<Vec<IscTaker<'r, S>>>,
 }
 
@@ -81,14 +86,14 @@ fn channel_workers<S: Site>(
     alloc: Global,
     units: u16,
     count: u16,
-) -> Result<Vec<Channel<S>>, AllocError>
+) -> Result<Vec<ChannelWorker<S>>, AllocError>
     requires units { units ≡ S.rows.units }
     requires count { 0 < count }
     ensures { IfOk result (λ channels. AreShared (λ channel. channel.units.items) (λ unit. unit) count (below units) channels.items) }
 {
     let mut channels = Vec::with_capacity(alloc, usize::from(count))?;
     for number in 0..count {
-        channels.push(Channel::new(alloc, units, count, number)?)?;
+        channels.push(ChannelWorker::new(alloc, units, count, number)?)?;
     }
     Ok(channels)
 }
@@ -144,7 +149,7 @@ pub(crate) fn start<
     scope: &Scope<'s, E>,
     system: &'s System<'r, S, D>,
     gate: &'s G,
-    channels: &'s [Channel<S>],
+    channels: &'s [ChannelWorker<S>],
     handlers: Vec<Vec<IscTaker<'r, S>>>,
     stop: &'s Stop,
 ) -> Result<(), RunError> {

@@ -7,9 +7,9 @@ ghost use Rattle.post_ledger.specs.Report.{AreIdle, AreLegal, IsFor};
 
 use crate::alarm::Alarm;
 use crate::crew::{Crew, Workers, start};
-use crate::program::Program;
 use crate::run_error::RunError;
 use crate::runner::{Runner, parted, runners};
+use crate::task_program::TaskProgram;
 use device_port::Device;
 use excp_system::{Gate, IscTaker, Rows, Site, Stop, System, Task};
 use post_ledger::{Report, finish};
@@ -30,7 +30,7 @@ const MOST_TASKS: usize = 64;
 /// A worker that meets want of memory goes on, and wakes the tasks, whose [`Client::next_post`](crate::Client::next_post)
 /// tells them of it. The run returns an error, and is dropped, if memory runs out for its parts, if no thread can be made
 /// for a worker, or if its end runs out of memory twice: the end is tried once more from where it stopped.
-pub fn run_program<D: Device + Send + Sync, P: Program<D>, R: Threads + Wait + Sync>(
+pub fn run_program<D: Device + Send + Sync, P: TaskProgram<D>, R: Threads + Wait + Sync>(
     rt: &R,
     alloc: Global,
     mut rows: Rows,
@@ -50,7 +50,12 @@ pub fn run_program<D: Device + Send + Sync, P: Program<D>, R: Threads + Wait + S
 }
 
 /// Does so on the system of a site.
-fn run_at<S: Site + Send + Sync, D: Device + Send + Sync, P: Program<D>, R: Threads + Wait + Sync>(
+fn run_at<
+    S: Site + Send + Sync,
+    D: Device + Send + Sync,
+    P: TaskProgram<D>,
+    R: Threads + Wait + Sync,
+>(
     rt: &R,
     alloc: Global,
     rows: &mut Rows,
@@ -125,7 +130,7 @@ pub fn run_beside<
     S: Site + Send + Sync,
     D: Device + Send + Sync,
     G: Gate + Sync,
-    P: Program<D>,
+    P: TaskProgram<D>,
     R: Threads + Wait + Sync,
 >(
     rt: &R,
@@ -180,7 +185,7 @@ fn run_each<
     'r,
     S: Site + Send + Sync,
     D: Device + Send + Sync,
-    P: Program<D>,
+    P: TaskProgram<D>,
     R: Threads + Wait + Sync,
 >(
     rt: &R,
@@ -210,7 +215,7 @@ fn run_each<
 }
 
 /// Runs one task by the program.
-fn run_one<'r, S: Site, D: Device, P: Program<D>, R: Wait>(
+fn run_one<'r, S: Site, D: Device, P: TaskProgram<D>, R: Wait>(
     rt: &R,
     alloc: Global,
     system: &System<'_, S, D>,

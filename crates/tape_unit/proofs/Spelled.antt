@@ -6,7 +6,7 @@ use Rattle.std.proofs.lemmas.List.Concat.{flat_map-cons}
 use Rattle.byteorder.specs.Endian.{big_bytes}
 use Rattle.byteorder.specs.Numbers.{big_number-reads_back, length-bytes_high_first}
 use Rattle.device_port.specs.Moves.{padded, written}
-use Rattle.device_port.specs.Packed.{Reads, image_of}
+use Rattle.device_port.specs.Packed.{ReadsBack, image_of}
 use Rattle.device_port.proofs.Items.{written-written}
 use Rattle.tape_unit.specs.Item.{Item, tape_mark, block, content_of, item_with, is_item, size_of, packed, length_at, item_at, on_tape}
 use Rattle.tape_unit.specs.Reel.{bytes_of}
@@ -54,7 +54,7 @@ item_at-packed x rest fits =
     ∙ item_with-content x fits
 
 -- THE LAWS OF THE SPELLING
-pub reads : Reads on_tape
+pub reads : ReadsBack on_tape
 reads = record { item = item_at-packed; size = λ x rest fits. omega (arith, length_at-packed x rest fits, length-packed x) }
 
 -- an item takes four bytes at least

@@ -15,7 +15,7 @@ use Rattle.tape_unit.specs.declared.command.Command.TheVariants.{Control, Sense,
 use Rattle.tape_unit.specs.declared.command.Control.{Control as ControlCommand}
 use Rattle.tape_unit.specs.declared.command.Control.TheVariants as control
 use Rattle.tape_unit.specs.Item.{Item, tape_mark, block, is_mark, content_of}
-use Rattle.tape_unit.specs.Reel.{ReelState, has_room, with_item_at}
+use Rattle.tape_unit.specs.Reel.{ReelState, has_room_at, with_item_at}
 use Rattle.tape_unit.specs.Command.{command_of, flow_of}
 
 -- A TAPE: `place` items lie between the load point and the head
@@ -32,8 +32,8 @@ moved_to tape place = record tape { place = place }
 abbrev pub ahead : TapeState → List Item
 ahead tape = drop tape.place tape.reel.items
 
-abbrev pub behind : TapeState → List Item
-behind tape = reverse (take tape.place tape.reel.items)
+abbrev pub items_after : TapeState → List Item
+items_after tape = reverse (take tape.place tape.reel.items)
 
 -- how a command ends that reads an item, and one that spaces over it: a tape mark is unit exception
 abbrev pub read_ended : Item → Acted
@@ -61,7 +61,7 @@ read_backward_first tape [] = checked tape command_reject
 read_backward_first tape (x ∷ rest) = record { acted = read_ended x; device = moved_to tape (tape.place - 1); bytes = reverse (content_of x) }
 
 abbrev pub read_backward : TapeState → Outcome TapeState
-read_backward tape = read_backward_first tape (behind tape)
+read_backward tape = read_backward_first tape (items_after tape)
 
 -- 37 FORWARD SPACE BLOCK
 abbrev pub forward_space_first : TapeState → List Item → Outcome TapeState
@@ -77,7 +77,7 @@ backspace_first tape [] = checked tape command_reject
 backspace_first tape (x ∷ rest) = unchanged (moved_to tape (tape.place - 1)) (spaced_ended x)
 
 abbrev pub backspace_block : TapeState → Outcome TapeState
-backspace_block tape = backspace_first tape (behind tape)
+backspace_block tape = backspace_first tape (items_after tape)
 
 -- ---- commands that move over a file: over the blocks up to a tape mark, and over the mark
 
@@ -95,7 +95,7 @@ backspace_over tape None = checked (moved_to tape 0) command_reject
 backspace_over tape (Some blocks) = unchanged (moved_to tape (tape.place - (blocks + 1))) (normal_end 0)
 
 abbrev pub backspace_file : TapeState → Outcome TapeState
-backspace_file tape = backspace_over tape (position is_mark (behind tape))
+backspace_file tape = backspace_over tape (position is_mark (items_after tape))
 
 -- 07 REWIND
 abbrev pub rewind : TapeState → Outcome TapeState
@@ -105,7 +105,7 @@ rewind tape = unchanged (moved_to tape 0) (normal_end 0)
 
 abbrev pub put : TapeState → Item → Acted → Outcome TapeState
 put tape x ended =
-    if has_room tape.reel tape.place (length (content_of x))
+    if has_room_at tape.reel tape.place (length (content_of x))
     then unchanged (record tape { reel = with_item_at tape.reel tape.place x; place = tape.place + 1 }) ended
     else checked tape equipment_check
 

@@ -12,9 +12,9 @@ use Rattle.tape_unit.specs.declared.command.Command.{Command}
 use Rattle.tape_unit.specs.declared.command.Command.TheVariants.{Control, Sense, Read, ReadBackward, Write}
 use Rattle.tape_unit.specs.declared.command.Control.TheVariants as control
 use Rattle.tape_unit.specs.Item.{Item, tape_mark, block, is_mark, content_of}
-use Rattle.tape_unit.specs.Reel.{has_room}
+use Rattle.tape_unit.specs.Reel.{has_room_at}
 use Rattle.tape_unit.specs.Command.{command_of, flow_of}
-use Rattle.tape_unit.specs.Tape.{TapeState, tape, ahead, behind, read_ended, read_first, read_backward_first, forward_space_first, backspace_first, forward_space_over, backspace_over, command_on, act_by}
+use Rattle.tape_unit.specs.Tape.{TapeState, tape, ahead, items_after, read_ended, read_first, read_backward_first, forward_space_first, backspace_first, forward_space_over, backspace_over, command_on, act_by}
 
 -- a read gives the bytes that it wants
 want-read : (x : Item) → length (content_of x) ≡ (read_ended x).want
@@ -56,14 +56,14 @@ command_gives : (t : TapeState) (command : Option Command) (given : List ℕ) �
 command_gives t None given = refl
 command_gives t (Some (Control control.NoOperation)) given = refl
 command_gives t (Some (Control control.Rewind)) given = refl
-command_gives t (Some (Control control.WriteTapeMark)) given = either_wants (has_room t.reel t.place 0) _ _ refl refl
-command_gives t (Some (Control control.BackspaceBlock)) given = backspace_wants t (behind t)
-command_gives t (Some (Control control.BackspaceFile)) given = backspace_file_wants t (position is_mark (behind t))
+command_gives t (Some (Control control.WriteTapeMark)) given = either_wants (has_room_at t.reel t.place 0) _ _ refl refl
+command_gives t (Some (Control control.BackspaceBlock)) given = backspace_wants t (items_after t)
+command_gives t (Some (Control control.BackspaceFile)) given = backspace_file_wants t (position is_mark (items_after t))
 command_gives t (Some (Control control.ForwardSpaceBlock)) given = forward_space_wants t (ahead t)
 command_gives t (Some (Control control.ForwardSpaceFile)) given = forward_file_wants t (position is_mark (ahead t))
 command_gives t (Some Sense) given = refl
 command_gives t (Some Read) given = read_gives t (ahead t)
-command_gives t (Some ReadBackward) given = read_backward_gives t (behind t)
+command_gives t (Some ReadBackward) given = read_backward_gives t (items_after t)
 command_gives t (Some Write) given = tt
 
 gives_by : (fault : Option Fault) (t : TapeState) (code : ℕ) (given : List ℕ)

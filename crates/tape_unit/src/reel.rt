@@ -6,7 +6,7 @@ ghost use Rattle.byteorder.specs.Endian.{big_bytes};
 ghost use Rattle.device_port.specs.Moves.{written};
 ghost use Rattle.device_port.specs.Packed.{Begins};
 ghost use Rattle.tape_unit.specs.Item.{is_mark, block, content_of, item_with, is_item, packed, length_at, on_tape};
-ghost use Rattle.tape_unit.specs.Reel.{item_of, bytes_before, has_room, with_item_at};
+ghost use Rattle.tape_unit.specs.Reel.{item_of, bytes_before, has_room_at, with_item_at};
 
 use crate::index::Index;
 use crate::stored::{Items, Stored};
@@ -142,7 +142,7 @@ impl Reel {
     pub fn has_room(&self, place: usize, len: usize) -> bool
         requires place { place ≤ length self.now.items }
         requires len { len ≤ 65_535 }
-        ensures { result ≡ has_room self.now place len }
+        ensures { result ≡ has_room_at self.now place len }
     {
         self.offset(place) + LENGTH_WORD + len <= self.bytes.len()
     }
@@ -154,7 +154,7 @@ impl Reel {
         requires some { 1 ≤ len }
         requires short { len ≤ 65_535 }
         requires given { len ≤ length given.now }
-        requires room { has_room self.old place len ≡ true }
+        requires room { has_room_at self.old place len ≡ true }
         ensures reel { self.new ≡ with_item_at self.old place (block (take len given.now)) }
         ensures behind { result ≡ place + 1 }
     {
@@ -170,7 +170,7 @@ impl Reel {
     pub fn put(&mut self, place: usize, content: &[u8]) -> usize
         requires place { place ≤ length self.old.items }
         requires item { is_item (item_with content.now) ≡ true }
-        requires room { has_room self.old place (length content.now) ≡ true }
+        requires room { has_room_at self.old place (length content.now) ≡ true }
         ensures reel { self.new ≡ with_item_at self.old place (item_with content.now) }
         ensures behind { result ≡ place + 1 }
     {

@@ -1,70 +1,41 @@
 -- The post of the active request: the fields stay those of the trace.
-use Rattle.std.proofs.Common.{◌≡◌, ℕ, Bool, true, false, not, ◌&&◌, Some, None, List, [], ◌∷◌, ◌++◌, append_assoc, length, refl, sym, ap, ◌∙◌, eqb, inl, inr, subst}
-use Rattle.std.proofs.lemmas.Bool.{cases_Bool}
-use Rattle.io_area.specs.Storage.{Storage}
-use Rattle.io_images.specs.Codes.{is_error}
-use Rattle.io_images.specs.declared.csw.Csw.{Csw}
-use Rattle.io_images.specs.declared.code.Code.{Code}
-use Rattle.device_port.specs.Meaning.{Meaning}
-use Rattle.subchannel.specs.Subchannel.{Channel, Phase, Absent, Idle, Running, Pending, tested_phase}
-use Rattle.request_piece.specs.PostedState.{PostedState}
+use Rattle.unit_book.proofs.Names.{◌≡◌, ℕ, Bool, true, ◌&&◌, Some, None, List, [], ◌∷◌, ◌++◌, append_assoc, length, refl, sym, ap, ◌∙◌, eqb}
+use Rattle.unit_book.proofs.Names.{inl, inr, cases_Bool, Storage, is_error, Csw, Code, Meaning, Channel, Phase, Absent, Idle, Running}
+use Rattle.unit_book.proofs.Names.{Pending, PostedState, Name, Piece, Active, Standing, OnChannel, AwaitsRestart, Dcb, Entry, Post, same}
+use Rattle.unit_book.proofs.Names.{request_named, attempts, stand, newest, current, area, StillRunning, HasEnded, active_phase, is_opened}
+use Rattle.unit_book.proofs.Names.{extents_of, flag, Legal, due, Free, PostsActive, WithVerdict, OfActive, posted, posted_value}
+use Rattle.unit_book.proofs.Names.{doomed_by_post, StandingTies, Ties, dcb_at, dcb_of, noted}
+use Rattle.subchannel.specs.Subchannel.{tested_phase}
 use Rattle.request_piece.specs.Final.{posted_of}
-use Rattle.request_piece.specs.declared.piece.Name.{Name}
-use Rattle.request_piece.specs.declared.piece.Piece.{Piece}
-use Rattle.unit_book.specs.declared.active.Active.{Active}
-use Rattle.unit_book.specs.declared.active.Standing.{Standing}
-use Rattle.unit_book.specs.declared.active.Standing.TheVariants.{OnChannel, AwaitsRestart}
-use Rattle.unit_book.specs.declared.dcb.Dcb.{Dcb}
-use Rattle.unit_book.specs.declared.entry.Entry.{Entry}
-use Rattle.unit_book.specs.declared.entry.Entry.TheVariants.{Post}
-use Rattle.unit_book.specs.Trace.{same, has_started, waiting, active, request_of}
-use Rattle.unit_book.specs.Media.{attempts, stand, newest, current, area, StillRunning, WasHalted, HasEnded, active_phase}
-use Rattle.unit_book.specs.Dcbs.{is_opened, extents_of, flag}
-use Rattle.unit_book.specs.Legal.{Legal, due, Free, PostsActive, PostsAs, WithVerdict, WhileCovered, AfterHalt, OfActive}
-use Rattle.unit_book.specs.Posts.{posted, posted_value}
-use Rattle.unit_book.specs.Selected.{doomed_by_post}
-use Rattle.unit_book.specs.Fields.{StandingTies, Ties, dcb_at, dcb_of, noted}
-use Rattle.unit_book.proofs.Lists.{same-true, same-is, no_both, without, none_named, filter-all}
-use Rattle.unit_book.specs.Lists.{Each}
-use Rattle.unit_book.proofs.Facts.{Facts, NewestIs, active-is, active-post, waiting-post, waits, WaitsAmong}
+use Rattle.unit_book.specs.Media.{WasHalted}
+use Rattle.unit_book.specs.Legal.{PostsAs, WhileCovered, AfterHalt}
+use Rattle.unit_book.proofs.Lists.{same-is}
+use Rattle.unit_book.proofs.Facts.{NewestIs, active-is, active-post, waiting-post, without-started}
 use Rattle.unit_book.proofs.LegalFacts.{facts}
 use Rattle.unit_book.proofs.Same.{fits-free}
 
 module _ {D : Type 0} (meaning : Meaning D) (mounted : D) where
   -- the storage of the active request is that of the newest attempt
-  pub area-current : (n : Name) (H : List Entry) → NewestIs n H → area meaning mounted (request_of n H) H ≡ (current meaning mounted H).area
+  pub area-current : (n : Name) (H : List Entry) → NewestIs n H → area meaning mounted (request_named n H) H ≡ (current meaning mounted H).area
   unfolding stand newest
   area-current n H w =
-      let r = request_of n H in
+      let r = request_named n H in
       let s : same r.name w.0.request.name ≡ true = same-is r.name w.0.request.name (ap (λ (x : Piece). x.name) (sym w.3)) in
       let there : (stand meaning mounted (w.0 ∷ w.1)).area r ≡ (newest meaning mounted (w.0 ∷ w.1)).area = rw s refl in
       ap (λ x. (stand meaning mounted x).area r) w.2 ∙ there ∙ sym (ap (λ x. (newest meaning mounted x).area) w.2)
 
-  -- what was started does not wait
-  pub none-waits : (n : Name) (H : List Entry) (rs : List Piece) → has_started n H ≡ true → Each (WaitsAmong H) rs → none_named n rs ≡ true
-  none-waits n H [] h e = refl
-  none-waits n H (r ∷ rs) h e =
-      let ih = none-waits n H rs h e.1 in
-      elim (cases_Bool (same n r.name)) [
-        | inl s ↦ no_both (has_started n H) h (subst (λ (x : Name). has_started x H ≡ false) (sym (same-true n r.name s)) e.0.unstarted)
-        | inr s ↦ rw s ih
-      ]
-
-  -- nothing of the queue goes with the active request
-  pub queue-post : (n : Name) (csw : Csw) (sense : ℕ) (code : Code) (H : List Entry) → Facts H → active H ≡ Some n → waiting (Post n csw sense code ∷ H) ≡ waiting H
-  unfolding without
-  queue-post n csw sense code H f a =
-      waiting-post meaning mounted n csw sense code H ∙ filter-all (λ (r : Piece). not (same n r.name)) (waiting H) (none-waits n H (waiting H) (active-is n H a).0 (waits H f))
-
   -- a post notes its error at the DCB of its request
-  pub dcb-post : (n : Name) (csw : Csw) (sense : ℕ) (code : Code) (H : List Entry) (related : Bool) (dcb d : ℕ) → (request_of n H).related ≡ related → (request_of n H).dcb ≡ dcb →
+  pub dcb-post : (n : Name) (csw : Csw) (sense : ℕ) (code : Code) (H : List Entry) (related : Bool) (dcb d : ℕ) →
+      (request_named n H).related ≡ related → (request_named n H).dcb ≡ dcb →
       noted (is_error code && related && eqb dcb d) (dcb_of d H) ≡ dcb_of d (Post n csw sense code ∷ H)
   unfolding flag extents_of
   dcb-post n csw sense code H related dcb d r e =
       elim (cases_Bool (is_opened d H)) [ inl o ↦ rw (o, r, e) refl | inr o ↦ rw o refl ]
 
-  module _ (H : List Entry) (channel : Channel D) (a : Active) (waiters : List Piece) (table new : List Dcb) (left : List PostedState) (csw : Csw) (sense : ℕ) (code : Code)
-      (settled : due meaning mounted H ≡ Free) (t : Ties meaning mounted H channel (Some a) waiters table left) (p : PostsActive meaning mounted a.piece.value.name csw sense code H) where
+  module _ {H : List Entry} {channel : Channel D} {a : Active} {waiters : List Piece} {table : List Dcb} {left : List PostedState}
+      {csw : Csw} {sense : ℕ} {code : Code}
+      (settled : due meaning mounted H ≡ Free) (t : Ties meaning mounted H channel (Some a) waiters table left)
+      (p : PostsActive meaning mounted a.piece.value.name csw sense code H) where
     abbrev n : Name
     n = a.piece.value.name
 
@@ -82,14 +53,19 @@ module _ {D : Type 0} (meaning : Meaning D) (mounted : D) where
     tested-idle (Pending c s) standing d = refl
 
     -- what is handed out is the value that the trace says
-    pub value-is : posted_value a.piece.value csw sense code a.piece.value.area ≡ posted_value (request_of n H) csw sense code (area meaning mounted (request_of n H) H)
+    pub value-is : posted_value a.piece.value csw sense code a.piece.value.area ≡ posted_value (request_named n H) csw sense code
+        (area meaning mounted (request_named n H) H)
     unfolding posted_value
     value-is =
         let w : NewestIs n H = (facts meaning mounted H t.legal).4 n t.activity.is in
-        ap (λ (p : Piece). posted_of p code csw sense) t.activity.request ∙ ap (λ (m : Storage). posted_of (record (request_of n H) { area = m }) code csw sense) (sym (area-current n H w))
+        ap (λ (p : Piece). posted_of p code csw sense) t.activity.request
+        ∙ ap (λ (m : Storage). posted_of (record (request_named n H) { area = m }) code csw sense) (sym (area-current n H w))
 
-    pub ties-post : ((d : ℕ) → dcb_at new d ≡ noted (is_error code && a.piece.value.related && eqb a.piece.value.dcb d) (dcb_at table d)) → length new ≡ length table →
-        Ties meaning mounted (Post n csw sense code ∷ H) (record channel { phase = tested_phase channel.phase }) None waiters new (left ++ posted_value a.piece.value csw sense code a.piece.value.area ∷ [])
+    pub ties-post : {new : List Dcb} →
+        ((d : ℕ) → dcb_at new d ≡ noted (is_error code && a.piece.value.related && eqb a.piece.value.dcb d) (dcb_at table d)) →
+        length new ≡ length table →
+        Ties meaning mounted (Post n csw sense code ∷ H) (record channel { phase = tested_phase channel.phase }) None waiters new
+        (left ++ posted_value a.piece.value csw sense code a.piece.value.area ∷ [])
     unfolding Legal attempts posted
     ties-post dcbs count =
         let f = facts meaning mounted H t.legal in
@@ -99,17 +75,28 @@ module _ {D : Type 0} (meaning : Meaning D) (mounted : D) where
         let dcb = ap (λ (r : Piece). r.dcb) t.activity.request in
         record {
           legal = (fits-free meaning mounted (Post n csw sense code) H settled (OfActive p), t.legal);
-          queue = t.queue ∙ sym (queue-post n csw sense code H f t.activity.is);
+          queue = t.queue
+              ∙ sym (waiting-post meaning mounted n csw sense code H ∙ without-started meaning mounted n H f
+              (active-is n H t.activity.is).0);
           placed = t.placed;
           device = t.device;
-          activity = (active-post meaning mounted n csw sense code H f t.activity.is, tested-idle channel.phase a.standing t.activity.standing);
+          activity = (
+            active-post meaning mounted n csw sense code H f t.activity.is,
+            tested-idle channel.phase a.standing t.activity.standing,
+          );
           count = count ∙ t.count;
           dcbs = λ d. dcbs d ∙ ap (noted (is_error code && a.piece.value.related && eqb a.piece.value.dcb d)) (t.dcbs d)
               ∙ dcb-post n csw sense code H a.piece.value.related a.piece.value.dcb d (sym related) (sym dcb);
-          out = (o.0, sym (append_assoc o.0 left (v ∷ [])) ∙ ap (λ x. x ++ v ∷ []) o.1 ∙ ap (λ x. posted meaning mounted H ++ x ∷ []) value-is);
+          out = (
+            o.0,
+            sym (append_assoc o.0 left (v ∷ [])) ∙ ap (λ x. x ++ v ∷ []) o.1
+                ∙ ap (λ x. posted meaning mounted H ++ x ∷ []) value-is,
+          );
         }
 
   -- whom the post dooms
-  pub doom-is : (H : List Entry) (channel : Channel D) (a : Active) (waiters : List Piece) (table : List Dcb) (left : List PostedState) (code : Code) →
-      Ties meaning mounted H channel (Some a) waiters table left → doomed_by_post a.piece.value code ≡ doomed_by_post (request_of a.piece.value.name H) code
-  doom-is H channel a waiters table left code t = ap (λ (r : Piece). doomed_by_post r code) t.activity.request
+  pub doom-is : {H : List Entry} {channel : Channel D} {a : Active} {waiters : List Piece} {table : List Dcb} {left : List PostedState}
+      (code : Code) →
+      Ties meaning mounted H channel (Some a) waiters table left →
+      doomed_by_post a.piece.value code ≡ doomed_by_post (request_named a.piece.value.name H) code
+  doom-is code t = ap (λ (r : Piece). doomed_by_post r code) t.activity.request

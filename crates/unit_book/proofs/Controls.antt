@@ -1,49 +1,38 @@
 -- A purge, a halt, a close and a reset: what they doom, and that the fields stay those of the trace.
-use Rattle.std.proofs.Common.{◌≡◌, ℕ, ◌≤◌, Bool, true, false, not, ◌&&◌, ◌||◌, Option, Some, None, List, [], ◌∷◌, length, refl, sym, ap, ◌∙◌, eqb, if◌then◌else◌}
-use Rattle.std.specs.Prelude.{is_some}
-use Rattle.io_area.specs.Storage.{Storage}
-use Rattle.device_port.specs.Meaning.{Meaning}
-use Rattle.subchannel.specs.Subchannel.{Channel, Phase, Absent, Idle, Running, Pending}
-use Rattle.request_piece.specs.PostedState.{PostedState}
-use Rattle.request_piece.specs.declared.piece.Name.{Name}
-use Rattle.request_piece.specs.declared.piece.Piece.{Piece}
-use Rattle.request_piece.specs.Scope.{covers}
-use Rattle.request_piece.specs.declared.scope.Scope.{Scope}
+use Rattle.unit_book.proofs.Names.{◌≡◌, ℕ, ◌≤◌, Bool, true, false, not, ◌&&◌, ◌||◌, Option, Some, None, List, [], ◌∷◌, length, refl, sym}
+use Rattle.unit_book.proofs.Names.{ap, ◌∙◌, eqb, if◌then◌else◌, is_some, Storage, Meaning, Channel, Phase, Absent, Idle, Running, Pending}
+use Rattle.unit_book.proofs.Names.{PostedState, Name, Piece, covers, Scope, Active, Standing, OnChannel, AwaitsRestart, Mode, Entry, Halted}
+use Rattle.unit_book.proofs.Names.{Purge, Close, Reset, waiting, arrivals, active, started, request_named, is_halt, is_covered, doomed}
+use Rattle.unit_book.proofs.Names.{is_doomed, is_open, is_opened, is_closed, flag, extents_of, attempts, current, Legal, Free, due}
+use Rattle.unit_book.proofs.Names.{doomed_first, CanPurge, posted, DoomedBy, active_of, covered_by, awaits_by, ActivityTies, StandingTies}
+use Rattle.unit_book.proofs.Names.{Ties}
 use Rattle.request_piece.specs.declared.scope.Scope.TheVariants.{Dcb, Task}
 use Rattle.unit_queue.specs.declared.selection.Selection.TheVariants as selection
-use Rattle.unit_book.specs.declared.active.Active.{Active}
-use Rattle.unit_book.specs.declared.active.Standing.{Standing}
-use Rattle.unit_book.specs.declared.active.Standing.TheVariants.{OnChannel, AwaitsRestart}
 use Rattle.unit_book.specs.declared.dcb.Dcb.{Dcb as Row}
-use Rattle.unit_book.specs.declared.entry.Mode.{Mode}
-use Rattle.unit_book.specs.declared.entry.Entry.{Entry}
-use Rattle.unit_book.specs.declared.entry.Entry.TheVariants.{Halted, Purge, Close, Reset}
-use Rattle.unit_book.specs.Trace.{waiting, arrivals, active, started, request_of, is_halt, is_covered, is_purged}
-use Rattle.unit_book.specs.Dcbs.{doomed, is_doomed, is_open, is_opened, is_closed, flag, extents_of}
-use Rattle.unit_book.specs.Media.{attempts, current}
-use Rattle.unit_book.specs.Legal.{Fits, Legal, Free, due, doomed_first, CanPurge}
-use Rattle.unit_book.specs.Posts.{posted}
-use Rattle.unit_book.specs.Selected.{is_selected, DoomedBy}
-use Rattle.unit_book.specs.Controls.{active_of, covered_by}
-use Rattle.unit_book.specs.Fields.{awaits_by, ActiveTies, ActivityTies, StandingTies, Ties, after_cover}
+use Rattle.unit_book.specs.Trace.{is_purged}
+use Rattle.unit_book.specs.Selected.{is_selected}
+use Rattle.unit_book.specs.Fields.{ActiveTies, after_cover}
 use Rattle.unit_book.proofs.Dooms.{none-pass, filter-agree, filter-never, due-doomed, due-no_halt, length-filter_le}
 use Rattle.unit_book.proofs.Same.{fits-free}
 
 module _ {D : Type 0} (meaning : Meaning D) (mounted : D) where
   -- WHAT A PURGE DOOMS: what it covers of that which waits
-  purged-by : (covered shut purged flagged : Bool) → not (shut || purged || flagged) ≡ true → (shut || (covered || purged) || flagged) ≡ covered
+  purged-by : (covered shut purged flagged : Bool) → not (shut || purged || flagged) ≡ true →
+      (shut || (covered || purged) || flagged) ≡ covered
   purged-by true false purged flagged h = refl
   purged-by false false false false h = refl
   purged-by false false false true h = absurd cc
   purged-by false false true flagged h = absurd cc
   purged-by covered true purged flagged h = absurd cc
 
-  pub doomed-purge : (scope : Scope) (mode : Mode) (H : List Entry) → doomed H ≡ [] → DoomedBy (Some (selection.Scope scope)) (Purge scope mode ∷ H)
+  pub doomed-purge : (scope : Scope) (mode : Mode) (H : List Entry) → doomed H ≡ [] →
+      DoomedBy (Some (selection.Scope scope)) (Purge scope mode ∷ H)
   unfolding waiting arrivals flag
   doomed-purge scope mode H e =
       let G = Purge scope mode ∷ H in
       filter-agree (is_doomed G) (is_selected (Some (selection.Scope scope))) (λ r. not (is_doomed H r))
-      (λ r h. purged-by (covers scope r) (not (is_open r.dcb H)) (is_purged r H) (r.related && flag r.dcb H) h) (waiting H) (none-pass (is_doomed H) (waiting H) e)
+      (λ r h. purged-by (covers scope r) (not (is_open r.dcb H)) (is_purged r H) (r.related && flag r.dcb H) h) (waiting H)
+      (none-pass (is_doomed H) (waiting H) e)
 
   -- a Halted dooms nothing
   pub doomed-halted : (n : Name) (H : List Entry) → doomed (Halted n ∷ H) ≡ doomed H
@@ -51,7 +40,8 @@ module _ {D : Type 0} (meaning : Meaning D) (mounted : D) where
   doomed-halted n H = refl
 
   -- A CLOSE DOOMS what waits of its DCB
-  closed-by : (here opened closed purged flagged : Bool) → not (not (opened && not closed) || purged || flagged) ≡ true → (not (opened && not (here || closed)) || purged || flagged) ≡ here
+  closed-by : (here opened closed purged flagged : Bool) → not (not (opened && not closed) || purged || flagged) ≡ true →
+      (not (opened && not (here || closed)) || purged || flagged) ≡ here
   closed-by true true false false false h = refl
   closed-by false true false false false h = refl
   closed-by here true false false true h = absurd cc
@@ -64,10 +54,12 @@ module _ {D : Type 0} (meaning : Meaning D) (mounted : D) where
   doomed-close d H e =
       let G = Close d ∷ H in
       filter-agree (is_doomed G) (is_selected (Some (selection.Scope (Dcb d)))) (λ r. not (is_doomed H r))
-      (λ r h. closed-by (eqb d r.dcb) (is_opened r.dcb H) (is_closed r.dcb H) (is_purged r H) (r.related && flag r.dcb H) h) (waiting H) (none-pass (is_doomed H) (waiting H) e)
+      (λ r h. closed-by (eqb d r.dcb) (is_opened r.dcb H) (is_closed r.dcb H) (is_purged r H) (r.related && flag r.dcb H) h) (waiting H)
+      (none-pass (is_doomed H) (waiting H) e)
 
   -- A RESET DOOMS nothing
-  reset-spares : (here shut purged related flagged : Bool) → not (shut || purged || (related && flagged)) ≡ true → (shut || purged || (related && (if here then false else flagged))) ≡ false
+  reset-spares : (here shut purged related flagged : Bool) → not (shut || purged || (related && flagged)) ≡ true →
+      (shut || purged || (related && (if here then false else flagged))) ≡ false
   reset-spares here true purged related flagged h = absurd cc
   reset-spares here false true related flagged h = absurd cc
   reset-spares true false false true flagged h = refl
@@ -80,7 +72,8 @@ module _ {D : Type 0} (meaning : Meaning D) (mounted : D) where
   settled-reset d H h =
       let G = Reset d ∷ H in
       let all = none-pass (is_doomed H) (waiting H) (due-doomed meaning mounted H h) in
-      let same = filter-agree (is_doomed G) (λ r. false) (λ r. not (is_doomed H r)) (λ r k. reset-spares (eqb d r.dcb) (not (is_open r.dcb H)) (is_purged r H) r.related (flag r.dcb H) k) (waiting H) all in
+      let same = filter-agree (is_doomed G) (λ r. false) (λ r. not (is_doomed H r))
+      (λ r k. reset-spares (eqb d r.dcb) (not (is_open r.dcb H)) (is_purged r H) r.related (flag r.dcb H) k) (waiting H) all in
       due-no_halt meaning mounted G (λ n a. refl) ∙ ap doomed_first (same ∙ filter-never (waiting H))
 
   -- as many are doomed as wait, at most
@@ -92,39 +85,44 @@ module _ {D : Type 0} (meaning : Meaning D) (mounted : D) where
   covers-area (Dcb d) r m = refl
   covers-area (Task t) r m = refl
 
-  module _ (H : List Entry) (channel : Channel D) (waiters : List Piece) (table : List Row) (left : List PostedState) (scope : Scope) (mode : Mode) where
-    abbrev P : List Entry
-    P = Purge scope mode ∷ H
-
+  module _ {H : List Entry} (scope : Scope) (mode : Mode) where
     -- the purge covers the active request as its piece tells
-    pub covers-same : (phase : Phase) (a : Active) → ActiveTies meaning mounted H phase a → covers scope a.piece.value ≡ covers scope (request_of a.piece.value.name H)
-    covers-same phase a t = ap (covers scope) t.request ∙ covers-area scope (request_of a.piece.value.name H) (current meaning mounted H).area
+    pub covers-same : {phase : Phase} {a : Active} → ActiveTies meaning mounted H phase a →
+        covers scope a.piece.value ≡ covers scope (request_named a.piece.value.name H)
+    covers-same {a = a} t = ap (covers scope) t.request ∙ covers-area scope (request_named a.piece.value.name H)
+        (current meaning mounted H).area
 
-    uncovered : (phase : Phase) (a : Active) (standing : Standing) → ActiveTies meaning mounted H phase a → is_halt mode && awaits_by standing && is_some (covered_by scope H (Some a.piece.value.name)) ≡ false →
+    uncovered : (phase : Phase) (a : Active) (standing : Standing) → ActiveTies meaning mounted H phase a →
+        is_halt mode && awaits_by standing && is_some (covered_by scope H (Some a.piece.value.name)) ≡ false →
         awaits_by standing ≡ true → covers scope a.piece.value && is_halt mode ≡ false
-    uncovered phase a standing t h e = by_bools (is_halt mode) (covers scope (request_of a.piece.value.name H)) (covers scope a.piece.value) (covers-same phase a t) (rw e at h) where
-      by_bools : (halts c d : Bool) → d ≡ c → halts && true && is_some (if c then Some a.piece.value.name else None) ≡ false → d && halts ≡ false
-      by_bools true true d k l = absurd cc
-      by_bools true false d k l = rw k refl
-      by_bools false c true k l = refl
-      by_bools false c false k l = refl
+    uncovered phase a standing t h e = by_bools (is_halt mode) (covers scope (request_named a.piece.value.name H)) (covers scope a.piece.value)
+        (covers-same t) (rw e at h) where
+          by_bools : (halts c d : Bool) → d ≡ c → halts && true && is_some (if c then Some a.piece.value.name else None) ≡ false →
+              d && halts ≡ false
+          by_bools true true d k l = absurd cc
+          by_bools true false d k l = rw k refl
+          by_bools false c true k l = refl
+          by_bools false c false k l = refl
 
-    standing-purge : (phase : Phase) (a : Active) (standing : Standing) → ActiveTies meaning mounted H phase a → (awaits_by standing ≡ true → covers scope a.piece.value && is_halt mode ≡ false) →
-        StandingTies meaning mounted H phase a standing → StandingTies meaning mounted P phase (after_cover scope mode a) standing
-    unfolding attempts request_of
+    standing-purge : (phase : Phase) (a : Active) (standing : Standing) → ActiveTies meaning mounted H phase a →
+        (awaits_by standing ≡ true → covers scope a.piece.value && is_halt mode ≡ false) →
+        StandingTies meaning mounted H phase a standing →
+        StandingTies meaning mounted (Purge scope mode ∷ H) phase (after_cover scope mode a) standing
+    unfolding attempts request_named
     standing-purge Absent a standing t u d = absurd d
     standing-purge Idle a OnChannel t u d = absurd d
     standing-purge Idle a (AwaitsRestart csw sense) t u d =
-        let e = ap (λ b. b && is_halt mode) (sym (covers-same Idle a t)) ∙ u refl in
+        let e = ap (λ b. b && is_halt mode) (sym (covers-same t)) ∙ u refl in
         (d.0, d.1, rw e d.2)
     standing-purge (Running place) a OnChannel t u d = d
     standing-purge (Running place) a (AwaitsRestart csw sense) t u d = absurd d
     standing-purge (Pending csw sense) a OnChannel t u d = d
     standing-purge (Pending csw sense) a (AwaitsRestart c s) t u d = absurd d
 
-    active-purge : (phase : Phase) (a : Active) → ActiveTies meaning mounted H phase a → (awaits_by a.standing ≡ true → covers scope a.piece.value && is_halt mode ≡ false) →
-        ActiveTies meaning mounted P phase (after_cover scope mode a)
-    unfolding attempts request_of active started
+    active-purge : (phase : Phase) (a : Active) → ActiveTies meaning mounted H phase a →
+        (awaits_by a.standing ≡ true → covers scope a.piece.value && is_halt mode ≡ false) →
+        ActiveTies meaning mounted (Purge scope mode ∷ H) phase (after_cover scope mode a)
+    unfolding attempts request_named active started
     active-purge phase a t u = record {
       is = t.is;
       request = t.request;
@@ -132,36 +130,39 @@ module _ {D : Type 0} (meaning : Meaning D) (mounted : D) where
       starts = t.starts;
       halted = t.halted;
       covered = ap (λ b. (covers scope a.piece.value && is_halt mode) || b) t.covered
-          ∙ ap (λ b. (b && is_halt mode) || is_covered (request_of a.piece.value.name H) H) (covers-same phase a t);
+          ∙ ap (λ b. (b && is_halt mode) || is_covered (request_named a.piece.value.name H) H) (covers-same t);
       standing = standing-purge phase a a.standing t u t.standing;
     }
 
-    fits-purge : due meaning mounted H ≡ Free → CanPurge meaning mounted scope H → Fits meaning mounted (Purge scope mode) H
-    fits-purge settled can = fits-free meaning mounted (Purge scope mode) H settled can
+    module _ {channel : Channel D} {waiters : List Piece} {table : List Row} {left : List PostedState}
+        (settled : due meaning mounted H ≡ Free)
+        (can : CanPurge meaning mounted scope H) where
+      with-activity : {old new : Option Active} → Ties meaning mounted H channel old waiters table left →
+          ActivityTies meaning mounted (Purge scope mode ∷ H) channel.phase new →
+          Ties meaning mounted (Purge scope mode ∷ H) channel new waiters table left
+      unfolding Legal waiting arrivals request_named attempts extents_of flag posted
+      with-activity t k = record {
+        legal = (fits-free meaning mounted (Purge scope mode) H settled can, t.legal);
+        queue = t.queue;
+        placed = t.placed;
+        device = t.device;
+        activity = k;
+        count = t.count;
+        dcbs = t.dcbs;
+        out = t.out;
+      }
 
-    with-activity : (o : Option Active) → due meaning mounted H ≡ Free → CanPurge meaning mounted scope H → ActivityTies meaning mounted P channel.phase o → (old : Option Active) → Ties meaning mounted H channel old waiters table left →
-        Ties meaning mounted P channel o waiters table left
-    unfolding Legal waiting arrivals request_of attempts extents_of flag posted
-    with-activity o settled can k old t = record {
-      legal = (fits-purge settled can, t.legal);
-      queue = t.queue;
-      placed = t.placed;
-      device = t.device;
-      activity = k;
-      count = t.count;
-      dcbs = t.dcbs;
-      out = t.out;
-    }
+      pub ties-purge_none : Ties meaning mounted H channel None waiters table left →
+          Ties meaning mounted (Purge scope mode ∷ H) channel None waiters table left
+      unfolding active started
+      ties-purge_none t = with-activity t t.activity
 
-    pub ties-purge_none : due meaning mounted H ≡ Free → CanPurge meaning mounted scope H → Ties meaning mounted H channel None waiters table left → Ties meaning mounted P channel None waiters table left
-    unfolding active started
-    ties-purge_none settled can t = with-activity None settled can t.activity None t
-
-    pub ties-purge : (a : Active) → due meaning mounted H ≡ Free → CanPurge meaning mounted scope H → is_halt mode && awaits_by a.standing && is_some (active_of scope H) ≡ false →
-        Ties meaning mounted H channel (Some a) waiters table left → Ties meaning mounted P channel (Some (after_cover scope mode a)) waiters table left
-    ties-purge a settled can h t =
-        let h' = rw t.activity.is at h in
-        with-activity (Some (after_cover scope mode a)) settled can (active-purge channel.phase a t.activity (λ e. uncovered channel.phase a a.standing t.activity h' e)) (Some a) t
+      pub ties-purge : {a : Active} → is_halt mode && awaits_by a.standing && is_some (active_of scope H) ≡ false →
+          Ties meaning mounted H channel (Some a) waiters table left →
+          Ties meaning mounted (Purge scope mode ∷ H) channel (Some (after_cover scope mode a)) waiters table left
+      ties-purge {a} h t =
+          let h' = rw t.activity.is at h in
+          with-activity t (active-purge channel.phase a t.activity (λ e. uncovered channel.phase a a.standing t.activity h' e))
 
   -- at most what waited is doomed
   pub doomed-close_few : (d : ℕ) (H : List Entry) → length (doomed (Close d ∷ H)) ≤ length (waiting H)
@@ -172,10 +173,13 @@ module _ {D : Type 0} (meaning : Meaning D) (mounted : D) where
   unfolding waiting arrivals
   doomed-purge_few scope mode H = doomed-some (Purge scope mode ∷ H)
 
-  pub dooms-halted : (n : Name) (scope : Scope) (mode : Mode) (H : List Entry) → DoomedBy (Some (selection.Scope scope)) (Purge scope mode ∷ H) → DoomedBy (Some (selection.Scope scope)) (Halted n ∷ Purge scope mode ∷ H)
+  pub dooms-halted : (n : Name) (scope : Scope) (mode : Mode) (H : List Entry) →
+      DoomedBy (Some (selection.Scope scope)) (Purge scope mode ∷ H) →
+      DoomedBy (Some (selection.Scope scope)) (Halted n ∷ Purge scope mode ∷ H)
   unfolding waiting arrivals
   dooms-halted n scope mode H d = doomed-halted n (Purge scope mode ∷ H) ∙ d
 
-  pub doomed-halted_few : (n : Name) (scope : Scope) (mode : Mode) (H : List Entry) → length (doomed (Halted n ∷ Purge scope mode ∷ H)) ≤ length (waiting H)
+  pub doomed-halted_few : (n : Name) (scope : Scope) (mode : Mode) (H : List Entry) →
+      length (doomed (Halted n ∷ Purge scope mode ∷ H)) ≤ length (waiting H)
   unfolding waiting arrivals
   doomed-halted_few n scope mode H = doomed-some (Halted n ∷ Purge scope mode ∷ H)

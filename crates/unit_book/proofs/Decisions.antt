@@ -1,35 +1,24 @@
 -- What becomes of the active request when its status is taken.
-use Rattle.std.proofs.Common.{◌≡◌, ℕ, Bool, true, false, Option, Some, None, List, refl, sym, ap, ◌∙◌, subst}
-use Rattle.io_images.specs.declared.csw.Csw.{Csw}
-use Rattle.io_images.specs.declared.code.Code.{Code}
-use Rattle.io_images.specs.declared.code.Code.TheVariants.{Purged}
-use Rattle.device_port.specs.Meaning.{Meaning}
-use Rattle.device_port.specs.declared.kind.Kind.{Kind}
-use Rattle.subchannel.specs.Subchannel.{Channel, Phase, Absent, Idle, Running, Pending, status_of, tested_phase}
+use Rattle.unit_book.proofs.Names.{◌≡◌, ℕ, Bool, true, false, Option, Some, None, List, refl, sym, ap, ◌∙◌, subst, Csw, Code, Purged}
+use Rattle.unit_book.proofs.Names.{Meaning, Kind, Channel, Phase, Absent, Idle, Running, Pending, Retry, Final, verdict, PostedState, Name}
+use Rattle.unit_book.proofs.Names.{Piece, Active, Standing, OnChannel, AwaitsRestart, Dcb, Entry, active, request_named, is_covered, HasEnded}
+use Rattle.unit_book.proofs.Names.{still_runs, active_phase, PostsActive, WithVerdict, StartsAgain, StandingTies, Ties, awaits_by}
+use Rattle.unit_book.proofs.Names.{pending_phase}
+use Rattle.subchannel.specs.Subchannel.{status_of, tested_phase}
 use Rattle.recovery.specs.declared.answer.Verdict.{Verdict}
-use Rattle.recovery.specs.declared.answer.Verdict.TheVariants.{Retry, Final}
-use Rattle.recovery.specs.Verdict.{verdict}
-use Rattle.request_piece.specs.PostedState.{PostedState}
-use Rattle.request_piece.specs.declared.piece.Name.{Name}
-use Rattle.request_piece.specs.declared.piece.Piece.{Piece}
-use Rattle.unit_book.specs.declared.active.Active.{Active}
-use Rattle.unit_book.specs.declared.active.Standing.{Standing}
-use Rattle.unit_book.specs.declared.active.Standing.TheVariants.{OnChannel, AwaitsRestart}
-use Rattle.unit_book.specs.declared.dcb.Dcb.{Dcb}
-use Rattle.unit_book.specs.declared.entry.Entry.{Entry}
-use Rattle.unit_book.specs.Trace.{active, request_of, is_covered}
-use Rattle.unit_book.specs.Media.{StillRunning, HasEnded, still_runs, active_phase}
-use Rattle.unit_book.specs.Legal.{verdict_of, PostsActive, PostsAs, WithVerdict, WhileCovered, AfterHalt, StartsAgain}
+use Rattle.unit_book.specs.Legal.{verdict_of, PostsAs, WhileCovered, AfterHalt}
 use Rattle.unit_book.specs.Book.{pending_by}
-use Rattle.unit_book.specs.Fields.{StandingTies, Ties, awaits_by, pending_phase, pending_code, ended_code}
+use Rattle.unit_book.specs.Fields.{pending_code, ended_code}
 
 module _ {D : Type 0} (meaning : Meaning D) (mounted : D) where
-  module _ (H : List Entry) (channel : Channel D) (a : Active) (waiters : List Piece) (table : List Dcb) (left : List PostedState) (csw : Csw) (sense : ℕ)
+  module _ {H : List Entry} {channel : Channel D} {a : Active} {waiters : List Piece} {table : List Dcb} {left : List PostedState}
+      {csw : Csw} {sense : ℕ}
       (t : Ties meaning mounted H channel (Some a) waiters table left) (pending : status_of channel.phase ≡ Some (csw, sense)) where
     abbrev n : Name
     n = a.piece.value.name
 
-    pending-phase : (phase : Phase) (standing : Standing) → StandingTies meaning mounted H phase a standing → status_of phase ≡ Some (csw, sense) →
+    pending-phase : (phase : Phase) (standing : Standing) → StandingTies meaning mounted H phase a standing →
+        status_of phase ≡ Some (csw, sense) →
         (active_phase meaning mounted n H ≡ pending_phase a.halted csw sense) × (awaits_by standing ≡ false)
     pending-phase Absent standing d h = absurd d
     pending-phase Idle standing d h = absurd cc
@@ -55,19 +44,23 @@ module _ {D : Type 0} (meaning : Meaning D) (mounted : D) where
     decides-stands = ap still_runs phase-is ∙ pending-stands a.halted
 
     -- it is posted
-    ended-as : (v : Verdict) (covered : Bool) (code : Code) → verdict_of meaning mounted n csw sense H ≡ v → is_covered (request_of n H) H ≡ covered → active_phase meaning mounted n H ≡ HasEnded csw sense →
+    ended-as : (v : Verdict) (covered : Bool) (code : Code) → verdict_of meaning mounted n csw sense H ≡ v →
+        is_covered (request_named n H) H ≡ covered → active_phase meaning mounted n H ≡ HasEnded csw sense →
         ended_code v covered ≡ Some code → PostsAs meaning mounted n csw sense code H
     ended-as (Final c) covered code v k e h = let i : c ≡ code = cc in WithVerdict e (v ∙ ap Final i)
     ended-as Retry true code v k e h = let i : Purged ≡ code = cc in WhileCovered e v k (sym i)
     ended-as Retry false code v k e h = absurd cc
 
-    posts-as : (halted : Bool) (code : Code) → a.halted ≡ halted → pending_code (meaning.kind mounted) csw sense a.starts halted a.covered ≡ Some code → PostsAs meaning mounted n csw sense code H
+    posts-as : (halted : Bool) (code : Code) → a.halted ≡ halted → pending_code (meaning.kind mounted) csw sense a.starts halted a.covered
+        ≡ Some code → PostsAs meaning mounted n csw sense code H
     posts-as true code b h = let i : Purged ≡ code = cc in AfterHalt (phase-is ∙ ap (λ x. pending_phase x csw sense) b) (sym i)
     posts-as false code b h =
-        ended-as (verdict (meaning.kind mounted) csw sense a.starts) a.covered code (ap (verdict (meaning.kind mounted) csw sense) (sym t.activity.starts)) (sym t.activity.covered)
+        ended-as (verdict (meaning.kind mounted) csw sense a.starts) a.covered code
+        (ap (verdict (meaning.kind mounted) csw sense) (sym t.activity.starts)) (sym t.activity.covered)
         (phase-is ∙ ap (λ x. pending_phase x csw sense) b) h
 
-    pub decides-post : (code : Code) → pending_code (meaning.kind mounted) csw sense a.starts a.halted a.covered ≡ Some code → PostsActive meaning mounted n csw sense code H
+    pub decides-post : (code : Code) → pending_code (meaning.kind mounted) csw sense a.starts a.halted a.covered ≡ Some code →
+        PostsActive meaning mounted n csw sense code H
     decides-post code h = record { active = t.activity.is; as_ended = posts-as a.halted code refl h }
 
     none-code : (v : Verdict) (covered : Bool) → ended_code v covered ≡ None → (v ≡ Retry) × (covered ≡ false)
@@ -81,8 +74,10 @@ module _ {D : Type 0} (meaning : Meaning D) (mounted : D) where
     none-pending kind starts false covered h = let n = none-code (verdict kind csw sense starts) covered h in (refl, n.0, n.1)
 
     -- it is to be tried again
-    pub decides-ended : pending_code (meaning.kind mounted) csw sense a.starts a.halted a.covered ≡ None → active_phase meaning mounted n H ≡ HasEnded csw sense
-    decides-ended h = let n = none-pending (meaning.kind mounted) a.starts a.halted a.covered h in phase-is ∙ ap (λ x. pending_phase x csw sense) n.0
+    pub decides-ended : pending_code (meaning.kind mounted) csw sense a.starts a.halted a.covered ≡ None →
+        active_phase meaning mounted n H ≡ HasEnded csw sense
+    decides-ended h = let n = none-pending (meaning.kind mounted) a.starts a.halted a.covered h in phase-is
+        ∙ ap (λ x. pending_phase x csw sense) n.0
 
     pub decides-again : pending_code (meaning.kind mounted) csw sense a.starts a.halted a.covered ≡ None → StartsAgain meaning mounted n H
     decides-again h =
@@ -97,14 +92,14 @@ module _ {D : Type 0} (meaning : Meaning D) (mounted : D) where
         }
 
   -- AWAITING ITS RESTART: no entry
-  module _ (H : List Entry) (channel : Channel D) (a : Active) (waiters : List Piece) (table : List Dcb) (left : List PostedState) (csw : Csw) (sense : ℕ)
-      (t : Ties meaning mounted H channel (Some a) waiters table left) (s : StartsAgain meaning mounted a.piece.value.name H) (e : active_phase meaning mounted a.piece.value.name H ≡ HasEnded csw sense) where
+  module _ {H : List Entry} {channel : Channel D} {a : Active} {waiters : List Piece} {table : List Dcb} {left : List PostedState}
+      {csw : Csw} {sense : ℕ}
+      (t : Ties meaning mounted H channel (Some a) waiters table left) (s : StartsAgain meaning mounted a.piece.value.name H)
+      (e : active_phase meaning mounted a.piece.value.name H ≡ HasEnded csw sense) where
     await-idle : (phase : Phase) (standing : Standing) → StandingTies meaning mounted H phase a standing → tested_phase phase ≡ Idle
     await-idle Absent standing d = absurd d
     await-idle Idle standing d = refl
-    await-idle (Running place) OnChannel d = absurd (clash (sym d.1 ∙ e)) where
-      clash : {c : Csw} {k : ℕ} → StillRunning ≡ HasEnded c k → ⊥
-      clash q = cc
+    await-idle (Running place) OnChannel d = let k = sym d.1 ∙ e in absurd cc
     await-idle (Running place) (AwaitsRestart c k) d = absurd d
     await-idle (Pending c k) standing d = refl
 
@@ -116,8 +111,11 @@ module _ {D : Type 0} (meaning : Meaning D) (mounted : D) where
         let n = a.piece.value.name in
         let o : HasEnded s.csw s.sense ≡ HasEnded csw sense = sym s.ended ∙ e in
         let c : s.csw ≡ csw = cc in
-        let k : s.sense ≡ sense = cc in
-        (e, ap (λ x. verdict_of meaning mounted n x sense H) (sym c) ∙ ap (λ x. verdict_of meaning mounted n s.csw x H) (sym k) ∙ s.retry, s.free)
+        let k : s.sense ≡ sense = cc in (
+          e,
+          ap (λ x. verdict_of meaning mounted n x sense H) (sym c) ∙ ap (λ x. verdict_of meaning mounted n s.csw x H) (sym k) ∙ s.retry,
+          s.free,
+        )
 
     pub ties-await : Ties meaning mounted H (record channel { phase = tested_phase channel.phase }) (Some awaiting) waiters table left
     ties-await = record {
@@ -132,7 +130,8 @@ module _ {D : Type 0} (meaning : Meaning D) (mounted : D) where
         starts = t.activity.starts;
         halted = t.activity.halted;
         covered = t.activity.covered;
-        standing = subst (λ x. StandingTies meaning mounted H x awaiting (AwaitsRestart csw sense)) (sym (await-idle channel.phase a.standing t.activity.standing)) awaits;
+        standing = subst (λ x. StandingTies meaning mounted H x awaiting (AwaitsRestart csw sense))
+            (sym (await-idle channel.phase a.standing t.activity.standing)) awaits;
       };
       count = t.count;
       dcbs = t.dcbs;
@@ -140,18 +139,20 @@ module _ {D : Type 0} (meaning : Meaning D) (mounted : D) where
     }
 
   -- what `decide` tells
-  module _ (H : List Entry) (channel : Channel D) (a : Active) (waiters : List Piece) (table : List Dcb) (left : List PostedState) (csw : Csw) (sense : ℕ)
+  module _ {H : List Entry} {channel : Channel D} {a : Active} {waiters : List Piece} {table : List Dcb} {left : List PostedState}
+      {csw : Csw} {sense : ℕ}
       (t : Ties meaning mounted H channel (Some a) waiters table left) (pending : status_of channel.phase ≡ Some (csw, sense)) where
     pub decided_pending : pending_by meaning mounted H (awaits_by a.standing) (active H) ≡ true
     decided_pending =
         let is = t.activity.is in
-        let again_is = decides-not_again H channel a waiters table left csw sense t pending in
-        let stands = decides-stands H channel a waiters table left csw sense t pending in rw is (rw (again_is, stands) refl)
+        let again_is = decides-not_again t pending in
+        let stands = decides-stands t pending in rw is (rw (again_is, stands) refl)
 
     abbrev pub DecidedAs : Option Code → Type 0
     DecidedAs (Some code) = PostsActive meaning mounted a.piece.value.name csw sense code H
-    DecidedAs None = StartsAgain meaning mounted a.piece.value.name H × (active_phase meaning mounted a.piece.value.name H ≡ HasEnded csw sense)
+    DecidedAs None = StartsAgain meaning mounted a.piece.value.name H
+        × (active_phase meaning mounted a.piece.value.name H ≡ HasEnded csw sense)
 
     pub decided : (code : Option Code) → pending_code (meaning.kind mounted) csw sense a.starts a.halted a.covered ≡ code → DecidedAs code
-    decided (Some code) h = decides-post H channel a waiters table left csw sense t pending code h
-    decided None h = (decides-again H channel a waiters table left csw sense t pending h, decides-ended H channel a waiters table left csw sense t pending h)
+    decided (Some code) h = decides-post t pending code h
+    decided None h = (decides-again t pending h, decides-ended t pending h)

@@ -1,20 +1,14 @@
 -- Nothing doomed is started.
-use Rattle.std.proofs.Common.{◌≡◌, ℕ, ◌⊎◌, Bool, true, false, not, ◌&&◌, ◌||◌, Some, List, [], ◌∷◌, ◌++◌, refl, sym, ap, ◌∙◌, eqb, inl, inr, subst}
-use Rattle.std.proofs.lemmas.Bool.{cases_Bool, or_left, or_right, or_from, eq-eqb}
-use Rattle.std.specs.List.{list_any}
-use Rattle.std.specs.Prelude.{slice_get}
-use Rattle.device_port.specs.Meaning.{Meaning}
-use Rattle.request_piece.specs.declared.piece.Name.{Name}
-use Rattle.request_piece.specs.declared.piece.Piece.{Piece}
-use Rattle.unit_book.specs.declared.entry.Entry.{Entry}
-use Rattle.unit_book.specs.declared.entry.Entry.TheVariants.{Opened, Arrive, Start, Ran, Halted, Purge, Close, Reset, Post}
-use Rattle.unit_book.specs.Trace.{same, starts, arrivals, waiting, active, has_arrived, has_started, is_posted, is_covered, request_of}
-use Rattle.unit_book.specs.Dcbs.{doomed, is_doomed, is_open, is_opened, is_closed, flag}
-use Rattle.unit_book.specs.Legal.{Due, ToHalt, ToPost, Free, due, Fits, FitsBy, Legal, StartFits, First, Again}
+use Rattle.unit_book.proofs.Names.{◌≡◌, ℕ, ◌⊎◌, Bool, true, false, not, ◌&&◌, ◌||◌, Some, List, [], ◌∷◌, ◌++◌, refl, sym, ap, ◌∙◌, eqb, inl}
+use Rattle.unit_book.proofs.Names.{inr, subst, cases_Bool, or_left, or_right, eq-eqb, list_any, slice_get, Meaning, Name, Piece, Entry}
+use Rattle.unit_book.proofs.Names.{Opened, Arrive, Start, Ran, Halted, Purge, Close, Reset, Post, same, starts, arrivals, waiting, active}
+use Rattle.unit_book.proofs.Names.{has_arrived, has_started, is_posted, is_covered, request_named, doomed, is_doomed, is_open, is_opened}
+use Rattle.unit_book.proofs.Names.{is_closed, flag, Due, ToHalt, ToPost, Free, due, Fits, FitsBy, Legal, StartFits, First, Again}
+use Rattle.std.proofs.lemmas.Bool.{or_from}
 use Rattle.unit_book.specs.Laws.{NoDoomedStarts, is_of_name}
 use Rattle.unit_book.proofs.Lists.{same-true, no_both, without}
 use Rattle.unit_book.proofs.Facts.{Facts, active-is, fits-arrive, fits-start, fresh}
-use Rattle.unit_book.proofs.LegalFacts.{facts, first-waits}
+use Rattle.unit_book.proofs.LegalFacts.{facts, first-waits, first-request}
 use Rattle.unit_book.proofs.Dooms.{doomed-purged, due-doomed, none-pass}
 use Rattle.unit_book.proofs.Seeks.{free-start, all-at}
 use Rattle.unit_book.proofs.TraceLaws.{not-of, start-unposted}
@@ -24,11 +18,13 @@ abbrev dooms : Name → List Entry → Bool
 dooms n H = list_any (λ q. same q.name n) (doomed H)
 
 -- those of another name stay
-any-without : (m n : Name) → same m n ≡ false → (rs : List Piece) → list_any (λ (q : Piece). same q.name n) rs ≡ true → list_any (λ (q : Piece). same q.name n) (without m rs) ≡ true
+any-without : (m n : Name) → same m n ≡ false → (rs : List Piece) → list_any (λ (q : Piece). same q.name n) rs ≡ true →
+    list_any (λ (q : Piece). same q.name n) (without m rs) ≡ true
 unfolding without
 any-without m n s [] h = h
 any-without m n s (r ∷ rs) h =
-    let ih : list_any (λ (q : Piece). same q.name n) rs ≡ true → list_any (λ (q : Piece). same q.name n) (without m rs) ≡ true = λ k. any-without m n s rs k in
+    let ih : list_any (λ (q : Piece). same q.name n) rs ≡ true → list_any (λ (q : Piece). same q.name n) (without m rs)
+    ≡ true = λ k. any-without m n s rs k in
     elim (cases_Bool (same m r.name)) [
       | inl e ↦ let d : same r.name n ≡ false = subst (λ (x : Name). same x n ≡ false) (same-true m r.name e) s in rw e (ih (rw d at h))
       | inr e ↦ elim (cases_Bool (same r.name n)) [ inl b ↦ rw e (rw b refl) | inr b ↦ rw e (rw b (ih (rw b at h))) ]
@@ -47,12 +43,12 @@ starts-of n (Reset d) h = refl
 starts-of n (Post m csw sense code) h = refl
 
 -- the request of a name that arrived has the name
-request-named : (n : Name) (H : List Entry) → has_arrived n H ≡ true → (request_of n H).name ≡ n
-unfolding request_of
+request-named : (n : Name) (H : List Entry) → has_arrived n H ≡ true → (request_named n H).name ≡ n
+unfolding request_named
 request-named n [] h = absurd cc
 request-named n (Opened d i x ∷ H) h = request-named n H h
 request-named n (Arrive r ∷ H) h =
-    let ih : has_arrived n H ≡ true → (request_of n H).name ≡ n = λ k. request-named n H k in
+    let ih : has_arrived n H ≡ true → (request_named n H).name ≡ n = λ k. request-named n H k in
     elim (cases_Bool (same r.name n)) [ inl e ↦ rw e (same-true r.name n e) | inr e ↦ rw e (ih (rw e at h)) ]
 request-named n (Start m ∷ H) h = request-named n H h
 request-named n (Ran m j ∷ H) h = request-named n H h
@@ -81,7 +77,8 @@ module _ {D : Type 0} (meaning : Meaning D) (mounted : D) where
   unfolding waiting arrivals flag
   dooms-halted n m G = refl
 
-  gone-step : (n : Name) (e : Entry) (G : List Entry) → Facts G → Fits meaning mounted e G → Gone n G → (starts n e ≡ false) × Gone n (e ∷ G)
+  gone-step : (n : Name) (e : Entry) (G : List Entry) → Facts G → Fits meaning mounted e G → Gone n G →
+      (starts n e ≡ false) × Gone n (e ∷ G)
   gone-step n e G f h (inr p) = (starts-of n e (not-of meaning mounted n e G f p h), inr (or_right _ (is_posted n G) p))
   gone-step n e G f h (inl d) = by_due (due meaning mounted G) refl h where
     by_due : (k : Due) → k ≡ due meaning mounted G → FitsBy meaning mounted k e G → (starts n e ≡ false) × Gone n (e ∷ G)
@@ -89,11 +86,16 @@ module _ {D : Type 0} (meaning : Meaning D) (mounted : D) where
     by_due (ToPost m) q i =
         elim (cases_Bool (same m n)) [
           | inl s ↦ rw i (refl, inr (or_left (same m n) (is_posted n G) s))
-          | inr s ↦ rw i (refl, inl (ap (list_any (λ (r : Piece). same r.name n)) (doomed-purged meaning mounted m _ _ G) ∙ any-without m n s (doomed G) d))
+          | inr s ↦ rw i (
+            refl,
+            inl (ap (list_any (λ (r : Piece). same r.name n)) (doomed-purged meaning mounted m _ _ G)
+                ∙ any-without m n s (doomed G) d),
+          )
         ]
     by_due Free q i = no_both (dooms n G) d (ap (list_any (λ (r : Piece). same r.name n)) (due-doomed meaning mounted G (sym q)))
 
-  gone : (n : Name) (later earlier : List Entry) → Legal meaning mounted (later ++ earlier) → dooms n earlier ≡ true → (list_any (starts n) later ≡ false) × Gone n (later ++ earlier)
+  gone : (n : Name) (later earlier : List Entry) → Legal meaning mounted (later ++ earlier) → dooms n earlier ≡ true →
+      (list_any (starts n) later ≡ false) × Gone n (later ++ earlier)
   unfolding Legal
   gone n [] earlier l d = (refl, inl d)
   gone n (e ∷ later) earlier l d =
@@ -103,7 +105,7 @@ module _ {D : Type 0} (meaning : Meaning D) (mounted : D) where
 
   -- WHAT WAS STARTED AND COVERED stays covered, and is not started
   covered-start : (r : Piece) (m : Name) (G : List Entry) → Legal meaning mounted G → Fits meaning mounted (Start m) G →
-      has_started r.name G ≡ true → request_of r.name G ≡ r → is_covered r G ≡ true → same m r.name ≡ false
+      has_started r.name G ≡ true → request_named r.name G ≡ r → is_covered r G ≡ true → same m r.name ≡ false
   covered-start r m G l h s q c =
       elim (cases_Bool (same m r.name)) [
         | inl e ↦ absurd (none (fits-start meaning mounted m G (due meaning mounted G) h) (same-true m r.name e))
@@ -113,11 +115,13 @@ module _ {D : Type 0} (meaning : Meaning D) (mounted : D) where
         none (First k) i =
             let u = (first-waits meaning mounted k.request G (facts meaning mounted G l) k.first).unstarted in
             no_both (has_started r.name G) s (subst (λ (x : Name). has_started x G ≡ false) (k.name ∙ i) u)
-        none (Again k) i = no_both (is_covered r G) c (subst (λ (x : Piece). is_covered x G ≡ false) (ap (λ (x : Name). request_of x G) i ∙ q) k.free)
+        none (Again k) i = no_both (is_covered r G) c
+            (subst (λ (x : Piece). is_covered x G ≡ false) (ap (λ (x : Name). request_named x G) i ∙ q) k.free)
 
   -- the request of a name stays the one that arrived
-  request-stays : (n : Name) (e : Entry) (G : List Entry) → Facts G → Fits meaning mounted e G → has_arrived n G ≡ true → request_of n (e ∷ G) ≡ request_of n G
-  unfolding request_of
+  request-stays : (n : Name) (e : Entry) (G : List Entry) → Facts G → Fits meaning mounted e G → has_arrived n G ≡ true →
+      request_named n (e ∷ G) ≡ request_named n G
+  unfolding request_named
   request-stays n (Opened d i x) G f h a = refl
   request-stays n (Arrive r) G f h a =
       let new = fresh meaning mounted r G f (fits-arrive meaning mounted r G (due meaning mounted G) h) in
@@ -134,9 +138,10 @@ module _ {D : Type 0} (meaning : Meaning D) (mounted : D) where
   request-stays n (Post m csw sense code) G f h a = refl
 
   abbrev Covered : Piece → List Entry → Type 0
-  Covered r G = (has_started r.name G ≡ true) × (request_of r.name G ≡ r) × (is_covered r G ≡ true)
+  Covered r G = (has_started r.name G ≡ true) × (request_named r.name G ≡ r) × (is_covered r G ≡ true)
 
-  covered-step : (r : Piece) (e : Entry) (G : List Entry) → Legal meaning mounted G → Fits meaning mounted e G → Covered r G → (starts r.name e ≡ false) × Covered r (e ∷ G)
+  covered-step : (r : Piece) (e : Entry) (G : List Entry) → Legal meaning mounted G → Fits meaning mounted e G → Covered r G →
+      (starts r.name e ≡ false) × Covered r (e ∷ G)
   covered-step r e G l h c =
       let f = facts meaning mounted G l in
       let q = request-stays r.name e G f h (f.0 r.name c.0) ∙ c.1 in
@@ -153,7 +158,8 @@ module _ {D : Type 0} (meaning : Meaning D) (mounted : D) where
         unstarted (Reset d) i = refl
         unstarted (Post m csw sense code) i = refl
 
-  covered-stays : (r : Piece) (later earlier : List Entry) → Legal meaning mounted (later ++ earlier) → Covered r earlier → (list_any (starts r.name) later ≡ false) × Covered r (later ++ earlier)
+  covered-stays : (r : Piece) (later earlier : List Entry) → Legal meaning mounted (later ++ earlier) → Covered r earlier →
+      (list_any (starts r.name) later ≡ false) × Covered r (later ++ earlier)
   unfolding Legal
   covered-stays r [] earlier l c = (refl, c)
   covered-stays r (e ∷ later) earlier l c =
@@ -162,12 +168,12 @@ module _ {D : Type 0} (meaning : Meaning D) (mounted : D) where
       (or_from (starts r.name e) (list_any (starts r.name) later) s.0 ih.0, s.1)
 
   of-covered : (n : Name) (later earlier : List Entry) → Legal meaning mounted (later ++ earlier) →
-      has_started n earlier ≡ true → is_covered (request_of n earlier) earlier ≡ true → list_any (starts n) later ≡ false
+      has_started n earlier ≡ true → is_covered (request_named n earlier) earlier ≡ true → list_any (starts n) later ≡ false
   of-covered n later earlier l s c =
       let f = facts meaning mounted earlier (legal-tail later earlier l) in
-      let r = request_of n earlier in
+      let r = request_named n earlier in
       let q : r.name ≡ n = request-named n earlier (f.0 n s) in
-      let k : Covered r earlier = (rw q s, ap (λ (x : Name). request_of x earlier) q, c) in
+      let k : Covered r earlier = (rw q s, ap (λ (x : Name). request_named x earlier) q, c) in
       subst (λ (x : Name). list_any (starts x) later ≡ false) q (covered-stays r later earlier l k).0
 
   -- A FIRST START is of a request that is not doomed
@@ -175,21 +181,23 @@ module _ {D : Type 0} (meaning : Meaning D) (mounted : D) where
   first-spared r H d s = all-at (λ q. not (is_doomed H q)) (waiting H) 0 r (none-pass (is_doomed H) (waiting H) d) s
 
   not-first : (n : Name) (H : List Entry) → Legal meaning mounted H → due meaning mounted H ≡ Free → StartFits meaning mounted n H →
-      is_doomed H (request_of n H) ≡ true → has_started n H ≡ true
+      is_doomed H (request_named n H) ≡ true → has_started n H ≡ true
   not-first n H l d (First s) b =
-      let w = first-waits meaning mounted s.request H (facts meaning mounted H l) s.first in
-      let q : request_of n H ≡ s.request = subst (λ (x : Name). request_of x H ≡ s.request) s.name w.known.0 in
+      let q = first-request meaning mounted H (facts meaning mounted H l) s.first s.name in
       let k = first-spared s.request H (due-doomed meaning mounted H d) s.first in
       let b' : is_doomed H s.request ≡ true = subst (λ (x : Piece). is_doomed H x ≡ true) q b in
       let k' = rw b' at k in absurd cc
   not-first n H l d (Again s) b = (active-is n H s.active).0
 
-  doomed-starts : (n : Name) (H : List Entry) → Legal meaning mounted (Start n ∷ H) → is_doomed H (request_of n H) ≡ true → has_started n H ≡ true
+  doomed-starts : (n : Name) (H : List Entry) → Legal meaning mounted (Start n ∷ H) → is_doomed H (request_named n H) ≡ true →
+      has_started n H ≡ true
   unfolding Legal
-  doomed-starts n H l b = not-first n H l.1 (free-start meaning mounted n H (due meaning mounted H) l.0) (fits-start meaning mounted n H (due meaning mounted H) l.0) b
+  doomed-starts n H l b = not-first n H l.1 (free-start meaning mounted n H (due meaning mounted H) l.0)
+      (fits-start meaning mounted n H (due meaning mounted H) l.0) b
 
   -- a request of a closed DCB, one with the flag
-  doomed-closed : (opened closed purged related flagged : Bool) → closed ≡ true → (not (opened && not closed) || purged || (related && flagged)) ≡ true
+  doomed-closed : (opened closed purged related flagged : Bool) → closed ≡ true →
+      (not (opened && not closed) || purged || (related && flagged)) ≡ true
   doomed-closed true closed purged related flagged h = rw h refl
   doomed-closed false closed purged related flagged h = refl
 
@@ -198,14 +206,16 @@ module _ {D : Type 0} (meaning : Meaning D) (mounted : D) where
   doomed-flagged false true related flagged h k = refl
   doomed-flagged false false related flagged h k = rw (h, k) refl
 
-  of-closed : (n : Name) (H : List Entry) → Legal meaning mounted (Start n ∷ H) → is_closed (request_of n H).dcb H ≡ true → has_started n H ≡ true
+  of-closed : (n : Name) (H : List Entry) → Legal meaning mounted (Start n ∷ H) → is_closed (request_named n H).dcb H ≡ true →
+      has_started n H ≡ true
   of-closed n H l c =
-      let r = request_of n H in
+      let r = request_named n H in
       doomed-starts n H l (doomed-closed (is_opened r.dcb H) (is_closed r.dcb H) _ r.related (flag r.dcb H) c)
 
-  of-flagged : (n : Name) (H : List Entry) → Legal meaning mounted (Start n ∷ H) → (request_of n H).related ≡ true → flag (request_of n H).dcb H ≡ true → has_started n H ≡ true
+  of-flagged : (n : Name) (H : List Entry) → Legal meaning mounted (Start n ∷ H) → (request_named n H).related ≡ true →
+      flag (request_named n H).dcb H ≡ true → has_started n H ≡ true
   of-flagged n H l a b =
-      let r = request_of n H in
+      let r = request_named n H in
       doomed-starts n H l (doomed-flagged (not (is_open r.dcb H)) _ r.related (flag r.dcb H) a b)
 
   closed-later : (d : ℕ) (later earlier : List Entry) → is_closed d (later ++ Close d ∷ earlier) ≡ true
@@ -213,8 +223,8 @@ module _ {D : Type 0} (meaning : Meaning D) (mounted : D) where
 
   -- WHAT IS STARTED AFTER A CLOSE was started before it
   before-close : (n : Name) (d : ℕ) (later earlier : List Entry) → Legal meaning mounted (later ++ Close d ∷ earlier) →
-      (request_of n (later ++ Close d ∷ earlier)).dcb ≡ d → has_started n (later ++ Close d ∷ earlier) ≡ true → has_started n earlier ≡ true
-  unfolding Legal request_of
+      (request_named n (later ++ Close d ∷ earlier)).dcb ≡ d → has_started n (later ++ Close d ∷ earlier) ≡ true → has_started n earlier ≡ true
+  unfolding Legal request_named
   before-close n d [] earlier l q s = s
   before-close n d (e ∷ later) earlier l q s =
       let G = later ++ Close d ∷ earlier in
@@ -222,14 +232,17 @@ module _ {D : Type 0} (meaning : Meaning D) (mounted : D) where
       let h = started_before e l s q in
       let stays = request-stays n e G f l.0 (f.0 n h) in
       before-close n d later earlier l.1 (sym (ap (λ (r : Piece). r.dcb) stays) ∙ q) h where
-        own : (m : Name) → Legal meaning mounted (Start m ∷ later ++ Close d ∷ earlier) → m ≡ n → (request_of m (later ++ Close d ∷ earlier)).dcb ≡ d → has_started m (later ++ Close d ∷ earlier) ≡ true
+        own : (m : Name) → Legal meaning mounted (Start m ∷ later ++ Close d ∷ earlier) → m ≡ n →
+            (request_named m (later ++ Close d ∷ earlier)).dcb ≡ d → has_started m (later ++ Close d ∷ earlier) ≡ true
         own m k i b = of-closed m (later ++ Close d ∷ earlier) k (rw b (closed-later d later earlier))
 
-        started_before : (e : Entry) → Legal meaning mounted (e ∷ later ++ Close d ∷ earlier) → has_started n (e ∷ later ++ Close d ∷ earlier) ≡ true →
-            (request_of n (e ∷ later ++ Close d ∷ earlier)).dcb ≡ d → has_started n (later ++ Close d ∷ earlier) ≡ true
+        started_before : (e : Entry) → Legal meaning mounted (e ∷ later ++ Close d ∷ earlier) →
+            has_started n (e ∷ later ++ Close d ∷ earlier) ≡ true →
+            (request_named n (e ∷ later ++ Close d ∷ earlier)).dcb ≡ d → has_started n (later ++ Close d ∷ earlier) ≡ true
         started_before (Start m) k t b =
             elim (cases_Bool (same m n)) [
-              | inl i ↦ let j = same-true m n i in subst (λ (x : Name). has_started x (later ++ Close d ∷ earlier) ≡ true) j (own m k j (subst (λ (x : Name). (request_of x (later ++ Close d ∷ earlier)).dcb ≡ d) (sym j) b))
+              | inl i ↦ let j = same-true m n i in subst (λ (x : Name). has_started x (later ++ Close d ∷ earlier) ≡ true) j
+                  (own m k j (subst (λ (x : Name). (request_named x (later ++ Close d ∷ earlier)).dcb ≡ d) (sym j) b))
               | inr i ↦ rw i at t
             ]
         started_before (Opened c i x) k t b = t
@@ -242,7 +255,7 @@ module _ {D : Type 0} (meaning : Meaning D) (mounted : D) where
         started_before (Post m csw sense code) k t b = t
 
   of-closing : (n : Name) (d : ℕ) (later earlier : List Entry) → Legal meaning mounted (Start n ∷ later ++ Close d ∷ earlier) →
-      (request_of n (later ++ Close d ∷ earlier)).dcb ≡ d → active earlier ≡ Some n
+      (request_named n (later ++ Close d ∷ earlier)).dcb ≡ d → active earlier ≡ Some n
   unfolding Legal
   of-closing n d later earlier l q =
       let G = later ++ Close d ∷ earlier in
@@ -258,7 +271,8 @@ module _ {D : Type 0} (meaning : Meaning D) (mounted : D) where
           | inr p ↦ p
         ]
 
-  of-doomed : (r : Piece) (later earlier : List Entry) → Legal meaning mounted (later ++ earlier) → dooms r.name earlier ≡ true → list_any (starts r.name) later ≡ false
+  of-doomed : (r : Piece) (later earlier : List Entry) → Legal meaning mounted (later ++ earlier) → dooms r.name earlier ≡ true →
+      list_any (starts r.name) later ≡ false
   of-doomed r later earlier l d = (gone r.name later earlier l d).0
 
 pub no-doomed-starts : {D : Type 0} (meaning : Meaning D) → NoDoomedStarts meaning

@@ -1,25 +1,14 @@
 -- What is doomed, entry by entry, and that the dooms settle a trace.
-use Rattle.std.proofs.Common.{◌≡◌, ◌≤◌, ℕ, Bool, true, false, not, ◌&&◌, ◌||◌, Option, Some, None, List, [], ◌∷◌, length, arith, refl, sym, ap, ◌∙◌, eqb, inl, inr, subst, if◌then◌else◌}
-use Rattle.std.proofs.lemmas.Bool.{cases_Bool, and_parts}
-use Rattle.std.specs.List.{filter, list_all}
-use Rattle.io_images.specs.Codes.{is_error}
-use Rattle.io_images.specs.declared.csw.Csw.{Csw}
-use Rattle.io_images.specs.declared.extent.Extent.{Extent}
-use Rattle.io_images.specs.declared.code.Code.{Code}
-use Rattle.io_images.specs.declared.code.Code.TheVariants.{Purged}
-use Rattle.device_port.specs.Meaning.{Meaning}
-use Rattle.io_images.specs.Images.{no_status}
-use Rattle.request_piece.specs.declared.piece.Name.{Name}
-use Rattle.request_piece.specs.declared.piece.Piece.{Piece}
-use Rattle.unit_book.specs.declared.entry.Entry.{Entry}
-use Rattle.unit_book.specs.declared.entry.Entry.TheVariants.{Opened, Start, Ran, Post}
-use Rattle.unit_book.specs.Trace.{same, waiting, arrivals, active, started, request_of, is_purged}
-use Rattle.unit_book.specs.Dcbs.{doomed, is_doomed, is_open, is_opened, is_closed, flag}
-use Rattle.unit_book.specs.Legal.{Free, due, due_by, doomed_first, is_to_halt, Fits, FitsBy, Legal}
-use Rattle.unit_book.specs.Dooms.{all_posted, after_dooms}
-use Rattle.unit_book.specs.Selected.{is_selected, doomed_by_post, DoomedBy}
-use Rattle.unit_book.proofs.Lists.{filter-filter, all-kept, without, without-first, Apart, Apart-filter}
-use Rattle.unit_book.proofs.Facts.{waiting-start, waiting-post, waiting-apart}
+use Rattle.unit_book.proofs.Names.{◌≡◌, ◌≤◌, ℕ, Bool, true, false, not, ◌&&◌, ◌||◌, Some, List, [], ◌∷◌, length, arith, refl, sym, ap, ◌∙◌}
+use Rattle.unit_book.proofs.Names.{eqb, inl, inr, subst, if◌then◌else◌, cases_Bool, and_parts, filter, list_all, is_error, Csw, Extent}
+use Rattle.unit_book.proofs.Names.{Code, Purged, Meaning, no_status, Name, Piece, Entry, Opened, Start, Ran, Post, same, waiting, arrivals}
+use Rattle.unit_book.proofs.Names.{active, started, request_named, doomed, is_doomed, is_open, is_opened, is_closed, flag, Free, due}
+use Rattle.unit_book.proofs.Names.{doomed_first, is_to_halt, Fits, FitsBy, Legal, all_posted, after_dooms, doomed_by_post, DoomedBy}
+use Rattle.unit_book.proofs.Names.{halted_by}
+use Rattle.unit_book.specs.Trace.{is_purged}
+use Rattle.unit_book.specs.Selected.{is_selected}
+use Rattle.unit_book.proofs.Lists.{filter-filter, all-kept, without, without-first, Apart, Apart-filter, no_both}
+use Rattle.unit_book.proofs.Facts.{waiting-start, waiting-post, waiting-apart, Halts, Dooms, due-is}
 use Rattle.unit_book.proofs.LegalFacts.{facts}
 
 module _ {X : Type 0} where
@@ -48,12 +37,11 @@ module _ {X : Type 0} where
   none-pass p [] h = refl
   none-pass p (x ∷ xs) h =
       let ih : filter p xs ≡ [] → list_all (λ x. not (p x)) xs ≡ true = λ k. none-pass p xs k in
-      elim (cases_Bool (p x)) [ inl e ↦ absurd (clash (rw e at h)) | inr e ↦ rw e (ih (rw e at h)) ] where
-        clash : {x : X} {xs : List X} → x ∷ xs ≡ [] → ⊥
-        clash k = cc
+      elim (cases_Bool (p x)) [ inl e ↦ let k = rw e at h in absurd cc | inr e ↦ rw e (ih (rw e at h)) ]
 
   -- tests that agree on the elements keep the same
-  pub filter-agree : (p q m : X → Bool) → ((x : X) → m x ≡ true → p x ≡ q x) → (xs : List X) → list_all m xs ≡ true → filter p xs ≡ filter q xs
+  pub filter-agree : (p q m : X → Bool) → ((x : X) → m x ≡ true → p x ≡ q x) → (xs : List X) → list_all m xs ≡ true →
+      filter p xs ≡ filter q xs
   filter-agree p q m a [] h = refl
   filter-agree p q m a (x ∷ xs) h =
       let k = and_parts (m x) (list_all m xs) h in
@@ -61,15 +49,22 @@ module _ {X : Type 0} where
       let ih = filter-agree p q m a xs k.1 in
       elim (cases_Bool (q x)) [ inl b ↦ rw (e, b) (ap (λ t. x ∷ t) ih) | inr b ↦ rw (e, b) ih ]
 
+-- where only dooms are due nothing is halted
+pub halted-first : (rs : List Piece) (H : List Entry) → halted_by (doomed_first rs) H ≡ H
+halted-first [] H = refl
+halted-first (r ∷ rs) H = refl
+
 module _ {D : Type 0} (meaning : Meaning D) (mounted : D) where
   -- a Start takes its name away, a post as purged likewise
   pub doomed-start : (n : Name) (H : List Entry) → doomed (Start n ∷ H) ≡ without n (doomed H)
   unfolding without flag
-  doomed-start n H = ap (filter (is_doomed H)) (waiting-start meaning mounted n H) ∙ filters-commute (is_doomed H) (λ (r : Piece). not (same n r.name)) (waiting H)
+  doomed-start n H = ap (filter (is_doomed H)) (waiting-start meaning mounted n H) ∙ filters-commute (is_doomed H)
+      (λ (r : Piece). not (same n r.name)) (waiting H)
 
   pub doomed-purged : (n : Name) (csw : Csw) (sense : ℕ) (H : List Entry) → doomed (Post n csw sense Purged ∷ H) ≡ without n (doomed H)
   unfolding without flag
-  doomed-purged n csw sense H = ap (filter (is_doomed H)) (waiting-post meaning mounted n csw sense Purged H) ∙ filters-commute (is_doomed H) (λ (r : Piece). not (same n r.name)) (waiting H)
+  doomed-purged n csw sense H = ap (filter (is_doomed H)) (waiting-post meaning mounted n csw sense Purged H)
+      ∙ filters-commute (is_doomed H) (λ (r : Piece). not (same n r.name)) (waiting H)
 
   pub doomed-ran : (n : Name) (j : ℕ) (H : List Entry) → doomed (Ran n j ∷ H) ≡ doomed H
   unfolding waiting arrivals flag
@@ -77,7 +72,8 @@ module _ {D : Type 0} (meaning : Meaning D) (mounted : D) where
 
   -- a post dooms the related requests of its DCB, if it is of a related request and has an error
   doomed-by : (q r : Piece) (code : Code) (shut purged f : Bool) → not (shut || purged || (r.related && f)) ≡ true →
-      (shut || purged || (r.related && (if is_error code && q.related && eqb q.dcb r.dcb then true else f))) ≡ is_selected (doomed_by_post q code) r
+      (shut || purged || (r.related && (if is_error code && q.related && eqb q.dcb r.dcb then true else f)))
+      ≡ is_selected (doomed_by_post q code) r
   doomed-by q r code true purged f h = absurd cc
   doomed-by q r code false true f h = absurd cc
   doomed-by q r code false false f h =
@@ -99,25 +95,22 @@ module _ {D : Type 0} (meaning : Meaning D) (mounted : D) where
         by_bools true false false h = refl
         by_bools false d f h = refl
 
-  pub doomed-post : (n : Name) (csw : Csw) (sense : ℕ) (code : Code) (H : List Entry) → doomed H ≡ [] → DoomedBy (doomed_by_post (request_of n H) code) (Post n csw sense code ∷ H)
+  pub doomed-post : (n : Name) (csw : Csw) (sense : ℕ) (code : Code) (H : List Entry) → doomed H ≡ [] →
+      DoomedBy (doomed_by_post (request_named n H) code) (Post n csw sense code ∷ H)
   unfolding flag without
   doomed-post n csw sense code H e =
       let G = Post n csw sense code ∷ H in
       let all = all-kept (λ r. not (is_doomed H r)) (λ r. not (same n r.name)) (waiting H) (none-pass (is_doomed H) (waiting H) e) in
       let there = subst (λ ws. list_all (λ r. not (is_doomed H r)) ws ≡ true) (sym (waiting-post meaning mounted n csw sense code H)) all in
-      filter-agree (is_doomed G) (is_selected (doomed_by_post (request_of n H) code)) (λ r. not (is_doomed H r))
-      (λ r h. doomed-by (request_of n H) r code (not (is_open r.dcb H)) (is_purged r H) (flag r.dcb H) h) (waiting G) there
+      filter-agree (is_doomed G) (is_selected (doomed_by_post (request_named n H) code)) (λ r. not (is_doomed H r))
+      (λ r h. doomed-by (request_named n H) r code (not (is_open r.dcb H)) (is_purged r H) (flag r.dcb H) h) (waiting G) there
 
   -- no Halted is due
   abbrev pub NoHalt : List Entry → Type 0
   NoHalt H = (n : Name) → active H ≡ Some n → is_to_halt meaning mounted H n ≡ false
 
   pub due-no_halt : (H : List Entry) → NoHalt H → due meaning mounted H ≡ doomed_first (doomed H)
-  unfolding due
-  due-no_halt H h = by_active (active H) (λ n e. h n e) where
-    by_active : (o : Option Name) → ((n : Name) → o ≡ Some n → is_to_halt meaning mounted H n ≡ false) → due_by meaning mounted H o ≡ doomed_first (doomed H)
-    by_active None k = refl
-    by_active (Some n) k = let e = k n refl in rw e refl
+  due-no_halt H h = elim (due-is meaning mounted H) [ Halts n d a b ↦ no_both (is_to_halt meaning mounted H n) b (h n a) | Dooms d ↦ d ]
 
   -- THE DOOMS are legal and leave nothing due
   dooms-by : (rs : List Piece) (H : List Entry) → doomed H ≡ rs → due meaning mounted H ≡ doomed_first rs → Legal meaning mounted H →
@@ -127,7 +120,8 @@ module _ {D : Type 0} (meaning : Meaning D) (mounted : D) where
   dooms-by (r ∷ rs) H e d l =
       let f = facts meaning mounted H l in
       let G = Post r.name no_status 0 Purged ∷ H in
-      let fits : Fits meaning mounted (Post r.name no_status 0 Purged) H = subst (λ x. FitsBy meaning mounted x (Post r.name no_status 0 Purged) H) (sym d) refl in
+      let fits : Fits meaning mounted
+      (Post r.name no_status 0 Purged) H = subst (λ x. FitsBy meaning mounted x (Post r.name no_status 0 Purged) H) (sym d) refl in
       let apart = subst Apart e (Apart-filter (is_doomed H) (waiting H) (waiting-apart meaning mounted H f)) in
       let next : doomed G ≡ rs = doomed-purged r.name no_status 0 H ∙ ap (without r.name) e ∙ without-first r rs apart in
       dooms-by rs G next (due-no_halt G (λ n a. refl) ∙ ap doomed_first next) (fits, l)
@@ -138,19 +132,11 @@ module _ {D : Type 0} (meaning : Meaning D) (mounted : D) where
 
   -- nothing is doomed where nothing is due
   pub due-doomed : (H : List Entry) → due meaning mounted H ≡ Free → doomed H ≡ []
-  unfolding due
-  due-doomed H h = by_active (active H) h where
-    first-none : (rs : List Piece) → doomed_first rs ≡ Free → rs ≡ []
-    first-none [] e = refl
-    first-none (r ∷ rs) e = absurd cc
-
-    by_active : (o : Option Name) → due_by meaning mounted H o ≡ Free → doomed H ≡ []
-    by_active None e = first-none (doomed H) e
-    by_active (Some n) e =
-        elim (cases_Bool (is_to_halt meaning mounted H n)) [
-          | inl b ↦ let e' = rw b at e in absurd cc
-          | inr b ↦ first-none (doomed H) (rw b at e)
-        ]
+  due-doomed H h = elim (due-is meaning mounted H)
+      [ Halts n d a b ↦ let k = sym d ∙ h in absurd cc | Dooms d ↦ first-none (doomed H) (sym d ∙ h) ] where
+        first-none : (rs : List Piece) → doomed_first rs ≡ Free → rs ≡ []
+        first-none [] e = refl
+        first-none (r ∷ rs) e = absurd cc
 
   -- a Ran and a Start leave a settled trace settled
   pub settled-ran : (n : Name) (j : ℕ) (H : List Entry) → due meaning mounted H ≡ Free → due meaning mounted (Ran n j ∷ H) ≡ Free
@@ -160,12 +146,9 @@ module _ {D : Type 0} (meaning : Meaning D) (mounted : D) where
   unfolding without
   settled-start n H h = due-no_halt (Start n ∷ H) (λ m a. refl) ∙ ap doomed_first (doomed-start n H ∙ ap (without n) (due-doomed H h))
 
-  not-not : (b : Bool) → not b ≡ true → b ≡ false
-  not-not true h = absurd cc
-  not-not false h = refl
-
   -- an opened DCB dooms nothing
-  open-spares : (opened now shut purged flagged : Bool) → not (not (opened && not shut) || purged || flagged) ≡ true → (not ((now || opened) && not shut) || purged || flagged) ≡ false
+  open-spares : (opened now shut purged flagged : Bool) → not (not (opened && not shut) || purged || flagged) ≡ true →
+      (not ((now || opened) && not shut) || purged || flagged) ≡ false
   open-spares true true false false false h = refl
   open-spares true false false false false h = refl
   open-spares true now true purged flagged h = absurd cc
@@ -173,12 +156,15 @@ module _ {D : Type 0} (meaning : Meaning D) (mounted : D) where
   open-spares true now false true flagged h = absurd cc
   open-spares true now false false true h = absurd cc
 
-  pub settled-open : (d : ℕ) (input : Bool) (x : List Extent) (H : List Entry) → due meaning mounted H ≡ Free → due meaning mounted (Opened d input x ∷ H) ≡ Free
+  pub settled-open : (d : ℕ) (input : Bool) (x : List Extent) (H : List Entry) → due meaning mounted H ≡ Free →
+      due meaning mounted (Opened d input x ∷ H) ≡ Free
   unfolding waiting arrivals flag
   settled-open d input x H h =
       let G = Opened d input x ∷ H in
       let all = none-pass (is_doomed H) (waiting H) (due-doomed H h) in
-      let same = filter-agree (is_doomed G) (λ r. false) (λ r. not (is_doomed H r)) (λ r k. open-spares (is_opened r.dcb H) (eqb d r.dcb) (is_closed r.dcb H) (is_purged r H) (r.related && flag r.dcb H) k) (waiting H) all in
+      let same = filter-agree (is_doomed G) (λ r. false) (λ r. not (is_doomed H r))
+      (λ r k. open-spares (is_opened r.dcb H) (eqb d r.dcb) (is_closed r.dcb H) (is_purged r H) (r.related && flag r.dcb H) k)
+      (waiting H) all in
       due-no_halt G (λ n a. refl) ∙ ap doomed_first (same ∙ filter-never (waiting H))
 
   -- nothing is due in a trace without entries
@@ -187,7 +173,8 @@ module _ {D : Type 0} (meaning : Meaning D) (mounted : D) where
   settled-new = refl
 
   -- a post dooms at most what waited
-  pub doomed-few : (n : Name) (csw : Csw) (sense : ℕ) (code : Code) (H : List Entry) → length (doomed (Post n csw sense code ∷ H)) ≤ length (waiting H)
+  pub doomed-few : (n : Name) (csw : Csw) (sense : ℕ) (code : Code) (H : List Entry) →
+      length (doomed (Post n csw sense code ∷ H)) ≤ length (waiting H)
   unfolding without
   doomed-few n csw sense code H =
       let G = Post n csw sense code ∷ H in

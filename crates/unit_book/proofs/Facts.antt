@@ -1,22 +1,14 @@
 -- What a legal trace keeps, and what follows from it.
-use Rattle.std.proofs.Common.{◌≡◌, ℕ, ◌+◌, ◌≤◌, ◌⊎◌, Bool, true, false, not, ◌&&◌, ◌||◌, Option, Some, None, List, [], ◌∷◌, ◌++◌, refl, sym, ap, ◌∙◌, arith, inl, inr}
-use Rattle.std.proofs.lemmas.Bool.{and_from, or_parts, or_left, or_right, cases_Bool}
-use Rattle.std.proofs.lemmas.List.Elements.{filter-append}
-use Rattle.std.specs.List.{filter, list_any, list_all}
-use Rattle.std.specs.Prelude.{slice_get}
-use Rattle.io_images.specs.declared.csw.Csw.{Csw}
-use Rattle.device_port.specs.Meaning.{Meaning}
-use Rattle.request_piece.specs.declared.piece.Name.{Name}
-use Rattle.request_piece.specs.declared.piece.Piece.{Piece}
-use Rattle.io_images.specs.declared.code.Code.{Code}
-use Rattle.unit_book.specs.declared.entry.Entry.{Entry}
-use Rattle.unit_book.specs.declared.entry.Entry.TheVariants.{Opened, Arrive, Start, Ran, Halted, Purge, Close, Reset, Post}
-use Rattle.unit_book.specs.Trace.{same, arrivals, arrived_of, has_arrived, has_started, is_posted, waiting, started, active, request_of}
-use Rattle.unit_book.specs.Lists.{Each}
-use Rattle.unit_book.specs.Media.{Attempt, attempts}
-use Rattle.unit_book.specs.Dcbs.{doomed, is_doomed}
-use Rattle.unit_book.specs.Legal.{Due, ToHalt, ToPost, Free, due, due_by, doomed_first, is_to_halt, Fits, FitsBy, FitsFree, PostFits, OfActive, OfFirst}
-use Rattle.unit_book.proofs.Lists.{same-refl, same-is, same-not-sym, no_both, filter-filter, all-weaker, find-passes, find-any, find-agree, find-none, without, Apart, Apart-filter}
+use Rattle.unit_book.proofs.Names.{◌≡◌, ℕ, zero, suc, ◌+◌, ◌≤◌, ◌⊎◌, Bool, true, false, not, ◌&&◌, ◌||◌, Option, Some, None, List, [], ◌∷◌}
+use Rattle.unit_book.proofs.Names.{◌++◌, refl, sym, ap, ◌∙◌, arith, inl, inr, subst, and_from, or_parts, or_left, or_right, cases_Bool}
+use Rattle.unit_book.proofs.Names.{filter-append, filter, list_any, list_all, slice_get, Csw, Meaning, Name, Piece, Code, Entry, Opened}
+use Rattle.unit_book.proofs.Names.{Arrive, Start, Ran, Halted, Purge, Close, Reset, Post, same, arrivals, arrived_of, has_arrived}
+use Rattle.unit_book.proofs.Names.{has_started, is_posted, waiting, started, active, request_named, Each, Attempt, attempts, doomed, is_doomed}
+use Rattle.unit_book.proofs.Names.{Due, ToHalt, ToPost, Free, due, due_by, doomed_first, is_to_halt, Fits, FitsBy, PostFits, OfActive}
+use Rattle.unit_book.proofs.Names.{OfFirst}
+use Rattle.unit_book.specs.Legal.{FitsFree}
+use Rattle.unit_book.proofs.Lists.{same-refl, same-true, same-is, filter-all, same-not-sym, no_both, filter-filter, all-weaker, find-passes}
+use Rattle.unit_book.proofs.Lists.{find-any, find-agree, find-none, without, Apart, Apart-filter}
 
 -- THE FACTS
 abbrev pub ArrivedStart : List Entry → Type 0
@@ -32,13 +24,13 @@ abbrev pub One : List Entry → Type 0
 One H = (n : Name) → has_started n H ≡ true → is_posted n H ≡ false → active H ≡ Some n
 
 abbrev pub NewestIs : Name → List Entry → Type 0
-NewestIs n H = (a : Attempt) × (rest : List Attempt) × (attempts H ≡ a ∷ rest) × (a.request ≡ request_of n H) × ((request_of n H).name ≡ n)
+NewestIs n H = (a : Attempt) × (rest : List Attempt) × (attempts H ≡ a ∷ rest) × (a.request ≡ request_named n H) × ((request_named n H).name ≡ n)
 
 abbrev pub Newest : List Entry → Type 0
 Newest H = (n : Name) → active H ≡ Some n → NewestIs n H
 
 abbrev pub Known : List Entry → Piece → Type 0
-Known H r = (request_of r.name H ≡ r) × (has_arrived r.name H ≡ true)
+Known H r = (request_named r.name H ≡ r) × (has_arrived r.name H ≡ true)
 
 abbrev pub Facts : List Entry → Type 0
 Facts H = ArrivedStart H × ArrivedPost H × Numbered H × One H × Newest H × Apart (arrivals H) × Each (Known H) (arrivals H)
@@ -56,6 +48,11 @@ Each-filter P p [] h = tt
 Each-filter P p (r ∷ rs) h =
     let ih = Each-filter P p rs h.1 in
     elim (cases_Bool (p r)) [ inl e ↦ rw e (h.0, ih) | inr e ↦ rw e ih ]
+
+pub Each-at : {X : Type 0} (P : X → Type 0) (xs : List X) (k : ℕ) (x : X) → Each P xs → slice_get xs k ≡ Some x → P x
+Each-at P [] k x e s = absurd cc
+Each-at P (y ∷ xs) zero x e s = let i : y ≡ x = cc in subst P i e.0
+Each-at P (y ∷ xs) (suc k) x e s = Each-at P xs k x e.1 s
 
 -- WORDS ON STARTS
 pub started-any : (n : Name) (H : List Entry) → list_any (λ k. same k n) (started H) ≡ has_started n H
@@ -80,13 +77,14 @@ any-none p (x ∷ xs) h =
 -- each element passes what every equal of one does
 all-self : (H : List Entry) → list_all (λ k. has_started k H) (started H) ≡ true
 all-self H = by_list (started H) (λ k h. sym (started-any k H) ∙ h) where
-  by_list : (ns : List Name) → ((k : Name) → list_any (λ m. same m k) ns ≡ true → has_started k H ≡ true) → list_all (λ k. has_started k H) ns ≡ true
+  by_list : (ns : List Name) → ((k : Name) → list_any (λ m. same m k) ns ≡ true → has_started k H ≡ true) →
+      list_all (λ k. has_started k H) ns ≡ true
   by_list [] h = refl
   by_list (n ∷ ns) h =
       and_from (has_started n H) _ (h n (or_left (same n n) (list_any (λ m. same m n) ns) (same-refl n)))
       (by_list ns (λ k e. h k (or_right (same n k) (list_any (λ m. same m k) ns) e)))
 
-not-true : (b : Bool) → not b ≡ true → b ≡ false
+pub not-true : (b : Bool) → not b ≡ true → b ≡ false
 not-true true h = absurd cc
 not-true false h = refl
 
@@ -113,7 +111,8 @@ waits H f = by_list (arrivals H) f.6 where
       let ih = by_list rs h.1 in
       elim (cases_Bool (has_started r.name H || is_posted r.name H)) [
         | inl e ↦ rw e ih
-        | inr e ↦ let p = or_parts (has_started r.name H) (is_posted r.name H) e in rw e (record { known = h.0; unstarted = p.0; unposted = p.1 }, ih)
+        | inr e ↦ let p = or_parts (has_started r.name H) (is_posted r.name H) e in rw e
+            (record { known = h.0; unstarted = p.0; unposted = p.1 }, ih)
       ]
 
 -- what fits where it is neither a Halted nor a Post fits freely
@@ -133,35 +132,60 @@ module _ {D : Type 0} (meaning : Meaning D) (mounted : D) where
   fits-ran n j H (ToPost m) h = absurd cc
   fits-ran n j H Free h = h
 
-  doomed-first-post : (ds : List Piece) (n : Name) → doomed_first ds ≡ ToPost n → (r : Piece) × (rest : List Piece) × (ds ≡ r ∷ rest) × (r.name ≡ n)
+  -- what is due: a Halted of the active request, or a doom
+  pub data DueIs (H : List Entry) : Type 0 where
+    Halts : (n : Name) → due meaning mounted H ≡ ToHalt n → active H ≡ Some n → is_to_halt meaning mounted H n ≡ true → DueIs H
+    Dooms : due meaning mounted H ≡ doomed_first (doomed H) → DueIs H
+
+  pub due-is : (H : List Entry) → DueIs H
+  unfolding due
+  due-is H = by_active (active H) refl where
+    by_active : (o : Option Name) → active H ≡ o → DueIs H
+    by_active None e = Dooms (ap (due_by meaning mounted H) e)
+    by_active (Some n) e =
+        let d = ap (due_by meaning mounted H) e in
+        elim (cases_Bool (is_to_halt meaning mounted H n)) [ inl b ↦ Halts n (d ∙ rw b refl) e b | inr b ↦ Dooms (d ∙ rw b refl) ]
+
+  doomed-first-post : (ds : List Piece) (n : Name) → doomed_first ds ≡ ToPost n → (r : Piece) × (rest : List Piece) × (ds ≡ r ∷ rest)
+      × (r.name ≡ n)
   doomed-first-post [] n h = absurd cc
   doomed-first-post (r ∷ rs) n h = (r, rs, refl, cc)
 
   -- what must be posted is the first of the doomed
-  pub due-post : (H : List Entry) (n : Name) → due meaning mounted H ≡ ToPost n → (r : Piece) × (rest : List Piece) × (doomed H ≡ r ∷ rest) × (r.name ≡ n)
-  unfolding due
-  due-post H n h = by_active (active H) h where
-    by_active : (o : Option Name) → due_by meaning mounted H o ≡ ToPost n → (r : Piece) × (rest : List Piece) × (doomed H ≡ r ∷ rest) × (r.name ≡ n)
-    by_active None e = doomed-first-post (doomed H) n e
-    by_active (Some m) e =
-        elim (cases_Bool (is_to_halt meaning mounted H m)) [
-          | inl b ↦ let e' = rw b at e in absurd cc
-          | inr b ↦ doomed-first-post (doomed H) n (rw b at e)
-        ]
+  pub due-post : (H : List Entry) (n : Name) → due meaning mounted H ≡ ToPost n → (r : Piece) × (rest : List Piece) × (doomed H ≡ r ∷ rest)
+      × (r.name ≡ n)
+  due-post H n h = elim (due-is H) [ Halts m d a b ↦ let k = sym d ∙ h in absurd cc | Dooms d ↦ doomed-first-post (doomed H) n (sym d ∙ h) ]
+
+  first-no_halt : (ds : List Piece) (n : Name) → doomed_first ds ≡ ToHalt n → ⊥
+  first-no_halt [] n h = cc
+  first-no_halt (r ∷ rs) n h = cc
+
+  -- who must be halted is active, and is to be
+  pub due-halt : (H : List Entry) (n : Name) → due meaning mounted H ≡ ToHalt n →
+      (active H ≡ Some n) × (is_to_halt meaning mounted H n ≡ true)
+  due-halt H n h = elim (due-is H) [
+    | Halts m d a b ↦
+        let e = sym d ∙ h in
+        let i : m ≡ n = cc in
+        subst (λ (x : Name). (active H ≡ Some x) × (is_to_halt meaning mounted H x ≡ true)) i (a, b)
+    | Dooms d ↦ absurd (first-no_halt (doomed H) n (sym d ∙ h))
+  ]
 
   -- whom a Post is of: the active request, or one that waits
-  pub post-whom : (n : Name) (csw : Csw) (sense : ℕ) (code : Code) (H : List Entry) → Facts H → Fits meaning mounted (Post n csw sense code) H →
+  pub post-whom : (n : Name) (csw : Csw) (sense : ℕ) (code : Code) (H : List Entry) → Facts H →
+      Fits meaning mounted (Post n csw sense code) H →
       (active H ≡ Some n) ⊎ ((r : Piece) × WaitsAmong H r × (r.name ≡ n))
   post-whom n csw sense code H f h = by_due (due meaning mounted H) refl h where
-    first_waits : (r : Piece) (rs : List Piece) → Each (WaitsAmong H) rs → slice_get rs 0 ≡ Some r → WaitsAmong H r
-    first_waits r [] e s = absurd cc
-    first_waits r (q ∷ rs) e s = let k : q ≡ r = cc in rw (← k) e.0
-
     free_post : PostFits meaning mounted n csw sense code H → (active H ≡ Some n) ⊎ ((r : Piece) × WaitsAmong H r × (r.name ≡ n))
     free_post (OfActive p) = inl p.active
-    free_post (OfFirst p) = inr (p.fails.request, first_waits p.fails.request (waiting H) (waits H f) p.fails.first, p.fails.name)
+    free_post (OfFirst p) = inr (
+      p.fails.request,
+      Each-at (WaitsAmong H) (waiting H) 0 p.fails.request (waits H f) p.fails.first,
+      p.fails.name,
+    )
 
-    by_due : (d : Due) → d ≡ due meaning mounted H → FitsBy meaning mounted d (Post n csw sense code) H → (active H ≡ Some n) ⊎ ((r : Piece) × WaitsAmong H r × (r.name ≡ n))
+    by_due : (d : Due) → d ≡ due meaning mounted H → FitsBy meaning mounted d (Post n csw sense code) H →
+        (active H ≡ Some n) ⊎ ((r : Piece) × WaitsAmong H r × (r.name ≡ n))
     by_due (ToHalt m) e k = absurd cc
     by_due (ToPost m) e k =
         let p = due-post H m (sym e) in
@@ -194,7 +218,8 @@ module _ {D : Type 0} (meaning : Meaning D) (mounted : D) where
   unfolding active started
   active-start n H h = rw h refl
 
-  pub active-post : (n : Name) (csw : Csw) (sense : ℕ) (code : Code) (H : List Entry) → Facts H → active H ≡ Some n → active (Post n csw sense code ∷ H) ≡ None
+  pub active-post : (n : Name) (csw : Csw) (sense : ℕ) (code : Code) (H : List Entry) → Facts H → active H ≡ Some n →
+      active (Post n csw sense code ∷ H) ≡ None
   unfolding active started
   active-post n csw sense code H f h =
       find-none (λ k. not (same n k || is_posted k H)) (started H)
@@ -209,7 +234,8 @@ module _ {D : Type 0} (meaning : Meaning D) (mounted : D) where
                   let q = or_left (same n k) (is_posted k H) (same-is n k e) in rw q refl
             ]
 
-  pub active-post_waiting : (n : Name) (csw : Csw) (sense : ℕ) (code : Code) (H : List Entry) → has_started n H ≡ false → active (Post n csw sense code ∷ H) ≡ active H
+  pub active-post_waiting : (n : Name) (csw : Csw) (sense : ℕ) (code : Code) (H : List Entry) → has_started n H ≡ false →
+      active (Post n csw sense code ∷ H) ≡ active H
   unfolding active started
   active-post_waiting n csw sense code H h =
       find-agree (λ k. not (same n k || is_posted k H)) (λ k. not (is_posted k H)) (λ k. not (same k n)) other (started H)
@@ -228,16 +254,19 @@ module _ {D : Type 0} (meaning : Meaning D) (mounted : D) where
   pub waiting-start : (n : Name) (H : List Entry) → waiting (Start n ∷ H) ≡ without n (waiting H)
   unfolding waiting arrivals without
   waiting-start n H =
-      filter-filter (λ (r : Piece). not (has_started r.name H || is_posted r.name H)) (λ r. not (same n r.name)) (λ r. not ((same n r.name || has_started r.name H) || is_posted r.name H))
+      filter-filter (λ (r : Piece). not (has_started r.name H || is_posted r.name H)) (λ r. not (same n r.name))
+      (λ r. not ((same n r.name || has_started r.name H) || is_posted r.name H))
       (λ r. by_bools (same n r.name) (has_started r.name H) (is_posted r.name H)) (arrivals H) where
         by_bools : (a b c : Bool) → not ((a || b) || c) ≡ (not a && not (b || c))
         by_bools true b c = refl
         by_bools false b c = refl
 
-  pub waiting-post : (n : Name) (csw : Csw) (sense : ℕ) (code : Code) (H : List Entry) → waiting (Post n csw sense code ∷ H) ≡ without n (waiting H)
+  pub waiting-post : (n : Name) (csw : Csw) (sense : ℕ) (code : Code) (H : List Entry) →
+      waiting (Post n csw sense code ∷ H) ≡ without n (waiting H)
   unfolding waiting arrivals without
   waiting-post n csw sense code H =
-      filter-filter (λ (r : Piece). not (has_started r.name H || is_posted r.name H)) (λ r. not (same n r.name)) (λ r. not (has_started r.name H || (same n r.name || is_posted r.name H)))
+      filter-filter (λ (r : Piece). not (has_started r.name H || is_posted r.name H)) (λ r. not (same n r.name))
+      (λ r. not (has_started r.name H || (same n r.name || is_posted r.name H)))
       (λ r. by_bools (same n r.name) (has_started r.name H) (is_posted r.name H)) (arrivals H) where
         by_bools : (a b c : Bool) → not (b || (a || c)) ≡ (not a && not (b || c))
         by_bools true true c = refl
@@ -248,6 +277,15 @@ module _ {D : Type 0} (meaning : Meaning D) (mounted : D) where
   unfolding waiting
   waiting-apart H f = Apart-filter (λ r. not (has_started r.name H || is_posted r.name H)) (arrivals H) f.5
 
-  -- the active request has no Start, no Post that waits
-  pub active-waits : (n : Name) (H : List Entry) → Facts H → active H ≡ Some n → (has_started n H ≡ false → ⊥)
-  active-waits n H f a h = no_both (has_started n H) (active-is n H a).0 h
+  -- what was started does not wait
+  pub without-started : (n : Name) (H : List Entry) → Facts H → has_started n H ≡ true → without n (waiting H) ≡ waiting H
+  unfolding without
+  without-started n H f s = filter-all (λ (r : Piece). not (same n r.name)) (waiting H) (none (waiting H) (waits H f)) where
+    none : (rs : List Piece) → Each (WaitsAmong H) rs → list_all (λ (r : Piece). not (same n r.name)) rs ≡ true
+    none [] e = refl
+    none (r ∷ rs) e =
+        let ih = none rs e.1 in
+        elim (cases_Bool (same n r.name)) [
+          | inl k ↦ no_both (has_started n H) s (subst (λ (x : Name). has_started x H ≡ false) (sym (same-true n r.name k)) e.0.unstarted)
+          | inr k ↦ rw k ih
+        ]

@@ -1,25 +1,14 @@
 -- What the calls of a book keep, one after another: nothing that was given is taken back, and what is posted is of
 -- what arrived.
-use Rattle.std.proofs.Common.{◌≡◌, ℕ, true, List, [], ◌∷◌, ◌++◌, append_assoc, length, take, ◌-◌, refl, sym, ap, ◌∙◌, inl, inr, subst}
-use Rattle.std.specs.Prelude.{Ok, Err, IfOk, OnOk, OnErr}
+use Rattle.unit_book.proofs.Names.{◌≡◌, ℕ, true, List, [], ◌∷◌, ◌++◌, append_assoc, length, ◌-◌, refl, sym, ap, ◌∙◌, inl, inr, subst, Ok}
+use Rattle.unit_book.proofs.Names.{Err, OnOk, OnErr, cases_Bool, Csw, Code, Meaning, Storage, PostedState, Name, Piece, Entry, Opened}
+use Rattle.unit_book.proofs.Names.{Arrive, Start, Ran, Halted, Purge, Close, Reset, Post, same, arrivals, has_arrived, request_named, area}
+use Rattle.unit_book.proofs.Names.{Legal, due, posted, posted_value, Book, Each}
+use Rattle.std.proofs.Common.{take}
+use Rattle.std.specs.Prelude.{IfOk}
 use Rattle.std.specs.declared.result.Result.{Result}
-use Rattle.std.proofs.lemmas.Bool.{cases_Bool}
-use Rattle.io_images.specs.declared.csw.Csw.{Csw}
-use Rattle.io_images.specs.declared.code.Code.{Code}
-use Rattle.device_port.specs.Meaning.{Meaning}
-use Rattle.io_area.specs.Storage.{Storage}
-use Rattle.request_piece.specs.PostedState.{PostedState}
-use Rattle.request_piece.specs.declared.piece.Name.{Name}
-use Rattle.request_piece.specs.declared.piece.Piece.{Piece}
-use Rattle.unit_book.specs.declared.entry.Entry.{Entry}
-use Rattle.unit_book.specs.declared.entry.Entry.TheVariants.{Opened, Arrive, Start, Ran, Halted, Purge, Close, Reset, Post}
-use Rattle.unit_book.specs.Trace.{same, arrivals, has_arrived, request_of}
-use Rattle.unit_book.specs.Media.{area}
-use Rattle.unit_book.specs.Legal.{Legal, due}
-use Rattle.unit_book.specs.Posts.{posted, posted_value}
-use Rattle.unit_book.specs.Book.{Book, given}
+use Rattle.unit_book.specs.Book.{given}
 use Rattle.unit_book.specs.Settle.{Steps, ByStart, ByRun, ByInterrupt, Settles, Stays, Then}
-use Rattle.unit_book.specs.Lists.{Each}
 use Rattle.unit_book.proofs.Facts.{Each-behind}
 use Rattle.unit_book.proofs.LegalFacts.{facts}
 use Rattle.unit_book.proofs.Lists.{same-refl}
@@ -27,7 +16,8 @@ use Rattle.unit_book.proofs.Outs.{taken-all}
 use Rattle.unit_book.proofs.WorldBooks.{Keeps, Sound, keeps-same, keeps-start, keeps-run, keeps-interrupt}
 
 -- what follows where a call was done and where it was refused follows of it
-pub either_way : {A E : Type 0} {Refused Then : Type 0} (r : Result A E) {Done : A → Type 0} → IfOk r Done → OnErr r Refused → ((a : A) → Done a → Then) → (Refused → Then) → Then
+pub either_way : {A E : Type 0} {Refused Then : Type 0} (r : Result A E) {Done : A → Type 0} → IfOk r Done → OnErr r Refused →
+    ((a : A) → Done a → Then) → (Refused → Then) → Then
 either_way (Ok a) done refused f g = f a done
 either_way (Err e) done refused f g = g refused
 
@@ -43,7 +33,8 @@ module _ {D : Type 0} (meaning : Meaning D) where
   given-keeps old new more all k =
       let left = old.out ++ k.values in
       let whole : posted meaning new.mounted new.trace ≡ given meaning old ++ left =
-      ap (λ m. posted meaning m new.trace) k.mounted ∙ k.posted_is ∙ ap (λ x. x ++ k.values) (sym all) ∙ append_assoc (given meaning old) old.out k.values in
+      ap (λ m. posted meaning m new.trace) k.mounted ∙ k.posted_is ∙ ap (λ x. x ++ k.values) (sym all)
+      ∙ append_assoc (given meaning old) old.out k.values in
       ap (λ w. take (length w - length new.out) w) whole
       ∙ ap (λ o. take (length (given meaning old ++ left) - length o) (given meaning old ++ left)) k.out
       ∙ taken-all (given meaning old) left
@@ -55,7 +46,8 @@ module _ {D : Type 0} (meaning : Meaning D) where
   )
 
   -- two calls
-  pub keeps-then : (old mid new : Book D) (first more : List Piece) → Keeps meaning old first mid → Keeps meaning mid more new → Keeps meaning old (first ++ more) new
+  pub keeps-then : (old mid new : Book D) (first more : List Piece) → Keeps meaning old first mid → Keeps meaning mid more new →
+      Keeps meaning old (first ++ more) new
   keeps-then old mid new first more a b =
       let at = λ (H : List Entry). ap (λ m. posted meaning m H) a.mounted in
       record {
@@ -93,8 +85,8 @@ Each-back P [] ys h = h
 Each-back P (x ∷ xs) ys h = Each-back P xs ys h.1
 
 -- the request of a name that arrived is one of the arrivals
-request-among : (P : Piece → Type 0) (n : Name) (H : List Entry) → has_arrived n H ≡ true → Each P (arrivals H) → P (request_of n H)
-unfolding arrivals request_of
+request-among : (P : Piece → Type 0) (n : Name) (H : List Entry) → has_arrived n H ≡ true → Each P (arrivals H) → P (request_named n H)
+unfolding arrivals request_named
 request-among P n [] a h = absurd cc
 request-among P n (Arrive r ∷ H) a h =
     elim (cases_Bool (same r.name n)) [
@@ -124,7 +116,7 @@ module _ {D : Type 0} (meaning : Meaning D) (mounted : D) (P : Piece → Type 0)
   posted-of (Close d ∷ H) l h = posted-of H l.1 h
   posted-of (Reset d ∷ H) l h = posted-of H l.1 h
   posted-of (Post n csw sense code ∷ H) l h =
-      let v = posted_value (request_of n H) csw sense code (area meaning mounted (request_of n H) H) in
+      let v = posted_value (request_named n H) csw sense code (area meaning mounted (request_named n H) H) in
       let arrived : has_arrived n H ≡ true = (facts meaning mounted (Post n csw sense code ∷ H) l).1 n (rw (same-refl n) refl) in
       Each-behind Q (posted meaning mounted H) v (posted-of H l.1 h) (link _ csw sense code _ (request-among P n H arrived h))
 

@@ -1,37 +1,31 @@
 -- The facts hold of every legal trace.
-use Rattle.std.proofs.Common.{sym, ◌≡◌, ℕ, zero, suc, ◌+◌, ◌≤◌, ◌⊎◌, true, false, Some, None, List, [], ◌∷◌, ◌++◌, length, refl, ap, ◌∙◌, arith, eqb, inl, inr, subst}
-use Rattle.std.proofs.lemmas.Bool.{eq-eqb, or_parts, or_left, or_right, cases_Bool}
-use Rattle.std.specs.List.{filter}
-use Rattle.std.specs.Prelude.{slice_get}
-use Rattle.io_images.specs.declared.csw.Csw.{Csw}
-use Rattle.device_port.specs.Meaning.{Meaning}
-use Rattle.request_piece.specs.declared.piece.Name.{Name}
-use Rattle.request_piece.specs.declared.piece.Piece.{Piece}
-use Rattle.io_images.specs.declared.code.Code.{Code}
-use Rattle.unit_book.specs.declared.entry.Entry.{Entry}
-use Rattle.unit_book.specs.declared.entry.Entry.TheVariants.{Opened, Arrive, Start, Ran, Halted, Purge, Close, Reset, Post}
-use Rattle.unit_book.specs.Trace.{same, arrivals, arrived_of, has_arrived, has_started, is_posted, waiting, started, active, request_of}
-use Rattle.unit_book.specs.Lists.{Each}
-use Rattle.unit_book.specs.Media.{attempts}
-use Rattle.unit_book.specs.Legal.{due, Legal, StartFits, First, Again}
+use Rattle.unit_book.proofs.Names.{sym, ◌≡◌, ℕ, ◌+◌, ◌≤◌, ◌⊎◌, true, false, Some, List, [], ◌∷◌, ◌++◌, length, refl, ap, ◌∙◌, arith, eqb}
+use Rattle.unit_book.proofs.Names.{inl, inr, subst, eq-eqb, or_parts, or_left, or_right, cases_Bool, filter, slice_get, Csw, Meaning, Name}
+use Rattle.unit_book.proofs.Names.{Piece, Code, Entry, Opened, Arrive, Start, Ran, Halted, Purge, Close, Reset, Post, same, arrivals}
+use Rattle.unit_book.proofs.Names.{arrived_of, has_arrived, has_started, is_posted, waiting, started, active, request_named, Each, attempts}
+use Rattle.unit_book.proofs.Names.{due, Legal, StartFits, First, Again}
 use Rattle.unit_book.proofs.Lists.{same-true, same-refl, same-is, no_both, none_named, Apart, Apart-push}
-use Rattle.unit_book.proofs.Facts.{ArrivedPost, ArrivedStart, Each-behind, Each-weaker, Facts, Known, Newest, NewestIs, Numbered, One, WaitsAmong, active-is, active-post, active-post_waiting, active-start, fits-arrive, fits-ran, fits-start, fresh, post-whom, waits}
+use Rattle.unit_book.proofs.Facts.{ArrivedPost, ArrivedStart, Each-behind, Each-weaker, Facts, Known, Newest, NewestIs, Numbered, One}
+use Rattle.unit_book.proofs.Facts.{WaitsAmong, active-is, active-post, active-post_waiting, active-start, fits-arrive, fits-ran, fits-start}
+use Rattle.unit_book.proofs.Facts.{fresh, post-whom, waits, Each-at}
 
 module _ {D : Type 0} (meaning : Meaning D) (mounted : D) where
   pub newest-ran : (n : Name) (j : ℕ) (H : List Entry) → active H ≡ Some n → NewestIs n H → NewestIs n (Ran n j ∷ H)
-  unfolding attempts request_of
+  unfolding attempts request_named
   newest-ran n j H a w =
       let e = w.2 in
       let s : same w.0.request.name n ≡ true = same-is w.0.request.name n (ap (λ (r : Piece). r.name) w.3 ∙ w.4) in
       (record { request = w.0.request; mask = w.0.mask; commands = w.0.commands + j }, w.1, rw e (rw s refl), w.3, w.4)
 
-  arrived-of-push : (t : ℕ) (r : Piece) (rs : List Piece) → length (filter (λ (q : Piece). eqb q.name.task t) rs) ≤ length (filter (λ (q : Piece). eqb q.name.task t) (rs ++ r ∷ []))
+  arrived-of-push : (t : ℕ) (r : Piece) (rs : List Piece) →
+      length (filter (λ (q : Piece). eqb q.name.task t) rs) ≤ length (filter (λ (q : Piece). eqb q.name.task t) (rs ++ r ∷ []))
   arrived-of-push t r [] = omega arith
   arrived-of-push t r (q ∷ rs) =
       let ih = arrived-of-push t r rs in
       elim (cases_Bool (eqb q.name.task t)) [ inl e ↦ rw e (omega (arith, ih)) | inr e ↦ rw e ih ]
 
-  arrived-of-push_same : (r : Piece) (rs : List Piece) → length (filter (λ (q : Piece). eqb q.name.task r.name.task) (rs ++ r ∷ [])) ≡ length (filter (λ (q : Piece). eqb q.name.task r.name.task) rs) + 1
+  arrived-of-push_same : (r : Piece) (rs : List Piece) → length (filter (λ (q : Piece). eqb q.name.task r.name.task) (rs ++ r ∷ []))
+      ≡ length (filter (λ (q : Piece). eqb q.name.task r.name.task) rs) + 1
   arrived-of-push_same r [] = let e = eq-eqb r.name.task r.name.task refl in rw e refl
   arrived-of-push_same r (q ∷ rs) =
       let ih = arrived-of-push_same r rs in
@@ -47,7 +41,7 @@ module _ {D : Type 0} (meaning : Meaning D) (mounted : D) where
       ]
 
   facts-arrive : (r : Piece) (H : List Entry) → Facts H → r.name.seq ≡ arrived_of r.name.task H + 1 → Facts (Arrive r ∷ H)
-  unfolding arrivals active started attempts request_of
+  unfolding arrivals active started attempts request_named
   facts-arrive r H f e = (starts', posts', numbers, f.3, newest', apart', known') where
     new : has_arrived r.name H ≡ false
     new = fresh meaning mounted r H f e
@@ -81,12 +75,14 @@ module _ {D : Type 0} (meaning : Meaning D) (mounted : D) where
     still q k = let s = other q.name k.1 in (rw s k.0, or_right (same r.name q.name) (has_arrived q.name H) k.1)
 
     known' : Each (Known (Arrive r ∷ H)) (arrivals H ++ r ∷ [])
-    known' = let s = same-refl r.name in Each-behind (Known (Arrive r ∷ H)) (arrivals H) r (Each-weaker (Known H) (Known (Arrive r ∷ H)) still (arrivals H) f.6) (rw s refl, or_left (same r.name r.name) (has_arrived r.name H) s)
+    known' = let s = same-refl r.name in Each-behind (Known (Arrive r ∷ H)) (arrivals H) r
+        (Each-weaker (Known H) (Known (Arrive r ∷ H)) still (arrivals H) f.6)
+        (rw s refl, or_left (same r.name r.name) (has_arrived r.name H) s)
 
   -- a Start of a name that arrived, has no Post, and is active or nothing is
-  facts-start : (n : Name) (H : List Entry) → Facts H → Known H (request_of n H) → (request_of n H).name ≡ n → is_posted n H ≡ false →
+  facts-start : (n : Name) (H : List Entry) → Facts H → Known H (request_named n H) → (request_named n H).name ≡ n → is_posted n H ≡ false →
       ((m : Name) → active H ≡ Some m → m ≡ n) → Facts (Start n ∷ H)
-  unfolding arrivals attempts request_of
+  unfolding arrivals attempts request_named
   facts-start n H f k e p only = (starts', f.1, f.2, one', newest', f.5, f.6) where
     starts' : ArrivedStart (Start n ∷ H)
     starts' m h =
@@ -104,18 +100,20 @@ module _ {D : Type 0} (meaning : Meaning D) (mounted : D) where
         ]
 
     newest' : Newest (Start n ∷ H)
-    newest' m h = let a = active-start meaning mounted n H p in let i : n ≡ m = cc in subst (λ (x : Name). NewestIs x (Start n ∷ H)) i (_, attempts H, refl, refl, e)
+    newest' m h = let a = active-start meaning mounted n H p in let i : n ≡ m = cc in subst (λ (x : Name). NewestIs x (Start n ∷ H)) i
+        (_, attempts H, refl, refl, e)
 
   facts-post : (n : Name) (csw : Csw) (sense : ℕ) (code : Code) (H : List Entry) → Facts H →
       ((active H ≡ Some n) ⊎ ((r : Piece) × WaitsAmong H r × (r.name ≡ n))) → Facts (Post n csw sense code ∷ H)
-  unfolding arrivals attempts request_of
+  unfolding arrivals attempts request_named
   facts-post n csw sense code H f whom = (f.0, posts', f.2, one', newest', f.5, f.6) where
     arrived : (active H ≡ Some n) ⊎ ((r : Piece) × WaitsAmong H r × (r.name ≡ n)) → has_arrived n H ≡ true
     arrived (inl a) = f.0 n (active-is n H a).0
     arrived (inr w) = subst (λ (x : Name). has_arrived x H ≡ true) w.2 w.1.known.1
 
     posts' : ArrivedPost (Post n csw sense code ∷ H)
-    posts' m h = elim (cases_Bool (same n m)) [ inl s ↦ subst (λ (x : Name). has_arrived x H ≡ true) (same-true n m s) (arrived whom) | inr s ↦ f.1 m (rw s at h) ]
+    posts' m h = elim (cases_Bool (same n m))
+        [ inl s ↦ subst (λ (x : Name). has_arrived x H ≡ true) (same-true n m s) (arrived whom) | inr s ↦ f.1 m (rw s at h) ]
 
     one_by : (active H ≡ Some n) ⊎ ((r : Piece) × WaitsAmong H r × (r.name ≡ n)) → One (Post n csw sense code ∷ H)
     one_by (inl a) m h q =
@@ -125,43 +123,48 @@ module _ {D : Type 0} (meaning : Meaning D) (mounted : D) where
         no_both (same n m) (same-is n m i) b.0
     one_by (inr w) m h q =
         let b = or_parts (same n m) (is_posted m H) q in
-        active-post_waiting meaning mounted n csw sense code H (subst (λ (x : Name). has_started x H ≡ false) w.2 w.1.unstarted) ∙ f.3 m h b.1
+        active-post_waiting meaning mounted n csw sense code H (subst (λ (x : Name). has_started x H ≡ false) w.2 w.1.unstarted)
+        ∙ f.3 m h b.1
 
     one' : One (Post n csw sense code ∷ H)
     one' = one_by whom
 
     newest_by : (active H ≡ Some n) ⊎ ((r : Piece) × WaitsAmong H r × (r.name ≡ n)) → Newest (Post n csw sense code ∷ H)
-    newest_by (inl a) m h = let b = active-post meaning mounted n csw sense code H f a in absurd (clash (sym b ∙ h)) where
-      clash : {o : Name} → None ≡ Some o → ⊥
-      clash k = cc
-    newest_by (inr w) m h = f.4 m (sym (active-post_waiting meaning mounted n csw sense code H (subst (λ (x : Name). has_started x H ≡ false) w.2 w.1.unstarted)) ∙ h)
+    newest_by (inl a) m h = let b = active-post meaning mounted n csw sense code H f a in let k = sym b ∙ h in absurd cc
+    newest_by (inr w) m h = f.4 m
+        (sym (active-post_waiting meaning mounted n csw sense code H (subst (λ (x : Name). has_started x H ≡ false) w.2 w.1.unstarted)) ∙ h)
 
     newest' : Newest (Post n csw sense code ∷ H)
     newest' = newest_by whom
 
+  -- who waits at a place
+  pub waits-at : (r : Piece) (at : ℕ) (H : List Entry) → Facts H → slice_get (waiting H) at ≡ Some r → WaitsAmong H r
+  waits-at r at H f h = Each-at (WaitsAmong H) (waiting H) at r (waits H f) h
+
   pub first-waits : (r : Piece) (H : List Entry) → Facts H → slice_get (waiting H) 0 ≡ Some r → WaitsAmong H r
-  first-waits r H f h = by_list (waiting H) (waits H f) h where
-    by_list : (rs : List Piece) → Each (WaitsAmong H) rs → slice_get rs 0 ≡ Some r → WaitsAmong H r
-    by_list [] e s = absurd cc
-    by_list (q ∷ rs) e s = let k : q ≡ r = cc in rw (← k) e.0
+  first-waits r H f h = waits-at r 0 H f h
+
+  -- the request of the name of the first that waits
+  pub first-request : {r : Piece} {n : Name} (H : List Entry) → Facts H → slice_get (waiting H) 0 ≡ Some r → r.name ≡ n → request_named n H ≡ r
+  first-request {r} H f h e = subst (λ (x : Name). request_named x H ≡ r) e (first-waits r H f h).known.0
 
   facts-start_by : (n : Name) (H : List Entry) → Facts H → StartFits meaning mounted n H → Facts (Start n ∷ H)
   facts-start_by n H f (First s) =
       let w = first-waits s.request H f s.first in
-      let q : request_of n H ≡ s.request = subst (λ (x : Name). request_of x H ≡ s.request) s.name w.known.0 in
-      facts-start n H f (rw q w.known) (rw q s.name) (subst (λ (x : Name). is_posted x H ≡ false) s.name w.unposted) (λ m a. absurd (clash (sym s.none ∙ a))) where
-        clash : {o : Name} → None ≡ Some o → ⊥
-        clash k = cc
+      let q : request_named n H ≡ s.request = subst (λ (x : Name). request_named x H ≡ s.request) s.name w.known.0 in
+      facts-start n H f (rw q w.known) (rw q s.name) (subst (λ (x : Name). is_posted x H ≡ false) s.name w.unposted)
+      (λ m a. let k = sym s.none ∙ a in absurd cc)
   facts-start_by n H f (Again s) =
       let b = active-is n H s.active in
       let w = f.4 n s.active in
       let e = w.4 in
-      facts-start n H f (ap (λ x. request_of x H) e, subst (λ (x : Name). has_arrived x H ≡ true) (sym e) (f.0 n b.0)) e b.1 (λ m a. some-is (sym a ∙ s.active)) where
+      facts-start n H f (ap (λ x. request_named x H) e, subst (λ (x : Name). has_arrived x H ≡ true) (sym e) (f.0 n b.0)) e b.1
+      (λ m a. some-is (sym a ∙ s.active)) where
         some-is : {o p : Name} → Some o ≡ Some p → o ≡ p
         some-is k = cc
 
   facts-ran : (n : Name) (j : ℕ) (H : List Entry) → Facts H → active H ≡ Some n → Facts (Ran n j ∷ H)
-  unfolding arrivals active started request_of attempts
+  unfolding arrivals active started request_named attempts
   facts-ran n j H f a = (f.0, f.1, f.2, f.3, newest', f.5, f.6) where
     newest' : Newest (Ran n j ∷ H)
     newest' m b = let i : n ≡ m = cc in subst (λ (x : Name). NewestIs x (Ran n j ∷ H)) i (newest-ran n j H a (f.4 n a))
@@ -172,7 +175,7 @@ module _ {D : Type 0} (meaning : Meaning D) (mounted : D) where
 
   -- THE FACTS HOLD of every legal trace
   pub facts : (H : List Entry) → Legal meaning mounted H → Facts H
-  unfolding Legal arrivals active started attempts request_of
+  unfolding Legal arrivals active started attempts request_named
   facts [] l = no-facts
   facts (Opened d i x ∷ H) l = facts H l.1
   facts (Arrive r ∷ H) l = facts-arrive r H (facts H l.1) (fits-arrive meaning mounted r H (due meaning mounted H) l.0)
@@ -182,12 +185,5 @@ module _ {D : Type 0} (meaning : Meaning D) (mounted : D) where
   facts (Purge s m ∷ H) l = facts H l.1
   facts (Close d ∷ H) l = facts H l.1
   facts (Reset d ∷ H) l = facts H l.1
-  facts (Post n csw sense code ∷ H) l = facts-post n csw sense code H (facts H l.1) (post-whom meaning mounted n csw sense code H (facts H l.1) l.0)
-
-  -- who waits at a place
-  pub waits-at : (r : Piece) (at : ℕ) (H : List Entry) → Facts H → slice_get (waiting H) at ≡ Some r → WaitsAmong H r
-  waits-at r at H f h = by_list (waiting H) at (waits H f) h where
-    by_list : (rs : List Piece) (k : ℕ) → Each (WaitsAmong H) rs → slice_get rs k ≡ Some r → WaitsAmong H r
-    by_list [] k e s = absurd cc
-    by_list (q ∷ rs) zero e s = let i : q ≡ r = cc in subst (WaitsAmong H) i e.0
-    by_list (q ∷ rs) (suc k) e s = by_list rs k e.1 s
+  facts (Post n csw sense code ∷ H) l = facts-post n csw sense code H (facts H l.1)
+      (post-whom meaning mounted n csw sense code H (facts H l.1) l.0)

@@ -1,4 +1,5 @@
 -- The lemmas of unit_book.
+pub mod Names
 pub mod Lists
 pub mod Facts
 pub mod LegalFacts

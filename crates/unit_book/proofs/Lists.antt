@@ -1,10 +1,8 @@
 -- Names, and filters of lists of requests and names.
-use Rattle.std.proofs.Common.{◌≡◌, ℕ, Bool, true, false, not, ◌&&◌, Some, None, List, [], ◌∷◌, ◌++◌, refl, sym, ap, ◌∙◌, eqb, inl, inr}
-use Rattle.std.proofs.lemmas.Bool.{eqb-true, eq-eqb, and_parts, and_from, or_left, or_right, cases_Bool}
-use Rattle.std.specs.List.{filter, find, list_any, list_all}
-use Rattle.request_piece.specs.declared.piece.Name.{Name}
-use Rattle.request_piece.specs.declared.piece.Piece.{Piece}
-use Rattle.unit_book.specs.Trace.{same}
+use Rattle.unit_book.proofs.Names.{◌≡◌, ℕ, Bool, true, false, not, ◌&&◌, Some, None, List, [], ◌∷◌, ◌++◌, refl, sym, ap, ◌∙◌, eqb, inl, inr}
+use Rattle.unit_book.proofs.Names.{eqb-true, eq-eqb, and_parts, and_from, or_left, or_right, cases_Bool, filter, list_any, list_all, Name}
+use Rattle.unit_book.proofs.Names.{Piece, same, slice_get, drop}
+use Rattle.std.specs.List.{find}
 
 name-is : (a b : Name) → a.task ≡ b.task → a.seq ≡ b.seq → a ≡ b
 name-is a b t s =
@@ -69,11 +67,13 @@ module _ {X : Type 0} where
 
   pub all-weaker : (p q : X → Bool) → ((x : X) → p x ≡ true → q x ≡ true) → (xs : List X) → list_all p xs ≡ true → list_all q xs ≡ true
   all-weaker p q w [] h = refl
-  all-weaker p q w (x ∷ xs) h = let a = and_parts (p x) (list_all p xs) h in and_from (q x) (list_all q xs) (w x a.0) (all-weaker p q w xs a.1)
+  all-weaker p q w (x ∷ xs) h = let a = and_parts (p x) (list_all p xs) h in and_from (q x) (list_all q xs) (w x a.0)
+      (all-weaker p q w xs a.1)
 
   pub all-append : (p : X → Bool) (xs ys : List X) → list_all p xs ≡ true → list_all p ys ≡ true → list_all p (xs ++ ys) ≡ true
   all-append p [] ys h k = k
-  all-append p (x ∷ xs) ys h k = let a = and_parts (p x) (list_all p xs) h in and_from (p x) (list_all p (xs ++ ys)) a.0 (all-append p xs ys a.1 k)
+  all-append p (x ∷ xs) ys h k = let a = and_parts (p x) (list_all p xs) h in and_from (p x) (list_all p (xs ++ ys)) a.0
+      (all-append p xs ys a.1 k)
 
   -- the first that passes does
   pub find-passes : (p : X → Bool) (xs : List X) (x : X) → find p xs ≡ Some x → p x ≡ true
@@ -142,3 +142,8 @@ Apart-push (s ∷ rs) r h k =
 pub without-first : (r : Piece) (rs : List Piece) → Apart (r ∷ rs) → without r.name (r ∷ rs) ≡ rs
 unfolding Apart without
 without-first r rs h = let e = same-refl r.name in rw e (filter-all (λ s. not (same r.name s.name)) rs h.0)
+
+-- the first and the rest
+pub first-rest : {X : Type 0} (xs : List X) (x : X) → slice_get xs 0 ≡ Some x → xs ≡ x ∷ drop 1 xs
+first-rest [] x h = absurd cc
+first-rest (y ∷ xs) x h = let e : y ≡ x = cc in ap (λ z. z ∷ xs) e

@@ -1,14 +1,8 @@
 -- A name that arrived has one place; at most one request is active.
-use Rattle.std.proofs.Common.{◌≡◌, ◌≤◌, ◌+◌, Bool, true, false, not, ◌&&◌, ◌||◌, Option, Some, None, List, [], ◌∷◌, ◌++◌, length, refl, sym, ap, ◌∙◌, arith, inl, inr, subst}
-use Rattle.std.proofs.lemmas.Bool.{cases_Bool}
-use Rattle.std.specs.List.{filter, list_any}
-use Rattle.device_port.specs.Meaning.{Meaning}
-use Rattle.request_piece.specs.declared.piece.Name.{Name}
-use Rattle.request_piece.specs.declared.piece.Piece.{Piece}
-use Rattle.unit_book.specs.declared.entry.Entry.{Entry}
-use Rattle.unit_book.specs.declared.entry.Entry.TheVariants.{Opened, Arrive, Start, Ran, Halted, Purge, Close, Reset, Post}
-use Rattle.unit_book.specs.Trace.{same, starts, arrivals, has_arrived, has_started, is_posted, waiting, active, starts_of}
-use Rattle.unit_book.specs.Legal.{due, Legal, StartFits, First, Again}
+use Rattle.unit_book.proofs.Names.{◌≡◌, ◌≤◌, ◌+◌, Bool, true, false, not, ◌&&◌, ◌||◌, Option, Some, None, List, [], ◌∷◌, ◌++◌, length, refl}
+use Rattle.unit_book.proofs.Names.{sym, ap, ◌∙◌, arith, inl, inr, subst, cases_Bool, filter, list_any, Meaning, Name, Piece, Entry, Opened}
+use Rattle.unit_book.proofs.Names.{Arrive, Start, Ran, Halted, Purge, Close, Reset, Post, same, starts, arrivals, has_arrived, has_started}
+use Rattle.unit_book.proofs.Names.{is_posted, waiting, active, starts_of, due, Legal, StartFits, First, Again}
 use Rattle.unit_book.specs.Laws.{OnePlace, FewStarts, waits, is_one, is_active, times}
 use Rattle.unit_book.proofs.Lists.{same-true, same-refl, no_both}
 use Rattle.unit_book.proofs.Facts.{Facts, active-is, fits-start}
@@ -28,12 +22,13 @@ pub arrived-any : (n : Name) (H : List Entry) → has_arrived n H ≡ list_any (
 unfolding arrivals
 arrived-any n [] = refl
 arrived-any n (Opened d i x ∷ H) = arrived-any n H
-arrived-any n (Arrive r ∷ H) = ap (λ b. same r.name n || b) (arrived-any n H) ∙ flip (same r.name n) (list_any (λ r. same r.name n) (arrivals H)) ∙ sym (any-append (λ r. same r.name n) (arrivals H) (r ∷ [])) where
-  flip : (a b : Bool) → (a || b) ≡ (b || (a || false))
-  flip true true = refl
-  flip true false = refl
-  flip false true = refl
-  flip false false = refl
+arrived-any n (Arrive r ∷ H) = ap (λ b. same r.name n || b) (arrived-any n H)
+    ∙ flip (same r.name n) (list_any (λ r. same r.name n) (arrivals H)) ∙ sym (any-append (λ r. same r.name n) (arrivals H) (r ∷ [])) where
+      flip : (a b : Bool) → (a || b) ≡ (b || (a || false))
+      flip true true = refl
+      flip true false = refl
+      flip false true = refl
+      flip false false = refl
 arrived-any n (Start m ∷ H) = arrived-any n H
 arrived-any n (Ran m j ∷ H) = arrived-any n H
 arrived-any n (Halted m ∷ H) = arrived-any n H
@@ -49,7 +44,8 @@ any-filter n b p h [] = refl
 any-filter n b p h (r ∷ rs) =
     let ih = any-filter n b p h rs in
     elim (cases_Bool (same r.name n)) [
-      | inl s ↦ let e = h r s in elim (cases_Bool b) [ inl t ↦ rw (e, t, s) refl | inr t ↦ rw (e, t, s) (ih ∙ rw t (none (list_any (λ r. same r.name n) rs))) ]
+      | inl s ↦ let e = h r s in elim (cases_Bool b)
+          [ inl t ↦ rw (e, t, s) refl | inr t ↦ rw (e, t, s) (ih ∙ rw t (none (list_any (λ r. same r.name n) rs))) ]
       | inr s ↦ elim (cases_Bool (p r)) [ inl t ↦ rw (t, s) ih | inr t ↦ rw (t, s) ih ]
     ] where
       none : (c : Bool) → (c && false) ≡ false
@@ -70,14 +66,13 @@ module _ {D : Type 0} (meaning : Meaning D) where
   active-one n H f = by_active (active H) refl where
     by_active : (o : Option Name) → active H ≡ o → is_one n o ≡ (has_started n H && not (is_posted n H))
     by_active None e = elim (cases_Bool (has_started n H)) [
-      | inl s ↦ elim (cases_Bool (is_posted n H)) [ inl p ↦ rw (s, p) refl | inr p ↦ absurd (clash (sym e ∙ f.3 n s p)) ]
+      | inl s ↦ elim (cases_Bool (is_posted n H)) [ inl p ↦ rw (s, p) refl | inr p ↦ let k = sym e ∙ f.3 n s p in absurd cc ]
       | inr s ↦ rw s refl
-    ] where
-      clash : {m : Name} → None ≡ Some m → ⊥
-      clash k = cc
+    ]
     by_active (Some m) e =
         elim (cases_Bool (same m n)) [
-          | inl s ↦ let a = subst (λ (x : Name). (has_started x H ≡ true) × (is_posted x H ≡ false)) (same-true m n s) (active-is m H e) in let p = a.0 in let q = a.1 in rw (s, p, q) refl
+          | inl s ↦ let a = subst (λ (x : Name). (has_started x H ≡ true) × (is_posted x H ≡ false)) (same-true m n s)
+              (active-is m H e) in let p = a.0 in let q = a.1 in rw (s, p, q) refl
           | inr s ↦ elim (cases_Bool (has_started n H)) [
             | inl t ↦ elim (cases_Bool (is_posted n H)) [
               | inl p ↦ rw (s, t, p) refl
@@ -116,7 +111,8 @@ module _ {D : Type 0} (meaning : Meaning D) where
         let ih = few n H l.1 in
         elim (cases_Bool (same m n)) [
           | inl s ↦
-              let k = subst (λ (x : Name). length (filter (starts x) H) ≤ 10) (same-true m n s) (start-few m H (facts meaning mounted H l.1) (fits-start meaning mounted m H (due meaning mounted H) l.0)) in
+              let k = subst (λ (x : Name). length (filter (starts x) H) ≤ 10) (same-true m n s)
+              (start-few m H (facts meaning mounted H l.1) (fits-start meaning mounted m H (due meaning mounted H) l.0)) in
               rw s (omega (arith, k))
           | inr s ↦ rw s ih
         ]
@@ -127,7 +123,8 @@ module _ {D : Type 0} (meaning : Meaning D) where
     few n (Reset d ∷ H) l = few n H l.1
     few n (Post m c s k ∷ H) l = few n H l.1
 
-    one : (n m : Name) (H : List Entry) → Legal meaning mounted H → has_started n H ≡ true → is_posted n H ≡ false → has_started m H ≡ true → is_posted m H ≡ false → n ≡ m
+    one : (n m : Name) (H : List Entry) → Legal meaning mounted H → has_started n H ≡ true → is_posted n H ≡ false →
+        has_started m H ≡ true → is_posted m H ≡ false → n ≡ m
     one n m H l a b c d =
         let f = facts meaning mounted H l in
         let k : Some n ≡ Some m = sym (f.3 n a b) ∙ f.3 m c d in cc

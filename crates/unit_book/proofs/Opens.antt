@@ -1,31 +1,18 @@
 -- A DCB is opened: the fields stay those of the trace.
-use Rattle.std.proofs.Common.{◌≡◌, ℕ, zero, suc, ◌+◌, ◌-◌, ◌≤◌, ◌⊎◌, Bool, true, false, not, ◌&&◌, ◌||◌, Option, Some, None, List, [], ◌∷◌, ◌++◌, length, length-append, refl, sym, ap, ◌∙◌, arith, eqb, inl, inr, subst, if◌then◌else◌}
-use Rattle.std.proofs.lemmas.Bool.{cases_Bool, and_parts, or_right, eqb-true, eq-eqb}
-use Rattle.circular_buffer.proofs.Places.{slice_get-append_right}
-use Rattle.std.specs.Prelude.{slice_get}
-use Rattle.io_images.specs.Codes.{is_error}
-use Rattle.io_images.specs.declared.csw.Csw.{Csw}
-use Rattle.io_images.specs.declared.code.Code.{Code}
-use Rattle.io_images.specs.declared.code.Code.TheVariants.{Purged}
-use Rattle.io_images.specs.declared.extent.Extent.{Extent}
-use Rattle.device_port.specs.Meaning.{Meaning}
-use Rattle.subchannel.specs.Subchannel.{Channel, Idle}
-use Rattle.request_piece.specs.PostedState.{PostedState}
-use Rattle.request_piece.specs.declared.piece.Name.{Name}
-use Rattle.request_piece.specs.declared.piece.Piece.{Piece}
-use Rattle.unit_book.specs.declared.active.Active.{Active}
-use Rattle.unit_book.specs.declared.dcb.Dcb.{Dcb}
-use Rattle.unit_book.specs.declared.entry.Entry.{Entry}
-use Rattle.unit_book.specs.declared.entry.Entry.TheVariants.{Opened, Arrive, Start, Ran, Halted, Purge, Close, Reset, Post}
-use Rattle.unit_book.specs.Trace.{same, opens, has_arrived, has_started, waiting, arrivals, active, started, request_of}
-use Rattle.unit_book.specs.Dcbs.{is_open, is_opened, is_closed, opened_count, extents_of, flag}
-use Rattle.unit_book.specs.Media.{attempts, stand}
-use Rattle.unit_book.specs.Legal.{Due, ToHalt, ToPost, Free, due, Fits, FitsBy, Legal, StartFits, First, Again, PostFits, OfActive, OfFirst, OpenFits}
-use Rattle.unit_book.specs.Posts.{posted}
-use Rattle.unit_book.specs.Fields.{HasRow, Ties, dcb_at, dcb_of}
+use Rattle.unit_book.proofs.Names.{◌≡◌, ℕ, zero, suc, ◌+◌, ◌-◌, ◌≤◌, ◌⊎◌, Bool, true, false, not, ◌&&◌, ◌||◌, Option, Some, None, List, []}
+use Rattle.unit_book.proofs.Names.{◌∷◌, ◌++◌, length, length-append, refl, sym, ap, ◌∙◌, arith, eqb, inl, inr, subst, if◌then◌else◌}
+use Rattle.unit_book.proofs.Names.{cases_Bool, and_parts, or_right, eqb-true, eq-eqb, slice_get-append_right, slice_get, is_error, Csw}
+use Rattle.unit_book.proofs.Names.{Code, Purged, Extent, Meaning, Channel, Idle, PostedState, Name, Piece, Active, Dcb, Entry, Opened}
+use Rattle.unit_book.proofs.Names.{Arrive, Start, Ran, Halted, Purge, Close, Reset, Post, same, has_arrived, has_started, waiting, arrivals}
+use Rattle.unit_book.proofs.Names.{active, started, request_named, is_open, is_opened, is_closed, opened_count, extents_of, flag, attempts}
+use Rattle.unit_book.proofs.Names.{stand, Due, ToHalt, ToPost, Free, due, Fits, FitsBy, Legal, StartFits, First, Again, PostFits, OfActive}
+use Rattle.unit_book.proofs.Names.{OfFirst, posted, Ties, dcb_at, dcb_of}
+use Rattle.unit_book.specs.Trace.{opens}
+use Rattle.unit_book.specs.Legal.{OpenFits}
+use Rattle.unit_book.specs.Fields.{HasRow}
 use Rattle.unit_book.proofs.Lists.{same-true, no_both}
 use Rattle.unit_book.proofs.Facts.{fits-arrive, fits-start, fresh, active-is}
-use Rattle.unit_book.proofs.LegalFacts.{facts, first-waits}
+use Rattle.unit_book.proofs.LegalFacts.{facts, first-request}
 use Rattle.unit_book.proofs.Dooms.{due-doomed}
 use Rattle.unit_book.proofs.Same.{activity-same, fits-free}
 use Rattle.unit_book.proofs.Seeks.{free-start, waits-open}
@@ -35,7 +22,8 @@ more : (d : ℕ) (H : List Entry) (e : Entry) → is_opened d H ≡ true → is_
 more d H e h = or_right (opens d e) (is_opened d H) h
 
 module _ {D : Type 0} (meaning : Meaning D) (mounted : D) where
-  free-open : (d : ℕ) (input : Bool) (x : List Extent) (H : List Entry) (k : Due) → FitsBy meaning mounted k (Opened d input x) H → OpenFits meaning mounted d x H
+  free-open : (d : ℕ) (input : Bool) (x : List Extent) (H : List Entry) (k : Due) → FitsBy meaning mounted k (Opened d input x) H →
+      OpenFits meaning mounted d x H
   free-open d input x H (ToHalt n) f = absurd cc
   free-open d input x H (ToPost n) f = absurd cc
   free-open d input x H Free f = f
@@ -84,28 +72,33 @@ module _ {D : Type 0} (meaning : Meaning D) (mounted : D) where
   closed-opened d (Post n c s k ∷ H) l h = closed-opened d H l.1 h
 
   -- the DCB of what waits first, where nothing is due
-  pub first-opened : (r : Piece) (H : List Entry) → due meaning mounted H ≡ Free → slice_get (waiting H) 0 ≡ Some r → is_opened r.dcb H ≡ true
-  first-opened r H d s = (and_parts (is_opened r.dcb H) (not (is_closed r.dcb H)) (waits-open meaning mounted r H (due-doomed meaning mounted H d) s)).0
+  pub first-opened : (r : Piece) (H : List Entry) → due meaning mounted H ≡ Free → slice_get (waiting H) 0 ≡ Some r →
+      is_opened r.dcb H ≡ true
+  first-opened r H d s =
+      (and_parts (is_opened r.dcb H) (not (is_closed r.dcb H)) (waits-open meaning mounted r H (due-doomed meaning mounted H d) s)).0
 
   -- the table of DCBs has the row of an opened one
-  pub opened-row : (d : ℕ) (H : List Entry) (table : List Dcb) → Legal meaning mounted H → length table ≡ opened_count H → is_opened d H ≡ true → HasRow table d
+  pub opened-row : (d : ℕ) (H : List Entry) (table : List Dcb) → Legal meaning mounted H → length table ≡ opened_count H →
+      is_opened d H ≡ true → HasRow table d
   opened-row d H table l count o = let few = opened-few d H l o in (few.0, rw count few.1)
 
-  pub open-row : (d : ℕ) (H : List Entry) (table : List Dcb) → Legal meaning mounted H → length table ≡ opened_count H → is_open d H ≡ true → HasRow table d
+  pub open-row : (d : ℕ) (H : List Entry) (table : List Dcb) → Legal meaning mounted H → length table ≡ opened_count H →
+      is_open d H ≡ true → HasRow table d
   open-row d H table l count o = opened-row d H table l count (and_parts (is_opened d H) (not (is_closed d H)) o).0
 
-  start-opened : (n : Name) (H : List Entry) → Legal meaning mounted H → due meaning mounted H ≡ Free → StartFits meaning mounted n H → (has_started n H ≡ true → is_opened (request_of n H).dcb H ≡ true) → is_opened (request_of n H).dcb H ≡ true
+  start-opened : (n : Name) (H : List Entry) → Legal meaning mounted H → due meaning mounted H ≡ Free → StartFits meaning mounted n H →
+      (has_started n H ≡ true → is_opened (request_named n H).dcb H ≡ true) → is_opened (request_named n H).dcb H ≡ true
   start-opened n H l d (First s) ih =
-      let w = first-waits meaning mounted s.request H (facts meaning mounted H l) s.first in
-      let q : request_of n H ≡ s.request = subst (λ (x : Name). request_of x H ≡ s.request) s.name w.known.0 in
+      let q = first-request meaning mounted H (facts meaning mounted H l) s.first s.name in
       rw q (first-opened s.request H d s.first)
   start-opened n H l d (Again s) ih = ih (active-is n H s.active).0
 
   -- THE DCB of a request that was started was opened
-  pub started-opened : (n : Name) (H : List Entry) → Legal meaning mounted H → has_started n H ≡ true → is_opened (request_of n H).dcb H ≡ true
-  unfolding Legal request_of
+  pub started-opened : (n : Name) (H : List Entry) → Legal meaning mounted H → has_started n H ≡ true →
+      is_opened (request_named n H).dcb H ≡ true
+  unfolding Legal request_named
   started-opened n [] l h = absurd cc
-  started-opened n (Opened d i x ∷ H) l h = more (request_of n H).dcb H (Opened d i x) (started-opened n H l.1 h)
+  started-opened n (Opened d i x ∷ H) l h = more (request_named n H).dcb H (Opened d i x) (started-opened n H l.1 h)
   started-opened n (Arrive r ∷ H) l h =
       let f = facts meaning mounted H l.1 in
       let new = fresh meaning mounted r H f (fits-arrive meaning mounted r H (due meaning mounted H) l.0) in
@@ -113,15 +106,16 @@ module _ {D : Type 0} (meaning : Meaning D) (mounted : D) where
       elim (cases_Bool (same r.name n)) [
         | inl s ↦ no_both (has_arrived n H) (f.0 n h) (subst (λ (x : Name). has_arrived x H ≡ false) (same-true r.name n s) new)
         | inr s ↦
-            let q : request_of n (Arrive r ∷ H) ≡ request_of n H = rw s refl in
+            let q : request_named n (Arrive r ∷ H) ≡ request_named n H = rw s refl in
             subst (λ (x : Piece). is_opened x.dcb H ≡ true) (sym q) ih
       ]
   started-opened n (Start m ∷ H) l h =
-      let ih : has_started n H ≡ true → is_opened (request_of n H).dcb H ≡ true = λ k. started-opened n H l.1 k in
-      let own : has_started m H ≡ true → is_opened (request_of m H).dcb H ≡ true = λ k. started-opened m H l.1 k in
+      let ih : has_started n H ≡ true → is_opened (request_named n H).dcb H ≡ true = λ k. started-opened n H l.1 k in
+      let own : has_started m H ≡ true → is_opened (request_named m H).dcb H ≡ true = λ k. started-opened m H l.1 k in
       elim (cases_Bool (same m n)) [
-        | inl s ↦ subst (λ (x : Name). is_opened (request_of x H).dcb H ≡ true) (same-true m n s)
-            (start-opened m H l.1 (free-start meaning mounted m H (due meaning mounted H) l.0) (fits-start meaning mounted m H (due meaning mounted H) l.0) own)
+        | inl s ↦ subst (λ (x : Name). is_opened (request_named x H).dcb H ≡ true) (same-true m n s)
+            (start-opened m H l.1 (free-start meaning mounted m H (due meaning mounted H) l.0)
+            (fits-start meaning mounted m H (due meaning mounted H) l.0) own)
         | inr s ↦ ih (rw s at h)
       ]
   started-opened n (Ran m j ∷ H) l h = started-opened n H l.1 h
@@ -132,21 +126,19 @@ module _ {D : Type 0} (meaning : Meaning D) (mounted : D) where
   started-opened n (Post m c s k ∷ H) l h = started-opened n H l.1 h
 
   -- whose post has an error was of an opened DCB
-  error-opened : (n : Name) (csw : Csw) (sense : ℕ) (code : Code) (H : List Entry) → Legal meaning mounted H → Fits meaning mounted (Post n csw sense code) H → is_error code ≡ true → is_opened (request_of n H).dcb H ≡ true
+  error-opened : (n : Name) (csw : Csw) (sense : ℕ) (code : Code) (H : List Entry) → Legal meaning mounted H →
+      Fits meaning mounted (Post n csw sense code) H → is_error code ≡ true → is_opened (request_named n H).dcb H ≡ true
   error-opened n csw sense code H l f e = by_due (due meaning mounted H) refl f where
-    clash : false ≡ true → ⊥
-    clash k = cc
-
-    free : due meaning mounted H ≡ Free → PostFits meaning mounted n csw sense code H → is_opened (request_of n H).dcb H ≡ true
+    free : due meaning mounted H ≡ Free → PostFits meaning mounted n csw sense code H → is_opened (request_named n H).dcb H ≡ true
     free d (OfActive p) = started-opened n H l (active-is n H p.active).0
     free d (OfFirst p) =
-        let w = first-waits meaning mounted p.fails.request H (facts meaning mounted H l) p.fails.first in
-        let q : request_of n H ≡ p.fails.request = subst (λ (x : Name). request_of x H ≡ p.fails.request) p.fails.name w.known.0 in
+        let q = first-request meaning mounted H (facts meaning mounted H l) p.fails.first p.fails.name in
         rw q (first-opened p.fails.request H d p.fails.first)
 
-    by_due : (k : Due) → due meaning mounted H ≡ k → FitsBy meaning mounted k (Post n csw sense code) H → is_opened (request_of n H).dcb H ≡ true
+    by_due : (k : Due) → due meaning mounted H ≡ k → FitsBy meaning mounted k (Post n csw sense code) H →
+        is_opened (request_named n H).dcb H ≡ true
     by_due (ToHalt m) d g = absurd cc
-    by_due (ToPost m) d g = let p : code ≡ Purged = cc in absurd (clash (ap is_error (sym p) ∙ e))
+    by_due (ToPost m) d g = let p : code ≡ Purged = cc in let k = ap is_error (sym p) ∙ e in absurd cc
     by_due Free d g = free d g
 
   -- a DCB with the flag was opened
@@ -162,16 +154,14 @@ module _ {D : Type 0} (meaning : Meaning D) (mounted : D) where
   flag-opened d (Close c ∷ H) l h = flag-opened d H l.1 h
   flag-opened d (Reset c ∷ H) l h =
       let ih : flag d H ≡ true → is_opened d H ≡ true = λ k. flag-opened d H l.1 k in
-      elim (cases_Bool (eqb c d)) [ inl e ↦ absurd (clash (rw e at h)) | inr e ↦ ih (rw e at h) ] where
-        clash : false ≡ true → ⊥
-        clash k = cc
+      elim (cases_Bool (eqb c d)) [ inl e ↦ let k = rw e at h in absurd cc | inr e ↦ ih (rw e at h) ]
   flag-opened d (Post n c s k ∷ H) l h =
       let ih : flag d H ≡ true → is_opened d H ≡ true = λ g. flag-opened d H l.1 g in
-      elim (cases_Bool (is_error k && (request_of n H).related && eqb (request_of n H).dcb d)) [
+      elim (cases_Bool (is_error k && (request_named n H).related && eqb (request_named n H).dcb d)) [
         | inl e ↦
-            let a = and_parts (is_error k && (request_of n H).related) (eqb (request_of n H).dcb d) e in
-            let b = and_parts (is_error k) (request_of n H).related a.0 in
-            subst (λ (x : ℕ). is_opened x H ≡ true) (eqb-true (request_of n H).dcb d a.1) (error-opened n c s k H l.1 l.0 b.0)
+            let a = and_parts (is_error k && (request_named n H).related) (eqb (request_named n H).dcb d) e in
+            let b = and_parts (is_error k) (request_named n H).related a.0 in
+            subst (λ (x : ℕ). is_opened x H ≡ true) (eqb-true (request_named n H).dcb d a.1) (error-opened n c s k H l.1 l.0 b.0)
         | inr e ↦ ih (rw e at h)
       ]
 
@@ -185,7 +175,8 @@ module _ {D : Type 0} (meaning : Meaning D) (mounted : D) where
   unfolding extents_of flag
   dcb-new d input x H l e =
       let self : eqb d d ≡ true = eq-eqb d d refl in
-      let new : is_opened d H ≡ false = elim (cases_Bool (is_opened d H)) [ inl o ↦ absurd (omega (arith, (opened-few d H l o).1, e)) | inr o ↦ o ] in
+      let new : is_opened d H
+      ≡ false = elim (cases_Bool (is_opened d H)) [ inl o ↦ absurd (omega (arith, (opened-few d H l o).1, e)) | inr o ↦ o ] in
       let shut = not-so (is_closed d H) (is_opened d H) (closed-opened d H l) new in
       let flagged = not-so (flag d H) (is_opened d H) (flag-opened d H l) new in
       let none = no-input d H new in
@@ -202,18 +193,21 @@ module _ {D : Type 0} (meaning : Meaning D) (mounted : D) where
   unfolding extents_of flag
   dcb-other c d input x H e = rw e refl
 
-at-push : (table : List Dcb) (row : Dcb) (k : ℕ) → slice_get (table ++ row ∷ []) k ≡ slice_get table k ⊎ ((k ≡ length table) × (slice_get (table ++ row ∷ []) k ≡ Some row))
+at-push : (table : List Dcb) (row : Dcb) (k : ℕ) → slice_get (table ++ row ∷ []) k ≡ slice_get table k
+    ⊎ ((k ≡ length table) × (slice_get (table ++ row ∷ []) k ≡ Some row))
 at-push [] row zero = inr (refl, refl)
 at-push [] row (suc k) = inl refl
 at-push (r ∷ rs) row zero = inl refl
 at-push (r ∷ rs) row (suc k) = elim (at-push rs row k) [ inl e ↦ inl e | inr e ↦ inr (omega (arith, e.0), e.1) ]
 
 module _ {D : Type 0} (meaning : Meaning D) (mounted : D) where
-  pub ties-open : (d : ℕ) (input : Bool) (x : List Extent) (H : List Entry) (channel : Channel D) (o : Option Active) (waiters : List Piece) (table : List Dcb) (left : List PostedState) →
+  pub ties-open : {d : ℕ} (input : Bool) {x : List Extent} {H : List Entry} {channel : Channel D} {o : Option Active} {waiters : List Piece}
+      {table : List Dcb} {left : List PostedState} →
       due meaning mounted H ≡ Free → OpenFits meaning mounted d x H → Ties meaning mounted H channel o waiters table left →
-      Ties meaning mounted (Opened d input x ∷ H) channel o waiters (table ++ record { input = input; extents = x; closed = false; in_error = false } ∷ []) left
-  unfolding Legal waiting arrivals active started request_of attempts posted
-  ties-open d input x H channel o waiters table left settled f t = record {
+      Ties meaning mounted (Opened d input x ∷ H) channel o waiters
+      (table ++ record { input = input; extents = x; closed = false; in_error = false } ∷ []) left
+  unfolding Legal waiting arrivals active started request_named attempts posted
+  ties-open {d} input {x} {H} {channel} {o} {waiters} {table} settled f t = record {
     legal = (fits-free meaning mounted (Opened d input x) H settled f, t.legal);
     queue = t.queue;
     placed = t.placed;
@@ -251,7 +245,8 @@ module _ {D : Type 0} (meaning : Meaning D) (mounted : D) where
 
     at : (c : ℕ) → dcb_at (table ++ row ∷ []) c ≡ dcb_of c (Opened d input x ∷ H)
     at c = elim (cases_Bool (eqb d c)) [
-      | inl e ↦ subst (λ (y : ℕ). dcb_at (table ++ row ∷ []) y ≡ dcb_of y (Opened d input x ∷ H)) (eqb-true d c e) (new_at ∙ sym (dcb-new meaning mounted d input x H t.legal f.next))
+      | inl e ↦ subst (λ (y : ℕ). dcb_at (table ++ row ∷ []) y ≡ dcb_of y (Opened d input x ∷ H)) (eqb-true d c e)
+          (new_at ∙ sym (dcb-new meaning mounted d input x H t.legal f.next))
       | inr e ↦ same_at c e ∙ t.dcbs c ∙ sym (dcb-other meaning mounted c d input x H e)
     ]
 
@@ -275,11 +270,9 @@ module _ {D : Type 0} (meaning : Meaning D) (mounted : D) where
   -- a DCB that was never opened has no flag
   pub no-flag : (d : ℕ) (H : List Entry) → Legal meaning mounted H → dcb_of d H ≡ None → flag d H ≡ false
   no-flag d H l h = elim (cases_Bool (is_opened d H)) [
-    | inl o ↦ absurd (clash (rw o at h))
+    | inl o ↦ let k = rw o at h in absurd cc
     | inr o ↦ not-so meaning mounted (flag d H) (is_opened d H) (flag-opened meaning mounted d H l) o
-  ] where
-    clash : {x : Dcb} → Some x ≡ None → ⊥
-    clash k = cc
+  ]
 
   -- at most 65,535 DCBs are opened
   pub opened-most : (H : List Entry) → Legal meaning mounted H → opened_count H ≤ 65535

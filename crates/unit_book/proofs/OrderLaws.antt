@@ -1,25 +1,15 @@
 -- The first Starts are a subsequence of the arrivals.
-use Rattle.std.proofs.Common.{◌≡◌, ℕ, ◌⊎◌, Bool, true, false, not, ◌&&◌, ◌||◌, Some, List, [], ◌∷◌, ◌++◌, append_assoc, map, refl, sym, ap, ◌∙◌, inl, inr, subst}
-use Rattle.std.proofs.lemmas.Bool.{cases_Bool, and_parts, or_right}
-use Rattle.std.proofs.lemmas.List.{append-nil}
-use Rattle.std.proofs.lemmas.List.Elements.{filter-append}
-use Rattle.std.specs.List.{filter, list_all}
-use Rattle.std.specs.Prelude.{slice_get, drop}
-use Rattle.io_images.specs.declared.csw.Csw.{Csw}
-use Rattle.io_images.specs.declared.code.Code.{Code}
-use Rattle.device_port.specs.Meaning.{Meaning}
-use Rattle.request_piece.specs.declared.piece.Name.{Name}
-use Rattle.request_piece.specs.declared.piece.Piece.{Piece}
-use Rattle.unit_book.specs.declared.entry.Entry.{Entry}
-use Rattle.unit_book.specs.declared.entry.Entry.TheVariants.{Opened, Arrive, Start, Ran, Halted, Purge, Close, Reset, Post}
-use Rattle.unit_book.specs.Trace.{same, arrivals, has_arrived, has_started, is_posted, waiting, active}
-use Rattle.unit_book.specs.Legal.{due, Fits, Legal, StartFits, First, Again}
+use Rattle.unit_book.proofs.Names.{◌≡◌, ℕ, ◌⊎◌, Bool, true, false, not, ◌&&◌, ◌||◌, Some, List, [], ◌∷◌, ◌++◌, append_assoc, map, refl, sym}
+use Rattle.unit_book.proofs.Names.{ap, ◌∙◌, inl, inr, subst, cases_Bool, and_parts, or_right, append-nil, filter-append, filter, list_all}
+use Rattle.unit_book.proofs.Names.{slice_get, drop, Csw, Code, Meaning, Name, Piece, Entry, Opened, Arrive, Start, Ran, Halted, Purge}
+use Rattle.unit_book.proofs.Names.{Close, Reset, Post, same, arrivals, has_arrived, has_started, is_posted, waiting, active, due, Fits}
+use Rattle.unit_book.proofs.Names.{Legal, StartFits, First, Again, Each}
 use Rattle.unit_book.specs.Laws.{first_starts, StartsInOrder}
-use Rattle.unit_book.specs.Lists.{Each}
 use Rattle.unit_book.proofs.Lists.{same-true, same-refl, no_both, filter-filter, filter-all, without, none_named, Apart, without-first}
-use Rattle.unit_book.proofs.Facts.{Facts, active-is, fits-arrive, fits-start, fresh, fresh-start, fresh-post, post-whom, waiting-arrive, waiting-start, waiting-post, waiting-apart, waits, WaitsAmong}
+use Rattle.unit_book.proofs.Lists.{first-rest}
+use Rattle.unit_book.proofs.Facts.{Facts, active-is, fits-arrive, fits-start, fresh, fresh-start, fresh-post, post-whom, waiting-arrive}
+use Rattle.unit_book.proofs.Facts.{waiting-start, waiting-post, waiting-apart, waits, WaitsAmong, without-started}
 use Rattle.unit_book.proofs.LegalFacts.{facts, first-waits}
-use Rattle.unit_book.proofs.Starts.{first-rest}
 
 -- the arrivals that were started, and those that were started or are not posted
 abbrev begun : List Entry → List Piece
@@ -35,13 +25,15 @@ Ordered H = in_play H ≡ begun H ++ waiting H
 module _ {D : Type 0} (meaning : Meaning D) (mounted : D) where
   -- those of the arrivals that were started are in play
   begun-is : (H : List Entry) → begun H ≡ filter (λ r. has_started r.name H) (in_play H)
-  begun-is H = filter-filter (λ (r : Piece). has_started r.name H || not (is_posted r.name H)) (λ r. has_started r.name H) (λ r. has_started r.name H) (λ r. by_bools (has_started r.name H) (is_posted r.name H)) (arrivals H) where
-    by_bools : (s p : Bool) → s ≡ (s && (s || not p))
-    by_bools true p = refl
-    by_bools false p = refl
+  begun-is H = filter-filter (λ (r : Piece). has_started r.name H || not (is_posted r.name H)) (λ r. has_started r.name H)
+      (λ r. has_started r.name H) (λ r. by_bools (has_started r.name H) (is_posted r.name H)) (arrivals H) where
+        by_bools : (s p : Bool) → s ≡ (s && (s || not p))
+        by_bools true p = refl
+        by_bools false p = refl
 
   -- none of the name, if it was not started
-  begun-none : (n : Name) (H : List Entry) → has_started n H ≡ false → (rs : List Piece) → none_named n (filter (λ r. has_started r.name H) rs) ≡ true
+  begun-none : (n : Name) (H : List Entry) → has_started n H ≡ false → (rs : List Piece) →
+      none_named n (filter (λ r. has_started r.name H) rs) ≡ true
   begun-none n H u [] = refl
   begun-none n H u (r ∷ rs) =
       let ih = begun-none n H u rs in
@@ -58,10 +50,13 @@ module _ {D : Type 0} (meaning : Meaning D) (mounted : D) where
   ordered-arrive r H f new o =
       let s = fresh-start meaning mounted r.name H f new in
       let p = fresh-post meaning mounted r.name H f new in
-      let play : in_play (Arrive r ∷ H) ≡ in_play H ++ r ∷ [] = filter-append (λ (q : Piece). has_started q.name H || not (is_posted q.name H)) (arrivals H) (r ∷ []) ∙ rw (s, p) refl in
-      let begun_is : begun (Arrive r ∷ H) ≡ begun H = filter-append (λ (q : Piece). has_started q.name H) (arrivals H) (r ∷ []) ∙ rw s (append-nil (begun H)) in
+      let play : in_play (Arrive r ∷ H) ≡ in_play H ++ r ∷ [] = filter-append
+      (λ (q : Piece). has_started q.name H || not (is_posted q.name H)) (arrivals H) (r ∷ []) ∙ rw (s, p) refl in
+      let begun_is : begun (Arrive r ∷ H) ≡ begun H = filter-append (λ (q : Piece). has_started q.name H) (arrivals H) (r ∷ [])
+      ∙ rw s (append-nil (begun H)) in
       let waits_is = waiting-arrive meaning mounted r H f new in
-      play ∙ ap (λ x. x ++ r ∷ []) o ∙ append_assoc (begun H) (waiting H) (r ∷ []) ∙ ap (λ x. begun H ++ x) (sym waits_is) ∙ ap (λ x. x ++ waiting (Arrive r ∷ H)) (sym begun_is)
+      play ∙ ap (λ x. x ++ r ∷ []) o ∙ append_assoc (begun H) (waiting H) (r ∷ []) ∙ ap (λ x. begun H ++ x) (sym waits_is)
+      ∙ ap (λ x. x ++ waiting (Arrive r ∷ H)) (sym begun_is)
 
   -- a name that has a Start already
   started-same : (n : Name) (H : List Entry) → has_started n H ≡ true → (m : Name) → (same n m || has_started m H) ≡ has_started m H
@@ -72,33 +67,24 @@ module _ {D : Type 0} (meaning : Meaning D) (mounted : D) where
 
   filter-same : {X : Type 0} (p q : X → Bool) → ((x : X) → p x ≡ q x) → (xs : List X) → filter p xs ≡ filter q xs
   filter-same p q h [] = refl
-  filter-same p q h (x ∷ xs) = let e = h x in let ih = filter-same p q h xs in elim (cases_Bool (q x)) [ inl b ↦ rw (e, b) (ap (λ t. x ∷ t) ih) | inr b ↦ rw (e, b) ih ]
+  filter-same p q h (x ∷ xs) = let e = h x in let ih = filter-same p q h xs in elim (cases_Bool (q x))
+      [ inl b ↦ rw (e, b) (ap (λ t. x ∷ t) ih) | inr b ↦ rw (e, b) ih ]
 
-  none-started : (n : Name) (H : List Entry) → has_started n H ≡ true → (rs : List Piece) → Each (WaitsAmong H) rs → none_named n rs ≡ true
-  none-started n H s [] e = refl
-  none-started n H s (r ∷ rs) e =
-      let ih = none-started n H s rs e.1 in
-      elim (cases_Bool (same n r.name)) [
-        | inl k ↦ no_both (has_started n H) s (subst (λ (x : Name). has_started x H ≡ false) (sym (same-true n r.name k)) e.0.unstarted)
-        | inr k ↦ rw k ih
-      ]
-
-  -- nothing that waits goes with a name that was started
-  without-started : (n : Name) (H : List Entry) → Facts H → has_started n H ≡ true → without n (waiting H) ≡ waiting H
-  unfolding without
-  without-started n H f s = filter-all (λ (r : Piece). not (same n r.name)) (waiting H) (none-started n H s (waiting H) (waits H f))
-
-  ordered-again : (n : Name) (H : List Entry) → Facts H → has_started n H ≡ true → Ordered H → Ordered (Start n ∷ H) × (begun (Start n ∷ H) ≡ begun H)
+  ordered-again : (n : Name) (H : List Entry) → Facts H → has_started n H ≡ true → Ordered H →
+      Ordered (Start n ∷ H) × (begun (Start n ∷ H) ≡ begun H)
   unfolding arrivals
   ordered-again n H f s o =
-      let play = filter-same (λ (r : Piece). (same n r.name || has_started r.name H) || not (is_posted r.name H)) (λ r. has_started r.name H || not (is_posted r.name H))
+      let play = filter-same (λ (r : Piece). (same n r.name || has_started r.name H) || not (is_posted r.name H))
+      (λ r. has_started r.name H || not (is_posted r.name H))
       (λ r. ap (λ b. b || not (is_posted r.name H)) (started-same n H s r.name)) (arrivals H) in
-      let begun_is = filter-same (λ (r : Piece). same n r.name || has_started r.name H) (λ r. has_started r.name H) (λ r. started-same n H s r.name) (arrivals H) in
-      let waits_is = waiting-start meaning mounted n H ∙ without-started n H f s in
+      let begun_is = filter-same (λ (r : Piece). same n r.name || has_started r.name H) (λ r. has_started r.name H)
+      (λ r. started-same n H s r.name) (arrivals H) in
+      let waits_is = waiting-start meaning mounted n H ∙ without-started meaning mounted n H f s in
       (play ∙ o ∙ ap (λ x. begun H ++ x) (sym waits_is) ∙ ap (λ x. x ++ waiting (Start n ∷ H)) (sym begun_is), begun_is)
 
   -- the tail of what waits has no Start, whatever name but its first gets one
-  rest-unstarted : (n : Name) (H : List Entry) (rs : List Piece) → none_named n rs ≡ true → Each (WaitsAmong H) rs → filter (λ (r : Piece). same n r.name || has_started r.name H) rs ≡ []
+  rest-unstarted : (n : Name) (H : List Entry) (rs : List Piece) → none_named n rs ≡ true → Each (WaitsAmong H) rs →
+      filter (λ (r : Piece). same n r.name || has_started r.name H) rs ≡ []
   rest-unstarted n H [] a e = refl
   rest-unstarted n H (r ∷ rs) a e =
       let k = and_parts (not (same n r.name)) (none_named n rs) a in
@@ -106,66 +92,84 @@ module _ {D : Type 0} (meaning : Meaning D) (mounted : D) where
       let u = e.0.unstarted in
       elim (cases_Bool (same n r.name)) [ inl s ↦ no_both (not (same n r.name)) k.0 (rw s refl) | inr s ↦ rw (s, u) ih ]
 
-  ordered-first : (r : Piece) (H : List Entry) → Facts H → slice_get (waiting H) 0 ≡ Some r → Ordered H → Ordered (Start r.name ∷ H) × (begun (Start r.name ∷ H) ≡ begun H ++ r ∷ [])
+  ordered-first : (r : Piece) (H : List Entry) → Facts H → slice_get (waiting H) 0 ≡ Some r → Ordered H →
+      Ordered (Start r.name ∷ H) × (begun (Start r.name ∷ H) ≡ begun H ++ r ∷ [])
   unfolding arrivals Apart
   ordered-first r H f first o =
       let n = r.name in
       let G = Start n ∷ H in
       let w = first-waits meaning mounted r H f first in
-      let z = first-rest meaning mounted r (waiting H) first in
+      let z = first-rest (waiting H) r first in
       let rest = drop 1 (waiting H) in
       let apart = subst Apart z (waiting-apart meaning mounted H f) in
       let each = (subst (Each (WaitsAmong H)) z (waits H f)).1 in
       let self = same-refl n in
-      let play : in_play G ≡ in_play H = filter-same (λ (q : Piece). (same n q.name || has_started q.name H) || not (is_posted q.name H)) (λ q. has_started q.name H || not (is_posted q.name H))
+      let play : in_play G ≡ in_play H = filter-same (λ (q : Piece). (same n q.name || has_started q.name H) || not (is_posted q.name H))
+      (λ q. has_started q.name H || not (is_posted q.name H))
       (λ q. play_at q.name w.unposted) (arrivals H) in
       let whole : in_play G ≡ begun H ++ r ∷ rest = play ∙ o ∙ ap (λ x. begun H ++ x) z in
-      let old : filter (λ (q : Piece). same n q.name || has_started q.name H) (begun H) ≡ begun H = filter-all (λ (q : Piece). same n q.name || has_started q.name H) (begun H) (all-more n H (arrivals H)) in
+      let old : filter (λ (q : Piece). same n q.name || has_started q.name H) (begun H)
+      ≡ begun H = filter-all (λ (q : Piece). same n q.name || has_started q.name H) (begun H) (all-more n H (arrivals H)) in
       let begun_is : begun G ≡ begun H ++ r ∷ [] =
       begun-is G ∙ ap (filter (λ (q : Piece). same n q.name || has_started q.name H)) whole
       ∙ filter-append (λ (q : Piece). same n q.name || has_started q.name H) (begun H) (r ∷ rest)
       ∙ ap (λ x. x ++ filter (λ (q : Piece). same n q.name || has_started q.name H) (r ∷ rest)) old
       ∙ ap (λ x. begun H ++ x) (rw self (ap (λ x. r ∷ x) (rest-unstarted n H rest apart.0 each))) in
-      let waits_is : waiting G ≡ rest = waiting-start meaning mounted n H ∙ ap (without n) z ∙ without-first r rest apart in
-      (whole ∙ sym (append_assoc (begun H) (r ∷ []) rest) ∙ ap (λ x. (begun H ++ r ∷ []) ++ x) (sym waits_is) ∙ ap (λ x. x ++ waiting G) (sym begun_is), begun_is) where
-        play_at : (m : Name) → is_posted r.name H ≡ false → ((same r.name m || has_started m H) || not (is_posted m H)) ≡ (has_started m H || not (is_posted m H))
+      let waits_is : waiting G ≡ rest = waiting-start meaning mounted n H ∙ ap (without n) z ∙ without-first r rest apart in (
+        whole ∙ sym (append_assoc (begun H) (r ∷ []) rest) ∙ ap (λ x. (begun H ++ r ∷ []) ++ x) (sym waits_is)
+            ∙ ap (λ x. x ++ waiting G) (sym begun_is),
+        begun_is,
+      ) where
+        play_at : (m : Name) → is_posted r.name H ≡ false → ((same r.name m || has_started m H) || not (is_posted m H))
+            ≡ (has_started m H || not (is_posted m H))
         play_at m u = elim (cases_Bool (same r.name m)) [
-          | inl s ↦ let p : is_posted m H ≡ false = subst (λ (x : Name). is_posted x H ≡ false) (same-true r.name m s) u in rw (s, p) (by_bool (has_started m H))
+          | inl s ↦ let p : is_posted m H ≡ false = subst (λ (x : Name). is_posted x H ≡ false) (same-true r.name m s) u in rw (s, p)
+              (by_bool (has_started m H))
           | inr s ↦ rw s refl
         ] where
           by_bool : (b : Bool) → true ≡ (b || true)
           by_bool true = refl
           by_bool false = refl
 
-        all-more : (n : Name) (H : List Entry) (rs : List Piece) → list_all (λ (q : Piece). same n q.name || has_started q.name H) (filter (λ q. has_started q.name H) rs) ≡ true
+        all-more : (n : Name) (H : List Entry) (rs : List Piece) →
+            list_all (λ (q : Piece). same n q.name || has_started q.name H) (filter (λ q. has_started q.name H) rs) ≡ true
         all-more n H [] = refl
         all-more n H (q ∷ rs) =
             let ih = all-more n H rs in
-            elim (cases_Bool (has_started q.name H)) [ inl s ↦ let k = or_right (same n q.name) (has_started q.name H) s in rw s (rw k ih) | inr s ↦ rw s ih ]
+            elim (cases_Bool (has_started q.name H))
+            [ inl s ↦ let k = or_right (same n q.name) (has_started q.name H) s in rw s (rw k ih) | inr s ↦ rw s ih ]
 
-  ordered-post : (n : Name) (csw : Csw) (sense : ℕ) (code : Code) (H : List Entry) → Facts H → Fits meaning mounted (Post n csw sense code) H → Ordered H → Ordered (Post n csw sense code ∷ H)
+  ordered-post : (n : Name) (csw : Csw) (sense : ℕ) (code : Code) (H : List Entry) → Facts H →
+      Fits meaning mounted (Post n csw sense code) H → Ordered H → Ordered (Post n csw sense code ∷ H)
   unfolding arrivals without
   ordered-post n csw sense code H f h o = by_whom (post-whom meaning mounted n csw sense code H f h) where
     of_started : has_started n H ≡ true → Ordered (Post n csw sense code ∷ H)
     of_started s =
-        let play = filter-same (λ (r : Piece). has_started r.name H || not (same n r.name || is_posted r.name H)) (λ r. has_started r.name H || not (is_posted r.name H)) at (arrivals H) in
-        let waits_is = waiting-post meaning mounted n csw sense code H ∙ without-started n H f s in
+        let play = filter-same (λ (r : Piece). has_started r.name H || not (same n r.name || is_posted r.name H))
+        (λ r. has_started r.name H || not (is_posted r.name H)) at (arrivals H) in
+        let waits_is = waiting-post meaning mounted n csw sense code H ∙ without-started meaning mounted n H f s in
         play ∙ o ∙ ap (λ x. begun H ++ x) (sym waits_is) where
-          at : (r : Piece) → (has_started r.name H || not (same n r.name || is_posted r.name H)) ≡ (has_started r.name H || not (is_posted r.name H))
+          at : (r : Piece) → (has_started r.name H || not (same n r.name || is_posted r.name H))
+              ≡ (has_started r.name H || not (is_posted r.name H))
           at r = elim (cases_Bool (same n r.name)) [
-            | inl e ↦ let k : has_started r.name H ≡ true = subst (λ (x : Name). has_started x H ≡ true) (same-true n r.name e) s in rw (e, k) refl
+            | inl e ↦ let k : has_started r.name H ≡ true = subst (λ (x : Name). has_started x H ≡ true)
+                (same-true n r.name e) s in rw (e, k) refl
             | inr e ↦ rw e refl
           ]
 
     of_waiting : has_started n H ≡ false → Ordered (Post n csw sense code ∷ H)
     of_waiting u =
-        let play = filter-filter (λ (r : Piece). has_started r.name H || not (is_posted r.name H)) (λ r. not (same n r.name)) (λ r. has_started r.name H || not (same n r.name || is_posted r.name H)) at (arrivals H) in
+        let play = filter-filter (λ (r : Piece). has_started r.name H || not (is_posted r.name H)) (λ r. not (same n r.name))
+        (λ r. has_started r.name H || not (same n r.name || is_posted r.name H)) at (arrivals H) in
         let split = filter-append (λ (r : Piece). not (same n r.name)) (begun H) (waiting H) in
         let none = filter-all (λ (r : Piece). not (same n r.name)) (begun H) (begun-none n H u (arrivals H)) in
-        play ∙ ap (filter (λ (r : Piece). not (same n r.name))) o ∙ split ∙ ap (λ x. x ++ without n (waiting H)) none ∙ ap (λ x. begun H ++ x) (sym (waiting-post meaning mounted n csw sense code H)) where
-          at : (r : Piece) → (has_started r.name H || not (same n r.name || is_posted r.name H)) ≡ (not (same n r.name) && (has_started r.name H || not (is_posted r.name H)))
+        play ∙ ap (filter (λ (r : Piece). not (same n r.name))) o ∙ split ∙ ap (λ x. x ++ without n (waiting H)) none
+        ∙ ap (λ x. begun H ++ x) (sym (waiting-post meaning mounted n csw sense code H)) where
+          at : (r : Piece) → (has_started r.name H || not (same n r.name || is_posted r.name H))
+              ≡ (not (same n r.name) && (has_started r.name H || not (is_posted r.name H)))
           at r = elim (cases_Bool (same n r.name)) [
-            | inl e ↦ let k : has_started r.name H ≡ false = subst (λ (x : Name). has_started x H ≡ false) (same-true n r.name e) u in rw (e, k) refl
+            | inl e ↦ let k : has_started r.name H ≡ false = subst (λ (x : Name). has_started x H ≡ false)
+                (same-true n r.name e) u in rw (e, k) refl
             | inr e ↦ rw e refl
           ]
 
@@ -207,15 +211,20 @@ module _ {D : Type 0} (meaning : Meaning D) (mounted : D) where
       let new = fresh meaning mounted r H f (fits-arrive meaning mounted r H (due meaning mounted H) l.0) in
       let o = in-order H l.1 in
       let s = fresh-start meaning mounted r.name H f new in
-      let begun_is : begun (Arrive r ∷ H) ≡ begun H = filter-append (λ (q : Piece). has_started q.name H) (arrivals H) (r ∷ []) ∙ rw s (append-nil (begun H)) in
+      let begun_is : begun (Arrive r ∷ H) ≡ begun H = filter-append (λ (q : Piece). has_started q.name H) (arrivals H) (r ∷ [])
+      ∙ rw s (append-nil (begun H)) in
       (ordered-arrive r H f new o.0, o.1 ∙ ap (map (λ (q : Piece). q.name)) (sym begun_is))
-  in-order (Start n ∷ H) l = order-start n H (facts meaning mounted H l.1) (fits-start meaning mounted n H (due meaning mounted H) l.0) (in-order H l.1)
+  in-order (Start n ∷ H) l = order-start n H (facts meaning mounted H l.1) (fits-start meaning mounted n H (due meaning mounted H) l.0)
+      (in-order H l.1)
   in-order (Ran n j ∷ H) l = in-order H l.1
   in-order (Halted n ∷ H) l = in-order H l.1
   in-order (Purge s m ∷ H) l = in-order H l.1
   in-order (Close d ∷ H) l = in-order H l.1
   in-order (Reset d ∷ H) l = in-order H l.1
-  in-order (Post n csw sense code ∷ H) l = let o = in-order H l.1 in (ordered-post n csw sense code H (facts meaning mounted H l.1) l.0 o.0, o.1)
+  in-order (Post n csw sense code ∷ H) l = let o = in-order H l.1 in (
+    ordered-post n csw sense code H (facts meaning mounted H l.1) l.0 o.0,
+    o.1,
+  )
 
 pub starts-in-order : {D : Type 0} (meaning : Meaning D) → StartsInOrder meaning
 starts-in-order meaning mounted H l = (in-order meaning mounted H l).1

@@ -1,43 +1,29 @@
 -- When a status is pending: what each call of a book makes of it.
-use Rattle.std.proofs.Common.{◌≡◌, ℕ, ◌+◌, Bool, true, false, not, ◌&&◌, ◌||◌, Result, Ok, Err, Option, Some, None, List, [], ◌∷◌, refl, sym, ap, ◌∙◌, subst}
-use Rattle.std.proofs.lemmas.Bool.{and_parts}
-use Rattle.std.specs.Prelude.{is_some, OnOk, OnErr}
+use Rattle.unit_book.proofs.Names.{◌≡◌, ℕ, ◌+◌, Bool, true, false, not, ◌&&◌, ◌||◌, Ok, Err, Option, Some, None, List, [], ◌∷◌, refl, sym}
+use Rattle.unit_book.proofs.Names.{ap, ◌∙◌, subst, and_parts, is_some, OnOk, OnErr, Extent, ExtentViolated, Purged, Meaning, after}
+use Rattle.unit_book.proofs.Names.{no_status, Name, Piece, covers, Scope, Starting, Busy, Started, Violated, NothingRuns, RanSome}
+use Rattle.unit_book.proofs.Names.{Interruption, NothingPending, TriedAgain, WasPosted, Mode, Quiesce, Halt, Entry, Opened, Arrive, Purge}
+use Rattle.unit_book.proofs.Names.{Close, Reset, Post, waiting, active, started, arrivals, request_named, has_started, is_posted, is_halt}
+use Rattle.unit_book.proofs.Names.{is_halted, arrived_of, doomed, is_doomed, opened_count, all_posted, after_dooms, attempts, newest}
+use Rattle.unit_book.proofs.Names.{still_runs, active_phase, Due, ToHalt, ToPost, Free, Legal, CanPurge, due, due_by, is_to_halt, Book}
+use Rattle.unit_book.proofs.Names.{running_name_by, Adds, Extends, MayStart, MayFirst, MayAgain, StartsBook, RunsBook, InterruptsBook}
+use Rattle.unit_book.proofs.Names.{PurgesBy, covered_by, covers_awaiting, halted_by, after_halt, after_purge, Each}
+use Rattle.std.proofs.Common.{Result}
 use Rattle.std.specs.declared.alloc.AllocError.{AllocError}
-use Rattle.io_images.specs.declared.extent.Extent.{Extent}
-use Rattle.io_images.specs.declared.code.Code.TheVariants.{ExtentViolated, Purged}
-use Rattle.device_port.specs.Meaning.{Meaning}
-use Rattle.ccw_programs.specs.Step.{after}
-use Rattle.io_images.specs.Images.{no_status}
-use Rattle.request_piece.specs.declared.piece.Name.{Name}
-use Rattle.request_piece.specs.declared.piece.Piece.{Piece}
-use Rattle.request_piece.specs.Scope.{covers}
-use Rattle.request_piece.specs.declared.scope.Scope.{Scope}
-use Rattle.unit_book.specs.declared.answer.Starting.{Starting}
-use Rattle.unit_book.specs.declared.answer.Starting.TheVariants.{Busy, Idle, Started, Violated}
+use Rattle.unit_book.specs.declared.answer.Starting.TheVariants.{Idle}
 use Rattle.unit_book.specs.declared.answer.Running.{Running}
-use Rattle.unit_book.specs.declared.answer.Running.TheVariants.{Quiet as NothingRuns, Ran as RanSome}
-use Rattle.unit_book.specs.declared.answer.Interruption.{Interruption}
-use Rattle.unit_book.specs.declared.answer.Interruption.TheVariants.{Quiet as NothingPending, Again as TriedAgain, Ended as WasPosted}
-use Rattle.unit_book.specs.declared.entry.Mode.{Mode}
-use Rattle.unit_book.specs.declared.entry.Mode.TheVariants.{Quiesce, Halt}
-use Rattle.unit_book.specs.declared.entry.Entry.{Entry}
-use Rattle.unit_book.specs.declared.entry.Entry.TheVariants.{Opened, Arrive, Start, Purge, Close, Reset, Post}
-use Rattle.unit_book.specs.Trace.{waiting, active, started, arrivals, request_of, has_started, is_posted, is_halt, is_halted, arrived_of}
-use Rattle.unit_book.specs.Dcbs.{doomed, is_doomed, opened_count}
-use Rattle.unit_book.specs.Dooms.{all_posted, after_dooms}
-use Rattle.unit_book.specs.Media.{attempts, newest, still_runs, active_phase}
-use Rattle.unit_book.specs.Legal.{Due, ToHalt, ToPost, Free, Legal, CanPurge, due, due_by, doomed_first, is_to_halt}
-use Rattle.unit_book.specs.Book.{Book, running_name, running_name_by, is_pending, pending_by}
-use Rattle.unit_book.specs.Answers.{Adds, Extends, MayStart, MayFirst, MayAgain, StartsBook, RunsBook, InterruptsBook, pending_after}
-use Rattle.unit_book.specs.Controls.{PurgesBy, ClosesBy, covered_by, covers_awaiting, halted_by, after_halt, after_purge, halts_program}
-use Rattle.unit_book.specs.Lists.{Each}
+use Rattle.unit_book.specs.Book.{running_name, is_pending, pending_by}
+use Rattle.unit_book.specs.Answers.{pending_after}
+use Rattle.unit_book.specs.Controls.{ClosesBy, halts_program}
 use Rattle.unit_book.proofs.Lists.{same-refl}
-use Rattle.unit_book.proofs.Facts.{Facts, WaitsAmong, waits, Each-weaker, Each-filter, active-is, active-start, active-post, active-post_waiting}
+use Rattle.unit_book.proofs.Facts.{Facts, WaitsAmong, waits, Each-weaker, Each-filter, active-is, active-start, active-post}
+use Rattle.unit_book.proofs.Facts.{active-post_waiting}
 use Rattle.unit_book.proofs.LegalFacts.{facts}
 use Rattle.unit_book.proofs.Same.{phase-same, fits-free}
 use Rattle.unit_book.proofs.Settling.{first-unposted, still-none, posts-none}
 use Rattle.unit_book.proofs.WorldBooks.{running-is}
 use Rattle.unit_book.proofs.WorldTraces.{grows-purge}
+use Rattle.unit_book.proofs.Dooms.{halted-first}
 
 or-false : (b : Bool) → (b || false) ≡ b
 or-false true = refl
@@ -57,7 +43,8 @@ module _ {D : Type 0} (meaning : Meaning D) (mounted : D) where
   pending-awaits H (Some n) = refl
 
   -- entries that leave the active request and its attempts
-  pub pending-same : (H G : List Entry) (again : Bool) → active G ≡ active H → attempts G ≡ attempts H → ((n : Name) → is_halted n G ≡ is_halted n H) →
+  pub pending-same : (H G : List Entry) (again : Bool) → active G ≡ active H → attempts G ≡ attempts H →
+      ((n : Name) → is_halted n G ≡ is_halted n H) →
       pending_by meaning mounted G again (active G) ≡ pending_by meaning mounted H again (active H)
   pending-same H G again a t h = ap (pending_by meaning mounted G again) a ∙ by_active (active H) where
     by_active : (o : Option Name) → pending_by meaning mounted G again o ≡ pending_by meaning mounted H again o
@@ -67,7 +54,8 @@ module _ {D : Type 0} (meaning : Meaning D) (mounted : D) where
   -- THE DOOMS leave it
   dooms-active : (rs : List Piece) (H : List Entry) → Each (λ r. has_started r.name H ≡ false) rs → active (all_posted rs H) ≡ active H
   dooms-active [] H e = refl
-  dooms-active (r ∷ rs) H e = dooms-active rs (Post r.name no_status 0 Purged ∷ H) e.1 ∙ active-post_waiting meaning mounted r.name no_status 0 Purged H e.0
+  dooms-active (r ∷ rs) H e = dooms-active rs (Post r.name no_status 0 Purged ∷ H) e.1
+      ∙ active-post_waiting meaning mounted r.name no_status 0 Purged H e.0
 
   dooms-attempts : (rs : List Piece) (H : List Entry) → attempts (all_posted rs H) ≡ attempts H
   unfolding attempts
@@ -78,7 +66,8 @@ module _ {D : Type 0} (meaning : Meaning D) (mounted : D) where
   dooms-halted [] H n = refl
   dooms-halted (r ∷ rs) H n = dooms-halted rs (Post r.name no_status 0 Purged ∷ H) n
 
-  pub pending-dooms : (H : List Entry) (again : Bool) → Facts H → pending_by meaning mounted (after_dooms H) again (active (after_dooms H)) ≡ pending_by meaning mounted H again (active H)
+  pub pending-dooms : (H : List Entry) (again : Bool) → Facts H → pending_by meaning mounted (after_dooms H) again (active (after_dooms H))
+      ≡ pending_by meaning mounted H again (active H)
   pending-dooms H again f =
       let all = Each-filter (WaitsAmong H) (is_doomed H) (waiting H) (waits H f) in
       let e = Each-weaker (WaitsAmong H) (λ r. has_started r.name H ≡ false) (λ r w. w.unstarted) (doomed H) all in
@@ -86,74 +75,74 @@ module _ {D : Type 0} (meaning : Meaning D) (mounted : D) where
 
   -- A PURGE
   purged-facts : (d : Due) (scope : Scope) (mode : Mode) (H : List Entry) → Facts H → Facts (halted_by d (Purge scope mode ∷ H))
-  unfolding arrivals active started attempts request_of
+  unfolding arrivals active started attempts request_named
   purged-facts (ToHalt n) scope mode H f = f
   purged-facts (ToPost n) scope mode H f = f
   purged-facts Free scope mode H f = f
 
-  no-halt : (rs : List Piece) (G : List Entry) → halted_by (doomed_first rs) G ≡ G
-  no-halt [] G = refl
-  no-halt (r ∷ rs) G = refl
-
   -- the purge halts no program
-  unhalted : (scope : Scope) (mode : Mode) (H : List Entry) (n : Name) (again : Bool) → is_to_halt meaning mounted (Purge scope mode ∷ H) n ≡ false →
-      pending_by meaning mounted (halted_by (due_by meaning mounted (Purge scope mode ∷ H) (Some n)) (Purge scope mode ∷ H)) again (Some n) ≡ pending_by meaning mounted H again (Some n)
+  unhalted : (scope : Scope) (mode : Mode) (H : List Entry) (n : Name) (again : Bool) → is_to_halt meaning mounted (Purge scope mode ∷ H) n
+      ≡ false →
+      pending_by meaning mounted (halted_by (due_by meaning mounted (Purge scope mode ∷ H) (Some n)) (Purge scope mode ∷ H)) again (Some n)
+      ≡ pending_by meaning mounted H again (Some n)
   unfolding attempts
   unhalted scope mode H n again e =
       let G = Purge scope mode ∷ H in
-      let stays = no-halt (doomed G) G in
+      let stays = halted-first (doomed G) G in
       rw e (ap (λ x. pending_by meaning mounted x again (Some n)) stays)
 
   -- it halts this one
   halted-now : (scope : Scope) (mode : Mode) (H : List Entry) (n : Name) → is_to_halt meaning mounted (Purge scope mode ∷ H) n ≡ true →
-      pending_by meaning mounted (halted_by (due_by meaning mounted (Purge scope mode ∷ H) (Some n)) (Purge scope mode ∷ H)) false (Some n) ≡ true
+      pending_by meaning mounted (halted_by (due_by meaning mounted (Purge scope mode ∷ H) (Some n)) (Purge scope mode ∷ H)) false (Some n)
+      ≡ true
   halted-now scope mode H n e = let s = same-refl n in rw e (rw s refl)
 
-  purge-active : (scope : Scope) (mode : Mode) (H : List Entry) (again : Bool) (o : Option Name) → (again ≡ true → running_name_by meaning mounted H o ≡ None) →
+  purge-active : (scope : Scope) (mode : Mode) (H : List Entry) (again : Bool) (o : Option Name) →
+      (again ≡ true → running_name_by meaning mounted H o ≡ None) →
       pending_by meaning mounted (halted_by (due_by meaning mounted (Purge scope mode ∷ H) o) (Purge scope mode ∷ H)) again o
       ≡ (pending_by meaning mounted H again o || (is_halt mode && is_some (covered_by scope H (running_name_by meaning mounted H o))))
   unfolding attempts
   purge-active scope mode H again None k = sym (and-false (is_halt mode))
-  purge-active scope Quiesce H again (Some n) k = unhalted scope Quiesce H n again refl ∙ sym (or-false (pending_by meaning mounted H again (Some n)))
+  purge-active scope Quiesce H again (Some n) k = unhalted scope Quiesce H n again refl
+      ∙ sym (or-false (pending_by meaning mounted H again (Some n)))
   purge-active scope Halt H again (Some n) k =
-      by_tests (covers scope (request_of n H)) (still_runs (active_phase meaning mounted n H)) again refl refl refl where
-        by_tests : (c g a : Bool) → covers scope (request_of n H) ≡ c → still_runs (active_phase meaning mounted n H) ≡ g → again ≡ a →
-            pending_by meaning mounted (halted_by (due_by meaning mounted (Purge scope Halt ∷ H) (Some n)) (Purge scope Halt ∷ H)) again (Some n)
+      by_tests (covers scope (request_named n H)) (still_runs (active_phase meaning mounted n H)) again refl refl refl where
+        by_tests : (c g a : Bool) → covers scope (request_named n H) ≡ c → still_runs (active_phase meaning mounted n H) ≡ g → again ≡ a →
+            pending_by meaning mounted (halted_by (due_by meaning mounted (Purge scope Halt ∷ H) (Some n)) (Purge scope Halt ∷ H)) again
+            (Some n)
             ≡ (pending_by meaning mounted H again (Some n) || is_some (covered_by scope H (running_name_by meaning mounted H (Some n))))
-        by_tests true true true e f i = absurd (clash (rw f at (k i))) where
-          clash : {m : Name} → Some m ≡ None → ⊥
-          clash q = cc
+        by_tests true true true e f i = let q = rw f at (k i) in absurd cc
         by_tests true true false e f i = rw i (halted-now scope Halt H n (rw (e, f) refl) ∙ rw (f, e) refl)
         by_tests true false a e f i = unhalted scope Halt H n again (rw (e, f) refl) ∙ rw f (sym (or-false (not again && true)))
         by_tests false g a e f i = unhalted scope Halt H n again (rw e refl) ∙ sym (or-none g f) where
-          or-none : (b : Bool) → still_runs (active_phase meaning mounted n H) ≡ b → (pending_by meaning mounted H again (Some n) || is_some (covered_by scope H (running_name_by meaning mounted H (Some n)))) ≡ pending_by meaning mounted H again (Some n)
+          or-none : (b : Bool) → still_runs (active_phase meaning mounted n H) ≡ b →
+              (pending_by meaning mounted H again (Some n) || is_some (covered_by scope H (running_name_by meaning mounted H (Some n))))
+              ≡ pending_by meaning mounted H again (Some n)
           or-none true q = rw (q, e) (or-false (not again && false))
           or-none false q = rw q (or-false (not again && true))
 
 module _ {D : Type 0} (meaning : Meaning D) where
-  -- as the trace says
-  pending-is : (old new : Book D) (H : List Entry) (again : Bool) → new.mounted ≡ old.mounted → new.trace ≡ H → new.awaits ≡ again →
-      is_pending meaning new ≡ pending_by meaning old.mounted H again (active H)
-  pending-is old new H again m t a = rw (m, t, a) refl
-
   pending-posts : (old new : Book D) (G : List Entry) (again : Bool) → Facts G → Extends meaning old (after_dooms G) again new →
       is_pending meaning new ≡ pending_by meaning old.mounted G again (active G)
   pending-posts old new G again f p =
-      pending-is old new (after_dooms G) again (ap (λ (b : Book D). b.mounted) p) (ap (λ (b : Book D). b.trace) p) (ap (λ (b : Book D). b.awaits) p)
+      ap (is_pending meaning) p
       ∙ pending-dooms meaning old.mounted G again f
 
   pub pending-arrive : (old new : Book D) (r : Piece) → Legal meaning old.mounted old.trace → due meaning old.mounted old.trace ≡ Free →
-      r.name.seq ≡ arrived_of r.name.task old.trace + 1 → Extends meaning old (after_dooms (Arrive r ∷ old.trace)) old.awaits new → is_pending meaning new ≡ is_pending meaning old
+      r.name.seq ≡ arrived_of r.name.task old.trace + 1 → Extends meaning old (after_dooms (Arrive r ∷ old.trace)) old.awaits new →
+      is_pending meaning new ≡ is_pending meaning old
   unfolding Legal active started attempts
   pending-arrive old new r l s n p =
       pending-posts old new (Arrive r ∷ old.trace) old.awaits
       (facts meaning old.mounted (Arrive r ∷ old.trace) (fits-free meaning old.mounted (Arrive r) old.trace s n, l)) p
 
-  pub pending-open : (old new : Book D) (dcb : ℕ) (input : Bool) (extents : List Extent) → Adds old (Opened dcb input extents) new → is_pending meaning new ≡ is_pending meaning old
+  pub pending-open : (old new : Book D) (dcb : ℕ) (input : Bool) (extents : List Extent) → Adds old (Opened dcb input extents) new →
+      is_pending meaning new ≡ is_pending meaning old
   unfolding active started attempts
   pending-open old new dcb input extents p = rw p refl
 
-  pub pending-opening : (old new : Book D) (input : Bool) (extents : List Extent) (result : Result ℕ AllocError) → OnOk result (Adds old (Opened (opened_count old.trace + 1) input extents) new) →
+  pub pending-opening : (old new : Book D) (input : Bool) (extents : List Extent) (result : Result ℕ AllocError) →
+      OnOk result (Adds old (Opened (opened_count old.trace + 1) input extents) new) →
       OnErr result (new ≡ old) → is_pending meaning new ≡ is_pending meaning old
   pending-opening old new input extents (Ok d) a b = pending-open old new (opened_count old.trace + 1) input extents a
   pending-opening old new input extents (Err x) a b = ap (is_pending meaning) b
@@ -162,12 +151,14 @@ module _ {D : Type 0} (meaning : Meaning D) where
   unfolding active started attempts
   pending-reset old new dcb p = rw p refl
 
-  pub pending-close : (was_open : Bool) (old new : Book D) (dcb : ℕ) → Legal meaning old.mounted old.trace → ClosesBy meaning was_open old dcb new → is_pending meaning new ≡ is_pending meaning old
-  unfolding arrivals active started attempts request_of
+  pub pending-close : (was_open : Bool) (old new : Book D) (dcb : ℕ) → Legal meaning old.mounted old.trace →
+      ClosesBy meaning was_open old dcb new → is_pending meaning new ≡ is_pending meaning old
+  unfolding arrivals active started attempts request_named
   pending-close true old new dcb l p = pending-posts old new (Close dcb ∷ old.trace) old.awaits (facts meaning old.mounted old.trace l) p
   pending-close false old new dcb l p = ap (is_pending meaning) p
 
-  pub pending-start : (old new : Book D) (answer : Starting) → StartsBook meaning old answer new → is_pending meaning new ≡ is_pending meaning old
+  pub pending-start : (old new : Book D) (answer : Starting) → StartsBook meaning old answer new →
+      is_pending meaning new ≡ is_pending meaning old
   unfolding attempts newest after
   pending-start old new Busy h = ap (is_pending meaning) h.2
   pending-start old new Idle h = ap (is_pending meaning) h.2
@@ -184,47 +175,46 @@ module _ {D : Type 0} (meaning : Meaning D) where
     runs-now u =
         let is = active-start meaning old.mounted n old.trace u in
         let s = same-refl n in
-        pending-is old new (Start n ∷ old.trace) false (ap (λ (b : Book D). b.mounted) h.1) (ap (λ (b : Book D). b.trace) h.1) (ap (λ (b : Book D). b.awaits) h.1)
+        ap (is_pending meaning) h.1
         ∙ rw is (rw s refl)
   pending-start old new (Violated n) h =
       let G = Post n no_status 0 ExtentViolated ∷ old.trace in
       let none = posts-none (doomed G) G (still-none n no_status 0 ExtentViolated old.trace h.0.none) in
-      pending-is old new (after_dooms G) false (ap (λ (b : Book D). b.mounted) h.1) (ap (λ (b : Book D). b.trace) h.1) (ap (λ (b : Book D). b.awaits) h.1)
+      ap (is_pending meaning) h.1
       ∙ pending-none meaning old.mounted (after_dooms G) false (active (after_dooms G)) none
       ∙ sym (pending-none meaning old.mounted old.trace old.awaits (active old.trace) h.0.none)
 
-  pub pending-run : (old new : Book D) (max : ℕ) (answer : Running) → (old.awaits ≡ true → running_name meaning old ≡ None) → RunsBook meaning old max answer new →
+  pub pending-run : (old new : Book D) (max : ℕ) (answer : Running) → (old.awaits ≡ true → running_name meaning old ≡ None) →
+      RunsBook meaning old max answer new →
       is_pending meaning new ≡ pending_after (is_pending meaning old) answer
   unfolding active started
   pending-run old new max NothingRuns k h = ap (is_pending meaning) h.1
   pending-run old new max (RanSome commands pending) k h = by_again old.awaits refl where
-    clash : {m : Name} → Some m ≡ None → ⊥
-    clash q = cc
-
     by_again : (b : Bool) → old.awaits ≡ b → is_pending meaning new ≡ pending
-    by_again true e = absurd (clash (sym h.running ∙ k e))
+    by_again true e = let q = sym h.running ∙ k e in absurd cc
     by_again false e =
         let a = (running-is meaning old.mounted old.trace h.name h.running).0 in
-        let m = ap (λ (b : Book D). b.mounted) h.adds in
         let t = ap (λ (b : Book D). b.trace) h.adds in
-        let g = ap (λ (b : Book D). b.awaits) h.adds in
         let p = rw t at h.pending_is in
-        pending-is old new _ false m t (g ∙ e) ∙ rw a (sym p)
+        ap (is_pending meaning) h.adds ∙ rw (e, a) (sym p)
 
-  pub pending-interrupt : (old new : Book D) (answer : Interruption) → Legal meaning old.mounted old.trace → InterruptsBook meaning old answer new → is_pending meaning new ≡ false
+  pub pending-interrupt : (old new : Book D) (answer : Interruption) → Legal meaning old.mounted old.trace →
+      InterruptsBook meaning old answer new → is_pending meaning new ≡ false
   pending-interrupt old new NothingPending l h = ap (is_pending meaning) h.1 ∙ h.0
   pending-interrupt old new (TriedAgain n) l h =
-      pending-is old new old.trace true (ap (λ (b : Book D). b.mounted) h.2) (ap (λ (b : Book D). b.trace) h.2) (ap (λ (b : Book D). b.awaits) h.2)
+      ap (is_pending meaning) h.2
       ∙ pending-awaits meaning old.mounted old.trace (active old.trace)
   pending-interrupt old new (WasPosted n code) l h =
       let H = old.trace in
       let p = h.1.extends in
       let G = Post n h.1.csw h.1.sense code ∷ H in
-      let none = posts-none (doomed G) G (active-post meaning old.mounted n h.1.csw h.1.sense code H (facts meaning old.mounted H l) h.1.fits.active) in
-      pending-is old new (after_dooms G) false (ap (λ (b : Book D). b.mounted) p) (ap (λ (b : Book D). b.trace) p) (ap (λ (b : Book D). b.awaits) p)
+      let none = posts-none (doomed G) G
+      (active-post meaning old.mounted n h.1.csw h.1.sense code H (facts meaning old.mounted H l) h.1.fits.active) in
+      ap (is_pending meaning) p
       ∙ pending-none meaning old.mounted (after_dooms G) false (active (after_dooms G)) none
 
-  pub pending-purge : (old new : Book D) (scope : Scope) (mode : Mode) → Legal meaning old.mounted old.trace → due meaning old.mounted old.trace ≡ Free → CanPurge meaning old.mounted scope old.trace →
+  pub pending-purge : (old new : Book D) (scope : Scope) (mode : Mode) → Legal meaning old.mounted old.trace →
+      due meaning old.mounted old.trace ≡ Free → CanPurge meaning old.mounted scope old.trace →
       (old.awaits ≡ true → running_name meaning old ≡ None) → PurgesBy meaning (covers_awaiting old scope mode) old scope mode new →
       is_pending meaning new ≡ (is_pending meaning old || halts_program meaning old scope mode)
   unfolding due active started
@@ -232,10 +222,13 @@ module _ {D : Type 0} (meaning : Meaning D) where
     H : List Entry
     H = old.trace
 
-    by_test : (b : Bool) → covers_awaiting old scope mode ≡ b → PurgesBy meaning b old scope mode new → is_pending meaning new ≡ (is_pending meaning old || halts_program meaning old scope mode)
+    by_test : (b : Bool) → covers_awaiting old scope mode ≡ b → PurgesBy meaning b old scope mode new →
+        is_pending meaning new ≡ (is_pending meaning old || halts_program meaning old scope mode)
     by_test false e q =
         let G = after_halt meaning old.mounted (Purge scope mode ∷ H) in
-        pending-posts old new G old.awaits (purged-facts meaning old.mounted (due meaning old.mounted (Purge scope mode ∷ H)) scope mode H (facts meaning old.mounted H l)) q
+        pending-posts old new G old.awaits
+        (purged-facts meaning old.mounted (due meaning old.mounted (Purge scope mode ∷ H)) scope mode H (facts meaning old.mounted H l))
+        q
         ∙ ap (pending_by meaning old.mounted G old.awaits) (same-active (due meaning old.mounted (Purge scope mode ∷ H)))
         ∙ purge-active meaning old.mounted scope mode H old.awaits (active H) k where
           same-active : (d : Due) → active (halted_by d (Purge scope mode ∷ H)) ≡ active H
@@ -248,6 +241,7 @@ module _ {D : Type 0} (meaning : Meaning D) where
         let f = facts meaning old.mounted K (grows-purge meaning old.mounted scope mode H l s can).legal in
         let none = active-post meaning old.mounted q.name q.csw q.sense Purged K f q.fits.active in
         let quiet = k awaits in
-        pending-is old new (Post q.name q.csw q.sense Purged ∷ K) false (ap (λ (b : Book D). b.mounted) q.extends) (ap (λ (b : Book D). b.trace) q.extends) (ap (λ (b : Book D). b.awaits) q.extends)
+        ap (is_pending meaning) q.extends
         ∙ pending-none meaning old.mounted (Post q.name q.csw q.sense Purged ∷ K) false _ none
-        ∙ sym (rw (awaits, quiet) (ap (λ b. b || (is_halt mode && false)) (pending-awaits meaning old.mounted H (active H)) ∙ and-false (is_halt mode)))
+        ∙ sym (rw (awaits, quiet)
+        (ap (λ b. b || (is_halt mode && false)) (pending-awaits meaning old.mounted H (active H)) ∙ and-false (is_halt mode)))

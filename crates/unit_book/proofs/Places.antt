@@ -1,8 +1,6 @@
 -- Control blocks stay in storage that keeps its place.
-use Rattle.std.proofs.Common.{◌≡◌, ℕ, refl}
-use Rattle.io_area.specs.Storage.{Storage, SamePlace, lies_in}
-use Rattle.request_piece.specs.Places.{Placed}
-use Rattle.request_piece.specs.declared.piece.Piece.{Piece}
+use Rattle.unit_book.proofs.Names.{◌≡◌, ℕ, refl, Storage, Placed, Piece}
+use Rattle.io_area.specs.Storage.{SamePlace, lies_in}
 
 lies-moved : (old new : Storage) (at count : ℕ) → SamePlace old new → lies_in new at count ≡ lies_in old at count
 lies-moved old new at count s = rw (s.base, s.len) refl

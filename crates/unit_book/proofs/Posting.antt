@@ -1,18 +1,8 @@
 -- The posts of the swept requests, one after another.
-use Rattle.std.proofs.Common.{◌≡◌, ℕ, ◌+◌, ◌<◌, ◌≤◌, Some, None, List, [], ◌∷◌, ◌++◌, append_assoc, length, length-append, map, refl, sym, ap, ◌∙◌, arith, subst}
-use Rattle.std.proofs.lemmas.List.{append-nil}
-use Rattle.std.specs.Prelude.{slice_get, drop}
-use Rattle.circular_buffer.specs.Buffer.{Buffer, buffer}
-use Rattle.io_images.specs.declared.code.Code.TheVariants.{Purged}
-use Rattle.io_images.specs.Images.{no_status}
-use Rattle.request_piece.specs.PostedState.{PostedState}
-use Rattle.request_piece.specs.Places.{Placed}
-use Rattle.request_piece.specs.declared.piece.Piece.{Piece}
-use Rattle.unit_queue.specs.Queue.{Queue, queue}
-use Rattle.unit_book.specs.declared.entry.Entry.{Entry}
-use Rattle.unit_book.specs.declared.entry.Entry.TheVariants.{Post}
-use Rattle.unit_book.specs.Lists.{Each}
-use Rattle.unit_book.specs.Dooms.{all_posted, purged}
+use Rattle.unit_book.proofs.Names.{◌≡◌, ℕ, ◌+◌, ◌<◌, ◌≤◌, Some, None, List, [], ◌∷◌, ◌++◌, append_assoc, length, length-append, map, refl}
+use Rattle.unit_book.proofs.Names.{sym, ap, ◌∙◌, arith, subst, append-nil, slice_get, drop, Buffer, Purged, no_status, PostedState, Placed}
+use Rattle.unit_book.proofs.Names.{Piece, Queue, queue, Entry, Post, Each, all_posted, purged}
+use Rattle.circular_buffer.specs.Buffer.{buffer}
 use Rattle.unit_book.proofs.Purges.{all_posted-push}
 
 map-push : (rs : List Piece) (r : Piece) → map purged (rs ++ r ∷ []) ≡ map purged rs ++ purged r ∷ []
@@ -24,7 +14,8 @@ length-map [] = refl
 length-map (q ∷ rs) = let ih = length-map rs in omega (arith, ih)
 
 -- after the first of the swept requests were posted
-pub record Posting (old : Queue) (H : List Entry) (outs : Buffer PostedState) (spare : ℕ) (now : Queue) (G : List Entry) (out : Buffer PostedState) (left : ℕ) : Type 0 where
+pub record Posting (old : Queue) (H : List Entry) (outs : Buffer PostedState) (spare : ℕ) (now : Queue) (G : List Entry)
+    (out : Buffer PostedState) (left : ℕ) : Type 0 where
   pub done : List Piece
   pub rest : List Piece
   pub whole : old.pieces ≡ done ++ rest
@@ -47,12 +38,11 @@ module _ (old : Queue) (H : List Entry) (outs : Buffer PostedState) (spare : ℕ
     placed = p;
   }
 
-  module _ (now next : Queue) (G : List Entry) (out : Buffer PostedState) (left : ℕ) (r : Piece) (s : Posting old H outs spare now G out left)
+  module _ (now next : Queue) (G : List Entry) (out : Buffer PostedState) (left : ℕ) (r : Piece)
+      (s : Posting old H outs spare now G out left)
       (first : Some r ≡ slice_get now.pieces 0) (next_is : next ≡ queue (drop 1 now.pieces) now.capacity) where
     split : (rest : List Piece) → s.rest ≡ rest → (s.rest ≡ r ∷ drop 1 s.rest) × Placed r
-    split [] e = absurd (clash (first ∙ ap (λ (q : Queue). slice_get q.pieces 0) s.now_is ∙ ap (λ x. slice_get x 0) e)) where
-      clash : {q : Piece} → Some q ≡ None → ⊥
-      clash k = cc
+    split [] e = let k = first ∙ ap (λ (q : Queue). slice_get q.pieces 0) s.now_is ∙ ap (λ x. slice_get x 0) e in absurd cc
     split (q ∷ rest) e =
         let f : Some r ≡ Some q = first ∙ ap (λ (q : Queue). slice_get q.pieces 0) s.now_is ∙ ap (λ x. slice_get x 0) e in
         let i : q ≡ r = cc in
@@ -72,12 +62,21 @@ module _ (old : Queue) (H : List Entry) (outs : Buffer PostedState) (spare : ℕ
     pub posting-room : length old.pieces + length outs.items ≤ outs.capacity → length out.items < out.capacity
     posting-room h =
         let e = s.out_is in
-        rw e (omega (arith, h, length-append outs.items (map purged s.done), length-map s.done, ap length s.whole, length-append s.done s.rest, ap length rest-is))
+        rw e (omega (
+          arith,
+          h,
+          length-append outs.items (map purged s.done),
+          length-map s.done,
+          ap length s.whole,
+          length-append s.done s.rest,
+          ap length rest-is,
+        ))
 
     pub posting-less : length next.pieces < length now.pieces
     posting-less = let e = next_is in let f = s.now_is in rw (e, f) (omega (arith, ap length rest-is))
 
-    pub posting-next : (K : List Entry) (more : Buffer PostedState) (remaining : ℕ) → K ≡ Post r.name no_status 0 Purged ∷ G → more ≡ buffer (out.items ++ purged r ∷ []) out.capacity →
+    pub posting-next : (K : List Entry) (more : Buffer PostedState) (remaining : ℕ) → K ≡ Post r.name no_status 0 Purged ∷ G →
+        more ≡ buffer (out.items ++ purged r ∷ []) out.capacity →
         left ≤ remaining + 1 → Posting old H outs spare next K more remaining
     posting-next K more remaining k m l =
         let e = s.out_is in
@@ -89,17 +88,21 @@ module _ (old : Queue) (H : List Entry) (outs : Buffer PostedState) (spare : ℕ
           now_is = next_is ∙ ap (λ (q : Queue). queue (drop 1 q.pieces) q.capacity) s.now_is;
           trace_is = k ∙ ap (λ x. Post r.name no_status 0 Purged ∷ x) s.trace_is ∙ sym (all_posted-push s.done r H);
           out_is = m ∙ ap (λ (b : Buffer PostedState). buffer (b.items ++ purged r ∷ []) b.capacity) e
-              ∙ ap (λ x. buffer x outs.capacity) (append_assoc outs.items (map purged s.done) (purged r ∷ []) ∙ ap (λ x. outs.items ++ x) (sym (map-push s.done r)));
+              ∙ ap (λ x. buffer x outs.capacity)
+              (append_assoc outs.items (map purged s.done) (purged r ∷ []) ∙ ap (λ x. outs.items ++ x) (sym (map-push s.done r)));
           spare_is = omega (arith, l, s.spare_is, length-append s.done (r ∷ []));
           placed = p.1;
         }
 
   -- all were posted
-  pub posting-end : (now next : Queue) (G : List Entry) (out : Buffer PostedState) (left : ℕ) → Posting old H outs spare now G out left → None ≡ slice_get now.pieces 0 → next ≡ queue (drop 1 now.pieces) now.capacity →
-      (next ≡ queue [] old.capacity) × (G ≡ all_posted old.pieces H) × (out ≡ buffer (outs.items ++ map purged old.pieces) outs.capacity) × (spare ≤ left + length old.pieces)
+  pub posting-end : (now next : Queue) (G : List Entry) (out : Buffer PostedState) (left : ℕ) → Posting old H outs spare now G out left →
+      None ≡ slice_get now.pieces 0 → next ≡ queue (drop 1 now.pieces) now.capacity →
+      (next ≡ queue [] old.capacity) × (G ≡ all_posted old.pieces H) × (out ≡ buffer (outs.items ++ map purged old.pieces) outs.capacity)
+      × (spare ≤ left + length old.pieces)
   posting-end now next G out left s none next_is = by_rest s.rest refl where
     by_rest : (rest : List Piece) → s.rest ≡ rest →
-        (next ≡ queue [] old.capacity) × (G ≡ all_posted old.pieces H) × (out ≡ buffer (outs.items ++ map purged old.pieces) outs.capacity) × (spare ≤ left + length old.pieces)
+        (next ≡ queue [] old.capacity) × (G ≡ all_posted old.pieces H) × (out ≡ buffer (outs.items ++ map purged old.pieces) outs.capacity)
+        × (spare ≤ left + length old.pieces)
     by_rest [] e =
         let w : old.pieces ≡ s.done = s.whole ∙ ap (λ x. s.done ++ x) e ∙ append-nil s.done in (
           next_is ∙ ap (λ (q : Queue). queue (drop 1 q.pieces) q.capacity) s.now_is ∙ ap (λ x. queue (drop 1 x) old.capacity) e,
@@ -107,6 +110,4 @@ module _ (old : Queue) (H : List Entry) (outs : Buffer PostedState) (spare : ℕ
           s.out_is ∙ ap (λ x. buffer (outs.items ++ map purged x) outs.capacity) (sym w),
           omega (arith, s.spare_is, ap length w),
         )
-    by_rest (q ∷ rest) e = absurd (clash (none ∙ ap (λ (q : Queue). slice_get q.pieces 0) s.now_is ∙ ap (λ x. slice_get x 0) e)) where
-      clash : {q : Piece} → None ≡ Some q → ⊥
-      clash k = cc
+    by_rest (q ∷ rest) e = let k = none ∙ ap (λ (q : Queue). slice_get q.pieces 0) s.now_is ∙ ap (λ x. slice_get x 0) e in absurd cc

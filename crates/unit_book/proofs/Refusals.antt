@@ -1,28 +1,11 @@
 -- A request that is doomed where it arrives.
-use Rattle.std.proofs.Common.{◌≡◌, Bool, true, false, not, ◌&&◌, ◌||◌, Option, List, [], ◌∷◌, ◌++◌, refl, sym, ap, ◌∙◌, subst, if◌then◌else◌}
-use Rattle.std.proofs.lemmas.List.{append-nil}
-use Rattle.std.proofs.lemmas.List.Elements.{filter-append}
-use Rattle.std.specs.List.{filter}
-use Rattle.io_images.specs.declared.code.Code.TheVariants.{Purged}
-use Rattle.device_port.specs.Meaning.{Meaning}
-use Rattle.io_images.specs.Images.{no_status}
-use Rattle.subchannel.specs.Subchannel.{Channel}
-use Rattle.request_piece.specs.PostedState.{PostedState}
-use Rattle.request_piece.specs.Places.{Placed}
-use Rattle.request_piece.specs.declared.piece.Piece.{Piece}
-use Rattle.unit_book.specs.declared.active.Active.{Active}
-use Rattle.unit_book.specs.declared.dcb.Dcb.{Dcb}
-use Rattle.unit_book.specs.declared.entry.Entry.{Entry}
-use Rattle.unit_book.specs.declared.entry.Entry.TheVariants.{Arrive, Post}
-use Rattle.unit_book.specs.Trace.{same, has_arrived, waiting}
-use Rattle.unit_book.specs.Dcbs.{doomed, is_doomed, is_open, is_refused, flag}
-use Rattle.unit_book.specs.Legal.{Free, due, doomed_first, Fits}
-use Rattle.unit_book.specs.Dooms.{after_dooms, purged}
-use Rattle.unit_book.specs.Posts.{posted, posted_since}
-use Rattle.unit_book.specs.Fields.{Ties}
+use Rattle.unit_book.proofs.Names.{◌≡◌, Bool, true, false, not, ◌&&◌, ◌||◌, Option, List, [], ◌∷◌, ◌++◌, refl, sym, ap, ◌∙◌, subst}
+use Rattle.unit_book.proofs.Names.{if◌then◌else◌, append-nil, filter-append, filter, Purged, Meaning, no_status, Channel, PostedState}
+use Rattle.unit_book.proofs.Names.{Placed, Piece, Active, Dcb, Entry, Arrive, Post, same, has_arrived, waiting, doomed, is_doomed, is_open}
+use Rattle.unit_book.proofs.Names.{flag, Free, due, doomed_first, Fits, after_dooms, purged, posted, posted_since, Ties, Each}
+use Rattle.unit_book.specs.Dcbs.{is_refused}
 use Rattle.unit_book.proofs.Lists.{same-refl, without, none_named, filter-all}
-use Rattle.unit_book.specs.Lists.{Each}
-use Rattle.unit_book.proofs.Facts.{Facts, fresh, fits-arrive, waits, WaitsAmong, Known, waiting-arrive}
+use Rattle.unit_book.proofs.Facts.{Facts, fresh, fits-arrive, waits, WaitsAmong, Known, waiting-arrive, not-true}
 use Rattle.unit_book.proofs.LegalFacts.{facts, none-named}
 use Rattle.unit_book.proofs.Dooms.{filter-agree, due-no_halt, due-doomed}
 use Rattle.unit_book.proofs.Arrivals.{ties-arrive}
@@ -37,16 +20,14 @@ module _ {D : Type 0} (meaning : Meaning D) (mounted : D) where
   none-waiting : (r : Piece) (H : List Entry) → Facts H → has_arrived r.name H ≡ false → none_named r.name (waiting H) ≡ true
   none-waiting r H f h = none-named meaning mounted r.name H h (waiting H) (each-known H (waiting H) (waits H f))
 
-  not-not : (b : Bool) → not b ≡ true → b ≡ false
-  not-not true h = absurd cc
-  not-not false h = refl
-
   -- WHAT AN ARRIVAL DOOMS: itself at most
-  pub doomed-arrive : (r : Piece) (H : List Entry) → Facts H → has_arrived r.name H ≡ false → doomed H ≡ [] → doomed (Arrive r ∷ H) ≡ (if is_refused r H then r ∷ [] else [])
+  pub doomed-arrive : (r : Piece) (H : List Entry) → Facts H → has_arrived r.name H ≡ false → doomed H ≡ [] →
+      doomed (Arrive r ∷ H) ≡ (if is_refused r H then r ∷ [] else [])
   unfolding flag
   doomed-arrive r H f h e =
       let G = Arrive r ∷ H in
-      let agree = filter-agree (is_doomed G) (is_doomed H) (λ q. not (same r.name q.name)) (λ q k. let s = not-not (same r.name q.name) k in rw s refl) (waiting H) (none-waiting r H f h) in
+      let agree = filter-agree (is_doomed G) (is_doomed H) (λ q. not (same r.name q.name))
+      (λ q k. let s = not-true (same r.name q.name) k in rw s refl) (waiting H) (none-waiting r H f h) in
       let self = same-refl r.name in
       ap (filter (is_doomed G)) (waiting-arrive meaning mounted r H f h)
       ∙ filter-append (is_doomed G) (waiting H) (r ∷ [])
@@ -60,14 +41,17 @@ module _ {D : Type 0} (meaning : Meaning D) (mounted : D) where
   arrive-fresh r H f h = fresh meaning mounted r H f (fits-arrive meaning mounted r H (due meaning mounted H) h)
 
   -- an arrival that is not refused leaves a trace settled
-  pub settled-arrive : (r : Piece) (H : List Entry) → Facts H → Fits meaning mounted (Arrive r) H → due meaning mounted H ≡ Free → is_refused r H ≡ false → (doomed (Arrive r ∷ H) ≡ []) × (due meaning mounted (Arrive r ∷ H) ≡ Free)
+  pub settled-arrive : (r : Piece) (H : List Entry) → Facts H → Fits meaning mounted (Arrive r) H → due meaning mounted H ≡ Free →
+      is_refused r H ≡ false → (doomed (Arrive r ∷ H) ≡ []) × (due meaning mounted (Arrive r ∷ H) ≡ Free)
   settled-arrive r H f h d n =
       let e : doomed (Arrive r ∷ H) ≡ [] = doomed-arrive r H f (arrive-fresh r H f h) (due-doomed meaning mounted H d) ∙ rw n refl in
       (e, due-no_halt meaning mounted (Arrive r ∷ H) (λ m a. refl) ∙ ap doomed_first e)
 
   -- one that is refused is posted at once
-  module _ (r : Piece) (H : List Entry) (channel : Channel D) (o : Option Active) (waiters : List Piece) (table : List Dcb) (left : List PostedState)
-      (fits : Fits meaning mounted (Arrive r) H) (placed : Placed r) (settled : due meaning mounted H ≡ Free) (refused : is_refused r H ≡ true) (t : Ties meaning mounted H channel o waiters table left) where
+  module _ {r : Piece} {H : List Entry} {channel : Channel D} {o : Option Active} {waiters : List Piece} {table : List Dcb}
+      {left : List PostedState}
+      (fits : Fits meaning mounted (Arrive r) H) (placed : Placed r) (settled : due meaning mounted H ≡ Free)
+      (refused : is_refused r H ≡ true) (t : Ties meaning mounted H channel o waiters table left) where
     abbrev G : List Entry
     G = Arrive r ∷ H
 
@@ -77,8 +61,8 @@ module _ {D : Type 0} (meaning : Meaning D) (mounted : D) where
         doomed-arrive r H f (arrive-fresh r H f fits) (due-doomed meaning mounted H settled) ∙ rw refused refl
 
     swept : Swept meaning mounted (r ∷ []) G channel o (waiters ++ r ∷ []) table left
-    swept = ties-dooms_by meaning mounted (r ∷ []) G channel o (waiters ++ r ∷ []) table left doomed-is (due-no_halt meaning mounted G (λ n a. refl) ∙ ap doomed_first doomed-is)
-        (ties-arrive meaning mounted r H channel o waiters table left fits placed t)
+    swept = ties-dooms_by meaning mounted (r ∷ []) doomed-is (due-no_halt meaning mounted G (λ n a. refl) ∙ ap doomed_first doomed-is)
+        (ties-arrive meaning mounted fits placed t)
 
     pub after-refusal : Post r.name no_status 0 Purged ∷ G ≡ after_dooms G
     after-refusal = let e = doomed-is in rw e refl
@@ -89,10 +73,12 @@ module _ {D : Type 0} (meaning : Meaning D) (mounted : D) where
         let f = facts meaning mounted H t.legal in
         let none = subst (λ x. none_named r.name x ≡ true) (sym t.queue) (none-waiting r H f (arrive-fresh r H f fits)) in
         let self = same-refl r.name in
-        filter-append (λ (q : Piece). not (same r.name q.name)) waiters (r ∷ []) ∙ rw (self, filter-all (λ (q : Piece). not (same r.name q.name)) waiters none) (append-nil waiters)
+        filter-append (λ (q : Piece). not (same r.name q.name)) waiters (r ∷ [])
+        ∙ rw (self, filter-all (λ (q : Piece). not (same r.name q.name)) waiters none) (append-nil waiters)
 
     pub ties-refused : Ties meaning mounted (Post r.name no_status 0 Purged ∷ G) channel o waiters table (left ++ purged r ∷ [])
-    ties-refused = subst (λ x. Ties meaning mounted (Post r.name no_status 0 Purged ∷ G) channel o x table (left ++ purged r ∷ [])) queue-is swept.ties
+    ties-refused = subst (λ x. Ties meaning mounted (Post r.name no_status 0 Purged ∷ G) channel o x table (left ++ purged r ∷ [])) queue-is
+        swept.ties
 
     pub since-refused : posted_since meaning mounted H (Post r.name no_status 0 Purged ∷ G) ≡ purged r ∷ []
     unfolding posted

@@ -1,68 +1,60 @@
 -- A further start of the active request: the fields stay those of the trace.
-use Rattle.std.proofs.Common.{◌≡◌, ℕ, ◌+◌, ◌≤◌, Bool, true, false, not, ◌&&◌, ◌||◌, Some, List, ◌∷◌, refl, sym, ap, ◌∙◌, arith, subst, if◌then◌else◌}
-use Rattle.std.proofs.lemmas.Bool.{and_parts, leb-true}
+use Rattle.unit_book.proofs.Names.{◌≡◌, ℕ, ◌+◌, ◌≤◌, Bool, true, false, ◌&&◌, ◌||◌, Some, List, ◌∷◌, refl, sym, ap, ◌∙◌, arith, subst}
+use Rattle.unit_book.proofs.Names.{if◌then◌else◌, and_parts, Csw, Ended, Meaning, Kind, Program, Channel, Phase, Absent, Idle, Running}
+use Rattle.unit_book.proofs.Names.{Pending, ssch_started, Retry, Final, verdict, PostedState, Name, Piece, Active, Standing, OnChannel}
+use Rattle.unit_book.proofs.Names.{AwaitsRestart, Dcb, Entry, Start, same, starts_of, active, request_named, extents_of, flag, mask_of}
+use Rattle.unit_book.proofs.Names.{current, device, Legal, due, Free, StartsAgain, posted, StandingTies, Ties, awaits_by, dcb_at, mask_at}
+use Rattle.std.proofs.lemmas.Bool.{leb-true}
 use Rattle.std.specs.Prelude.{nat_le}
-use Rattle.io_images.specs.declared.csw.Csw.{Csw}
-use Rattle.io_images.specs.declared.code.Code.TheVariants.{Ended, PermanentError}
-use Rattle.device_port.specs.Meaning.{Meaning, Lawful}
-use Rattle.device_port.specs.declared.kind.Kind.{Kind}
+use Rattle.io_images.specs.declared.code.Code.TheVariants.{PermanentError}
+use Rattle.device_port.specs.Meaning.{Lawful}
 use Rattle.ccw_programs.specs.Place.{start_place}
-use Rattle.ccw_programs.specs.Step.{Program}
-use Rattle.subchannel.specs.Subchannel.{Channel, Phase, Absent, Idle, Running, Pending, Fits, prefixed, started as ssch_started}
-use Rattle.recovery.specs.declared.answer.Verdict.TheVariants.{Retry, Final}
-use Rattle.recovery.specs.Verdict.{verdict, is_disk, is_success, is_passing_error, is_channel_error}
-use Rattle.request_piece.specs.PostedState.{PostedState}
-use Rattle.request_piece.specs.declared.piece.Name.{Name}
-use Rattle.request_piece.specs.declared.piece.Piece.{Piece}
-use Rattle.unit_book.specs.declared.active.Active.{Active}
-use Rattle.unit_book.specs.declared.active.Standing.{Standing}
-use Rattle.unit_book.specs.declared.active.Standing.TheVariants.{OnChannel, AwaitsRestart}
-use Rattle.unit_book.specs.declared.dcb.Dcb.{Dcb}
-use Rattle.unit_book.specs.declared.entry.Entry.{Entry}
-use Rattle.unit_book.specs.declared.entry.Entry.TheVariants.{Start}
-use Rattle.unit_book.specs.Trace.{same, starts_of, waiting, active, request_of}
-use Rattle.unit_book.specs.Dcbs.{extents_of, flag, mask_of}
-use Rattle.unit_book.specs.Media.{current, device}
-use Rattle.unit_book.specs.Legal.{Legal, due, Free, StartsAgain}
+use Rattle.subchannel.specs.Subchannel.{TakesSeek, prefixed}
+use Rattle.recovery.specs.Verdict.{is_disk, is_success, is_passing_error, is_channel_error}
 use Rattle.unit_book.specs.Legal.{Again as Restart}
-use Rattle.unit_book.specs.Posts.{posted}
-use Rattle.unit_book.specs.Fields.{StandingTies, Ties, awaits_by, dcb_at, mask_at}
-use Rattle.unit_book.proofs.Lists.{same-refl, without, filter-all}
-use Rattle.unit_book.proofs.Facts.{Facts, NewestIs, active-is, active-start, waiting-start, waits}
+use Rattle.unit_book.proofs.Lists.{same-refl}
+use Rattle.unit_book.proofs.Facts.{NewestIs, active-is, active-start, waiting-start, without-started}
 use Rattle.unit_book.proofs.LegalFacts.{facts}
 use Rattle.unit_book.proofs.Same.{fits-free}
-use Rattle.unit_book.proofs.ActivePosts.{area-current, none-waits}
+use Rattle.unit_book.proofs.ActivePosts.{area-current}
 use Rattle.unit_book.proofs.Seeks.{seeks, fits-device}
 use Rattle.unit_book.proofs.Starts.{mask-is, current-start, device-start}
 
 -- only the first ten attempts are tried again
 pub retry-few : (kind : Kind) (csw : Csw) (sense attempt : ℕ) → verdict kind csw sense attempt ≡ Retry → attempt ≤ 10
-retry-few kind csw sense attempt h = by_tests (is_success csw) (is_disk kind && nat_le attempt 10 && (is_passing_error csw sense || is_channel_error csw)) refl h where
-  by_tests : (a b : Bool) → (is_disk kind && nat_le attempt 10 && (is_passing_error csw sense || is_channel_error csw)) ≡ b → (if a then Final Ended else if b then Retry else Final PermanentError) ≡ Retry → attempt ≤ 10
-  by_tests true b e k = absurd cc
-  by_tests false true e k =
-      let p = and_parts (is_disk kind && nat_le attempt 10) (is_passing_error csw sense || is_channel_error csw) e in
-      leb-true attempt 10 (and_parts (is_disk kind) (nat_le attempt 10) p.0).1
-  by_tests false false e k = absurd cc
+retry-few kind csw sense attempt h = by_tests (is_success csw)
+    (is_disk kind && nat_le attempt 10 && (is_passing_error csw sense || is_channel_error csw)) refl h where
+      by_tests : (a b : Bool) → (is_disk kind && nat_le attempt 10 && (is_passing_error csw sense || is_channel_error csw)) ≡ b →
+          (if a then Final Ended else if b then Retry else Final PermanentError) ≡ Retry → attempt ≤ 10
+      by_tests true b e k = absurd cc
+      by_tests false true e k =
+          let p = and_parts (is_disk kind && nat_le attempt 10) (is_passing_error csw sense || is_channel_error csw) e in
+          leb-true attempt 10 (and_parts (is_disk kind) (nat_le attempt 10) p.0).1
+      by_tests false false e k = absurd cc
 
 module _ {D : Type 0} (meaning : Meaning D) (mounted : D) where
-  -- the queue has nothing of the active request
-  queue-restart : (n : Name) (H : List Entry) → Facts H → active H ≡ Some n → waiting (Start n ∷ H) ≡ waiting H
-  unfolding without
-  queue-restart n H f a =
-      waiting-start meaning mounted n H ∙ filter-all (λ (r : Piece). not (same n r.name)) (waiting H) (none-waits meaning mounted n H (waiting H) (active-is n H a).0 (waits H f))
-
   -- the active request, started once more
   abbrev pub restarted : Active → Active
   restarted a = record { piece = a.piece; starts = a.starts + 1; halted = false; covered = false; standing = OnChannel }
 
-  module _ (H : List Entry) (channel : Channel D) (a : Active) (waiters : List Piece) (table : List Dcb) (left : List PostedState) (mask : ℕ)
-      (settled : due meaning mounted H ≡ Free) (s : StartsAgain meaning mounted a.piece.value.name H) (t : Ties meaning mounted H channel (Some a) waiters table left)
-      (again : awaits_by a.standing ≡ true) where
+  -- what a further start finds: the active request awaits it
+  pub record FoundAgain (H : List Entry) (channel : Channel D) (a : Active) (waiters : List Piece) (table : List Dcb)
+      (left : List PostedState) : Type 0 where
+    pub ties : Ties meaning mounted H channel (Some a) waiters table left
+    pub settled : due meaning mounted H ≡ Free
+    pub starts : StartsAgain meaning mounted a.piece.value.name H
+    pub again : awaits_by a.standing ≡ true
+
+  module _ {H : List Entry} {channel : Channel D} {a : Active} {waiters : List Piece} {table : List Dcb} {left : List PostedState}
+      (found : FoundAgain H channel a waiters table left) where
+    t : Ties meaning mounted H channel (Some a) waiters table left
+    t = found.ties
+
     abbrev n : Name
     n = a.piece.value.name
 
-    is-idle : (phase : Phase) (standing : Standing) → StandingTies meaning mounted H phase a standing → awaits_by standing ≡ true → phase ≡ Idle
+    is-idle : (phase : Phase) (standing : Standing) → StandingTies meaning mounted H phase a standing → awaits_by standing ≡ true →
+        phase ≡ Idle
     is-idle Absent standing d h = absurd d
     is-idle Idle standing d h = refl
     is-idle (Running place) OnChannel d h = absurd cc
@@ -72,23 +64,25 @@ module _ {D : Type 0} (meaning : Meaning D) (mounted : D) where
 
     -- it was started at most ten times
     pub few-starts : a.starts ≤ 10
-    few-starts = let e = t.activity.starts in rw e (retry-few (meaning.kind mounted) s.csw s.sense (starts_of n H) s.retry)
+    few-starts = let e = t.activity.starts in let s = found.starts in rw e
+        (retry-few (meaning.kind mounted) s.csw s.sense (starts_of n H) s.retry)
 
     -- its seek fits the device
-    pub restart-fits : Lawful meaning → Fits meaning channel.device a.piece.value.seek
+    pub restart-fits : Lawful meaning → TakesSeek meaning channel.device a.piece.value.seek
     restart-fits law =
         let f = seeks meaning mounted H t.legal n (active-is n H t.activity.is).0 in
         let seek_is = ap (λ (r : Piece). r.seek) t.activity.request in
         let device_is = t.device in
-        rw (seek_is, device_is) (fits-device meaning mounted law H (request_of n H).seek f)
+        rw (seek_is, device_is) (fits-device meaning mounted law H (request_named n H).seek f)
 
-    pub ties-restart : mask ≡ mask_at (dcb_at table a.piece.value.dcb) →
-        Ties meaning mounted (Start n ∷ H) (ssch_started meaning channel a.piece.value.start a.piece.value.seek mask channel.phase) (Some (restarted a)) waiters table left
-    unfolding Legal posted flag extents_of request_of
-    ties-restart mask_is =
+    pub ties-restart : {mask : ℕ} → mask ≡ mask_at (dcb_at table a.piece.value.dcb) →
+        Ties meaning mounted (Start n ∷ H) (ssch_started meaning channel a.piece.value.start a.piece.value.seek mask channel.phase)
+        (Some (restarted a)) waiters table left
+    unfolding Legal posted flag extents_of request_named
+    ties-restart {mask} mask_is =
         let f = facts meaning mounted H t.legal in
         let G = Start n ∷ H in
-        let q = request_of n H in
+        let q = request_named n H in
         let r = a.piece.value in
         let w : NewestIs n H = f.4 n t.activity.is in
         let self : same n n ≡ true = same-refl n in
@@ -97,13 +91,19 @@ module _ {D : Type 0} (meaning : Meaning D) (mounted : D) where
         let dcb_is : r.dcb ≡ q.dcb = ap (λ (r : Piece). r.dcb) t.activity.request in
         let m : mask ≡ mask_of q.dcb H = mask_is ∙ ap mask_at (t.dcbs r.dcb) ∙ mask-is r.dcb H ∙ ap (λ d. mask_of d H) dcb_is in
         let c = current-start meaning mounted n H in
-        let device_is : prefixed meaning channel.device r.seek mask ≡ Some (device meaning mounted G) = rw (t.device, m, seek_is) (ap Some (sym (device-start meaning mounted n H))) in
-        let area_is : (current meaning mounted G).area ≡ (current meaning mounted H).area = ap (λ (p : Program D). p.area) c ∙ area-current meaning mounted n H w in
-        let idle = is-idle channel.phase a.standing t.activity.standing again in
-        let running : Channel D = record { device = prefixed meaning channel.device r.seek mask; isc = channel.isc; phase = Running (start_place r.start) } in
+        let device_is : prefixed meaning channel.device r.seek mask ≡ Some (device meaning mounted G) = rw (t.device, m, seek_is)
+        (ap Some (sym (device-start meaning mounted n H))) in
+        let area_is : (current meaning mounted G).area ≡ (current meaning mounted H).area = ap (λ (p : Program D). p.area) c
+        ∙ area-current meaning mounted n H w in
+        let idle = is-idle channel.phase a.standing t.activity.standing found.again in
+        let running : Channel D = record {
+          device = prefixed meaning channel.device r.seek mask;
+          isc = channel.isc;
+          phase = Running (start_place r.start);
+        } in
         let whole : Ties meaning mounted G running (Some (restarted a)) waiters table left = record {
-          legal = (fits-free meaning mounted (Start n) H settled (Restart s), t.legal);
-          queue = t.queue ∙ sym (queue-restart n H f t.activity.is);
+          legal = (fits-free meaning mounted (Start n) H found.settled (Restart found.starts), t.legal);
+          queue = t.queue ∙ sym (waiting-start meaning mounted n H ∙ without-started meaning mounted n H f (active-is n H t.activity.is).0);
           placed = t.placed;
           device = device_is;
           activity = record {
@@ -119,16 +119,27 @@ module _ {D : Type 0} (meaning : Meaning D) (mounted : D) where
           dcbs = t.dcbs;
           out = t.out;
         } in
-        subst (λ x. Ties meaning mounted G (ssch_started meaning channel r.start r.seek mask x) (Some (restarted a)) waiters table left) (sym idle) whole
+        subst (λ x. Ties meaning mounted G (ssch_started meaning channel r.start r.seek mask x) (Some (restarted a)) waiters table left)
+        (sym idle) whole
 
   -- a request that awaits its restart may be started again
-  pub awaits-told : (H : List Entry) (channel : Channel D) (a : Active) (waiters : List Piece) (table : List Dcb) (left : List PostedState) →
-      Ties meaning mounted H channel (Some a) waiters table left → awaits_by a.standing ≡ true → StartsAgain meaning mounted a.piece.value.name H
-  awaits-told H channel a waiters table left t again = by_standing channel.phase a.standing t.activity.standing again where
-    by_standing : (phase : Phase) (standing : Standing) → StandingTies meaning mounted H phase a standing → awaits_by standing ≡ true → StartsAgain meaning mounted a.piece.value.name H
+  pub awaits-told : {H : List Entry} {channel : Channel D} {a : Active} {waiters : List Piece} {table : List Dcb}
+      {left : List PostedState} →
+      Ties meaning mounted H channel (Some a) waiters table left → awaits_by a.standing ≡ true →
+      StartsAgain meaning mounted a.piece.value.name H
+  awaits-told {H} {channel} {a} t again = by_standing channel.phase a.standing t.activity.standing again where
+    by_standing : (phase : Phase) (standing : Standing) → StandingTies meaning mounted H phase a standing → awaits_by standing ≡ true →
+        StartsAgain meaning mounted a.piece.value.name H
     by_standing Absent standing d h = absurd d
     by_standing Idle OnChannel d h = absurd d
-    by_standing Idle (AwaitsRestart csw sense) d h = record { active = t.activity.is; csw = csw; sense = sense; ended = d.0; retry = d.1; free = d.2 }
+    by_standing Idle (AwaitsRestart csw sense) d h = record {
+      active = t.activity.is;
+      csw = csw;
+      sense = sense;
+      ended = d.0;
+      retry = d.1;
+      free = d.2;
+    }
     by_standing (Running place) OnChannel d h = absurd cc
     by_standing (Running place) (AwaitsRestart csw sense) d h = absurd d
     by_standing (Pending csw sense) OnChannel d h = absurd cc

@@ -1,42 +1,44 @@
 -- The program of the active request runs: the fields stay those of the trace.
-use Rattle.std.proofs.Common.{◌≡◌, ℕ, ◌≤◌, Bool, true, false, Some, None, List, ◌∷◌, refl, sym, ap, ◌∙◌, arith, subst, if◌then◌else◌}
-use Rattle.std.specs.Prelude.{min, is_some}
-use Rattle.io_images.specs.declared.csw.Csw.{Csw}
-use Rattle.io_area.specs.Storage.{Storage, SamePlace}
-use Rattle.device_port.specs.Meaning.{Meaning}
-use Rattle.ccw_programs.specs.Place.{Place}
-use Rattle.ccw_programs.specs.declared.context.State.{State}
+use Rattle.unit_book.proofs.Names.{◌≡◌, ℕ, ◌≤◌, Bool, true, false, Some, None, List, ◌∷◌, refl, sym, ap, ◌∙◌, arith, subst, Csw, Storage}
+use Rattle.unit_book.proofs.Names.{Meaning, Place, State, Program, after, length_of, is_running, Channel, Phase, Absent, Idle, Running}
+use Rattle.unit_book.proofs.Names.{Pending, PostedState, Piece, Name, Active, Standing, OnChannel, AwaitsRestart, Dcb, Entry, Ran, same}
+use Rattle.unit_book.proofs.Names.{waiting, arrivals, active, started, request_named, is_halted, attempts, stand, newest, current}
+use Rattle.unit_book.proofs.Names.{active_phase, active_phase_by, still_runs, StillRunning, device, beginning, extents_of, flag, Legal, due}
+use Rattle.unit_book.proofs.Names.{Free, posted, running_name_by, StandingTies, Ties, pending_phase}
+use Rattle.std.specs.Prelude.{min}
+use Rattle.io_area.specs.Storage.{SamePlace}
 use Rattle.ccw_programs.specs.declared.context.State.TheVariants.{Running as Runs, Ended}
 use Rattle.ccw_programs.specs.declared.context.Burst.{Burst}
-use Rattle.ccw_programs.specs.Step.{Program, program, after, length_of, is_running}
+use Rattle.ccw_programs.specs.Step.{program}
 use Rattle.ccw_programs.proofs.StepLaws.{after-add, steps_within-running}
-use Rattle.subchannel.specs.Subchannel.{Channel, Phase, Absent, Idle, Running, Pending, phase_of, running_program, RunsAs, RunsFrom}
-use Rattle.request_piece.specs.PostedState.{PostedState}
-use Rattle.request_piece.specs.declared.piece.Piece.{Piece}
-use Rattle.request_piece.specs.declared.piece.Name.{Name}
-use Rattle.unit_book.specs.declared.active.Active.{Active}
-use Rattle.unit_book.specs.declared.active.Standing.{Standing}
-use Rattle.unit_book.specs.declared.active.Standing.TheVariants.{OnChannel, AwaitsRestart}
-use Rattle.unit_book.specs.declared.dcb.Dcb.{Dcb}
-use Rattle.unit_book.specs.declared.entry.Entry.{Entry}
-use Rattle.unit_book.specs.declared.entry.Entry.TheVariants.{Ran}
-use Rattle.unit_book.specs.Trace.{same, waiting, arrivals, active, started, request_of, is_halted}
-use Rattle.unit_book.specs.Media.{attempts, stand, newest, current, ActivePhase, active_phase, active_phase_by, still_runs, StillRunning, device, beginning}
-use Rattle.unit_book.specs.Dcbs.{extents_of, flag}
-use Rattle.unit_book.specs.Legal.{Legal, due, Free}
-use Rattle.unit_book.specs.Posts.{posted}
-use Rattle.unit_book.specs.Book.{running_name_by}
-use Rattle.unit_book.specs.Fields.{StandingTies, Ties, pending_phase, with_area}
+use Rattle.subchannel.specs.Subchannel.{phase_of, running_program, RunsAs, RunsFrom}
+use Rattle.unit_book.specs.Media.{ActivePhase}
+use Rattle.unit_book.specs.Fields.{with_area}
 use Rattle.unit_book.proofs.Lists.{same-is, no_both}
 use Rattle.unit_book.proofs.Facts.{NewestIs}
 use Rattle.unit_book.proofs.LegalFacts.{facts, newest-ran}
 use Rattle.unit_book.proofs.Same.{fits-free}
 use Rattle.unit_book.proofs.Places.{placed-moved}
+use Rattle.unit_book.specs.Legal.{RanFits}
 
 -- what still runs has no status pending
 pub not-over : (s : ActivePhase) → still_runs s ≡ true → (b : Bool) (csw : Csw) (sense : ℕ) → s ≡ pending_phase b csw sense → ⊥
 not-over s g true csw sense e = let k : still_runs s ≡ false = ap still_runs e in no_both (still_runs s) g k
 not-over s g false csw sense e = let k : still_runs s ≡ false = ap still_runs e in no_both (still_runs s) g k
+
+-- a burst of the program of the active request
+pub record Bursts {D : Type 0} (meaning : Meaning D) (channel : Channel D) (a : Active) : Type 0 where
+  pub new : Channel D
+  pub max : ℕ
+  pub burst : Burst
+  pub area : Storage
+  pub asked : 1 ≤ max
+  pub runs : RunsAs meaning channel a.piece.value.area max (running_program channel.device channel.phase a.piece.value.area)
+      (Some burst) new area
+
+pending-over : (b : Bool) (csw : Csw) (sense : ℕ) → still_runs (pending_phase b csw sense) ≡ false
+pending-over true csw sense = refl
+pending-over false csw sense = refl
 
 module _ {D : Type 0} (meaning : Meaning D) (mounted : D) where
   runs-running : (b : Bool) (place : Place) (state : State) → active_phase_by b place state ≡ StillRunning → (b ≡ false) × (state ≡ Runs)
@@ -57,7 +59,8 @@ module _ {D : Type 0} (meaning : Meaning D) (mounted : D) where
       ap (λ x. (stand meaning mounted x).device) w.2 ∙ there ∙ sym (ap (λ x. (newest meaning mounted x).device) w.2)
 
   -- j more commands
-  pub current-ran : (n : Name) (j : ℕ) (H : List Entry) → NewestIs n H → current meaning mounted (Ran n j ∷ H) ≡ after meaning j (current meaning mounted H)
+  pub current-ran : (n : Name) (j : ℕ) (H : List Entry) → NewestIs n H →
+      current meaning mounted (Ran n j ∷ H) ≡ after meaning j (current meaning mounted H)
   unfolding attempts newest
   current-ran n j H w =
       let e = w.2 in
@@ -68,130 +71,135 @@ module _ {D : Type 0} (meaning : Meaning D) (mounted : D) where
   abbrev pub ran : ℕ → Program D → Channel D
   ran isc p = record { isc = isc; device = Some p.device; phase = phase_of p.place p.place.state }
 
-  -- where a program runs there is an active request
-  pub runs-active : (H : List Entry) → active H ≡ None → is_some (running_name_by meaning mounted H (active H)) ≡ true → ⊥
-  runs-active H none runs = let k = rw none at runs in absurd cc
-
-  -- and a burst of it
-  pub runs-burst : (H : List Entry) (channel new : Channel D) (a : Active) (waiters : List Piece) (table : List Dcb) (left : List PostedState) (max : ℕ) (area : Storage) →
-      Ties meaning mounted H channel (Some a) waiters table left → is_some (running_name_by meaning mounted H (active H)) ≡ true →
-      RunsAs meaning channel a.piece.value.area max (running_program channel.device channel.phase a.piece.value.area) None new area → ⊥
-  runs-burst H channel new a waiters table left max area t runs r =
-      by_phase channel.phase a.standing t.activity.standing
-      (subst (λ x. RunsAs meaning channel a.piece.value.area max (running_program x channel.phase a.piece.value.area) None new area) t.device r) where
-        still : still_runs (active_phase meaning mounted a.piece.value.name H) ≡ true
-        still = let k = rw (t.activity.is) at runs in by_bool (still_runs (active_phase meaning mounted a.piece.value.name H)) k where
-          by_bool : (b : Bool) → is_some (if b then Some a.piece.value.name else None) ≡ true → b ≡ true
-          by_bool true e = refl
-          by_bool false e = absurd cc
-
+  -- where the subchannel runs nothing, no program runs
+  pub runs-quiet : {H : List Entry} {channel new : Channel D} {a : Active} {waiters : List Piece} {table : List Dcb}
+      {left : List PostedState} {area : Storage} (max : ℕ) → Ties meaning mounted H channel (Some a) waiters table left →
+      RunsAs meaning channel a.piece.value.area max (running_program channel.device channel.phase a.piece.value.area) None new area →
+      (running_name_by meaning mounted H (active H) ≡ None) × (new ≡ channel) × (area ≡ a.piece.value.area)
+  runs-quiet {H} {channel} {new} {a} {area = area} max t r =
+      let q = by_phase channel.phase a.standing t.activity.standing
+      (subst (λ x. RunsAs meaning channel a.piece.value.area max (running_program x channel.phase a.piece.value.area) None new area)
+      t.device r) in
+      let is = t.activity.is in
+      let over = q.0 in
+      (rw is (rw over refl), q.1, q.2) where
         by_phase : (phase : Phase) (standing : Standing) → StandingTies meaning mounted H phase a standing →
-            RunsAs meaning channel a.piece.value.area max (running_program (Some (device meaning mounted H)) phase a.piece.value.area) None new area → ⊥
+            RunsAs meaning channel a.piece.value.area max (running_program (Some (device meaning mounted H)) phase a.piece.value.area) None
+            new area →
+            (still_runs (active_phase meaning mounted a.piece.value.name H) ≡ false) × (new ≡ channel) × (area ≡ a.piece.value.area)
         by_phase Absent standing d k = absurd d
         by_phase Idle OnChannel d k = absurd d
-        by_phase Idle (AwaitsRestart csw sense) d k = not-over (active_phase meaning mounted a.piece.value.name H) still false csw sense d.0
+        by_phase Idle (AwaitsRestart csw sense) d k = (ap still_runs d.0, k.0, k.1)
         by_phase (Running place) standing d k = absurd k
-        by_phase (Pending csw sense) OnChannel d k = not-over (active_phase meaning mounted a.piece.value.name H) still a.halted csw sense d
+        by_phase (Pending csw sense) OnChannel d k = (ap still_runs d ∙ pending-over a.halted csw sense, k.0, k.1)
         by_phase (Pending csw sense) (AwaitsRestart c s) d k = absurd d
 
-  module _ (H : List Entry) (channel new : Channel D) (a : Active) (waiters : List Piece) (table : List Dcb) (left : List PostedState) (max : ℕ) (b : Burst) (area : Storage)
-      (settled : due meaning mounted H ≡ Free) (asked : 1 ≤ max) (t : Ties meaning mounted H channel (Some a) waiters table left) where
+  module _ {H : List Entry} {channel : Channel D} {a : Active} {waiters : List Piece} {table : List Dcb} {left : List PostedState}
+      (u : Bursts meaning channel a)
+      (t : Ties meaning mounted H channel (Some a) waiters table left) where
     abbrev n : Name
     n = a.piece.value.name
 
     abbrev G : List Entry
-    G = Ran n b.commands ∷ H
+    G = Ran n u.burst.commands ∷ H
 
-    -- what a burst of the active request's program says of the trace
+    -- its program runs, and the burst is one of it
+    record Goes (standing : Standing) : Type 0 where
+      on_channel : standing ≡ OnChannel
+      still : active_phase meaning mounted n H ≡ StillRunning
+      runs : RunsFrom meaning (current meaning mounted H) channel.isc u.max u.burst u.new u.area
+
+    newest-is : NewestIs n H
+    newest-is = (facts meaning mounted H t.legal).4 n t.activity.is
+
+    goes : (phase : Phase) (standing : Standing) → StandingTies meaning mounted H phase a standing →
+        RunsAs meaning channel a.piece.value.area u.max (running_program (Some (device meaning mounted H)) phase a.piece.value.area)
+        (Some u.burst) u.new u.area →
+        Goes standing
+    goes Absent standing d r = absurd r
+    goes Idle standing d r = absurd r
+    goes (Running place) (AwaitsRestart csw sense) d r = absurd d
+    goes (Running place) OnChannel d r =
+        let same_device = device-current n H newest-is in
+        let same_area : a.piece.value.area ≡ (current meaning mounted H).area = ap (λ (r : Piece). r.area) t.activity.request in
+        let p : program place (device meaning mounted H) a.piece.value.area
+        ≡ current meaning mounted H = rw (d.0, same_device, same_area) refl in
+        record { on_channel = refl; still = d.1; runs = rw p at r }
+    goes (Pending csw sense) standing d r = absurd r
+
+    -- what the burst says of the trace
     pub record Told : Type 0 where
       pub active : active H ≡ Some n
       pub running : still_runs (active_phase meaning mounted n H) ≡ true
-      pub commands : b.commands ≡ min max (length_of meaning (current meaning mounted H))
-      pub ended : still_runs (active_phase meaning mounted n G) ≡ is_running b.state
-      pub some : 1 ≤ b.commands
+      pub commands : u.burst.commands ≡ min u.max (length_of meaning (current meaning mounted H))
+      pub ended : still_runs (active_phase meaning mounted n G) ≡ is_running u.burst.state
+      pub some : 1 ≤ u.burst.commands
       pub still : active_phase meaning mounted n H ≡ StillRunning
       pub unhalted : is_halted n H ≡ false
       pub newest : NewestIs n G
-      pub channel_is : new ≡ ran channel.isc (current meaning mounted G)
-      pub area_is : area ≡ (current meaning mounted G).area
+      pub channel_is : u.new ≡ ran channel.isc (current meaning mounted G)
+      pub area_is : u.area ≡ (current meaning mounted G).area
+      pub on_channel : a.standing ≡ OnChannel
 
-    told_running : (place : Place) (standing : Standing) → StandingTies meaning mounted H (Running place) a standing →
-        RunsFrom meaning (program place (device meaning mounted H) a.piece.value.area) channel.isc max b new area → Told
-    told_running place (AwaitsRestart csw sense) d r = absurd d
-    told_running place OnChannel d r =
-        let w : NewestIs n H = (facts meaning mounted H t.legal).4 n t.activity.is in
-        let same_device = device-current n H w in
-        let same_area : a.piece.value.area ≡ (current meaning mounted H).area = ap (λ (r : Piece). r.area) t.activity.request in
-        let p : program place (device meaning mounted H) a.piece.value.area ≡ current meaning mounted H = rw (d.0, same_device, same_area) refl in
-        let c : current meaning mounted G ≡ after meaning b.commands (current meaning mounted H) = current-ran n b.commands H w in
-        let g = runs-running (is_halted n H) (current meaning mounted H).place (current meaning mounted H).place.state d.1 in
-        let s : b.state ≡ (current meaning mounted G).place.state = rw p at r.state ∙ rw (← c) refl in
-        let j_is : b.commands ≡ min max (length_of meaning (current meaning mounted H)) = rw p at r.commands in
+    pub told : Told
+    told =
+        let with_device = subst (λ x. RunsAs meaning channel a.piece.value.area u.max (running_program x channel.phase a.piece.value.area)
+        (Some u.burst) u.new u.area) t.device u.runs in
+        let k = goes channel.phase a.standing t.activity.standing with_device in
+        let r = k.runs in
+        let c : current meaning mounted G ≡ after meaning u.burst.commands (current meaning mounted H) = current-ran n u.burst.commands H
+        newest-is in
+        let g = runs-running (is_halted n H) (current meaning mounted H).place (current meaning mounted H).place.state k.still in
+        let s : u.burst.state ≡ (current meaning mounted G).place.state = r.state ∙ rw (← c) refl in
+        let j_is = r.commands in
+        let asked = u.asked in
         let running : is_running (current meaning mounted H).place.state ≡ true = let e = g.1 in rw e refl in
         let long = steps_within-running meaning 4096 (current meaning mounted H) running in
         record {
           active = t.activity.is;
-          running = ap still_runs d.1;
+          running = ap still_runs k.still;
           commands = j_is;
-          ended = runs-by (is_halted n G) (current meaning mounted G).place (current meaning mounted G).place.state g.0 ∙ ap is_running (sym s);
+          ended = runs-by (is_halted n G) (current meaning mounted G).place (current meaning mounted G).place.state g.0
+              ∙ ap is_running (sym s);
           some = omega (arith, j_is, long, asked);
-          still = d.1;
+          still = k.still;
           unhalted = g.0;
-          newest = newest-ran meaning mounted n b.commands H t.activity.is w;
-          channel_is = rw p at r.channel ∙ rw (← c) refl;
-          area_is = rw p at r.area ∙ rw (← c) refl;
+          newest = newest-ran meaning mounted n u.burst.commands H t.activity.is newest-is;
+          channel_is = r.channel ∙ rw (← c) refl;
+          area_is = r.area ∙ rw (← c) refl;
+          on_channel = k.on_channel;
         }
 
-    told_by : (phase : Phase) → StandingTies meaning mounted H phase a a.standing → RunsAs meaning channel a.piece.value.area max (running_program (Some (device meaning mounted H)) phase a.piece.value.area) (Some b) new area → Told
-    told_by Absent d r = absurd r
-    told_by Idle d r = absurd r
-    told_by (Running place) d r = told_running place a.standing d r
-    told_by (Pending csw sense) d r = absurd r
-
-    abbrev pub RunsOne : Type 0
-    RunsOne = RunsAs meaning channel a.piece.value.area max (running_program channel.device channel.phase a.piece.value.area) (Some b) new area
-
-    with-device : RunsOne → RunsAs meaning channel a.piece.value.area max (running_program (Some (device meaning mounted H)) channel.phase a.piece.value.area) (Some b) new area
-    with-device r = subst (λ x. RunsAs meaning channel a.piece.value.area max (running_program x channel.phase a.piece.value.area) (Some b) new area) t.device r
-
-    pub told : RunsOne → Told
-    told r = told_by channel.phase t.activity.standing (with-device r)
-
     standing-ran : (q : Program D) (state : State) → q.place.state ≡ state → q ≡ current meaning mounted G → is_halted n H ≡ false →
-        StandingTies meaning mounted G (phase_of q.place state) (with_area a area) OnChannel
+        StandingTies meaning mounted G (phase_of q.place state) (with_area a u.area) OnChannel
     standing-ran q Runs e c h = (ap (λ (p : Program D). p.place) c, rw (h, ← c, e) refl)
     standing-ran q (Ended csw sense) e c h = let k : a.halted ≡ false = t.activity.halted ∙ h in rw (h, ← c, e, k) refl
 
-    on-channel : (phase : Phase) (standing : Standing) → StandingTies meaning mounted H phase a standing → RunsAs meaning channel a.piece.value.area max (running_program (Some (device meaning mounted H)) phase a.piece.value.area) (Some b) new area → standing ≡ OnChannel
-    on-channel Absent standing d r = absurd r
-    on-channel Idle standing d r = absurd r
-    on-channel (Running place) OnChannel d r = refl
-    on-channel (Running place) (AwaitsRestart csw sense) d r = absurd d
-    on-channel (Pending csw sense) standing d r = absurd r
-
-    pub ties-ran : RunsOne → SamePlace a.piece.value.area area →
-        Ties meaning mounted G new (Some (with_area a area)) waiters table left
-    unfolding Legal waiting arrivals active started request_of attempts extents_of flag posted
-    ties-ran r place =
-        let k = told r in
-        let i = on-channel channel.phase a.standing t.activity.standing (with-device r) in
-        let dr = standing-ran (current meaning mounted G) (current meaning mounted G).place.state refl refl k.unhalted in
-        let phase_is : new.phase ≡ phase_of (current meaning mounted G).place (current meaning mounted G).place.state = ap (λ (x : Channel D). x.phase) k.channel_is in
+    pub ties-ran : due meaning mounted H ≡ Free → SamePlace a.piece.value.area u.area →
+        Ties meaning mounted G u.new (Some (with_area a u.area)) waiters table left
+    unfolding Legal waiting arrivals active started request_named attempts extents_of flag posted
+    ties-ran settled place =
+        let k = told in
+        let q = current meaning mounted G in
+        let dr = standing-ran q q.place.state refl refl k.unhalted in
+        let phase_is : u.new.phase ≡ phase_of q.place q.place.state = ap (λ (x : Channel D). x.phase) k.channel_is in
+        let fits : RanFits meaning mounted n u.burst.commands H
+        = record { active = k.active; running = k.still; some = k.some; left = omega (arith, k.commands) } in
         let f : Piece → Storage → Piece = λ p m. record p { area = m } in
         record {
-          legal = (fits-free meaning mounted (Ran n b.commands) H settled (record { active = k.active; running = k.still; some = k.some; left = omega (arith, k.commands) }), t.legal);
+          legal = (fits-free meaning mounted (Ran n u.burst.commands) H settled fits, t.legal);
           queue = t.queue;
           placed = t.placed;
           device = ap (λ (x : Channel D). x.device) k.channel_is ∙ ap Some (sym (device-current n G k.newest));
           activity = record {
             is = t.activity.is;
-            request = ap (λ p. f p area) t.activity.request ∙ ap (f (request_of n H)) k.area_is;
-            placed = placed-moved a.piece.value area t.activity.placed place;
+            request = ap (λ p. f p u.area) t.activity.request ∙ ap (f (request_named n H)) k.area_is;
+            placed = placed-moved a.piece.value u.area t.activity.placed place;
             starts = t.activity.starts;
             halted = t.activity.halted;
             covered = t.activity.covered;
-            standing = subst (λ x. StandingTies meaning mounted G x (with_area a area) a.standing) (sym phase_is)
-                (subst (λ x. StandingTies meaning mounted G (phase_of (current meaning mounted G).place (current meaning mounted G).place.state) (with_area a area) x) (sym i) dr);
+            standing = subst (λ x. StandingTies meaning mounted G x (with_area a u.area) a.standing) (sym phase_is)
+                (subst (λ x. StandingTies meaning mounted G (phase_of q.place q.place.state) (with_area a u.area) x) (sym k.on_channel) dr);
           };
           count = t.count;
           dcbs = t.dcbs;

@@ -1,36 +1,29 @@
 -- What an entry that says nothing of the active request leaves as it is.
-use Rattle.std.proofs.Common.{◌≡◌, ℕ, ◌+◌, ◌<◌, Bool, Option, Some, None, List, length, refl, sym, ap, ◌∙◌, arith, subst}
-use Rattle.device_port.specs.Meaning.{Meaning}
-use Rattle.ccw_programs.specs.Step.{Program}
-use Rattle.subchannel.specs.Subchannel.{Channel, Phase, Absent, Idle, Running, Pending}
-use Rattle.request_piece.specs.PostedState.{PostedState}
-use Rattle.request_piece.specs.declared.piece.Name.{Name}
-use Rattle.request_piece.specs.declared.piece.Piece.{Piece}
-use Rattle.unit_book.specs.declared.active.Active.{Active}
-use Rattle.unit_book.specs.declared.active.Standing.{Standing}
-use Rattle.unit_book.specs.declared.active.Standing.TheVariants.{OnChannel, AwaitsRestart}
-use Rattle.unit_book.specs.declared.dcb.Dcb.{Dcb}
-use Rattle.unit_book.specs.declared.entry.Entry.{Entry}
-use Rattle.unit_book.specs.Trace.{waiting, active, request_of, starts_of, is_halted, is_covered}
-use Rattle.unit_book.specs.Media.{attempts, newest, current, ActivePhase, active_phase, active_phase_by}
-use Rattle.unit_book.specs.Legal.{Fits, FitsBy, FitsFree, due, Free}
+use Rattle.unit_book.proofs.Names.{◌≡◌, ℕ, ◌+◌, ◌<◌, Bool, Option, Some, None, List, length, refl, sym, ap, ◌∙◌, arith, subst, Meaning}
+use Rattle.unit_book.proofs.Names.{Program, Channel, Phase, Absent, Idle, Running, Pending, PostedState, Name, Piece, Active, Standing}
+use Rattle.unit_book.proofs.Names.{OnChannel, AwaitsRestart, Dcb, Entry, waiting, active, request_named, starts_of, is_halted, is_covered}
+use Rattle.unit_book.proofs.Names.{attempts, newest, current, active_phase, active_phase_by, Fits, FitsBy, due, Free, ActivityTies}
+use Rattle.unit_book.proofs.Names.{StandingTies, Ties}
+use Rattle.unit_book.specs.Media.{ActivePhase}
+use Rattle.unit_book.specs.Legal.{FitsFree}
 use Rattle.unit_book.specs.Book.{active_count}
-use Rattle.unit_book.specs.Fields.{active_field_count, ActiveTies, ActivityTies, StandingTies, Ties}
+use Rattle.unit_book.specs.Fields.{active_field_count, ActiveTies}
 
 module _ {D : Type 0} (meaning : Meaning D) (mounted : D) where
   -- the later trace says of this name what the earlier one does
   pub record Silent (H G : List Entry) (n : Name) : Type 0 where
     pub active : active G ≡ active H
-    pub request : request_of n G ≡ request_of n H
+    pub request : request_named n G ≡ request_named n H
     pub starts : starts_of n G ≡ starts_of n H
     pub attempts : attempts G ≡ attempts H
     pub halted : is_halted n G ≡ is_halted n H
-    pub covered : is_covered (request_of n G) G ≡ is_covered (request_of n H) H
+    pub covered : is_covered (request_named n G) G ≡ is_covered (request_named n H) H
 
   current-same : (H G : List Entry) → attempts G ≡ attempts H → current meaning mounted G ≡ current meaning mounted H
   current-same H G e = ap (newest meaning mounted) e
 
-  pub phase-same : (H G : List Entry) (n : Name) → attempts G ≡ attempts H → is_halted n G ≡ is_halted n H → active_phase meaning mounted n G ≡ active_phase meaning mounted n H
+  pub phase-same : (H G : List Entry) (n : Name) → attempts G ≡ attempts H → is_halted n G ≡ is_halted n H →
+      active_phase meaning mounted n G ≡ active_phase meaning mounted n H
   phase-same H G n e h =
       let s : Bool → Program D → ActivePhase = λ b p. active_phase_by b p.place p.place.state in
       ap (λ b. s b (current meaning mounted G)) h ∙ ap (λ p. s (is_halted n H) p) (current-same H G e)
@@ -56,7 +49,8 @@ module _ {D : Type 0} (meaning : Meaning D) (mounted : D) where
       let with_area : Piece → Program D → Piece = λ r p. record r { area = p.area } in
       record {
         is = s.active ∙ t.is;
-        request = t.request ∙ ap (λ r. with_area r (current meaning mounted H)) (sym s.request) ∙ ap (with_area (request_of n G)) (sym (current-same H G s.attempts));
+        request = t.request ∙ ap (λ r. with_area r (current meaning mounted H)) (sym s.request) ∙ ap (with_area (request_named n G))
+            (sym (current-same H G s.attempts));
         placed = t.placed;
         starts = t.starts ∙ sym s.starts;
         halted = t.halted ∙ sym s.halted;
@@ -70,15 +64,17 @@ module _ {D : Type 0} (meaning : Meaning D) (mounted : D) where
   activity-same H G phase (Some a) e s t = active-same H G phase a (s a.piece.value.name t.is) t
 
   -- as many are active
-  pub count-same : (H : List Entry) (phase : Phase) (o : Option Active) → ActivityTies meaning mounted H phase o → active_count (active H) ≡ active_field_count o
+  pub count-same : (H : List Entry) (phase : Phase) (o : Option Active) → ActivityTies meaning mounted H phase o →
+      active_count (active H) ≡ active_field_count o
   count-same H phase None t = rw t.0 refl
   count-same H phase (Some a) t = let e = t.is in rw e refl
 
   -- there is room in the queue
-  pub room-of : (H : List Entry) (channel : Channel D) (o : Option Active) (waiters : List Piece) (table : List Dcb) (left : List PostedState) (capacity : ℕ) →
+  pub room-of : {H : List Entry} {channel : Channel D} {o : Option Active} {waiters : List Piece} {table : List Dcb}
+      {left : List PostedState} {capacity : ℕ} →
       Ties meaning mounted H channel o waiters table left → length (waiting H) + active_count (active H) + length left < capacity →
       length waiters + active_field_count o + length left < capacity
-  room-of H channel o waiters table left capacity t h =
+  room-of {H} {channel} {o} t h =
       let a = count-same H channel.phase o t.activity in
       let q = ap length t.queue in omega (arith, a, q, h)
 

@@ -1,37 +1,25 @@
 -- A list of starts, runs and interruptions: what it adds, and that an attempt of a request brings a book nearer to
 -- having nothing to do.
-use Rattle.std.proofs.Common.{◌≡◌, ◌≤◌, ◌<◌, ℕ, zero, suc, ◌+◌, ◌-◌, ◌*◌, Bool, true, false, not, ◌||◌, Option, Some, None, List, [], ◌∷◌, ◌++◌, append_assoc, length, refl, sym, ap, ◌∙◌, arith, inl, inr, subst, if◌then◌else◌}
-use Rattle.std.specs.Prelude.{slice_get, min, is_some}
-use Rattle.std.specs.List.{find, list_all}
-use Rattle.std.proofs.lemmas.Bool.{cases_Bool, and_parts}
-use Rattle.io_images.specs.declared.csw.Csw.{Csw}
-use Rattle.io_images.specs.declared.code.Code.{Code}
-use Rattle.io_images.specs.declared.code.Code.TheVariants.{ExtentViolated, Purged}
-use Rattle.device_port.specs.Meaning.{Meaning}
-use Rattle.ccw_programs.specs.Step.{Program, after, length_of, is_running}
+use Rattle.unit_book.proofs.Names.{◌≡◌, ◌≤◌, ◌<◌, ℕ, zero, suc, ◌+◌, ◌-◌, Bool, true, false, not, ◌||◌, Option, Some, None, List, [], ◌∷◌}
+use Rattle.unit_book.proofs.Names.{◌++◌, append_assoc, length, refl, sym, ap, ◌∙◌, arith, inl, inr, subst, if◌then◌else◌, slice_get}
+use Rattle.unit_book.proofs.Names.{is_some, list_all, cases_Bool, and_parts, Csw, Code, ExtentViolated, Purged, Meaning, Program, after}
+use Rattle.unit_book.proofs.Names.{length_of, is_running, no_status, Name, Piece, Starting, Busy, Started, Violated, NothingRuns, RanSome}
+use Rattle.unit_book.proofs.Names.{Interruption, NothingPending, TriedAgain, WasPosted, Entry, Start, Ran, Post, same, arrivals}
+use Rattle.unit_book.proofs.Names.{has_started, is_posted, waiting, started, active, starts_of, is_halted, Place, State, Attempt, attempts}
+use Rattle.unit_book.proofs.Names.{newest, beginning, stand, current, active_phase, active_phase_by, still_runs, doomed, all_posted}
+use Rattle.unit_book.proofs.Names.{after_dooms, Legal, StartsAgain, StartsFirst, Book, StartsBook, RunsBook, InterruptsBook, MayStart}
+use Rattle.unit_book.proofs.Names.{MayFirst, MayAgain}
+use Rattle.std.proofs.Common.{◌*◌}
+use Rattle.std.specs.Prelude.{min}
+use Rattle.std.specs.List.{find}
 use Rattle.ccw_programs.proofs.StepLaws.{step-ended, step-later, length-ends, length-few}
-use Rattle.io_images.specs.Images.{no_status}
-use Rattle.request_piece.specs.declared.piece.Name.{Name}
-use Rattle.request_piece.specs.declared.piece.Piece.{Piece}
-use Rattle.unit_book.specs.declared.answer.Starting.{Starting}
-use Rattle.unit_book.specs.declared.answer.Starting.TheVariants.{Busy, Idle, Started, Violated}
+use Rattle.unit_book.specs.declared.answer.Starting.TheVariants.{Idle}
 use Rattle.unit_book.specs.declared.answer.Running.{Running as RunAnswer}
-use Rattle.unit_book.specs.declared.answer.Running.TheVariants.{Quiet as NothingRuns, Ran as RanSome}
-use Rattle.unit_book.specs.declared.answer.Interruption.{Interruption}
-use Rattle.unit_book.specs.declared.answer.Interruption.TheVariants.{Quiet as NothingPending, Again as TriedAgain, Ended as WasPosted}
-use Rattle.unit_book.specs.declared.entry.Entry.{Entry}
-use Rattle.unit_book.specs.declared.entry.Entry.TheVariants.{Start, Ran, Post}
-use Rattle.unit_book.specs.Trace.{same, arrivals, has_started, is_posted, waiting, started, active, starts_of, is_halted}
-use Rattle.ccw_programs.specs.Place.{Place}
-use Rattle.ccw_programs.specs.declared.context.State.{State}
 use Rattle.ccw_programs.specs.declared.context.State.TheVariants.{Running, Ended}
-use Rattle.unit_book.specs.Media.{Attempt, attempts, newest, beginning, stand, current, active_phase, active_phase_by, still_runs}
-use Rattle.unit_book.specs.Dcbs.{doomed}
-use Rattle.unit_book.specs.Dooms.{all_posted, after_dooms}
-use Rattle.unit_book.specs.Legal.{Legal, FailsCheck, StartsAgain, StartsFirst}
-use Rattle.unit_book.specs.Book.{Book, active_count, is_pending}
-use Rattle.unit_book.specs.Answers.{StartsBook, RunsBook, InterruptsBook, MayStart, MayFirst, MayAgain}
-use Rattle.unit_book.specs.Settle.{AddsService, Settles, Stays, Then, Steps, ByStart, ByRun, ByInterrupt, distance, is_service, starts_left, unposted}
+use Rattle.unit_book.specs.Legal.{FailsCheck}
+use Rattle.unit_book.specs.Book.{active_count, is_pending}
+use Rattle.unit_book.specs.Settle.{AddsService, Settles, Stays, Then, Steps, ByStart, ByRun, ByInterrupt, distance, is_service, starts_left}
+use Rattle.unit_book.specs.Settle.{unposted}
 use Rattle.unit_book.proofs.Lists.{same-refl, no_both, all-append, all-filter, without}
 use Rattle.unit_book.proofs.Facts.{NewestIs, active-is, active-start, active-post, waiting-start, waiting-post}
 use Rattle.unit_book.proofs.LegalFacts.{facts}
@@ -72,45 +60,35 @@ pub record IsServed {D : Type 0} (old new : Book D) : Type 0 where
   pub isc : new.isc ≡ old.isc
   pub capacity : new.capacity ≡ old.capacity
 
-served-by : {D : Type 0} (old new : Book D) → (G : List Entry) → new.trace ≡ G → AddsService old.trace G → new.mounted ≡ old.mounted → new.isc ≡ old.isc → new.capacity ≡ old.capacity → IsServed old new
-served-by old new G e a m i c = record { adds = rw e a; mounted = m; isc = i; capacity = c }
-
 module _ {D : Type 0} (meaning : Meaning D) where
+  served-none : (b : Book D) → IsServed b b
+  served-none b = record { adds = adds-none b.trace; mounted = refl; isc = refl; capacity = refl }
+
   starts-served : (old new : Book D) (answer : Starting) → StartsBook meaning old answer new → IsServed old new
-  starts-served old new Busy h = let e = h.2 in rw e (served-by old old old.trace refl (adds-none old.trace) refl refl refl)
-  starts-served old new Idle h = let e = h.2 in rw e (served-by old old old.trace refl (adds-none old.trace) refl refl refl)
+  starts-served old new Busy h = let e = h.2 in rw e (served-none old)
+  starts-served old new Idle h = let e = h.2 in rw e (served-none old)
   starts-served old new (Started n) h =
-      let e = h.1 in
-      served-by old new (Start n ∷ old.trace) (ap (λ (b : Book D). b.trace) e) (adds-one (Start n) old.trace refl) (ap (λ (b : Book D). b.mounted) e) (ap (λ (b : Book D). b.isc) e) (ap (λ (b : Book D). b.capacity) e)
+      let e = h.1 in rw e (record { adds = adds-one (Start n) old.trace refl; mounted = refl; isc = refl; capacity = refl })
   starts-served old new (Violated n) h =
-      let e = h.1 in
-      served-by old new (after_dooms (Post n no_status 0 ExtentViolated ∷ old.trace)) (ap (λ (b : Book D). b.trace) e) (adds-post n no_status 0 ExtentViolated old.trace)
-      (ap (λ (b : Book D). b.mounted) e) (ap (λ (b : Book D). b.isc) e) (ap (λ (b : Book D). b.capacity) e)
+      let e = h.1 in rw e (record { adds = adds-post n no_status 0 ExtentViolated old.trace; mounted = refl; isc = refl; capacity = refl })
 
   runs-served : (old new : Book D) (max : ℕ) (answer : RunAnswer) → RunsBook meaning old max answer new → IsServed old new
-  runs-served old new max NothingRuns h = let e = h.1 in rw e (served-by old old old.trace refl (adds-none old.trace) refl refl refl)
+  runs-served old new max NothingRuns h = let e = h.1 in rw e (served-none old)
   runs-served old new max (RanSome commands pending) h =
-      let e = h.adds in
-      served-by old new (Ran h.name commands ∷ old.trace) (ap (λ (b : Book D). b.trace) e) (adds-one (Ran h.name commands) old.trace refl) (ap (λ (b : Book D). b.mounted) e) (ap (λ (b : Book D). b.isc) e)
-      (ap (λ (b : Book D). b.capacity) e)
+      let e = h.adds in rw e (record { adds = adds-one (Ran h.name commands) old.trace refl; mounted = refl; isc = refl; capacity = refl })
 
   interrupts-served : (old new : Book D) (answer : Interruption) → InterruptsBook meaning old answer new → IsServed old new
-  interrupts-served old new NothingPending h = let e = h.1 in rw e (served-by old old old.trace refl (adds-none old.trace) refl refl refl)
+  interrupts-served old new NothingPending h = let e = h.1 in rw e (served-none old)
   interrupts-served old new (TriedAgain n) h =
-      let e = h.2 in
-      served-by old new old.trace (ap (λ (b : Book D). b.trace) e) (adds-none old.trace) (ap (λ (b : Book D). b.mounted) e) (ap (λ (b : Book D). b.isc) e) (ap (λ (b : Book D). b.capacity) e)
+      let e = h.2 in rw e (record { adds = adds-none old.trace; mounted = refl; isc = refl; capacity = refl })
   interrupts-served old new (WasPosted n code) h =
       let e = h.1.extends in
-      served-by old new (after_dooms (Post n h.1.csw h.1.sense code ∷ old.trace)) (ap (λ (b : Book D). b.trace) e) (adds-post n h.1.csw h.1.sense code old.trace)
-      (ap (λ (b : Book D). b.mounted) e) (ap (λ (b : Book D). b.isc) e) (ap (λ (b : Book D). b.capacity) e)
+      rw e (record { adds = adds-post n h.1.csw h.1.sense code old.trace; mounted = refl; isc = refl; capacity = refl })
 
   step-served : (old new : Book D) → Steps meaning old new → IsServed old new
   step-served old new (ByStart answer h) = starts-served old new answer h
   step-served old new (ByRun max answer some h) = runs-served old new max answer h
   step-served old new (ByInterrupt answer h) = interrupts-served old new answer h
-
-  served-none : (b : Book D) → IsServed b b
-  served-none b = served-by b b b.trace refl (adds-none b.trace) refl refl refl
 
   served-more : (old mid new : Book D) → IsServed old mid → IsServed mid new → IsServed old new
   served-more old mid new a b = record {
@@ -137,11 +115,9 @@ module _ {X : Type 0} where
   find-still_none p q w (x ∷ xs) h =
       let ih : find p xs ≡ None → find q xs ≡ None = λ k. find-still_none p q w xs k in
       elim (cases_Bool (p x)) [
-        | inl e ↦ absurd (clash (rw e at h))
+        | inl e ↦ let k = rw e at h in absurd cc
         | inr e ↦ let k = rw e at h in elim (cases_Bool (q x)) [ inl f ↦ no_both (p x) (w x f) e | inr f ↦ rw f (ih k) ]
-      ] where
-        clash : {y : X} → Some y ≡ None → ⊥
-        clash k = cc
+      ]
 
   first-passes : (p : X → Bool) (xs : List X) (x : X) → list_all p xs ≡ true → slice_get xs 0 ≡ Some x → p x ≡ true
   first-passes p [] x h e = absurd cc
@@ -169,19 +145,23 @@ first-unposted r H e =
     let p = λ (q : Piece). not (has_started q.name H || is_posted q.name H) in
     not-or_right (has_started r.name H) (is_posted r.name H) (first-passes p (waiting H) r (all-filter p (arrivals H)) e)
 
-pub still-none : (n : Name) (csw : Csw) (sense : ℕ) (code : Code) (H : List Entry) → active H ≡ None → active (Post n csw sense code ∷ H) ≡ None
+pub still-none : (n : Name) (csw : Csw) (sense : ℕ) (code : Code) (H : List Entry) → active H ≡ None →
+    active (Post n csw sense code ∷ H) ≡ None
 unfolding active started
 still-none n csw sense code H h =
-    find-still_none (λ k. not (is_posted k H)) (λ k. not (same n k || is_posted k H)) (λ k e. rw (not-or_right (same n k) (is_posted k H) e) refl) (started H) h
+    find-still_none (λ k. not (is_posted k H)) (λ k. not (same n k || is_posted k H))
+    (λ k e. rw (not-or_right (same n k) (is_posted k H) e) refl) (started H) h
 
 pub posts-none : (rs : List Piece) (H : List Entry) → active H ≡ None → active (all_posted rs H) ≡ None
 posts-none [] H h = h
 posts-none (r ∷ rs) H h = posts-none rs (Post r.name no_status 0 Purged ∷ H) (still-none r.name no_status 0 Purged H h)
 
 module _ {D : Type 0} (meaning : Meaning D) (mounted : D) where
-  post-fewer : (n : Name) (csw : Csw) (sense : ℕ) (code : Code) (H : List Entry) → length (waiting (Post n csw sense code ∷ H)) ≤ length (waiting H)
+  post-fewer : (n : Name) (csw : Csw) (sense : ℕ) (code : Code) (H : List Entry) →
+      length (waiting (Post n csw sense code ∷ H)) ≤ length (waiting H)
   unfolding without
-  post-fewer n csw sense code H = rw (waiting-post meaning mounted n csw sense code H) (length-filter_le (λ (r : Piece). not (same n r.name)) (waiting H))
+  post-fewer n csw sense code H = rw (waiting-post meaning mounted n csw sense code H)
+      (length-filter_le (λ (r : Piece). not (same n r.name)) (waiting H))
 
   start-fewer : (n : Name) (H : List Entry) → length (waiting (Start n ∷ H)) ≤ length (waiting H)
   unfolding without
@@ -196,7 +176,8 @@ module _ {D : Type 0} (meaning : Meaning D) (mounted : D) where
       omega (arith, ih, one)
 
   -- a program that goes on has fetched 4,096 CCWs at most
-  fetched-few : (k : ℕ) (p : Program D) → p.place.fetched ≤ 4096 → is_running (after meaning k p).place.state ≡ true → (after meaning k p).place.fetched ≤ 4096
+  fetched-few : (k : ℕ) (p : Program D) → p.place.fetched ≤ 4096 → is_running (after meaning k p).place.state ≡ true →
+      (after meaning k p).place.fetched ≤ 4096
   unfolding after
   fetched-few zero p b h = b
   fetched-few (suc k) p b h =
@@ -207,15 +188,18 @@ module _ {D : Type 0} (meaning : Meaning D) (mounted : D) where
         | inr r ↦ let e = step-ended meaning q r in no_both (is_running q.place.state) (rw e at h) r
       ]
 
-  current-few : (H : List Entry) → is_running (current meaning mounted H).place.state ≡ true → (current meaning mounted H).place.fetched ≤ 4096
+  current-few : (H : List Entry) → is_running (current meaning mounted H).place.state ≡ true →
+      (current meaning mounted H).place.fetched ≤ 4096
   unfolding newest
   current-few H h = by_attempts (attempts H) h where
-    by_attempts : (tries : List Attempt) → is_running (newest meaning mounted tries).place.state ≡ true → (newest meaning mounted tries).place.fetched ≤ 4096
+    by_attempts : (tries : List Attempt) → is_running (newest meaning mounted tries).place.state ≡ true →
+        (newest meaning mounted tries).place.fetched ≤ 4096
     by_attempts [] h = omega arith
     by_attempts (a ∷ rest) h = fetched-few a.commands (beginning meaning mounted (stand meaning mounted rest) a) (omega arith) h
 
   -- as many commands as a program is long end it
-  runs-out : (n : Name) (j : ℕ) (H : List Entry) → NewestIs n H → still_runs (active_phase meaning mounted n H) ≡ true → j ≡ min 4294967295 (length_of meaning (current meaning mounted H)) →
+  runs-out : (n : Name) (j : ℕ) (H : List Entry) → NewestIs n H → still_runs (active_phase meaning mounted n H) ≡ true →
+      j ≡ min 4294967295 (length_of meaning (current meaning mounted H)) →
       still_runs (active_phase meaning mounted n (Ran n j ∷ H)) ≡ false
   runs-out n j H w h e =
       let p = current meaning mounted H in
@@ -226,7 +210,8 @@ module _ {D : Type 0} (meaning : Meaning D) (mounted : D) where
       let c = current-ran meaning mounted n j H w in
       let x : is_running (current meaning mounted (Ran n j ∷ H)).place.state ≡ false = rw (c, k) ends in
       over-by (is_halted n H) (current meaning mounted (Ran n j ∷ H)).place (current meaning mounted (Ran n j ∷ H)).place.state x where
-        stands-by : (b : Bool) (place : Place) (state : State) → still_runs (active_phase_by b place state) ≡ true → (b ≡ false) × (is_running state ≡ true)
+        stands-by : (b : Bool) (place : Place) (state : State) → still_runs (active_phase_by b place state) ≡ true →
+            (b ≡ false) × (is_running state ≡ true)
         stands-by true place state h = absurd cc
         stands-by false place Running h = (refl, refl)
         stands-by false place (Ended csw sense) h = absurd cc
@@ -255,19 +240,22 @@ module _ {D : Type 0} (meaning : Meaning D) where
   still-busy old None e h a = absurd cc
   still-busy old (Some n) e h a = OnChannel n e a (omega arith) (λ few. rw (e, a) (omega arith))
 
-  first-begun : (old mid : Book D) (n : Name) → StartsFirst meaning old.mounted n old.trace → mid.trace ≡ Start n ∷ old.trace → mid.awaits ≡ false → Begun old mid
+  first-begun : (old mid : Book D) (n : Name) → StartsFirst meaning old.mounted n old.trace → mid.trace ≡ Start n ∷ old.trace →
+      mid.awaits ≡ false → Begun old mid
   first-begun old mid n s e a =
       let H = old.trace in
       let none = s.none in
       let unposted_first = subst (λ (x : Name). is_posted x H ≡ false) s.name (first-unposted s.request H s.first) in
       let is = active-start meaning old.mounted n H unposted_first in
-      let fewer = subst (λ (x : Name). length (without x (waiting H)) < length (waiting H)) s.name (first-fewer s.request (waiting H) s.first) in
+      let fewer = subst (λ (x : Name). length (without x (waiting H)) < length (waiting H)) s.name
+      (first-fewer s.request (waiting H) s.first) in
       let left = ap length (waiting-start meaning old.mounted n H) in
       let one = ap active_count is in
       let zero_active = ap active_count none in
       OnChannel n (rw e is) a (rw e (omega (arith, fewer, left, one, zero_active))) (λ few. rw none (omega arith))
 
-  again-begun : (old mid : Book D) (n : Name) → old.awaits ≡ true → StartsAgain meaning old.mounted n old.trace → mid.trace ≡ Start n ∷ old.trace → mid.awaits ≡ false → Begun old mid
+  again-begun : (old mid : Book D) (n : Name) → old.awaits ≡ true → StartsAgain meaning old.mounted n old.trace →
+      mid.trace ≡ Start n ∷ old.trace → mid.awaits ≡ false → Begun old mid
   again-begun old mid n o s e a =
       let H = old.trace in
       let act = s.active in
@@ -280,12 +268,14 @@ module _ {D : Type 0} (meaning : Meaning D) where
       OnChannel n (rw e is) a (rw e (omega (arith, fewer, one, one_before)))
       (rw (e, act, o) (λ few. omega (arith, few, more)))
 
-  violated-begun : (old mid : Book D) (n : Name) → FailsCheck meaning old.mounted n old.trace → mid.trace ≡ after_dooms (Post n no_status 0 ExtentViolated ∷ old.trace) → Begun old mid
+  violated-begun : (old mid : Book D) (n : Name) → FailsCheck meaning old.mounted n old.trace →
+      mid.trace ≡ after_dooms (Post n no_status 0 ExtentViolated ∷ old.trace) → Begun old mid
   violated-begun old mid n s e =
       let H = old.trace in
       let G = Post n no_status 0 ExtentViolated ∷ H in
       let none = posts-none (doomed G) G (still-none n no_status 0 ExtentViolated H s.none) in
-      let fewer = subst (λ (x : Name). length (without x (waiting H)) < length (waiting H)) s.name (first-fewer s.request (waiting H) s.first) in
+      let fewer = subst (λ (x : Name). length (without x (waiting H)) < length (waiting H)) s.name
+      (first-fewer s.request (waiting H) s.first) in
       let left = ap length (waiting-post meaning old.mounted n no_status 0 ExtentViolated H) in
       let more = posts-fewer meaning old.mounted (doomed G) G in
       let zero_active = ap active_count none in
@@ -307,11 +297,13 @@ module _ {D : Type 0} (meaning : Meaning D) where
     left : unposted ran.trace ≡ unposted mid.trace
     starts : starts_of n ran.trace ≡ starts_of n mid.trace
 
-  pends : (n : Name) (mid ran : Book D) (answer : RunAnswer) → active mid.trace ≡ Some n → mid.awaits ≡ false → Legal meaning ran.mounted ran.trace → RunsBook meaning mid 4294967295 answer ran → IsPending n mid ran
+  pends : (n : Name) (mid ran : Book D) (answer : RunAnswer) → active mid.trace ≡ Some n → mid.awaits ≡ false →
+      Legal meaning ran.mounted ran.trace → RunsBook meaning mid 4294967295 answer ran → IsPending n mid ran
   unfolding Legal waiting arrivals active started
   pends n mid ran NothingRuns a g l h =
       let e = h.1 in
-      let quiet : still_runs (active_phase meaning mid.mounted n mid.trace) ≡ false = none-runs (still_runs (active_phase meaning mid.mounted n mid.trace)) (rw a at h.0) in
+      let quiet : still_runs (active_phase meaning mid.mounted n mid.trace)
+      ≡ false = none-runs (still_runs (active_phase meaning mid.mounted n mid.trace)) (rw a at h.0) in
       rw e (record { is = a; pending = rw (a, g, quiet) refl; left = refl; starts = refl }) where
         none-runs : (b : Bool) → (if b then Some n else None) ≡ None → b ≡ false
         none-runs true k = absurd cc
@@ -336,22 +328,21 @@ module _ {D : Type 0} (meaning : Meaning D) where
 
   interrupt-none : (ran new : Book D) (answer : Interruption) → active ran.trace ≡ None → InterruptsBook meaning ran answer new → new ≡ ran
   interrupt-none ran new NothingPending a h = h.1
-  interrupt-none ran new (TriedAgain n) a h = absurd (clash (rw a at h.0)) where
-    clash : false ≡ true → ⊥
-    clash k = cc
-  interrupt-none ran new (WasPosted n code) a h = absurd (clash (rw a at h.0)) where
-    clash : false ≡ true → ⊥
-    clash k = cc
+  interrupt-none ran new (TriedAgain n) a h = let k = rw a at h.0 in absurd cc
+  interrupt-none ran new (WasPosted n code) a h = let k = rw a at h.0 in absurd cc
 
   -- after the interruption the request was posted, or awaits its restart
-  ends : (n : Name) (ran new : Book D) (answer : Interruption) (left : ℕ) → active ran.trace ≡ Some n → is_pending meaning ran ≡ true → Legal meaning ran.mounted ran.trace →
-      (starts_of n ran.trace ≤ 10 → 11 - starts_of n ran.trace < left) → InterruptsBook meaning ran answer new → distance new < 13 * unposted ran.trace + left
+  ends : (n : Name) (ran new : Book D) (answer : Interruption) (left : ℕ) → active ran.trace ≡ Some n → is_pending meaning ran ≡ true →
+      Legal meaning ran.mounted ran.trace →
+      (starts_of n ran.trace ≤ 10 → 11 - starts_of n ran.trace < left) → InterruptsBook meaning ran answer new →
+      distance new < 13 * unposted ran.trace + left
   ends n ran new NothingPending left a p l few h = no_both (is_pending meaning ran) p h.0
   ends n ran new (TriedAgain m) left a p l few h =
       let e = h.2 in
       let s = h.1 in
       let i : m ≡ n = some-is (sym s.active ∙ a) in
-      let ten = subst (λ x. starts_of x ran.trace ≤ 10) i (retry-few (meaning.kind ran.mounted) s.csw s.sense (starts_of m ran.trace) s.retry) in
+      let ten = subst (λ x. starts_of x ran.trace ≤ 10) i
+      (retry-few (meaning.kind ran.mounted) s.csw s.sense (starts_of m ran.trace) s.retry) in
       let less = few ten in
       rw (e, a) (omega (arith, less))
   ends n ran new (WasPosted m code) left a p l few h =
@@ -359,7 +350,8 @@ module _ {D : Type 0} (meaning : Meaning D) where
       let x = h.1 in
       let G = Post m x.csw x.sense code ∷ H in
       let e : new.trace ≡ after_dooms G = ap (λ (b : Book D). b.trace) x.extends in
-      let none = posts-none (doomed G) G (active-post meaning ran.mounted m x.csw x.sense code H (facts meaning ran.mounted H l) x.fits.active) in
+      let none = posts-none (doomed G) G
+      (active-post meaning ran.mounted m x.csw x.sense code H (facts meaning ran.mounted H l) x.fits.active) in
       let first = post-fewer meaning ran.mounted m x.csw x.sense code H in
       let more = posts-fewer meaning ran.mounted (doomed G) G in
       let one = ap active_count a in
@@ -368,7 +360,8 @@ module _ {D : Type 0} (meaning : Meaning D) where
       rw e (omega (arith, first, more, one, zero_active, twelve))
 
   -- AN ATTEMPT BRINGS A BOOK NEARER
-  pub nearer : (old mid ran new : Book D) (starting : Starting) (running : RunAnswer) (ending : Interruption) → (starting ≡ Idle → ⊥) → StartsBook meaning old starting mid → RunsBook meaning mid 4294967295 running ran →
+  pub nearer : (old mid ran new : Book D) (starting : Starting) (running : RunAnswer) (ending : Interruption) → (starting ≡ Idle → ⊥) →
+      StartsBook meaning old starting mid → RunsBook meaning mid 4294967295 running ran →
       Legal meaning ran.mounted ran.trace → InterruptsBook meaning ran ending new → distance new < distance old
   nearer old mid ran new starting running ending k s r l i = by_begun (begins old mid starting k s) where
     by_begun : Begun old mid → distance new < distance old

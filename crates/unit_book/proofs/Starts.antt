@@ -1,32 +1,21 @@
 -- A first start: the fields stay those of the trace.
-use Rattle.std.proofs.Common.{◌≡◌, ℕ, Bool, true, false, ◌||◌, Option, Some, None, List, [], ◌∷◌, length, refl, sym, ap, ◌∙◌, eqb, inl, inr, subst}
-use Rattle.std.proofs.lemmas.Bool.{cases_Bool, and_parts, and_from, or_parts, or_left, or_right}
-use Rattle.std.specs.List.{filter, list_any, list_all}
-use Rattle.std.specs.Prelude.{slice_get, drop}
+use Rattle.unit_book.proofs.Names.{◌≡◌, ℕ, Bool, true, false, ◌||◌, Option, Some, None, List, [], ◌∷◌, length, refl, sym, ap, ◌∙◌, eqb, inl}
+use Rattle.unit_book.proofs.Names.{inr, subst, cases_Bool, and_parts, and_from, or_parts, or_left, or_right, filter, list_any, list_all}
+use Rattle.unit_book.proofs.Names.{slice_get, drop, Meaning, Program, after, Channel, Phase, Idle, Running, ssch_started, PostedState}
+use Rattle.unit_book.proofs.Names.{Placed, Name, Piece, Active, OnChannel, Dcb, Entry, Opened, Arrive, Start, Ran, Halted, Purge, Close}
+use Rattle.unit_book.proofs.Names.{Reset, Post, same, starts, has_started, waiting, active, request_named, passes_check, is_opened, extents_of}
+use Rattle.unit_book.proofs.Names.{flag, mask_of, Attempt, attempts, stand, newest, current, device, area, Legal, due, Free, First}
+use Rattle.unit_book.proofs.Names.{StartsFirst, posted, Each, ActivityTies, Ties, dcb_at, dcb_of, mask_at}
 use Rattle.std.specs.Global.{Box}
-use Rattle.device_port.specs.Meaning.{Meaning}
 use Rattle.ccw_programs.specs.Place.{start_place}
-use Rattle.ccw_programs.specs.Step.{Program, begun, after}
-use Rattle.subchannel.specs.Subchannel.{Channel, Phase, Idle, Running, prefixed, started as ssch_started}
-use Rattle.request_piece.specs.PostedState.{PostedState}
-use Rattle.request_piece.specs.Places.{Placed}
-use Rattle.request_piece.specs.declared.piece.Name.{Name}
-use Rattle.request_piece.specs.declared.piece.Piece.{Piece}
-use Rattle.unit_book.specs.declared.active.Active.{Active}
-use Rattle.unit_book.specs.declared.active.Standing.TheVariants.{OnChannel}
-use Rattle.unit_book.specs.declared.dcb.Dcb.{Dcb}
-use Rattle.unit_book.specs.declared.entry.Entry.{Entry}
-use Rattle.unit_book.specs.declared.entry.Entry.TheVariants.{Opened, Arrive, Start, Ran, Halted, Purge, Close, Reset, Post}
-use Rattle.unit_book.specs.Trace.{same, starts, opens_for_input, has_started, waiting, active, request_of}
-use Rattle.unit_book.specs.Extents.{passes_check}
-use Rattle.unit_book.specs.Dcbs.{is_opened, extents_of, flag, mask_of}
-use Rattle.unit_book.specs.Media.{Attempt, attempts, lengthened, stand, newest, current, device, area}
-use Rattle.unit_book.specs.Legal.{Legal, due, Free, First, StartsFirst, passes}
-use Rattle.unit_book.specs.Posts.{posted}
-use Rattle.unit_book.specs.Lists.{Each}
-use Rattle.unit_book.specs.Fields.{ActivityTies, Ties, dcb_at, dcb_of, mask_at, extents_at}
-use Rattle.unit_book.proofs.Lists.{same-true, same-refl, same-is, no_both, without, without-first, Apart}
-use Rattle.unit_book.proofs.Facts.{active-start, waiting-start, waiting-apart, fits-start}
+use Rattle.ccw_programs.specs.Step.{begun}
+use Rattle.subchannel.specs.Subchannel.{prefixed}
+use Rattle.unit_book.specs.Trace.{opens_for_input}
+use Rattle.unit_book.specs.Media.{lengthened}
+use Rattle.unit_book.specs.Legal.{passes}
+use Rattle.unit_book.specs.Fields.{extents_at}
+use Rattle.unit_book.proofs.Lists.{same-true, same-refl, same-is, no_both, without, without-first, Apart, first-rest}
+use Rattle.unit_book.proofs.Facts.{active-start, waiting-start, waiting-apart, fits-start, Each-at}
 use Rattle.unit_book.proofs.LegalFacts.{facts, first-waits}
 use Rattle.unit_book.proofs.Same.{fits-free}
 use Rattle.unit_book.proofs.TraceLaws.{start-unposted}
@@ -35,7 +24,8 @@ use Rattle.unit_book.proofs.TraceLaws.{start-unposted}
 abbrev named_within : List Entry → Attempt → Bool
 named_within H a = has_started a.request.name H
 
-lengthened-named : (H : List Entry) (n : Name) (j : ℕ) (rest : List Attempt) → list_all (named_within H) rest ≡ true → list_all (named_within H) (lengthened n j rest) ≡ true
+lengthened-named : (H : List Entry) (n : Name) (j : ℕ) (rest : List Attempt) → list_all (named_within H) rest ≡ true →
+    list_all (named_within H) (lengthened n j rest) ≡ true
 lengthened-named H n j [] h = refl
 lengthened-named H n j (a ∷ rest) h =
     let p = and_parts (named_within H a) (list_all (named_within H) rest) h in
@@ -45,11 +35,13 @@ lengthened-named H n j (a ∷ rest) h =
       | inr s ↦ rw s (and_from (named_within H a) (list_all (named_within H) (lengthened n j rest)) p.0 ih)
     ]
 
-named-more : (H : List Entry) (n : Name) (rest : List Attempt) → list_all (named_within H) rest ≡ true → list_all (named_within (Start n ∷ H)) rest ≡ true
+named-more : (H : List Entry) (n : Name) (rest : List Attempt) → list_all (named_within H) rest ≡ true →
+    list_all (named_within (Start n ∷ H)) rest ≡ true
 named-more H n [] h = refl
 named-more H n (a ∷ rest) h =
     let p = and_parts (named_within H a) (list_all (named_within H) rest) h in
-    and_from (same n a.request.name || named_within H a) (list_all (named_within (Start n ∷ H)) rest) (or_right (same n a.request.name) (named_within H a) p.0) (named-more H n rest p.1)
+    and_from (same n a.request.name || named_within H a) (list_all (named_within (Start n ∷ H)) rest)
+    (or_right (same n a.request.name) (named_within H a) p.0) (named-more H n rest p.1)
 
 pub no-starts : (n : Name) (H : List Entry) → has_started n H ≡ false → length (filter (starts n) H) ≡ 0
 no-starts n [] h = refl
@@ -91,7 +83,7 @@ extents-is d H = elim (cases_Bool (is_opened d H)) [ inl o ↦ rw o refl | inr o
 module _ {D : Type 0} (meaning : Meaning D) (mounted : D) where
   -- each attempt is of a name that was started
   pub named : (H : List Entry) → Legal meaning mounted H → list_all (named_within H) (attempts H) ≡ true
-  unfolding Legal attempts request_of
+  unfolding Legal attempts request_named
   named [] l = refl
   named (Opened d i x ∷ H) l = named H l.1
   named (Arrive r ∷ H) l = named H l.1
@@ -99,9 +91,9 @@ module _ {D : Type 0} (meaning : Meaning D) (mounted : D) where
       let f = facts meaning mounted H l.1 in
       let u = start-unposted meaning mounted n H f (fits-start meaning mounted n H (due meaning mounted H) l.0) in
       let w = (facts meaning mounted (Start n ∷ H) l).4 n (active-start meaning mounted n H u) in
-      let e : (request_of n H).name ≡ n = w.4 in
-      and_from (same n (request_of n H).name || has_started (request_of n H).name H) (list_all (named_within (Start n ∷ H)) (attempts H))
-      (or_left (same n (request_of n H).name) (has_started (request_of n H).name H) (same-is n (request_of n H).name (sym e)))
+      let e : (request_named n H).name ≡ n = w.4 in
+      and_from (same n (request_named n H).name || has_started (request_named n H).name H) (list_all (named_within (Start n ∷ H)) (attempts H))
+      (or_left (same n (request_named n H).name) (has_started (request_named n H).name H) (same-is n (request_named n H).name (sym e)))
       (named-more H n (attempts H) (named H l.1))
   named (Ran n j ∷ H) l = lengthened-named H n j (attempts H) (named H l.1)
   named (Halted n ∷ H) l = named H l.1
@@ -110,14 +102,16 @@ module _ {D : Type 0} (meaning : Meaning D) (mounted : D) where
   named (Reset d ∷ H) l = named H l.1
   named (Post n c s k ∷ H) l = named H l.1
 
-  as-issued_by : (r : Piece) (H : List Entry) → has_started r.name H ≡ false → (rest : List Attempt) → list_all (named_within H) rest ≡ true → (stand meaning mounted rest).area r ≡ r.area
+  as-issued_by : (r : Piece) (H : List Entry) → has_started r.name H ≡ false → (rest : List Attempt) →
+      list_all (named_within H) rest ≡ true → (stand meaning mounted rest).area r ≡ r.area
   unfolding stand
   as-issued_by r H u [] h = refl
   as-issued_by r H u (a ∷ rest) h =
       let p = and_parts (named_within H a) (list_all (named_within H) rest) h in
       let ih = as-issued_by r H u rest p.1 in
       elim (cases_Bool (same r.name a.request.name)) [
-        | inl s ↦ no_both (has_started r.name H) (subst (λ (x : Name). has_started x H ≡ true) (sym (same-true r.name a.request.name s)) p.0) u
+        | inl s ↦ no_both (has_started r.name H)
+            (subst (λ (x : Name). has_started x H ≡ true) (sym (same-true r.name a.request.name s)) p.0) u
         | inr s ↦ rw s ih
       ]
 
@@ -126,32 +120,25 @@ module _ {D : Type 0} (meaning : Meaning D) (mounted : D) where
   as-issued r H l u = as-issued_by r H u (attempts H) (named H l)
 
   pub current-start : (n : Name) (H : List Entry) → current meaning mounted (Start n ∷ H) ≡
-      begun (request_of n H).start (meaning.prefix (device meaning mounted H) (request_of n H).seek (mask_of (request_of n H).dcb H)) (area meaning mounted (request_of n H) H)
+      begun (request_named n H).start (meaning.prefix (device meaning mounted H) (request_named n H).seek (mask_of (request_named n H).dcb H))
+      (area meaning mounted (request_named n H) H)
   unfolding attempts newest after
   current-start n H = refl
 
-  pub device-start : (n : Name) (H : List Entry) → device meaning mounted (Start n ∷ H) ≡ meaning.prefix (device meaning mounted H) (request_of n H).seek (mask_of (request_of n H).dcb H)
+  pub device-start : (n : Name) (H : List Entry) → device meaning mounted (Start n ∷ H) ≡ meaning.prefix (device meaning mounted H)
+      (request_named n H).seek (mask_of (request_named n H).dcb H)
   unfolding attempts stand after
   device-start n H = refl
-
-  pub first-rest : (r : Piece) (rs : List Piece) → slice_get rs 0 ≡ Some r → rs ≡ r ∷ drop 1 rs
-  first-rest r [] h = absurd cc
-  first-rest r (q ∷ rs) h = let e : q ≡ r = cc in rw e refl
 
   pub placed-rest : (rs : List Piece) → Each Placed rs → Each Placed (drop 1 rs)
   placed-rest [] h = tt
   placed-rest (q ∷ rs) h = h.1
 
-  pub placed-first : (rs : List Piece) (r : Piece) → Each Placed rs → slice_get rs 0 ≡ Some r → Placed r
-  placed-first [] r h s = absurd cc
-  placed-first (q ∷ rs) r h s = let e : q ≡ r = cc in subst Placed e h.0
-
   -- what is tied where nothing is active
-  pub none-in_field : (H : List Entry) (phase : Phase) (o : Option Active) → active H ≡ None → ActivityTies meaning mounted H phase o → (phase ≡ Idle) × (o ≡ None)
+  pub none-in_field : (H : List Entry) (phase : Phase) (o : Option Active) → active H ≡ None → ActivityTies meaning mounted H phase o →
+      (phase ≡ Idle) × (o ≡ None)
   none-in_field H phase None n t = (t.1, refl)
-  none-in_field H phase (Some a) n t = absurd (clash (sym n ∙ t.is)) where
-    clash : {m : Name} → None ≡ Some m → ⊥
-    clash k = cc
+  none-in_field H phase (Some a) n t = let k = sym n ∙ t.is in absurd cc
 
   abbrev pub held_first : Box Piece → Active
   held_first b = record { piece = b; starts = 1; halted = false; covered = false; standing = OnChannel }
@@ -162,46 +149,60 @@ module _ {D : Type 0} (meaning : Meaning D) (mounted : D) where
   no-first (x ∷ xs) h = absurd cc
 
   -- the request that waits first, and whether it passes the check
-  pub first-told : {H : List Entry} {channel : Channel D} {o : Option Active} {waiters : List Piece} {table : List Dcb} {left : List PostedState} {r : Piece} →
+  pub first-told : {H : List Entry} {channel : Channel D} {o : Option Active} {waiters : List Piece} {table : List Dcb}
+      {left : List PostedState} {r : Piece} →
       Ties meaning mounted H channel o waiters table left → slice_get waiters 0 ≡ Some r →
-      (slice_get (waiting H) 0 ≡ Some r) × (passes meaning mounted r H ≡ passes_check (meaning.kind mounted) (meaning.heads mounted) (extents_at (dcb_at table r.dcb)) r.seek)
+      (slice_get (waiting H) 0 ≡ Some r)
+      × (passes meaning mounted r H ≡ passes_check (meaning.kind mounted) (meaning.heads mounted)
+      (extents_at (dcb_at table r.dcb)) r.seek)
   first-told {H} {channel} {o} {waiters} {table} {left} {r} t h = (
     ap (λ x. slice_get x 0) (sym t.queue) ∙ h,
-    ap (λ x. passes_check (meaning.kind mounted) (meaning.heads mounted) x r.seek) (sym (ap extents_at (t.dcbs r.dcb) ∙ extents-is r.dcb H)),
+    ap (λ x. passes_check (meaning.kind mounted) (meaning.heads mounted) x r.seek)
+        (sym (ap extents_at (t.dcbs r.dcb) ∙ extents-is r.dcb H)),
   )
 
-  module _ (b : Box Piece) (H : List Entry) (channel : Channel D) (o : Option Active) (waiters : List Piece) (table : List Dcb) (left : List PostedState) (mask : ℕ)
-      (settled : due meaning mounted H ≡ Free) (s : StartsFirst meaning mounted b.value.name H) (t : Ties meaning mounted H channel o waiters table left)
+  module _ (b : Box Piece) {H : List Entry} {channel : Channel D} {o : Option Active} {waiters : List Piece} {table : List Dcb}
+      {left : List PostedState} {mask : ℕ}
+      (settled : due meaning mounted H ≡ Free) (s : StartsFirst meaning mounted b.value.name H)
+      (t : Ties meaning mounted H channel o waiters table left)
       (first : slice_get (waiting H) 0 ≡ Some b.value) (mask_is : mask ≡ mask_at (dcb_at table b.value.dcb)) where
-    pub ties-start : Ties meaning mounted (Start b.value.name ∷ H) (ssch_started meaning channel b.value.start b.value.seek mask channel.phase) (Some (held_first b)) (drop 1 waiters) table left
-    unfolding Legal posted flag extents_of request_of
+    pub ties-start : Ties meaning mounted (Start b.value.name ∷ H)
+        (ssch_started meaning channel b.value.start b.value.seek mask channel.phase) (Some (held_first b)) (drop 1 waiters) table left
+    unfolding Legal posted flag extents_of request_named
     ties-start =
         let r = b.value in
         let f = facts meaning mounted H t.legal in
         let n = r.name in
         let G = Start n ∷ H in
         let w = first-waits meaning mounted r H f first in
-        let e : request_of n H ≡ r = w.known.0 in
+        let e : request_named n H ≡ r = w.known.0 in
         let self : same n n ≡ true = same-refl n in
-        let z = first-rest r (waiting H) first in
+        let z = first-rest (waiting H) r first in
         let apart = subst Apart z (waiting-apart meaning mounted H f) in
         let m : mask ≡ mask_of r.dcb H = mask_is ∙ ap mask_at (t.dcbs r.dcb) ∙ mask-is r.dcb H in
         let issued : area meaning mounted r H ≡ r.area = as-issued r H t.legal w.unstarted in
-        let device_is : prefixed meaning channel.device r.seek mask ≡ Some (device meaning mounted G) = rw (t.device, m) (ap Some (sym (rw e at (device-start n H)))) in
+        let device_is : prefixed meaning channel.device r.seek mask ≡ Some (device meaning mounted G) = rw (t.device, m)
+        (ap Some (sym (rw e at (device-start n H)))) in
         let idle = (none-in_field H channel.phase o s.none t.activity).0 in
-        let c : current meaning mounted G ≡ begun r.start (meaning.prefix (device meaning mounted H) r.seek (mask_of r.dcb H)) (area meaning mounted r H) = rw e at (current-start n H) in
+        let c : current meaning mounted G ≡ begun r.start (meaning.prefix (device meaning mounted H) r.seek (mask_of r.dcb H))
+        (area meaning mounted r H) = rw e at (current-start n H) in
         let area_is : (current meaning mounted G).area ≡ r.area = ap (λ (p : Program D). p.area) c ∙ issued in
         let none = no-starts n H w.unstarted in
-        let running : Channel D = record { device = prefixed meaning channel.device r.seek mask; isc = channel.isc; phase = Running (start_place r.start) } in
+        let running : Channel D = record {
+          device = prefixed meaning channel.device r.seek mask;
+          isc = channel.isc;
+          phase = Running (start_place r.start);
+        } in
         let whole : Ties meaning mounted G running (Some (held_first b)) (drop 1 waiters) table left = record {
           legal = (fits-free meaning mounted (Start n) H settled (First s), t.legal);
-          queue = ap (λ x. drop 1 x) t.queue ∙ sym (waiting-start meaning mounted n H ∙ ap (without n) z ∙ without-first r (drop 1 (waiting H)) apart);
+          queue = ap (λ x. drop 1 x) t.queue
+              ∙ sym (waiting-start meaning mounted n H ∙ ap (without n) z ∙ without-first r (drop 1 (waiting H)) apart);
           placed = placed-rest waiters t.placed;
           device = device_is;
           activity = record {
             is = active-start meaning mounted n H w.unposted;
             request = rw (e, area_is) refl;
-            placed = placed-first waiters r t.placed (ap (λ x. slice_get x 0) t.queue ∙ first);
+            placed = Each-at Placed waiters 0 r t.placed (ap (λ x. slice_get x 0) t.queue ∙ first);
             starts = rw self (rw none refl);
             halted = rw self refl;
             covered = rw e (rw self refl);
@@ -211,4 +212,5 @@ module _ {D : Type 0} (meaning : Meaning D) (mounted : D) where
           dcbs = t.dcbs;
           out = t.out;
         } in
-        subst (λ x. Ties meaning mounted G (ssch_started meaning channel r.start r.seek mask x) (Some (held_first b)) (drop 1 waiters) table left) (sym idle) whole
+        subst (λ x. Ties meaning mounted G (ssch_started meaning channel r.start r.seek mask x) (Some (held_first b))
+        (drop 1 waiters) table left) (sym idle) whole

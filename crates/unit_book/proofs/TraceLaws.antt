@@ -1,20 +1,12 @@
 -- Laws of legal traces.
-use Rattle.std.proofs.Common.{◌≡◌, ℕ, ◌⊎◌, true, false, Option, Some, None, List, [], ◌∷◌, ◌++◌, refl, sym, ap, ◌∙◌, inl, inr, subst}
-use Rattle.std.proofs.lemmas.Bool.{cases_Bool, or_left, or_right, or_from}
-use Rattle.std.specs.List.{list_any}
-use Rattle.io_images.specs.declared.csw.Csw.{Csw}
-use Rattle.device_port.specs.Meaning.{Meaning}
-use Rattle.request_piece.specs.declared.piece.Name.{Name}
-use Rattle.request_piece.specs.declared.piece.Piece.{Piece}
-use Rattle.io_images.specs.declared.code.Code.{Code}
-use Rattle.unit_book.specs.declared.entry.Entry.{Entry}
-use Rattle.unit_book.specs.declared.entry.Entry.TheVariants.{Opened, Arrive, Start, Ran, Halted, Purge, Close, Reset, Post}
-use Rattle.unit_book.specs.Trace.{same, is_posted, active, has_arrived}
-use Rattle.unit_book.specs.Legal.{Due, ToHalt, ToPost, Free, due, due_by, doomed_first, is_to_halt, Fits, FitsBy, Legal, StartFits, First, Again}
-use Rattle.unit_book.specs.Dcbs.{doomed}
+use Rattle.unit_book.proofs.Names.{◌≡◌, ℕ, ◌⊎◌, true, false, Some, List, [], ◌∷◌, ◌++◌, refl, sym, ap, ◌∙◌, inl, inr, subst, cases_Bool}
+use Rattle.unit_book.proofs.Names.{or_left, or_right, list_any, Csw, Meaning, Name, Piece, Code, Entry, Opened, Arrive, Start, Ran, Halted}
+use Rattle.unit_book.proofs.Names.{Purge, Close, Reset, Post, same, is_posted, active, has_arrived, Due, ToHalt, ToPost, Free, due, Fits}
+use Rattle.unit_book.proofs.Names.{FitsBy, Legal, StartFits, First, Again}
+use Rattle.std.proofs.lemmas.Bool.{or_from}
 use Rattle.unit_book.specs.Laws.{is_of_name}
 use Rattle.unit_book.proofs.Lists.{same-true, same-refl, no_both}
-use Rattle.unit_book.proofs.Facts.{Facts, active-is, fits-arrive, fits-start, fits-ran, fresh, post-whom, WaitsAmong}
+use Rattle.unit_book.proofs.Facts.{Facts, active-is, fits-arrive, fits-start, fits-ran, fresh, post-whom, WaitsAmong, due-halt}
 use Rattle.unit_book.proofs.LegalFacts.{facts, first-waits}
 
 module _ {D : Type 0} (meaning : Meaning D) (mounted : D) where
@@ -27,31 +19,17 @@ module _ {D : Type 0} (meaning : Meaning D) (mounted : D) where
       ]
 
   pub start-unposted : (m : Name) (H : List Entry) → Facts H → StartFits meaning mounted m H → is_posted m H ≡ false
-  start-unposted m H f (First s) = subst (λ (x : Name). is_posted x H ≡ false) s.name (first-waits meaning mounted s.request H f s.first).unposted
+  start-unposted m H f (First s) = subst (λ (x : Name). is_posted x H ≡ false) s.name
+      (first-waits meaning mounted s.request H f s.first).unposted
   start-unposted m H f (Again s) = (active-is m H s.active).1
 
   whom-unposted : (m : Name) (H : List Entry) → (active H ≡ Some m) ⊎ ((r : Piece) × WaitsAmong H r × (r.name ≡ m)) → is_posted m H ≡ false
   whom-unposted m H (inl a) = (active-is m H a).1
   whom-unposted m H (inr w) = subst (λ (x : Name). is_posted x H ≡ false) w.2 w.1.unposted
 
-  no-doomed-halt : (ds : List Piece) (m : Name) → doomed_first ds ≡ ToHalt m → ⊥
-  no-doomed-halt [] m h = cc
-  no-doomed-halt (r ∷ rs) m h = cc
-
-  -- what is halted is active
-  pub halt-active : (m : Name) (H : List Entry) → due meaning mounted H ≡ ToHalt m → active H ≡ Some m
-  unfolding due
-  halt-active m H h = by_active (active H) h where
-    by_active : (o : Option Name) → due_by meaning mounted H o ≡ ToHalt m → o ≡ Some m
-    by_active None e = absurd (no-doomed-halt (doomed H) m e)
-    by_active (Some k) e =
-        elim (cases_Bool (is_to_halt meaning mounted H k)) [
-          | inl b ↦ let e' = rw b at e in let q : k ≡ m = cc in ap Some q
-          | inr b ↦ absurd (no-doomed-halt (doomed H) m (rw b at e))
-        ]
-
-  halted-active : (m : Name) (H : List Entry) (d : Due) → d ≡ due meaning mounted H → FitsBy meaning mounted d (Halted m) H → active H ≡ Some m
-  halted-active m H (ToHalt k) e h = let q : k ≡ m = cc in halt-active m H (sym e ∙ ap ToHalt q)
+  halted-active : (m : Name) (H : List Entry) (d : Due) → d ≡ due meaning mounted H → FitsBy meaning mounted d (Halted m) H →
+      active H ≡ Some m
+  halted-active m H (ToHalt k) e h = let q : k ≡ m = cc in (due-halt meaning mounted H m (sym e ∙ ap ToHalt q)).0
   halted-active m H (ToPost k) e h = absurd cc
   halted-active m H Free e h = absurd h
 
@@ -72,9 +50,11 @@ module _ {D : Type 0} (meaning : Meaning D) (mounted : D) where
   not-of n (Reset d) H f p h = refl
   not-of n (Post m csw sense code) H f p h = unposted n m H p (whom-unposted m H (post-whom meaning mounted m csw sense code H f h))
 
-  still-posted : (n : Name) (csw : Csw) (sense : ℕ) (code : Code) (later earlier : List Entry) → is_posted n (later ++ Post n csw sense code ∷ earlier) ≡ true
+  still-posted : (n : Name) (csw : Csw) (sense : ℕ) (code : Code) (later earlier : List Entry) →
+      is_posted n (later ++ Post n csw sense code ∷ earlier) ≡ true
   still-posted n csw sense code [] earlier = or_left (same n n) (is_posted n earlier) (same-refl n)
-  still-posted n csw sense code (e ∷ later) earlier = or_right _ (is_posted n (later ++ Post n csw sense code ∷ earlier)) (still-posted n csw sense code later earlier)
+  still-posted n csw sense code (e ∷ later) earlier = or_right _ (is_posted n (later ++ Post n csw sense code ∷ earlier))
+      (still-posted n csw sense code later earlier)
 
   pub posts-last : (n : Name) (csw : Csw) (sense : ℕ) (code : Code) (later earlier : List Entry) →
       Legal meaning mounted (later ++ Post n csw sense code ∷ earlier) → list_any (is_of_name n) later ≡ false

@@ -1,22 +1,16 @@
 -- Worked rows, by computation: the words on concrete traces, newest entry first.
-use Rattle.std.proofs.Common.{◌≡◌, ℕ, Bool, true, false, Some, None, List, [], ◌∷◌, refl}
-use Rattle.io_images.specs.declared.code.Code.TheVariants.{Ended, PermanentError, ExtentViolated, Purged}
-use Rattle.io_images.specs.declared.extent.Extent.{Extent}
+use Rattle.unit_book.proofs.Names.{◌≡◌, ℕ, Bool, true, false, Some, None, List, [], ◌∷◌, refl, Ended, ExtentViolated, Purged, Extent}
+use Rattle.unit_book.proofs.Names.{Printer, no_status, Retry, Final, Name, Piece, Quiesce, Halt, Entry, Opened, Arrive, Start, Ran, Halted}
+use Rattle.unit_book.proofs.Names.{Purge, Close, Reset, Post, arrivals, arrived_of, waiting, started, active, request_named, starts_of}
+use Rattle.unit_book.proofs.Names.{is_covered, is_halted, passes_check, extents_of, mask_of, flag, doomed, after_dooms}
+use Rattle.io_images.specs.declared.code.Code.TheVariants.{PermanentError}
 use Rattle.io_images.specs.declared.seek.Seek.{Seek}
-use Rattle.device_port.specs.declared.kind.Kind.TheVariants.{Disk, Tape, Printer}
-use Rattle.io_images.specs.Images.{no_status}
-use Rattle.recovery.specs.declared.answer.Verdict.TheVariants.{Retry, Final}
-use Rattle.request_piece.specs.declared.piece.Name.{Name}
-use Rattle.request_piece.specs.declared.piece.Piece.{Piece}
+use Rattle.device_port.specs.declared.kind.Kind.TheVariants.{Disk, Tape}
 use Rattle.request_piece.specs.declared.scope.Scope.TheVariants.{Dcb, Task}
 use Rattle.unit_book.specs.declared.dcb.DcbState.TheVariants.{Unknown, Open, Closing, Closed}
-use Rattle.unit_book.specs.declared.entry.Mode.TheVariants.{Quiesce, Halt}
-use Rattle.unit_book.specs.declared.entry.Entry.{Entry}
-use Rattle.unit_book.specs.declared.entry.Entry.TheVariants.{Opened, Arrive, Start, Ran, Halted, Purge, Close, Reset, Post}
-use Rattle.unit_book.specs.Trace.{arrivals, arrived_of, waiting, started, active, request_of, no_request, starts_of, is_covered, is_halted}
-use Rattle.unit_book.specs.Extents.{takes_extents, passes_check}
-use Rattle.unit_book.specs.Dcbs.{dcb_state, extents_of, mask_of, flag, is_refused, doomed}
-use Rattle.unit_book.specs.Dooms.{after_dooms}
+use Rattle.unit_book.specs.Trace.{no_request}
+use Rattle.unit_book.specs.Extents.{takes_extents}
+use Rattle.unit_book.specs.Dcbs.{dcb_state, is_refused}
 use Rattle.unit_book.specs.Fields.{ended_code}
 use Rattle.unit_book.specs.Laws.{first_starts, waits, is_active}
 
@@ -57,13 +51,16 @@ quiesced =
     Purge (Dcb 1) Quiesce ∷ Start (n 1) ∷ Arrive (r 3 2 false) ∷ Arrive (r 2 1 false) ∷ Arrive (r 1 1 false)
     ∷ Opened 2 false [] ∷ Opened 1 false [] ∷ []
 
-quiesce_lets_active_end : (waiting quiesced ≡ r 2 1 false ∷ r 3 2 false ∷ []) × (active quiesced ≡ Some (n 1)) × (doomed quiesced ≡ r 2 1 false ∷ [])
-    × (waiting (after_dooms quiesced) ≡ r 3 2 false ∷ []) × (active (after_dooms quiesced) ≡ Some (n 1)) × (doomed (after_dooms quiesced) ≡ [])
+quiesce_lets_active_end : (waiting quiesced ≡ r 2 1 false ∷ r 3 2 false ∷ []) × (active quiesced ≡ Some (n 1))
+    × (doomed quiesced ≡ r 2 1 false ∷ [])
+    × (waiting (after_dooms quiesced) ≡ r 3 2 false ∷ []) × (active (after_dooms quiesced) ≡ Some (n 1))
+    × (doomed (after_dooms quiesced) ≡ [])
 unfolding quiesced r n waiting arrivals active started flag
 quiesce_lets_active_end = (refl, refl, refl, refl, refl, refl)
 
 -- 2. A purge of a task takes the requests of all its DCBs
-of_task : (doomed (Purge (Task 0) Quiesce ∷ Arrive (r 2 2 false) ∷ Arrive (r 1 1 false) ∷ Opened 2 false [] ∷ Opened 1 false [] ∷ []) ≡ r 1 1 false ∷ r 2 2 false ∷ [])
+of_task : (doomed (Purge (Task 0) Quiesce ∷ Arrive (r 2 2 false) ∷ Arrive (r 1 1 false) ∷ Opened 2 false [] ∷ Opened 1 false [] ∷ [])
+    ≡ r 1 1 false ∷ r 2 2 false ∷ [])
     × (doomed (Arrive (r 1 1 false) ∷ Purge (Task 0) Quiesce ∷ Opened 1 false [] ∷ []) ≡ [])
 unfolding r waiting arrivals flag
 of_task = (refl, refl)
@@ -74,9 +71,11 @@ in_error =
     Post (n 1) no_status 0 PermanentError ∷ Start (n 1) ∷ Arrive (r 3 1 false) ∷ Arrive (r 2 1 true) ∷ Arrive (r 1 1 true)
     ∷ Opened 1 false [] ∷ []
 
-related_error_flags_dcb_until_reset : (flag 1 in_error ≡ true) × (doomed in_error ≡ r 2 1 true ∷ []) × (is_refused (r 4 1 true) in_error ≡ true)
-    × (is_refused (r 4 1 false) in_error ≡ false) × (flag 1 (Reset 1 ∷ in_error) ≡ false) × (is_refused (r 4 1 true) (Reset 1 ∷ in_error) ≡ false)
-unfolding in_error r n waiting arrivals flag request_of
+related_error_flags_dcb_until_reset : (flag 1 in_error ≡ true) × (doomed in_error ≡ r 2 1 true ∷ [])
+    × (is_refused (r 4 1 true) in_error ≡ true)
+    × (is_refused (r 4 1 false) in_error ≡ false) × (flag 1 (Reset 1 ∷ in_error) ≡ false)
+    × (is_refused (r 4 1 true) (Reset 1 ∷ in_error) ≡ false)
+unfolding in_error r n waiting arrivals flag request_named
 related_error_flags_dcb_until_reset = (refl, refl, refl, refl, refl, refl)
 
 -- 4. The same error of an unrelated request dooms nothing
@@ -86,7 +85,7 @@ unrelated =
     ∷ Opened 1 false [] ∷ []
 
 unrelated_error_dooms_nothing : (flag 1 unrelated ≡ false) × (doomed unrelated ≡ [])
-unfolding unrelated r n waiting arrivals flag request_of
+unfolding unrelated r n waiting arrivals flag request_named
 unrelated_error_dooms_nothing = (refl, refl)
 
 -- 5. A close while r1 is active and r2 waits, then the post of r1
@@ -95,11 +94,12 @@ closing = Close 1 ∷ Start (n 1) ∷ Arrive (r 2 1 false) ∷ Arrive (r 1 1 fal
 
 close_lets_active_retry : (dcb_state 1 closing ≡ Closing) × (doomed closing ≡ r 2 1 false ∷ [])
     × (dcb_state 1 (Post (n 1) no_status 0 Ended ∷ after_dooms closing) ≡ Closed) × (is_refused (r 5 1 false) closing ≡ true)
-unfolding closing r n waiting arrivals active started request_of flag
+unfolding closing r n waiting arrivals active started request_named flag
 close_lets_active_retry = (refl, refl, refl, refl)
 
 -- 6. A DCB that was never opened
-unknown_dcb : (dcb_state 9 closing ≡ Unknown) × (flag 9 closing ≡ false) × (is_refused (r 3 9 false) closing ≡ true) × (dcb_state 1 (Opened 1 false [] ∷ []) ≡ Open)
+unknown_dcb : (dcb_state 9 closing ≡ Unknown) × (flag 9 closing ≡ false) × (is_refused (r 3 9 false) closing ≡ true)
+    × (dcb_state 1 (Opened 1 false [] ∷ []) ≡ Open)
 unfolding closing r flag active started
 unknown_dcb = (refl, refl, refl, refl)
 
@@ -111,16 +111,20 @@ unfolding extent one_track
 extent_faults = (refl, refl, refl, refl)
 
 -- 8. Extents that may be
-extents_taken : (takes_extents Disk 1 1 (one_track ∷ []) ≡ true) × (takes_extents Disk 2 2 (one_track ∷ across ∷ []) ≡ true) × (takes_extents Tape 0 0 [] ≡ true) × (takes_extents Printer 0 0 [] ≡ true)
+extents_taken : (takes_extents Disk 1 1 (one_track ∷ []) ≡ true) × (takes_extents Disk 2 2 (one_track ∷ across ∷ []) ≡ true)
+    × (takes_extents Tape 0 0 [] ≡ true) × (takes_extents Printer 0 0 [] ≡ true)
 unfolding extent one_track across
 extents_taken = (refl, refl, refl, refl)
 
 -- 9. THE EXTENT CHECK on two cylinders with two heads: in the second extent, behind its end, in no extent of that
 --    number, before
 -- the first one's, past the heads, with a bin
-extent_check : (passes_check Disk 2 (one_track ∷ across ∷ []) (seek 1 0 1 0) ≡ true) × (passes_check Disk 2 (one_track ∷ across ∷ []) (seek 1 0 1 1) ≡ false)
-    × (passes_check Disk 2 (one_track ∷ across ∷ []) (seek 2 0 0 0) ≡ false) × (passes_check Disk 2 (one_track ∷ across ∷ []) (seek 0 0 1 0) ≡ false)
-    × (passes_check Disk 2 (one_track ∷ across ∷ []) (seek 1 0 0 2) ≡ false) × (passes_check Disk 2 (one_track ∷ across ∷ []) (seek 0 1 0 0) ≡ false)
+extent_check : (passes_check Disk 2 (one_track ∷ across ∷ []) (seek 1 0 1 0) ≡ true)
+    × (passes_check Disk 2 (one_track ∷ across ∷ []) (seek 1 0 1 1) ≡ false)
+    × (passes_check Disk 2 (one_track ∷ across ∷ []) (seek 2 0 0 0) ≡ false)
+    × (passes_check Disk 2 (one_track ∷ across ∷ []) (seek 0 0 1 0) ≡ false)
+    × (passes_check Disk 2 (one_track ∷ across ∷ []) (seek 1 0 0 2) ≡ false)
+    × (passes_check Disk 2 (one_track ∷ across ∷ []) (seek 0 1 0 0) ≡ false)
     × (passes_check Tape 0 [] (seek 7 1 2 3) ≡ true)
 unfolding extent one_track across seek
 extent_check = (refl, refl, refl, refl, refl, refl, refl)
@@ -129,7 +133,8 @@ extent_check = (refl, refl, refl, refl, refl, refl, refl)
 masks : List Entry
 masks = Opened 2 true (across ∷ []) ∷ Opened 1 false (one_track ∷ []) ∷ []
 
-dcbs_differ : (mask_of 1 masks ≡ 0x18) × (mask_of 2 masks ≡ 0x58) × (extents_of 1 masks ≡ one_track ∷ []) × (extents_of 2 masks ≡ across ∷ [])
+dcbs_differ : (mask_of 1 masks ≡ 0x18) × (mask_of 2 masks ≡ 0x58) × (extents_of 1 masks ≡ one_track ∷ [])
+    × (extents_of 2 masks ≡ across ∷ [])
 unfolding masks extents_of
 dcbs_differ = (refl, refl, refl, refl)
 
@@ -140,23 +145,27 @@ covering H e = is_covered (r 1 1 false) (e ∷ H)
 once : List Entry
 once = Start (n 1) ∷ Arrive (r 1 1 false) ∷ Opened 1 false [] ∷ []
 
-halts_cover : (covering once (Purge (Dcb 1) Halt) ≡ true) × (covering once (Purge (Task 0) Halt) ≡ true) × (covering once (Purge (Dcb 1) Quiesce) ≡ false)
+halts_cover : (covering once (Purge (Dcb 1) Halt) ≡ true) × (covering once (Purge (Task 0) Halt) ≡ true)
+    × (covering once (Purge (Dcb 1) Quiesce) ≡ false)
     × (covering once (Purge (Dcb 2) Halt) ≡ false) × (is_covered (r 1 1 false) (Start (n 1) ∷ Purge (Dcb 1) Halt ∷ once) ≡ false)
     × (is_halted (n 1) (Halted (n 1) ∷ Purge (Dcb 1) Halt ∷ once) ≡ true)
 unfolding covering once r n
 halts_cover = (refl, refl, refl, refl, refl, refl)
 
 -- 12. A covered request that would be tried again is purged, one with a final verdict is not
-covered_codes : (ended_code Retry true ≡ Some Purged) × (ended_code Retry false ≡ None) × (ended_code (Final Ended) true ≡ Some Ended) × (ended_code (Final PermanentError) true ≡ Some PermanentError)
+covered_codes : (ended_code Retry true ≡ Some Purged) × (ended_code Retry false ≡ None) × (ended_code (Final Ended) true ≡ Some Ended)
+    × (ended_code (Final PermanentError) true ≡ Some PermanentError)
 covered_codes = (refl, refl, refl, refl)
 
 -- 13. Two Starts of r1, whose Post lets r2 start: places, numbers and order of first Starts
 retried : List Entry
 retried =
-    Start (n 2) ∷ Post (n 1) no_status 0 Ended ∷ Start (n 1) ∷ Ran (n 1) 1 ∷ Start (n 1) ∷ Arrive (r 3 1 false) ∷ Arrive (r 2 1 false) ∷ Arrive (r 1 1 false)
+    Start (n 2) ∷ Post (n 1) no_status 0 Ended ∷ Start (n 1) ∷ Ran (n 1) 1 ∷ Start (n 1) ∷ Arrive (r 3 1 false) ∷ Arrive
+    (r 2 1 false) ∷ Arrive (r 1 1 false)
     ∷ Opened 1 false [] ∷ []
 
-starts_and_places : (starts_of (n 1) retried ≡ 2) × (first_starts retried ≡ n 1 ∷ n 2 ∷ []) × (active retried ≡ Some (n 2)) × (waits (n 3) retried ≡ true)
+starts_and_places : (starts_of (n 1) retried ≡ 2) × (first_starts retried ≡ n 1 ∷ n 2 ∷ []) × (active retried ≡ Some (n 2))
+    × (waits (n 3) retried ≡ true)
     × (waits (n 1) retried ≡ false) × (is_active (n 1) retried ≡ false) × (arrived_of 0 retried ≡ 3) × (arrived_of 1 retried ≡ 0)
 unfolding retried r n waiting arrivals active started first_starts
 starts_and_places = (refl, refl, refl, refl, refl, refl, refl, refl)
@@ -165,6 +174,7 @@ starts_and_places = (refl, refl, refl, refl, refl, refl, refl, refl)
 violated : List Entry
 violated = Post (n 1) no_status 0 ExtentViolated ∷ Arrive (r 2 1 true) ∷ Arrive (r 1 1 true) ∷ Opened 1 false (one_track ∷ []) ∷ []
 
-extent_violation_dooms_related : (flag 1 violated ≡ true) × (doomed violated ≡ r 2 1 true ∷ []) × (waiting (after_dooms violated) ≡ []) × (first_starts (after_dooms violated) ≡ [])
-unfolding violated r n waiting arrivals flag request_of first_starts
+extent_violation_dooms_related : (flag 1 violated ≡ true) × (doomed violated ≡ r 2 1 true ∷ []) × (waiting (after_dooms violated) ≡ [])
+    × (first_starts (after_dooms violated) ≡ [])
+unfolding violated r n waiting arrivals flag request_named first_starts
 extent_violation_dooms_related = (refl, refl, refl, refl)

@@ -1,42 +1,24 @@
 -- What each call of a book keeps: a legal trace with nothing due, and that what is posted is out.
-use Rattle.std.proofs.Common.{◌≡◌, ◌≤◌, ℕ, suc, ◌+◌, Bool, true, false, Option, Some, None, List, [], ◌∷◌, ◌++◌, refl, sym, ap, ◌∙◌, arith, inl, inr, subst}
-use Rattle.std.proofs.lemmas.Bool.{cases_Bool}
-use Rattle.std.proofs.lemmas.List.{append-nil}
-use Rattle.io_images.specs.declared.code.Code.TheVariants.{ExtentViolated, Purged}
-use Rattle.io_images.specs.declared.extent.Extent.{Extent}
-use Rattle.device_port.specs.Meaning.{Meaning}
-use Rattle.ccw_programs.specs.Place.{Place}
-use Rattle.ccw_programs.specs.declared.context.State.{State}
+use Rattle.unit_book.proofs.Names.{◌≡◌, ◌≤◌, ℕ, suc, ◌+◌, Bool, true, false, Option, Some, None, List, [], ◌∷◌, ◌++◌, refl, sym, ap, ◌∙◌}
+use Rattle.unit_book.proofs.Names.{arith, inl, inr, subst, cases_Bool, append-nil, ExtentViolated, Purged, Extent, Meaning, Place, State}
+use Rattle.unit_book.proofs.Names.{length_of, is_running, no_status, PostedState, Name, Piece, Scope, Starting, Busy, Started, Violated}
+use Rattle.unit_book.proofs.Names.{NothingRuns, RanSome, Interruption, NothingPending, TriedAgain, WasPosted, Mode, Entry, Opened, Arrive}
+use Rattle.unit_book.proofs.Names.{Start, Ran, Close, Reset, Post, arrivals, arrived_of, active, is_open, StillRunning, still_runs}
+use Rattle.unit_book.proofs.Names.{active_phase, active_phase_by, current, Free, due, Legal, StartFits, First, Again, OfActive, OfFirst}
+use Rattle.unit_book.proofs.Names.{CanPurge, posted, after_dooms, Book, running_name_by, Adds, Extends, MayStart, MayFirst, MayAgain}
+use Rattle.unit_book.proofs.Names.{StartsBook, RunsBook, InterruptsBook, PurgesBy, covers_awaiting, after_purge}
 use Rattle.ccw_programs.specs.declared.context.State.TheVariants.{Running as Runs, Ended}
-use Rattle.ccw_programs.specs.Step.{length_of, is_running}
 use Rattle.ccw_programs.proofs.StepLaws.{steps_within-running}
-use Rattle.io_images.specs.Images.{no_status}
-use Rattle.request_piece.specs.PostedState.{PostedState}
-use Rattle.request_piece.specs.declared.piece.Name.{Name}
-use Rattle.request_piece.specs.declared.piece.Piece.{Piece}
-use Rattle.request_piece.specs.declared.scope.Scope.{Scope}
-use Rattle.unit_book.specs.declared.answer.Starting.{Starting}
-use Rattle.unit_book.specs.declared.answer.Starting.TheVariants.{Busy, Idle, Started, Violated}
+use Rattle.unit_book.specs.declared.answer.Starting.TheVariants.{Idle}
 use Rattle.unit_book.specs.declared.answer.Running.{Running}
-use Rattle.unit_book.specs.declared.answer.Running.TheVariants.{Quiet as NothingRuns, Ran as RanSome}
-use Rattle.unit_book.specs.declared.answer.Interruption.{Interruption}
-use Rattle.unit_book.specs.declared.answer.Interruption.TheVariants.{Quiet as NothingPending, Again as TriedAgain, Ended as WasPosted}
 use Rattle.unit_book.specs.declared.answer.Purging.{Purging}
 use Rattle.unit_book.specs.declared.answer.Closing.{Closing}
-use Rattle.unit_book.specs.declared.entry.Mode.{Mode}
-use Rattle.unit_book.specs.declared.entry.Entry.{Entry}
-use Rattle.unit_book.specs.declared.entry.Entry.TheVariants.{Opened, Arrive, Start, Ran, Close, Reset, Post}
-use Rattle.unit_book.specs.Trace.{arrivals, arrived_of, active}
-use Rattle.unit_book.specs.Dcbs.{is_open}
-use Rattle.unit_book.specs.Media.{StillRunning, still_runs, active_phase, active_phase_by, current}
-use Rattle.unit_book.specs.Legal.{Free, due, Legal, StartFits, First, Again, OfActive, OfFirst, RanFits, CanPurge}
-use Rattle.unit_book.specs.Posts.{posted}
-use Rattle.unit_book.specs.Dooms.{after_dooms}
-use Rattle.unit_book.specs.Book.{Book, running_name_by}
-use Rattle.unit_book.specs.Answers.{Adds, Extends, OpensBook, MayStart, MayFirst, MayAgain, StartsBook, RunsBook, RunsOn, InterruptsBook}
-use Rattle.unit_book.specs.Controls.{PurgesBy, PurgesBook, ClosesBy, ClosesBook, covers_awaiting, after_purge}
+use Rattle.unit_book.specs.Legal.{RanFits}
+use Rattle.unit_book.specs.Answers.{OpensBook, RunsOn}
+use Rattle.unit_book.specs.Controls.{PurgesBook, ClosesBy, ClosesBook}
 use Rattle.unit_book.proofs.Purges.{since-is}
-use Rattle.unit_book.proofs.WorldTraces.{Grows, grows-not, grows-open, grows-arrive, grows-start, grows-ran, grows-post, grows-close, grows-reset, grows-purge, grows-purged}
+use Rattle.unit_book.proofs.WorldTraces.{Grows, grows-not, grows-open, grows-arrive, grows-start, grows-ran, grows-post, grows-close}
+use Rattle.unit_book.proofs.WorldTraces.{grows-reset, grows-purge, grows-purged}
 
 -- one command is left at least, where a program runs
 runs-running : (b : Bool) (place : Place) (state : State) → still_runs (active_phase_by b place state) ≡ true →
@@ -64,37 +46,36 @@ module _ {D : Type 0} (meaning : Meaning D) where
   keeps-posts : (old new : Book D) (H : List Entry) (again : Bool) (more : List Piece) → Extends meaning old H again new →
       Grows meaning old.mounted old.trace H more → Keeps old more new
   keeps-posts old new H again more p g =
-      let t : new.trace ≡ H = ap (λ (b : Book D). b.trace) p in
       let s = since-is meaning old.mounted old.trace H g.values g.posted_is in
-      record {
-        mounted = ap (λ (b : Book D). b.mounted) p;
-        isc = ap (λ (b : Book D). b.isc) p;
-        legal = subst (Legal meaning old.mounted) (sym t) g.legal;
-        settled = ap (due meaning old.mounted) t ∙ g.settled;
-        arrived = ap arrivals t ∙ g.arrived;
+      rw p (record {
+        mounted = refl;
+        isc = refl;
+        legal = g.legal;
+        settled = g.settled;
+        arrived = g.arrived;
         values = g.values;
-        posted_is = ap (posted meaning old.mounted) t ∙ g.posted_is;
-        out = ap (λ (b : Book D). b.out) p ∙ ap (λ x. old.out ++ x) s;
-      }
+        posted_is = g.posted_is;
+        out = ap (λ x. old.out ++ x) s;
+      })
 
   -- a call that posts nothing
   keeps-adds : (old new : Book D) (H : List Entry) (again : Bool) → new ≡ record old { trace = H; awaits = again; spare = new.spare } →
       Grows meaning old.mounted old.trace H [] →
       posted meaning old.mounted H ≡ posted meaning old.mounted old.trace → Keeps old [] new
   keeps-adds old new H again p g q =
-      let t : new.trace ≡ H = ap (λ (b : Book D). b.trace) p in
-      record {
-        mounted = ap (λ (b : Book D). b.mounted) p;
-        isc = ap (λ (b : Book D). b.isc) p;
-        legal = subst (Legal meaning old.mounted) (sym t) g.legal;
-        settled = ap (due meaning old.mounted) t ∙ g.settled;
-        arrived = ap arrivals t ∙ g.arrived;
+      rw p (record {
+        mounted = refl;
+        isc = refl;
+        legal = g.legal;
+        settled = g.settled;
+        arrived = g.arrived;
         values = [];
-        posted_is = ap (posted meaning old.mounted) t ∙ q ∙ sym (append-nil (posted meaning old.mounted old.trace));
-        out = ap (λ (b : Book D). b.out) p ∙ sym (append-nil old.out);
-      }
+        posted_is = q ∙ sym (append-nil (posted meaning old.mounted old.trace));
+        out = sym (append-nil old.out);
+      })
 
-  pub keeps-again : (old new : Book D) (again : Bool) → Sound old → new ≡ record old { awaits = again; spare = new.spare } → Keeps old [] new
+  pub keeps-again : (old new : Book D) (again : Bool) → Sound old → new ≡ record old { awaits = again; spare = new.spare } →
+      Keeps old [] new
   keeps-again old new again s p = keeps-adds old new old.trace again p (grows-not meaning old.mounted old.trace s.0 s.1) refl
 
   -- nothing changes
@@ -104,9 +85,11 @@ module _ {D : Type 0} (meaning : Meaning D) where
   pub keeps-arrive : (old new : Book D) (r : Piece) → Sound old → r.name.seq ≡ arrived_of r.name.task old.trace + 1 →
       Extends meaning old (after_dooms (Arrive r ∷ old.trace)) old.awaits new → Keeps old (r ∷ []) new
   keeps-arrive old new r s n p =
-      keeps-posts old new (after_dooms (Arrive r ∷ old.trace)) old.awaits (r ∷ []) p (grows-arrive meaning old.mounted r old.trace s.0 s.1 n)
+      keeps-posts old new (after_dooms (Arrive r ∷ old.trace)) old.awaits (r ∷ []) p
+      (grows-arrive meaning old.mounted r old.trace s.0 s.1 n)
 
-  pub keeps-open : (old new : Book D) (dcb : ℕ) (input : Bool) (extents : List Extent) → Sound old → OpensBook meaning old dcb input extents new →
+  pub keeps-open : (old new : Book D) (dcb : ℕ) (input : Bool) (extents : List Extent) → Sound old →
+      OpensBook meaning old dcb input extents new →
       Keeps old [] new
   unfolding posted
   keeps-open old new dcb input extents s h =
@@ -132,11 +115,13 @@ module _ {D : Type 0} (meaning : Meaning D) where
   pub running-is : (mounted : D) (H : List Entry) (n : Name) → running_name_by meaning mounted H (active H) ≡ Some n →
       (active H ≡ Some n) × (still_runs (active_phase meaning mounted n H) ≡ true)
   running-is mounted H n h = by_active (active H) h where
-    by_active : (o : Option Name) → running_name_by meaning mounted H o ≡ Some n → (o ≡ Some n) × (still_runs (active_phase meaning mounted n H) ≡ true)
+    by_active : (o : Option Name) → running_name_by meaning mounted H o ≡ Some n →
+        (o ≡ Some n) × (still_runs (active_phase meaning mounted n H) ≡ true)
     by_active None e = absurd cc
     by_active (Some m) e =
         elim (cases_Bool (still_runs (active_phase meaning mounted m H))) [
-          | inl b ↦ let e' = rw b at e in let q : m ≡ n = cc in (ap Some q, subst (λ (x : Name). still_runs (active_phase meaning mounted x H) ≡ true) q b)
+          | inl b ↦ let e' = rw b at e in let q : m
+              ≡ n = cc in (ap Some q, subst (λ (x : Name). still_runs (active_phase meaning mounted x H) ≡ true) q b)
           | inr b ↦ let e' = rw b at e in absurd cc
         ]
 
@@ -149,7 +134,8 @@ module _ {D : Type 0} (meaning : Meaning D) where
       let n : length_of meaning p ≡ suc _ = steps_within-running meaning 4096 p g.1 in
       record { active = a.0; running = g.0; some = omega (arith, m, n, h.count); left = omega (arith, h.count) }
 
-  pub keeps-run : (old new : Book D) (max : ℕ) (answer : Running) → Sound old → 1 ≤ max → RunsBook meaning old max answer new → Keeps old [] new
+  pub keeps-run : (old new : Book D) (max : ℕ) (answer : Running) → Sound old → 1 ≤ max → RunsBook meaning old max answer new →
+      Keeps old [] new
   unfolding posted
   keeps-run old new max NothingRuns s m h = keeps-same old new s h.1
   keeps-run old new max (RanSome commands pending) s m h =
@@ -163,7 +149,8 @@ module _ {D : Type 0} (meaning : Meaning D) where
       keeps-posts old new (after_dooms (Post n h.1.csw h.1.sense code ∷ old.trace)) false [] h.1.extends
       (grows-post meaning old.mounted n h.1.csw h.1.sense code old.trace s.0 s.1 (OfActive h.1.fits))
 
-  pub keeps-purge : (old new : Book D) (scope : Scope) (mode : Mode) (answer : Purging) → Sound old → CanPurge meaning old.mounted scope old.trace →
+  pub keeps-purge : (old new : Book D) (scope : Scope) (mode : Mode) (answer : Purging) → Sound old →
+      CanPurge meaning old.mounted scope old.trace →
       PurgesBook meaning old scope mode answer new → Keeps old [] new
   keeps-purge old new scope mode answer s can h = by_test (covers_awaiting old scope mode) h.purges where
     after : List Entry

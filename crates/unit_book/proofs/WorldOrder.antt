@@ -1,16 +1,7 @@
 -- In a world the requests of a task are first started in the order of sending.
-use Rattle.std.proofs.Common.{◌≡◌, ◌≤◌, ℕ, suc, ◌+◌, ◌==◌, Bool, false, Some, List, [], ◌∷◌, ◌++◌, length, map, refl, sym, ap, ◌∙◌, arith, inl, inr, subst}
-use Rattle.std.proofs.lemmas.Bool.{cases_Bool}
-use Rattle.std.proofs.lemmas.List.{append-nil}
-use Rattle.std.proofs.lemmas.List.Elements.{filter-append}
-use Rattle.std.specs.List.{filter}
-use Rattle.std.specs.Prelude.{slice_get}
-use Rattle.circular_buffer.proofs.Places.{slice_get-append_right}
-use Rattle.device_port.specs.Meaning.{Meaning}
-use Rattle.request_piece.specs.declared.piece.Name.{Name}
-use Rattle.request_piece.specs.declared.piece.Piece.{Piece}
-use Rattle.unit_book.specs.declared.entry.Entry.{Entry}
-use Rattle.unit_book.specs.Trace.{arrivals, arrived_of, has_arrived, has_started}
+use Rattle.unit_book.proofs.Names.{◌≡◌, ◌≤◌, ℕ, suc, ◌+◌, ◌==◌, Bool, false, Some, List, [], ◌∷◌, ◌++◌, length, map, refl, sym, ap, ◌∙◌}
+use Rattle.unit_book.proofs.Names.{arith, inl, inr, subst, cases_Bool, append-nil, filter-append, filter, slice_get, slice_get-append_right}
+use Rattle.unit_book.proofs.Names.{Meaning, Name, Piece, Entry, arrivals, arrived_of, has_arrived, has_started}
 use Rattle.unit_book.specs.Laws.{first_starts}
 use Rattle.unit_book.specs.World.{World, requests_of}
 use Rattle.unit_book.proofs.Facts.{Facts, fresh-start}
@@ -57,7 +48,8 @@ module _ {D : Type 0} (meaning : Meaning D) (w : World D) (k : Kept meaning w) w
           | inr a ↦ fresh-start meaning w.book.mounted r.name H known a
         ]
 
-  started-sent : (task : ℕ) → filter (λ r. has_started r.name H) (requests_of task (arrivals H)) ≡ filter (λ r. has_started r.name H) (w.sent task)
+  started-sent : (task : ℕ) → filter (λ r. has_started r.name H) (requests_of task (arrivals H)) ≡ filter (λ r. has_started r.name H)
+      (w.sent task)
   started-sent task =
       let A = requests_of task (arrivals H) in
       let test = λ (r : Piece). has_started r.name H in

@@ -1,33 +1,19 @@
 -- Worked rows of worlds, by computation: one step after another, from an opening world to a finished one.
-use Rattle.std.proofs.Common.{◌≡◌, ℕ, true, false, List, [], ◌∷◌, replicate, refl, arith}
-use Rattle.io_images.specs.declared.csw.Csw.{Csw}
-use Rattle.io_images.specs.declared.code.Code.{Code}
-use Rattle.io_images.specs.declared.code.Code.TheVariants.{Ended, Purged}
-use Rattle.device_port.specs.Meaning.{Meaning}
-use Rattle.device_port.specs.declared.kind.Kind.TheVariants.{Printer}
+use Rattle.unit_book.proofs.Names.{◌≡◌, ℕ, true, false, List, [], ◌∷◌, refl, arith, Csw, Code, Ended, Purged, Meaning, Printer, after}
+use Rattle.unit_book.proofs.Names.{no_status, PostedState, Name, Piece, Started, RanSome, WasPosted, Quiesce, Entry, Opened, Arrive, Ran}
+use Rattle.unit_book.proofs.Names.{Post, arrivals, waiting, started, active, request_named, extents_of, flag, attempts, stand, newest, Legal}
+use Rattle.unit_book.proofs.Names.{WithVerdict, due, posted, posted_value, MayFirst}
+use Rattle.std.proofs.Common.{replicate}
 use Rattle.device_port.specs.declared.kind.Flow.TheVariants.{None as NoFlow}
 use Rattle.ccw_programs.specs.Links.{chain_within}
-use Rattle.ccw_programs.specs.Step.{step, after, steps_within}
-use Rattle.io_images.specs.Images.{no_status}
-use Rattle.request_piece.specs.PostedState.{PostedState}
-use Rattle.request_piece.specs.declared.piece.Name.{Name}
-use Rattle.request_piece.specs.declared.piece.Piece.{Piece}
+use Rattle.ccw_programs.specs.Step.{step, steps_within}
 use Rattle.request_piece.specs.declared.scope.Scope.TheVariants.{Dcb}
-use Rattle.unit_book.specs.declared.answer.Starting.TheVariants.{Started}
-use Rattle.unit_book.specs.declared.answer.Running.TheVariants.{Ran as RanSome}
-use Rattle.unit_book.specs.declared.answer.Interruption.TheVariants.{Ended as WasPosted}
 use Rattle.unit_book.specs.declared.answer.Purging.TheVariants.{Quiet}
-use Rattle.unit_book.specs.declared.entry.Mode.TheVariants.{Quiesce}
-use Rattle.unit_book.specs.declared.entry.Entry.{Entry}
-use Rattle.unit_book.specs.declared.entry.Entry.TheVariants.{Opened, Arrive, Start as StartOf, Ran, Purge as PurgeOf, Post}
-use Rattle.unit_book.specs.Trace.{no_request, arrivals, waiting, started, active, request_of}
-use Rattle.unit_book.specs.Dcbs.{extents_of, flag}
-use Rattle.unit_book.specs.Media.{attempts, stand, newest}
-use Rattle.unit_book.specs.Legal.{Legal, WithVerdict, due}
-use Rattle.unit_book.specs.Posts.{posted, posted_value}
+use Rattle.unit_book.specs.declared.entry.Entry.TheVariants.{Start as StartOf, Purge as PurgeOf}
+use Rattle.unit_book.specs.Trace.{no_request}
 use Rattle.unit_book.specs.Book.{opening}
-use Rattle.unit_book.specs.Answers.{MayFirst}
-use Rattle.unit_book.specs.World.{World, behind, without_first, Accepts, Accept, Take, Start, Run, Interrupt, Purge, Deliver, Collect, Reaches, Stay, Go, IsOpening, IsFinished}
+use Rattle.unit_book.specs.World.{World, one_more_of_task, without_first, Accepts, Accept, Take, Start, Run, Interrupt, Purge, Deliver, Collect}
+use Rattle.unit_book.specs.World.{Reaches, Stay, Go, IsOpening, IsFinished}
 use Rattle.unit_book.specs.WorldLaws.{posts_of}
 
 -- a device of which every command ends normally, without data
@@ -73,7 +59,7 @@ world H = record {
 
 -- task 0 has sent its request 1
 abbrev sent : World (Unit {0}) → World (Unit {0})
-sent w = record w { sent = behind w.sent 0 (r 1); flight = r 1 ∷ [] }
+sent w = record w { sent = one_more_of_task w.sent 0 (r 1); flight = r 1 ∷ [] }
 
 -- the book has this trace, and these values are out
 abbrev taken : List Entry → List PostedState → World (Unit {0}) → World (Unit {0})
@@ -81,11 +67,11 @@ taken H out w = record w { flight = []; book = record w.book { trace = H; out = 
 
 -- the value goes on its way back to task 0
 abbrev delivered : PostedState → World (Unit {0}) → World (Unit {0})
-delivered v w = record w { book = record w.book { out = [] }; back = behind w.back 0 v }
+delivered v w = record w { book = record w.book { out = [] }; back = one_more_of_task w.back 0 v }
 
 -- task 0 collects it
 abbrev collected : PostedState → World (Unit {0}) → World (Unit {0})
-collected v w = record w { back = without_first w.back 0; got = behind w.got 0 v }
+collected v w = record w { back = without_first w.back 0; got = one_more_of_task w.got 0 v }
 
 -- the posted value of request 1
 abbrev value : Csw → Code → PostedState
@@ -112,7 +98,7 @@ unfolding Legal
 stray_opens = record { legal = tt; opened = refl; out = refl; sent = λ task. refl; flight = refl; back = λ task. refl; got = λ task. refl }
 
 stray_is_purged : Reaches quiet (world []) stray_collected
-unfolding arrivals waiting started active request_of flag attempts stand posted posted_value
+unfolding arrivals waiting started active request_named flag attempts stand posted posted_value
 stray_is_purged =
     Go (Go (Go (Go Stay
     (Accept (r 1) (record { of_unit = refl; next = refl; room = omega arith; is = refl })))
@@ -169,18 +155,22 @@ began_opens = record {
 }
 
 request_is_posted : Reaches quiet began done
-unfolding arrivals waiting started active request_of flag extents_of attempts stand newest chain_within step after steps_within posted posted_value
+unfolding arrivals waiting started active request_named flag extents_of attempts stand newest chain_within step after steps_within posted
+    posted_value
 request_is_posted =
     let w1 : Reaches quiet began ready = Go Stay (Accept (r 1) (record { of_unit = refl; next = refl; room = omega arith; is = refl })) in
     let w2 : Reaches quiet began (taken arrived [] ready)
     = Go w1 (Take (record { request = r 1; first = refl; room = omega arith; arrives = refl; is = refl })) in
     let w3 : Reaches quiet began (taken running [] ready)
-    = Go w2 (Start (Started (n 1)) (MayFirst (record { none = refl; request = r 1; first = refl; name = refl; passes = refl }), refl) refl) in
+    = Go w2 (Start (Started (n 1)) (MayFirst (record { none = refl; request = r 1; first = refl; name = refl; passes = refl }), refl)
+    refl) in
     let w4 : Reaches quiet began (taken ended [] ready)
-    = Go w3 (Run 5 (RanSome 1 true) (omega arith) (record { name = n 1; running = refl; count = refl; adds = refl; pending_is = refl }) refl) in
+    = Go w3 (Run 5 (RanSome 1 true) (omega arith) (record { name = n 1; running = refl; count = refl; adds = refl; pending_is = refl })
+    refl) in
     let w5 : Reaches quiet began posted_world
     = Go w4 (Interrupt (WasPosted (n 1) Ended)
-    (refl, record { csw = normal_end; sense = 0; fits = record { active = refl; as_ended = WithVerdict refl refl }; extends = refl }) refl) in
+    (refl, record { csw = normal_end; sense = 0; fits = record { active = refl; as_ended = WithVerdict refl refl }; extends = refl })
+    refl) in
     let w6 : Reaches quiet began (delivered (value normal_end Ended) posted_world)
     = Go w5 (Deliver (record { value = value normal_end Ended; first = refl; room = omega arith; is = refl })) in
     Go w6 (Collect 0 (record { value = value normal_end Ended; first = refl; is = refl }))
@@ -197,7 +187,7 @@ abbrev swept_world : World (Unit {0})
 swept_world = taken swept (value no_status Purged ∷ []) ready
 
 purge_posts : Reaches quiet began swept_world × IsFinished swept_world × (posts_of (n 1) swept_world.book.trace ≡ 1)
-unfolding arrivals waiting started active request_of flag attempts stand posted posted_value due
+unfolding arrivals waiting started active request_named flag attempts stand posted posted_value due
 purge_posts =
     let w1 : Reaches quiet began ready = Go Stay (Accept (r 1) (record { of_unit = refl; next = refl; room = omega arith; is = refl })) in
     let w2 : Reaches quiet began (taken arrived [] ready)

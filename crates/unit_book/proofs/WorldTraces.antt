@@ -1,33 +1,19 @@
 -- How the calls of a book lengthen its trace: it stays legal, nothing is due behind it, and its posts grow.
-use Rattle.std.proofs.Common.{◌≡◌, ℕ, ◌+◌, Bool, true, Option, Some, None, List, [], ◌∷◌, ◌++◌, append_assoc, refl, sym, ap, ◌∙◌, inl, inr, subst}
-use Rattle.std.proofs.lemmas.Bool.{cases_Bool}
-use Rattle.std.proofs.lemmas.List.{append-nil}
-use Rattle.std.specs.List.{list_all}
-use Rattle.io_images.specs.declared.csw.Csw.{Csw}
-use Rattle.io_images.specs.declared.code.Code.{Code}
-use Rattle.io_images.specs.declared.code.Code.TheVariants.{Purged}
-use Rattle.io_images.specs.declared.extent.Extent.{Extent}
-use Rattle.device_port.specs.Meaning.{Meaning}
-use Rattle.request_piece.specs.PostedState.{PostedState}
-use Rattle.request_piece.specs.declared.piece.Name.{Name}
-use Rattle.request_piece.specs.declared.piece.Piece.{Piece}
-use Rattle.request_piece.specs.declared.scope.Scope.{Scope}
-use Rattle.unit_book.specs.declared.entry.Mode.{Mode}
-use Rattle.unit_book.specs.declared.entry.Entry.{Entry}
-use Rattle.unit_book.specs.declared.entry.Entry.TheVariants.{Opened, Arrive, Start, Ran, Halted, Purge, Close, Reset, Post}
-use Rattle.unit_book.specs.Trace.{arrivals, arrived_of, active, request_of, is_opening}
-use Rattle.unit_book.specs.Dcbs.{doomed, is_open}
-use Rattle.unit_book.specs.Media.{area}
-use Rattle.unit_book.specs.Legal.{Due, ToHalt, ToPost, Free, due, due_by, doomed_first, is_to_halt, FitsBy, Legal, OpenFits, StartFits, RanFits, PostFits, OfActive, PostsActive, CanPurge}
-use Rattle.unit_book.specs.Posts.{posted, posted_value}
-use Rattle.unit_book.specs.Dooms.{after_dooms}
-use Rattle.unit_book.specs.Controls.{halted_by, after_purge}
+use Rattle.unit_book.proofs.Names.{◌≡◌, ℕ, ◌+◌, Bool, true, List, [], ◌∷◌, ◌++◌, append_assoc, refl, sym, ap, ◌∙◌, subst, append-nil}
+use Rattle.unit_book.proofs.Names.{list_all, Csw, Code, Purged, Extent, Meaning, PostedState, Name, Piece, Scope, Mode, Entry, Opened}
+use Rattle.unit_book.proofs.Names.{Arrive, Start, Ran, Halted, Purge, Close, Reset, Post, arrivals, arrived_of, request_named, doomed, is_open}
+use Rattle.unit_book.proofs.Names.{area, Free, due, doomed_first, FitsBy, Legal, StartFits, PostFits, OfActive, PostsActive, CanPurge}
+use Rattle.unit_book.proofs.Names.{posted, posted_value, after_dooms, halted_by, after_purge}
+use Rattle.unit_book.specs.Trace.{is_opening}
+use Rattle.unit_book.specs.Legal.{OpenFits, RanFits}
 use Rattle.unit_book.proofs.Lists.{without}
 use Rattle.unit_book.proofs.Same.{fits-free}
 use Rattle.unit_book.proofs.Counting.{arrivals-after_dooms}
-use Rattle.unit_book.proofs.Dooms.{doomed-purged, due-doomed, due-no_halt, dooms-settle, settled-new, settled-open, settled-ran, settled-start}
+use Rattle.unit_book.proofs.Dooms.{doomed-purged, due-doomed, due-no_halt, dooms-settle, settled-new, settled-open, settled-ran}
+use Rattle.unit_book.proofs.Dooms.{settled-start, halted-first}
 use Rattle.unit_book.proofs.Purges.{posted-more}
 use Rattle.unit_book.proofs.Controls.{settled-reset}
+use Rattle.unit_book.proofs.Facts.{DueIs, Halts, Dooms, due-is}
 
 module _ {D : Type 0} (meaning : Meaning D) (mounted : D) where
   -- A TRACE GREW: it is legal, nothing is due, these requests arrived, and these values were posted
@@ -88,20 +74,24 @@ module _ {D : Type 0} (meaning : Meaning D) (mounted : D) where
   pub grows-start : (n : Name) (H : List Entry) → Legal meaning mounted H → due meaning mounted H ≡ Free → StartFits meaning mounted n H →
       Grows H (Start n ∷ H) []
   unfolding Legal arrivals posted
-  grows-start n H l s f = grows-quietly H (Start n ∷ H) (fits-free meaning mounted (Start n) H s f, l) (settled-start meaning mounted n H s) refl refl
+  grows-start n H l s f = grows-quietly H (Start n ∷ H) (fits-free meaning mounted (Start n) H s f, l)
+      (settled-start meaning mounted n H s) refl refl
 
-  pub grows-ran : (n : Name) (j : ℕ) (H : List Entry) → Legal meaning mounted H → due meaning mounted H ≡ Free → RanFits meaning mounted n j H →
+  pub grows-ran : (n : Name) (j : ℕ) (H : List Entry) → Legal meaning mounted H → due meaning mounted H ≡ Free →
+      RanFits meaning mounted n j H →
       Grows H (Ran n j ∷ H) []
   unfolding Legal arrivals posted
-  grows-ran n j H l s f = grows-quietly H (Ran n j ∷ H) (fits-free meaning mounted (Ran n j) H s f, l) (settled-ran meaning mounted n j H s) refl refl
+  grows-ran n j H l s f = grows-quietly H (Ran n j ∷ H) (fits-free meaning mounted (Ran n j) H s f, l)
+      (settled-ran meaning mounted n j H s) refl refl
 
-  pub grows-post : (n : Name) (csw : Csw) (sense : ℕ) (code : Code) (H : List Entry) → Legal meaning mounted H → due meaning mounted H ≡ Free →
+  pub grows-post : (n : Name) (csw : Csw) (sense : ℕ) (code : Code) (H : List Entry) → Legal meaning mounted H →
+      due meaning mounted H ≡ Free →
       PostFits meaning mounted n csw sense code H →
       Grows H (after_dooms (Post n csw sense code ∷ H)) []
   unfolding Legal arrivals posted
   grows-post n csw sense code H l s f =
       let G = Post n csw sense code ∷ H in
-      let v = posted_value (request_of n H) csw sense code (area meaning mounted (request_of n H) H) in
+      let v = posted_value (request_named n H) csw sense code (area meaning mounted (request_named n H) H) in
       grows-dooms H G [] (v ∷ []) (fits-free meaning mounted (Post n csw sense code) H s f, l)
       (due-no_halt meaning mounted G (λ n a. refl)) (sym (append-nil (arrivals H))) refl
 
@@ -109,26 +99,21 @@ module _ {D : Type 0} (meaning : Meaning D) (mounted : D) where
       Grows H (after_dooms (Close d ∷ H)) []
   unfolding Legal arrivals posted
   grows-close d H l s f =
-      grows-dooms H (Close d ∷ H) [] [] (fits-free meaning mounted (Close d) H s f, l) (due-no_halt meaning mounted (Close d ∷ H) (λ n a. refl))
+      grows-dooms H (Close d ∷ H) [] [] (fits-free meaning mounted (Close d) H s f, l)
+      (due-no_halt meaning mounted (Close d ∷ H) (λ n a. refl))
       (sym (append-nil (arrivals H))) (sym (append-nil (posted meaning mounted H)))
 
-  pub grows-reset : (d : ℕ) (H : List Entry) → Legal meaning mounted H → due meaning mounted H ≡ Free → is_open d H ≡ true → Grows H (Reset d ∷ H) []
+  pub grows-reset : (d : ℕ) (H : List Entry) → Legal meaning mounted H → due meaning mounted H ≡ Free → is_open d H ≡ true →
+      Grows H (Reset d ∷ H) []
   unfolding Legal arrivals posted
-  grows-reset d H l s f = grows-quietly H (Reset d ∷ H) (fits-free meaning mounted (Reset d) H s f, l) (settled-reset meaning mounted d H s) refl refl
-
-  -- where no Halted is due, a post is or nothing
-  due-unhalted : (H : List Entry) → ((n : Name) → due meaning mounted H ≡ ToHalt n → ⊥) → due meaning mounted H ≡ doomed_first (doomed H)
-  unfolding due
-  due-unhalted H h = by_active (active H) h where
-    by_active : (o : Option Name) → ((n : Name) → due_by meaning mounted H o ≡ ToHalt n → ⊥) → due_by meaning mounted H o ≡ doomed_first (doomed H)
-    by_active None k = refl
-    by_active (Some n) k = elim (cases_Bool (is_to_halt meaning mounted H n)) [ inl b ↦ absurd (k n (rw b refl)) | inr b ↦ rw b refl ]
+  grows-reset d H l s f = grows-quietly H (Reset d ∷ H) (fits-free meaning mounted (Reset d) H s f, l)
+      (settled-reset meaning mounted d H s) refl refl
 
   -- a purge, with the Halted that is due and the dooms
   pub grows-purge : (scope : Scope) (mode : Mode) (H : List Entry) → Legal meaning mounted H → due meaning mounted H ≡ Free →
       CanPurge meaning mounted scope H → Grows H (after_purge meaning mounted scope mode H) []
   unfolding Legal arrivals posted
-  grows-purge scope mode H l s f = by_due (due meaning mounted P) refl where
+  grows-purge scope mode H l s f = by_due (due-is meaning mounted P) where
     P : List Entry
     P = Purge scope mode ∷ H
 
@@ -138,24 +123,22 @@ module _ {D : Type 0} (meaning : Meaning D) (mounted : D) where
     quiet : due meaning mounted P ≡ doomed_first (doomed P) → Grows H (after_dooms P) []
     quiet d = grows-dooms H P [] [] legal d (sym (append-nil (arrivals H))) (sym (append-nil (posted meaning mounted H)))
 
-    by_due : (d : Due) → due meaning mounted P ≡ d → Grows H (after_dooms (halted_by d P)) []
-    by_due (ToHalt n) e =
-        grows-dooms H (Halted n ∷ P) [] [] (subst (λ x. FitsBy meaning mounted x (Halted n) P) (sym e) refl, legal)
-        (due-no_halt meaning mounted (Halted n ∷ P) (λ m a. refl)) (sym (append-nil (arrivals H))) (sym (append-nil (posted meaning mounted H)))
-    by_due (ToPost n) e = quiet (due-unhalted P (λ m k. clash (sym e ∙ k))) where
-      clash : {m : Name} → ToPost n ≡ ToHalt m → ⊥
-      clash k = cc
-    by_due Free e = quiet (due-unhalted P (λ m k. clash (sym e ∙ k))) where
-      clash : {m : Name} → Free ≡ ToHalt m → ⊥
-      clash k = cc
+    by_due : DueIs meaning mounted P → Grows H (after_dooms (halted_by (due meaning mounted P) P)) []
+    by_due (Dooms d) =
+        subst (λ x. Grows H (after_dooms x) []) (sym (ap (λ x. halted_by x P) d ∙ halted-first (doomed P) P)) (quiet d)
+    by_due (Halts n d a b) =
+        rw d (grows-dooms H (Halted n ∷ P) [] [] (subst (λ x. FitsBy meaning mounted x (Halted n) P) (sym d) refl, legal)
+        (due-no_halt meaning mounted (Halted n ∷ P) (λ m a. refl)) (sym (append-nil (arrivals H)))
+        (sym (append-nil (posted meaning mounted H))))
 
   -- a post as purged behind it
-  pub grows-purged : (n : Name) (csw : Csw) (sense : ℕ) (H G : List Entry) → Grows H G [] → PostsActive meaning mounted n csw sense Purged G →
+  pub grows-purged : (n : Name) (csw : Csw) (sense : ℕ) (H G : List Entry) → Grows H G [] →
+      PostsActive meaning mounted n csw sense Purged G →
       Grows H (Post n csw sense Purged ∷ G) []
   unfolding Legal arrivals posted without
   grows-purged n csw sense H G g f =
       let K = Post n csw sense Purged ∷ G in
-      let v = posted_value (request_of n G) csw sense Purged (area meaning mounted (request_of n G) G) in
+      let v = posted_value (request_named n G) csw sense Purged (area meaning mounted (request_named n G) G) in
       record {
         legal = (fits-free meaning mounted (Post n csw sense Purged) G g.settled (OfActive f), g.legal);
         settled = due-no_halt meaning mounted K (λ m e. refl)

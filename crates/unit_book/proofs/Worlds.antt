@@ -1,15 +1,7 @@
 -- The laws of worlds: in a finished one each request that was sent has one post.
-use Rattle.std.proofs.Common.{◌≡◌, ◌≤◌, ℕ, ◌+◌, ◌==◌, Bool, true, false, None, List, [], ◌∷◌, ◌++◌, refl, sym, ap, ◌∙◌, arith, inl, inr, subst}
-use Rattle.std.proofs.lemmas.Bool.{cases_Bool}
-use Rattle.std.proofs.lemmas.List.{append-nil}
-use Rattle.device_port.specs.Meaning.{Meaning}
-use Rattle.request_piece.specs.declared.piece.Name.{Name}
-use Rattle.request_piece.specs.declared.piece.Piece.{Piece}
-use Rattle.unit_book.specs.declared.entry.Entry.{Entry}
-use Rattle.unit_book.specs.declared.entry.Entry.TheVariants.{Opened, Arrive, Start, Ran, Halted, Purge, Close, Reset, Post}
-use Rattle.unit_book.specs.Trace.{same, arrivals, has_arrived, is_posted, waiting, active}
-use Rattle.unit_book.specs.Legal.{Legal}
-use Rattle.unit_book.specs.Lists.{Each}
+use Rattle.unit_book.proofs.Names.{◌≡◌, ◌≤◌, ℕ, ◌+◌, ◌==◌, Bool, true, false, None, List, [], ◌∷◌, ◌++◌, refl, sym, ap, ◌∙◌, arith, inl}
+use Rattle.unit_book.proofs.Names.{inr, subst, cases_Bool, append-nil, Meaning, Name, Piece, Entry, Opened, Arrive, Start, Ran, Halted}
+use Rattle.unit_book.proofs.Names.{Purge, Close, Reset, Post, same, arrivals, has_arrived, is_posted, waiting, active, Legal, Each}
 use Rattle.unit_book.specs.Laws.{times}
 use Rattle.unit_book.specs.World.{World, IsOpening, IsFinished, Reaches, requests_of}
 use Rattle.unit_book.specs.WorldLaws.{FinishedOnce, posts_of, KeepsRequests, WorldLaws}

@@ -1,5 +1,5 @@
 -- WHAT THE CALLS OF A BOOK ADD AND ANSWER (profile).
-use Rattle.std.specs.Prelude.{◌≡◌, ◌<◌, ℕ, ◌+◌, min, Bool, true, false, not, Option, Some, None, IsSome, List, [], ◌∷◌, ◌++◌}
+use Rattle.std.specs.Prelude.{◌≡◌, ◌<◌, ◌≤◌, ℕ, ◌+◌, min, Bool, true, false, not, Option, Some, None, IsSome, List, [], ◌∷◌, ◌++◌, length}
 use Rattle.io_images.specs.declared.csw.Csw.{Csw}
 use Rattle.io_images.specs.declared.extent.Extent.{Extent}
 use Rattle.io_images.specs.declared.code.Code.{Code}
@@ -8,6 +8,7 @@ use Rattle.device_port.specs.Meaning.{Meaning}
 use Rattle.ccw_programs.specs.Step.{length_of}
 use Rattle.io_images.specs.Images.{no_status}
 use Rattle.request_piece.specs.declared.piece.Name.{Name}
+use Rattle.unit_queue.specs.declared.selection.Selection.{Selection}
 use Rattle.unit_book.specs.declared.answer.ArriveError.{ArriveError}
 use Rattle.unit_book.specs.declared.answer.ArriveError.TheVariants as arriving
 use Rattle.unit_book.specs.declared.answer.OpenError.{OpenError}
@@ -18,17 +19,19 @@ use Rattle.unit_book.specs.declared.answer.Running.{Running}
 use Rattle.unit_book.specs.declared.answer.Running.TheVariants as running
 use Rattle.unit_book.specs.declared.answer.Interruption.{Interruption}
 use Rattle.unit_book.specs.declared.answer.Interruption.TheVariants as interrupting
-use Rattle.unit_book.specs.declared.decision.Decision.{Decision}
+use Rattle.unit_book.specs.declared.decision.Taken.{Taken}
+use Rattle.unit_book.specs.declared.decision.Taken.TheVariants as taking
 use Rattle.unit_book.specs.declared.decision.Next.{Next}
 use Rattle.unit_book.specs.declared.decision.Next.TheVariants.{Busy, Idle, First, Violated, Again}
 use Rattle.unit_book.specs.declared.entry.Entry.{Entry}
 use Rattle.unit_book.specs.declared.entry.Entry.TheVariants.{Opened, Start, Ran, Post}
-use Rattle.unit_book.specs.Trace.{active, waiting, request_of}
+use Rattle.unit_book.specs.Trace.{active, waiting, request_named}
 use Rattle.unit_book.specs.Extents.{takes_extents}
-use Rattle.unit_book.specs.Dcbs.{opened_count}
-use Rattle.unit_book.specs.Media.{HasEnded, still_runs, active_phase, current, area}
+use Rattle.unit_book.specs.Dcbs.{opened_count, doomed}
+use Rattle.unit_book.specs.Media.{still_runs, active_phase, current, area}
 use Rattle.unit_book.specs.Legal.{OpenFits, StartsFirst, StartsAgain, FailsCheck, PostsActive}
 use Rattle.unit_book.specs.Dooms.{after_dooms}
+use Rattle.unit_book.specs.Selected.{DoomedBy}
 use Rattle.unit_book.specs.Posts.{posted_value, posted_since}
 use Rattle.unit_book.specs.Book.{Book, occupancy, running_name, is_pending}
 
@@ -65,7 +68,7 @@ module _ {D : Type 0} (meaning : Meaning D) where
   ExtendsByPost old n csw sense code new = new ≡ record old {
     trace = Post n csw sense code ∷ old.trace;
     awaits = false;
-    out = old.out ++ posted_value (request_of n old.trace) csw sense code (area meaning old.mounted (request_of n old.trace) old.trace) ∷ [];
+    out = old.out ++ posted_value (request_named n old.trace) csw sense code (area meaning old.mounted (request_named n old.trace) old.trace) ∷ [];
     spare = new.spare;
   }
 
@@ -92,16 +95,21 @@ module _ {D : Type 0} (meaning : Meaning D) where
   IsNext b (Violated n) = FailsCheck meaning b.mounted n b.trace
   IsNext b (Again n) = (b.awaits ≡ true) × StartsAgain meaning b.mounted n b.trace
 
-  -- what becomes of the active request when its status is taken: it is posted with a code, or awaits its
-  -- restart
-  abbrev pub DecidedCode : Book D → Name → Csw → ℕ → Option Code → Type 0
-  DecidedCode b n csw sense (Some code) = PostsActive meaning b.mounted n csw sense code b.trace
-  DecidedCode b n csw sense None =
-      StartsAgain meaning b.mounted n b.trace × (active_phase meaning b.mounted n b.trace ≡ HasEnded csw sense)
+  -- the status of the active request was taken: it is posted, with room for the posts that this dooms
+  pub record TakesByPost (old : Book D) (n : Name) (code : Code) (doom : Option Selection) (new : Book D) : Type 0 where
+    pub csw : Csw
+    pub sense : ℕ
+    pub fits : PostsActive meaning old.mounted n csw sense code old.trace
+    pub extends : ExtendsByPost old n csw sense code new
+    pub room : length (doomed new.trace) ≤ new.spare
+    pub dooms : DoomedBy doom new.trace
 
-  abbrev pub Decided : Book D → Option Decision → Type 0
-  Decided b None = is_pending meaning b ≡ false
-  Decided b (Some d) = (is_pending meaning b ≡ true) × DecidedCode b d.name d.csw d.sense d.code
+  -- or it awaits its restart
+  abbrev pub Takes : Book D → Taken → Book D → Type 0
+  Takes old taking.Quiet new = (is_pending meaning old ≡ false) × (new ≡ old)
+  Takes old (taking.Again n) new =
+      (is_pending meaning old ≡ true) × StartsAgain meaning old.mounted n old.trace × (new ≡ record old { awaits = true })
+  Takes old (taking.Posted n code doom) new = (is_pending meaning old ≡ true) × TakesByPost old n code doom new
 
   -- `start`: a first Start where nothing is active, a further one of what awaits its restart
   pub data MayStart (old : Book D) (n : Name) : Type 0 where

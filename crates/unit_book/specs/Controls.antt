@@ -18,7 +18,7 @@ use Rattle.unit_book.specs.declared.answer.Purging.TheVariants.{Quiet, Active}
 use Rattle.unit_book.specs.declared.entry.Mode.{Mode}
 use Rattle.unit_book.specs.declared.entry.Entry.{Entry}
 use Rattle.unit_book.specs.declared.entry.Entry.TheVariants.{Halted, Purge, Close, Post}
-use Rattle.unit_book.specs.Trace.{is_halt, active, request_of}
+use Rattle.unit_book.specs.Trace.{is_halt, active, request_named}
 use Rattle.unit_book.specs.Dcbs.{doomed, is_opened, is_open}
 use Rattle.unit_book.specs.Legal.{Due, ToHalt, ToPost, Free, due, doomed_first, PostsActive}
 use Rattle.unit_book.specs.Dooms.{after_dooms}
@@ -28,7 +28,7 @@ use Rattle.unit_book.specs.Answers.{Extends}
 -- THE ACTIVE REQUEST, if it is of the scope
 abbrev pub covered_by : Scope → List Entry → Option Name → Option Name
 covered_by scope H None = None
-covered_by scope H (Some n) = if covers scope (request_of n H) then Some n else None
+covered_by scope H (Some n) = if covers scope (request_named n H) then Some n else None
 
 abbrev pub active_of : Scope → List Entry → Option Name
 active_of scope H = covered_by scope H (active H)

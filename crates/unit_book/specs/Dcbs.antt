@@ -11,7 +11,7 @@ use Rattle.unit_book.specs.declared.dcb.DcbState.{DcbState}
 use Rattle.unit_book.specs.declared.dcb.DcbState.TheVariants.{Unknown, Open, Closing, Closed}
 use Rattle.unit_book.specs.declared.entry.Entry.{Entry}
 use Rattle.unit_book.specs.declared.entry.Entry.TheVariants.{Opened, Reset, Post}
-use Rattle.unit_book.specs.Trace.{opens, opens_for_input, closes, is_opening, active, waiting, request_of, is_purged}
+use Rattle.unit_book.specs.Trace.{opens, opens_for_input, closes, is_opening, active, waiting, request_named, is_purged}
 
 -- the DCB was opened
 abbrev pub is_opened : ℕ → List Entry → Bool
@@ -41,7 +41,7 @@ mask_of d H = if list_any (opens_for_input d) H then input_mask else output_mask
 -- the request with this name, if there is one, is of this DCB
 abbrev pub is_of : ℕ → List Entry → Option Name → Bool
 is_of d H None = false
-is_of d H (Some n) = (request_of n H).dcb == d
+is_of d H (Some n) = (request_named n H).dcb == d
 
 -- THE STATE of a DCB: closing while a request of it is active
 abbrev pub dcb_state : ℕ → List Entry → DcbState
@@ -57,7 +57,7 @@ unfoldable pub flag : ℕ → List Entry → Bool
 flag d [] = false
 flag d (Reset c ∷ H) = if c == d then false else flag d H
 flag d (Post n csw sense code ∷ H) =
-    if is_error code && (request_of n H).related && ((request_of n H).dcb == d) then true else flag d H
+    if is_error code && (request_named n H).related && ((request_named n H).dcb == d) then true else flag d H
 flag d (_ ∷ H) = flag d H
 
 -- the request is doomed where it arrives: its DCB is not open, or it is related and its DCB has the flag

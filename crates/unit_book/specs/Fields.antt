@@ -29,7 +29,7 @@ use Rattle.unit_book.specs.declared.dcb.Dcb.{Dcb}
 use Rattle.unit_book.specs.declared.entry.Entry.{Entry}
 use Rattle.unit_book.specs.declared.entry.Mode.{Mode}
 use Rattle.unit_book.specs.Lists.{Each}
-use Rattle.unit_book.specs.Trace.{waiting, active, request_of, starts_of, is_halt, is_halted, is_covered, opens_for_input}
+use Rattle.unit_book.specs.Trace.{waiting, active, request_named, starts_of, is_halt, is_halted, is_covered, opens_for_input}
 use Rattle.unit_book.specs.Media.{ActivePhase, StillRunning, WasHalted, HasEnded, current, active_phase, device}
 use Rattle.unit_book.specs.Dcbs.{is_opened, is_closed, extents_of, flag, opened_count}
 use Rattle.unit_book.specs.Legal.{Legal, verdict_of}
@@ -133,7 +133,7 @@ module _ {D : Type 0} (meaning : Meaning D) (mounted : D) where
   StandingTies H Idle a (AwaitsRestart csw sense) =
       (active_phase meaning mounted a.piece.value.name H ≡ HasEnded csw sense)
       × (verdict_of meaning mounted a.piece.value.name csw sense H ≡ Retry)
-      × (is_covered (request_of a.piece.value.name H) H ≡ false)
+      × (is_covered (request_named a.piece.value.name H) H ≡ false)
   StandingTies H (Running place) a OnChannel =
       (place ≡ (current meaning mounted H).place) × (active_phase meaning mounted a.piece.value.name H ≡ StillRunning)
   StandingTies H (Running place) a (AwaitsRestart csw sense) = ⊥
@@ -144,11 +144,11 @@ module _ {D : Type 0} (meaning : Meaning D) (mounted : D) where
   -- the active request: all but its storage is as it arrived
   pub record ActiveTies (H : List Entry) (phase : Phase) (a : Active) : Type 0 where
     pub is : active H ≡ Some a.piece.value.name
-    pub request : a.piece.value ≡ record (request_of a.piece.value.name H) { area = (current meaning mounted H).area }
+    pub request : a.piece.value ≡ record (request_named a.piece.value.name H) { area = (current meaning mounted H).area }
     pub placed : Placed a.piece.value
     pub starts : a.starts ≡ starts_of a.piece.value.name H
     pub halted : a.halted ≡ is_halted a.piece.value.name H
-    pub covered : a.covered ≡ is_covered (request_of a.piece.value.name H) H
+    pub covered : a.covered ≡ is_covered (request_named a.piece.value.name H) H
     pub standing : StandingTies H phase a a.standing
 
   abbrev pub ActivityTies : List Entry → Phase → Option Active → Type 0

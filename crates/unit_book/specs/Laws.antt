@@ -8,7 +8,7 @@ use Rattle.request_piece.specs.declared.piece.Name.{Name}
 use Rattle.request_piece.specs.declared.piece.Piece.{Piece}
 use Rattle.unit_book.specs.declared.entry.Entry.{Entry}
 use Rattle.unit_book.specs.declared.entry.Entry.TheVariants.{Arrive, Start, Ran, Halted, Close, Post}
-use Rattle.unit_book.specs.Trace.{same, starts, arrivals, has_arrived, has_started, is_posted, waiting, active, request_of, starts_of, is_covered}
+use Rattle.unit_book.specs.Trace.{same, starts, arrivals, has_arrived, has_started, is_posted, waiting, active, request_named, starts_of, is_covered}
 use Rattle.unit_book.specs.Dcbs.{is_closed, flag, doomed}
 use Rattle.unit_book.specs.Legal.{Legal}
 
@@ -64,16 +64,16 @@ pub record NoDoomedStarts {D : Type 0} (meaning : Meaning D) : Type 0 where
       list_any (λ q. same q.name r.name) (doomed earlier) ≡ true → list_any (starts r.name) later ≡ false
   -- what was started and then covered by a purge with Halt has no later Start
   pub of_covered : (mounted : D) (n : Name) (later earlier : List Entry) → Legal meaning mounted (later ++ earlier) →
-      has_started n earlier ≡ true → is_covered (request_of n earlier) earlier ≡ true → list_any (starts n) later ≡ false
+      has_started n earlier ≡ true → is_covered (request_named n earlier) earlier ≡ true → list_any (starts n) later ≡ false
   -- a Start for a DCB that was closed is no first one
   pub of_closed : (mounted : D) (n : Name) (H : List Entry) → Legal meaning mounted (Start n ∷ H) →
-      is_closed (request_of n H).dcb H ≡ true → has_started n H ≡ true
+      is_closed (request_named n H).dcb H ≡ true → has_started n H ≡ true
   -- it is of the request that was active when the DCB was closed
   pub of_closing : (mounted : D) (n : Name) (d : ℕ) (later earlier : List Entry) → Legal meaning mounted (Start n ∷ later ++ Close d ∷ earlier) →
-      (request_of n (later ++ Close d ∷ earlier)).dcb ≡ d → active earlier ≡ Some n
+      (request_named n (later ++ Close d ∷ earlier)).dcb ≡ d → active earlier ≡ Some n
   -- a Start of a related request whose DCB has the flag is no first one
   pub of_flagged : (mounted : D) (n : Name) (H : List Entry) → Legal meaning mounted (Start n ∷ H) →
-      (request_of n H).related ≡ true → flag (request_of n H).dcb H ≡ true → has_started n H ≡ true
+      (request_named n H).related ≡ true → flag (request_named n H).dcb H ≡ true → has_started n H ≡ true
 
 -- AT MOST ONE REQUEST IS ACTIVE, and each has at most eleven Starts
 pub record FewStarts {D : Type 0} (meaning : Meaning D) : Type 0 where

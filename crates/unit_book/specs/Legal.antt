@@ -18,7 +18,7 @@ use Rattle.request_piece.specs.declared.scope.Scope.TheVariants.{Dcb, Task}
 use Rattle.unit_book.specs.declared.entry.Mode.TheVariants.{Halt}
 use Rattle.unit_book.specs.declared.entry.Entry.{Entry}
 use Rattle.unit_book.specs.declared.entry.Entry.TheVariants.{Opened, Arrive, Start, Ran, Halted, Purge, Close, Reset, Post}
-use Rattle.unit_book.specs.Trace.{waiting, active, request_of, arrived_of, starts_of, is_covered}
+use Rattle.unit_book.specs.Trace.{waiting, active, request_named, arrived_of, starts_of, is_covered}
 use Rattle.unit_book.specs.Extents.{takes_extents, passes_check}
 use Rattle.unit_book.specs.Dcbs.{is_opened, is_open, opened_count, extents_of, doomed}
 use Rattle.unit_book.specs.Media.{StillRunning, WasHalted, HasEnded, still_runs, current, active_phase}
@@ -36,7 +36,7 @@ doomed_first (r ∷ rs) = ToPost r.name
 module _ {D : Type 0} (meaning : Meaning D) (mounted : D) where
   -- the newest entry is a purge with Halt that covers the active request, whose program runs
   abbrev pub is_to_halt : List Entry → Name → Bool
-  is_to_halt (Purge scope Halt ∷ H) n = covers scope (request_of n H) && still_runs (active_phase meaning mounted n (Purge scope Halt ∷ H))
+  is_to_halt (Purge scope Halt ∷ H) n = covers scope (request_named n H) && still_runs (active_phase meaning mounted n (Purge scope Halt ∷ H))
   is_to_halt _ n = false
 
   abbrev pub due_by : List Entry → Option Name → Due
@@ -69,7 +69,7 @@ module _ {D : Type 0} (meaning : Meaning D) (mounted : D) where
     pub sense : ℕ
     pub ended : active_phase meaning mounted n H ≡ HasEnded csw sense
     pub retry : verdict_of n csw sense H ≡ Retry
-    pub free : is_covered (request_of n H) H ≡ false
+    pub free : is_covered (request_named n H) H ≡ false
 
   pub data StartFits (n : Name) (H : List Entry) : Type 0 where
     First : StartsFirst n H → StartFits n H
@@ -86,7 +86,7 @@ module _ {D : Type 0} (meaning : Meaning D) (mounted : D) where
   -- verdict is final; it has ended and would be tried again, but is covered, or was halted, and so is purged
   pub data PostsAs (n : Name) (csw : Csw) (sense : ℕ) (code : Code) (H : List Entry) : Type 0 where
     WithVerdict : active_phase meaning mounted n H ≡ HasEnded csw sense → verdict_of n csw sense H ≡ Final code → PostsAs n csw sense code H
-    WhileCovered : active_phase meaning mounted n H ≡ HasEnded csw sense → verdict_of n csw sense H ≡ Retry → is_covered (request_of n H) H ≡ true →
+    WhileCovered : active_phase meaning mounted n H ≡ HasEnded csw sense → verdict_of n csw sense H ≡ Retry → is_covered (request_named n H) H ≡ true →
         code ≡ Purged → PostsAs n csw sense code H
     AfterHalt : active_phase meaning mounted n H ≡ WasHalted csw sense → code ≡ Purged → PostsAs n csw sense code H
 

@@ -11,7 +11,7 @@ use Rattle.request_piece.specs.declared.piece.Name.{Name}
 use Rattle.request_piece.specs.declared.piece.Piece.{Piece}
 use Rattle.unit_book.specs.declared.entry.Entry.{Entry}
 use Rattle.unit_book.specs.declared.entry.Entry.TheVariants.{Start, Ran}
-use Rattle.unit_book.specs.Trace.{same, request_of, is_halted, no_request}
+use Rattle.unit_book.specs.Trace.{same, request_named, is_halted, no_request}
 use Rattle.unit_book.specs.Dcbs.{mask_of}
 
 -- AN ATTEMPT: a Start of a request, with the file mask of its DCB, and the number of commands that ran
@@ -32,7 +32,7 @@ lengthened n j (a ∷ rest) =
 -- the attempts of a trace, newest first
 unfoldable pub attempts : List Entry → List Attempt
 attempts [] = []
-attempts (Start n ∷ H) = record { request = request_of n H; mask = mask_of (request_of n H).dcb H; commands = 0 } ∷ attempts H
+attempts (Start n ∷ H) = record { request = request_named n H; mask = mask_of (request_named n H).dcb H; commands = 0 } ∷ attempts H
 attempts (Ran n j ∷ H) = lengthened n j (attempts H)
 attempts (_ ∷ H) = attempts H
 

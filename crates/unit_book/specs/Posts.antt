@@ -9,7 +9,7 @@ use Rattle.request_piece.specs.Final.{posted_of}
 use Rattle.request_piece.specs.declared.piece.Piece.{Piece}
 use Rattle.unit_book.specs.declared.entry.Entry.{Entry}
 use Rattle.unit_book.specs.declared.entry.Entry.TheVariants.{Post}
-use Rattle.unit_book.specs.Trace.{request_of}
+use Rattle.unit_book.specs.Trace.{request_named}
 use Rattle.unit_book.specs.Media.{area}
 
 -- the value of a post of a request whose storage is this
@@ -21,7 +21,7 @@ module _ {D : Type 0} (meaning : Meaning D) (mounted : D) where
   unfoldable pub posted : List Entry → List PostedState
   posted [] = []
   posted (Post n csw sense code ∷ H) =
-      posted H ++ posted_value (request_of n H) csw sense code (area meaning mounted (request_of n H) H) ∷ []
+      posted H ++ posted_value (request_named n H) csw sense code (area meaning mounted (request_named n H) H) ∷ []
   posted (_ ∷ H) = posted H
 
   -- the values posted since an earlier trace

@@ -123,10 +123,10 @@ no_request = record {
 }
 
 -- the request of a name
-unfoldable pub request_of : Name → List Entry → Piece
-request_of n [] = no_request
-request_of n (Arrive r ∷ H) = if same r.name n then r else request_of n H
-request_of n (_ ∷ H) = request_of n H
+unfoldable pub request_named : Name → List Entry → Piece
+request_named n [] = no_request
+request_named n (Arrive r ∷ H) = if same r.name n then r else request_named n H
+request_named n (_ ∷ H) = request_named n H
 
 -- how many Starts of a name stand in the trace
 abbrev pub starts_of : Name → List Entry → ℕ

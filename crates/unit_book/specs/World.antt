@@ -44,8 +44,8 @@ pub record World (D : Type 0) : Type 0 where
   pub got : ℕ → List PostedState
 
 -- one more item behind those of the task
-abbrev pub behind : {X : Type 0} → (ℕ → List X) → ℕ → X → ℕ → List X
-behind lists task x t = if task == t then lists t ++ x ∷ [] else lists t
+abbrev pub one_more_of_task : {X : Type 0} → (ℕ → List X) → ℕ → X → ℕ → List X
+one_more_of_task lists task x t = if task == t then lists t ++ x ∷ [] else lists t
 
 -- the first item of the task is gone
 abbrev pub without_first : {X : Type 0} → (ℕ → List X) → ℕ → ℕ → List X
@@ -57,20 +57,20 @@ module _ {D : Type 0} where
     pub of_unit : r.unit ≡ old.unit
     pub next : r.name.seq ≡ length (old.sent r.name.task) + 1
     pub room : length old.flight < old.intake_room
-    pub is : new ≡ record old { sent = behind old.sent r.name.task r; flight = old.flight ++ r ∷ [] }
+    pub is : new ≡ record old { sent = one_more_of_task old.sent r.name.task r; flight = old.flight ++ r ∷ [] }
 
   -- the first posted value that is out goes on its way back to its task, if there is room
   pub record Delivers (old new : World D) : Type 0 where
     pub value : PostedState
     pub first : slice_get old.book.out 0 ≡ Some value
     pub room : length (old.back value.name.task) < old.post_room
-    pub is : new ≡ record old { book = record old.book { out = drop 1 old.book.out }; back = behind old.back value.name.task value }
+    pub is : new ≡ record old { book = record old.book { out = drop 1 old.book.out }; back = one_more_of_task old.back value.name.task value }
 
   -- a task collects the first posted value that is on its way back to it
   pub record Collects (old : World D) (task : ℕ) (new : World D) : Type 0 where
     pub value : PostedState
     pub first : slice_get (old.back task) 0 ≡ Some value
-    pub is : new ≡ record old { back = without_first old.back task; got = behind old.got task value }
+    pub is : new ≡ record old { back = without_first old.back task; got = one_more_of_task old.got task value }
 
   -- nothing but the book changes
   abbrev pub InBook : World D → World D → Type 0

@@ -14,9 +14,9 @@ ghost use Rattle.unit_book.specs.Refusals.{InterruptLacks, RunLacks, StartLacks}
 ghost use Rattle.unit_book.specs.Trace.{active, arrived_of, waiting};
 
 use crate::answer::{ArriveError, Interruption, OpenError, Running, Starting};
-use crate::decision::Next;
+use crate::decision::{Next, Taken};
+use crate::entries::Entries;
 use crate::entry::Entry;
-use crate::ledger::Ledger;
 use device_port::Device;
 use io_images::Extent;
 use request_piece::{Posted, Request};
@@ -29,7 +29,7 @@ const MOST_DCBS: usize = 65_535;
 /// The book of one unit: what arrived, waits, is active and was posted, with the subchannel that runs it.
 #[derive(Drop)]
 pub struct UnitBook<D: Device> {
-    ledger: Ledger<D>,
+    entries: Entries<D>,
 }
 
 impl<D: Device> Model for UnitBook<D> {
@@ -39,9 +39,9 @@ impl<D: Device> Model for UnitBook<D> {
 
     ghost use Rattle.unit_book.specs.Legal.{Settled};
 
-    ghost view = { λ b. b.ledger };
+    ghost view = { λ b. b.entries };
 
-    ghost invariant = { λ b. Settled D.meaning b.ledger.mounted b.ledger.trace };
+    ghost invariant = { λ b. Settled D.meaning b.entries.mounted b.entries.trace };
 }
 
 impl<D: Device> UnitBook<D> {
@@ -56,7 +56,7 @@ impl<D: Device> UnitBook<D> {
         ensures err { IfErr result (λ e. e.value ≡ device) }
     {
         Ok(UnitBook {
-            ledger: Ledger::new(alloc, device, isc, capacity)?,
+            entries: Entries::new(alloc, device, isc, capacity)?,
         })
     }
 
@@ -71,7 +71,7 @@ impl<D: Device> UnitBook<D> {
         ensures isc { self.now.isc ≤ 7 }
         ensures awaits { self.now.awaits ≡ true → running_name D.meaning self.now ≡ None }
     {
-        self.ledger.holds();
+        self.entries.holds();
     }
 
     /// Makes room for the entries of one arrival.
@@ -82,7 +82,7 @@ impl<D: Device> UnitBook<D> {
         ensures err { OnErr result (self.new ≡ self.old) }
         ensures full { OnErr result (self.old.spare < 2) }
     {
-        self.ledger.reserve(2)
+        self.entries.reserve(2)
     }
 
     /// A request arrives: it waits, or is posted at once where it is doomed, because its DCB is not open or
@@ -97,20 +97,20 @@ impl<D: Device> UnitBook<D> {
         ensures err { OnErr result (self.new ≡ self.old) }
         ensures pending { is_pending D.meaning self.new ≡ is_pending D.meaning self.old }
     {
-        self.ledger.holds();
-        if !self.ledger.has_room() {
+        self.entries.holds();
+        if !self.entries.has_room() {
             return Err((ArriveError::Held, request));
         }
-        if self.ledger.reserve(2).is_err() {
+        if self.entries.reserve(2).is_err() {
             return Err((ArriveError::NoMemory, request));
         }
-        let refused = self.ledger.is_refused(&request);
+        let refused = self.entries.is_refused(&request);
         let (issued, work) = request.into_parts();
         if refused {
-            self.ledger.refuse(issued, work);
+            self.entries.refuse(issued, work);
             return Ok(());
         }
-        self.ledger.arrive(issued, work);
+        self.entries.arrive(issued, work);
         Ok(())
     }
 
@@ -124,16 +124,16 @@ impl<D: Device> UnitBook<D> {
         ensures kept { OnErr result (self.old.spare ≤ self.new.spare) }
         ensures pending { is_pending D.meaning self.new ≡ is_pending D.meaning self.old }
     {
-        if self.ledger.dcb_count() >= MOST_DCBS {
+        if self.entries.dcb_count() >= MOST_DCBS {
             return Err(OpenError::TooManyDcbs);
         }
-        if !self.ledger.takes_extents(extents) {
+        if !self.entries.takes_extents(extents) {
             return Err(OpenError::BadExtent);
         }
-        if self.ledger.reserve(1).is_err() {
+        if self.entries.reserve(1).is_err() {
             return Err(OpenError::NoMemory);
         }
-        self.ledger
+        self.entries
             .open(input, extents)
             .map_err(|_| OpenError::NoMemory)
     }
@@ -147,23 +147,23 @@ impl<D: Device> UnitBook<D> {
         ensures full { OnErr result (StartLacks D.meaning self.old) }
         ensures pending { is_pending D.meaning self.new ≡ is_pending D.meaning self.old }
     {
-        match self.ledger.next_start() {
+        match self.entries.next_start() {
             Next::Busy => Ok(Starting::Busy),
             Next::Idle => Ok(Starting::Idle),
             Next::First(name) => {
-                self.ledger.reserve(1)?;
-                self.ledger.start_first(name);
+                self.entries.reserve(1)?;
+                self.entries.start_first(name);
                 Ok(Starting::Started(name))
             }
             Next::Again(name) => {
-                self.ledger.reserve(1)?;
-                self.ledger.start_again(name);
+                self.entries.reserve(1)?;
+                self.entries.start_again(name);
                 Ok(Starting::Started(name))
             }
             Next::Violated(name) => {
-                self.ledger.reserve_posts(1)?;
-                let doom = self.ledger.post_violated(name);
-                self.ledger.sweep(doom);
+                self.entries.reserve_posts(1)?;
+                let doom = self.entries.post_violated(name);
+                self.entries.sweep(doom);
                 Ok(Starting::Violated(name))
             }
         }
@@ -177,12 +177,12 @@ impl<D: Device> UnitBook<D> {
         ensures full { OnErr result (RunLacks D.meaning self.old) }
         ensures pending { IfOk result (λ answer. is_pending D.meaning self.new ≡ pending_after (is_pending D.meaning self.old) answer) }
     {
-        self.ledger.holds();
-        if !self.ledger.is_running() {
+        self.entries.holds();
+        if !self.entries.is_running() {
             return Ok(Running::Quiet);
         }
-        self.ledger.reserve(1)?;
-        Ok(self.ledger.run(max))
+        self.entries.reserve(1)?;
+        Ok(self.entries.run(max))
     }
 
     /// Takes the status that is pending: the active request is posted, with what that dooms, or awaits its
@@ -194,22 +194,13 @@ impl<D: Device> UnitBook<D> {
         ensures pending { OnErr result (is_pending D.meaning self.old ≡ true) }
         ensures taken { OnOk result (is_pending D.meaning self.new ≡ false) }
     {
-        self.ledger.holds();
-        let Some(decision) = self.ledger.decide() else {
-            return Ok(Interruption::Quiet);
-        };
-        let name = decision.name;
-        let sense = decision.sense;
-        match decision.code {
-            Some(code) => {
-                self.ledger.reserve_posts(1)?;
-                let doom = self.ledger.post(name, decision.csw, sense, code);
-                self.ledger.sweep(doom);
+        self.entries.holds();
+        match self.entries.take_status()? {
+            Taken::Quiet => Ok(Interruption::Quiet),
+            Taken::Again(name) => Ok(Interruption::Again(name)),
+            Taken::Posted { name, code, doom } => {
+                self.entries.sweep(doom);
                 Ok(Interruption::Ended(name, code))
-            }
-            None => {
-                self.ledger.await_restart(name, decision.csw, sense);
-                Ok(Interruption::Again(name))
             }
         }
     }
@@ -221,8 +212,8 @@ impl<D: Device> UnitBook<D> {
         ensures given { IfSome result (λ value. given D.meaning self.new ≡ given D.meaning self.old ++ value ∷ []) }
         ensures room { IfSome result (λ value. occupancy self.new < self.new.capacity) }
     {
-        self.ledger.holds();
-        self.ledger.take_out()
+        self.entries.holds();
+        self.entries.take_out()
     }
 
     /// Puts the value that was taken out last back in front. Takes no memory.
@@ -231,6 +222,6 @@ impl<D: Device> UnitBook<D> {
         requires room { occupancy self.old < self.old.capacity }
         ensures { self.new ≡ record self.old { out = value ∷ self.old.out } }
     {
-        self.ledger.return_out(value);
+        self.entries.return_out(value);
     }
 }

@@ -1,7 +1,8 @@
 //! What the calls of a book go by.
 
-use io_images::{Code, Csw};
+use io_images::Code;
 use request_piece::Name;
+use unit_queue::Selection;
 
 /// What a start comes to.
 #[derive(Clone, Copy, PartialEq, Eq, Debug)]
@@ -18,12 +19,17 @@ pub(crate) enum Next {
     Again(Name),
 }
 
-/// What becomes of the active request when its status is taken: its completion code if it is posted, or
-/// None where it is to be tried again.
+/// What became of the active request when its status was taken.
 #[derive(Clone, Copy, PartialEq, Eq, Debug)]
-pub(crate) struct Decision {
-    pub name: Name,
-    pub csw: Csw,
-    pub sense: u16,
-    pub code: Option<Code>,
+pub(crate) enum Taken {
+    /// No status was pending.
+    Quiet,
+    /// This request awaits its restart.
+    Again(Name),
+    /// This request was posted, which dooms those of the waiting requests that the selection has.
+    Posted {
+        name: Name,
+        code: Code,
+        doom: Option<Selection>,
+    },
 }

@@ -13,10 +13,10 @@ mod book;
 mod dcb;
 mod decision;
 mod doom;
+mod entries;
 mod entry;
 mod extents;
 pub mod laws;
-mod ledger;
 
 pub use answer::{
     ArriveError, Closing, DcbError, Interruption, OpenError, Purging, Running, Starting,

@@ -5,8 +5,7 @@ use crate::error::HistoryError;
 use crate::names::{SENSE, STATUS};
 use crate::words::Count;
 use ccw_programs::{Context, Link, Listing, Refusal, State, Workspace};
-use ccw_trace::Replay;
-use command_names::{CCW_FLAGS, command_name};
+use command_table::{CCW_FLAGS, command_name};
 use device_port::{Device, Fault, Flow, Kind, Segment};
 use digits::write_bytes;
 use io_area::Area;
@@ -14,6 +13,7 @@ use io_images::Csw;
 use std::alloc::AllocError;
 use std::io;
 use std::io::Write;
+use trace_replay::Replay;
 use unit_book::{Entry, UnitBook};
 
 /// The most bytes of a command's data that are shown.

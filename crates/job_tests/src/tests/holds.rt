@@ -4,6 +4,7 @@ ghost use Rattle.std.specs.Prelude.{◌≡◌, ◌<◌, ◌≤◌};
 ghost use Rattle.excp_system.specs.Opening.{AreBooks, AreFresh, site_of};
 ghost use Rattle.job_mount.specs.Books.{IsFresh};
 
+use any_device::AnyDevice;
 use cases::{CASES, Case};
 use excp_system::{Rows, Site, System, Task};
 use fifo_row::Full;
@@ -19,7 +20,6 @@ use std::process::Abort;
 use std::sync::Wait;
 use std::test::Fail;
 use unit_book::{Mode, UnitBook};
-use unit_device::UnitDevice;
 use unit_history::{OpenDcbs, write_history};
 use unit_steps::{by_control, by_worker};
 
@@ -92,7 +92,7 @@ enum Step {
 }
 
 /// What a step answers: a word or a post, and the number of a request, of a DCB or of commands.
-type Told = (&'static str, u32);
+type Answer = (&'static str, u32);
 
 /// The IOB, ECB and program of a request, with its data.
 fn image(step: Step) -> [u8; 104] {
@@ -119,7 +119,7 @@ fn issued<S: Site, R: Wait>(
     alloc: Global,
     task: &mut Task<'_, S>,
     image: &[u8; 104],
-) -> Option<Told>
+) -> Option<Answer>
     requires { 0 < S.rows.units }
 {
     let name = task.name(0)?;
@@ -172,9 +172,9 @@ fn end_of<R: Abort + AllocGlobal>(rt: &R, value: &Posted) -> Result<String, Fail
 /// Asserts that this is what is told of what happened at the unit.
 fn told_history<R: Abort + AllocGlobal>(
     rt: &R,
-    book: &UnitBook<UnitDevice>,
+    book: &UnitBook<AnyDevice>,
     wanted: &str,
-) -> Result<Told, Fail> {
+) -> Result<Answer, Fail> {
     let mut text = Vec::new(rt.alloc());
     let mut open = OpenDcbs::new(rt.alloc(), 8)?;
     write_history(&mut text, 0, book, None, &mut open)?;
@@ -185,7 +185,7 @@ fn told_history<R: Abort + AllocGlobal>(
 /// Does a step once, and tells what it answers: nothing where there is no memory for it.
 fn done_once<'r, S: Site, R: Wait + Abort + AllocGlobal>(
     rt: &R,
-    system: &System<'r, S, UnitDevice>,
+    system: &System<'r, S, AnyDevice>,
     task: &mut Task<'r, S>,
     step: Step,
 ) -> Result<Option<(String, u32)>, Fail>
@@ -217,7 +217,7 @@ fn done_once<'r, S: Site, R: Wait + Abort + AllocGlobal>(
 /// what stood, and at the last of these times it fails.
 fn done<'r, S: Site, R: Wait + Abort + AllocGlobal>(
     rt: &R,
-    system: &System<'r, S, UnitDevice>,
+    system: &System<'r, S, AnyDevice>,
     task: &mut Task<'r, S>,
     step: Step,
     tries: u32,
@@ -239,8 +239,8 @@ fn done<'r, S: Site, R: Wait + Abort + AllocGlobal>(
 fn steps<S: Site, R: Wait + Abort + AllocGlobal>(
     rt: &R,
     rows: &mut Rows,
-    books: Vec<UnitBook<UnitDevice>>,
-    table: &[(Step, Told)],
+    books: Vec<UnitBook<AnyDevice>>,
+    table: &[(Step, Answer)],
     tries: u32,
 ) -> Result<(), Fail>
     requires site { S.rows ≡ site_of rows.old }
@@ -248,7 +248,7 @@ fn steps<S: Site, R: Wait + Abort + AllocGlobal>(
     requires books { AreBooks S.rows.units books.items }
     requires one { S.rows.units ≡ 1 }
 {
-    let (system, mut tasks, _) = System::<S, UnitDevice>::new(rt.alloc(), rows, books)?;
+    let (system, mut tasks, _) = System::<S, AnyDevice>::new(rt.alloc(), rows, books)?;
     let task = tasks.first_mut().ok_or(AllocError)?;
     let mut place: usize = 0;
     for (step, wanted) in table {
@@ -266,7 +266,7 @@ fn expect_steps<R: Wait + Abort + AllocGlobal>(
     script: &str,
     row: usize,
     book: usize,
-    table: &[(Step, Told)],
+    table: &[(Step, Answer)],
     tries: u32,
 ) -> Result<(), Fail>
     requires row_some { 1 ≤ row }
@@ -299,7 +299,7 @@ fn expect_case<R: Wait + Abort + AllocGlobal>(rt: &R, case: &Case) -> Result<(),
 fn expect_history<R: Wait + Abort + AllocGlobal>(
     rt: &R,
     script: &str,
-    table: &[(Step, Told)],
+    table: &[(Step, Answer)],
     history: &'static str,
 ) -> Result<(), Fail> {
     let mut table = table.to_vec(rt.alloc())?;

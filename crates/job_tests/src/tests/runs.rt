@@ -8,9 +8,10 @@ ghost use Rattle.job_run.specs.Complete.{IsComplete};
 
 mod not_awaited;
 
+use any_device::AnyDevice;
 use excp_system::{Gate, IscTaker, Point, Rows, Site, System};
 use job_mount::books;
-use job_run::{Lines, Output, ScriptTasks, ended, run_on, write};
+use job_run::{Lines, Output, ScriptTasks, TaskError, ended, run_on, write};
 use job_script::{FaultName, JobError, Script};
 use not_awaited::NotAwaited;
 use post_ledger::finish;
@@ -23,7 +24,6 @@ use std::test::Fail;
 use std::thread::Threads;
 use system_threads::{Alarm, Crew, Workers, parted, run_beside, run_program, runners};
 use unit_book::{Entry, UnitBook};
-use unit_device::UnitDevice;
 
 /// So many tasks.
 const ONE_TASK: &str = "tasks 1\n";
@@ -187,7 +187,7 @@ enum Outcome {
 fn unawaited<R: Threads + Wait + Sync + AllocGlobal>(
     rt: &R,
     rows: Rows,
-    books: Vec<UnitBook<UnitDevice>>,
+    books: Vec<UnitBook<AnyDevice>>,
     script: &Script,
 ) -> Result<Outcome, JobError>
     requires fresh { AreFresh rows }
@@ -210,7 +210,7 @@ fn unawaited<R: Threads + Wait + Sync + AllocGlobal>(
 fn left<S: Site + Send + Sync, R: Threads + Wait + Sync + AllocGlobal>(
     rt: &R,
     rows: &mut Rows,
-    books: Vec<UnitBook<UnitDevice>>,
+    books: Vec<UnitBook<AnyDevice>>,
     script: &Script,
 ) -> Result<Outcome, JobError>
     requires site { S.rows ≡ site_of rows.old }
@@ -221,7 +221,7 @@ fn left<S: Site + Send + Sync, R: Threads + Wait + Sync + AllocGlobal>(
     requires requests { All CanBeDone script.now.commands.items }
 {
     let alloc = rt.alloc();
-    let (system, tasks, _) = System::<S, UnitDevice>::new(alloc, rows, books)?;
+    let (system, tasks, _) = System::<S, AnyDevice>::new(alloc, rows, books)?;
     let runners = runners(alloc, tasks)?;
     let alarm = Alarm::of(alloc, runners.as_slice())?;
     let crew = Crew {
@@ -244,7 +244,7 @@ fn left<S: Site + Send + Sync, R: Threads + Wait + Sync + AllocGlobal>(
 fn tasks_alone<S: Site + Send + Sync, R: Threads + Wait + Sync + AllocGlobal>(
     rt: &R,
     rows: &mut Rows,
-    books: Vec<UnitBook<UnitDevice>>,
+    books: Vec<UnitBook<AnyDevice>>,
     script: &Script,
     way: Way,
 ) -> Result<Outcome, JobError>
@@ -256,7 +256,7 @@ fn tasks_alone<S: Site + Send + Sync, R: Threads + Wait + Sync + AllocGlobal>(
 {
     let alloc = rt.alloc();
     let units = rows.units();
-    let (system, tasks, takers) = System::<S, UnitDevice>::new(alloc, rows, books)?;
+    let (system, tasks, takers) = System::<S, AnyDevice>::new(alloc, rows, books)?;
     let runners = runners(alloc, tasks)?;
     let alarm = Alarm::of(alloc, runners.as_slice())?;
     if way.is_raised() {
@@ -303,14 +303,14 @@ fn two_of_each() -> Workers {
 }
 
 /// How many tasks ended for want of memory. The others are to have collected all their posts.
-fn how_many_short(outcomes: Vec<Result<Lines, JobError>>) -> Result<usize, JobError> {
+fn how_many_short(outcomes: Vec<Result<Lines, TaskError>>) -> Result<usize, JobError> {
     let mut short: usize = 0;
     for outcome in outcomes {
         match outcome {
             Ok(lines) if lines.is_complete() => {}
             Ok(_) => return Err(JobError::Unmatched),
-            Err(JobError::NoMemory) => short = short.saturating_add(1),
-            Err(fault) => return Err(fault),
+            Err(TaskError::NoMemory) => short = short.saturating_add(1),
+            Err(error) => return Err(JobError::from(error)),
         }
     }
     Ok(short)
@@ -329,7 +329,7 @@ fn printed(alloc: Global, lines: &[Lines]) -> Result<Outcome, JobError>
 /// the intake rows, which arrive first.
 fn told<S: Site, R: Wait>(
     rt: &R,
-    system: &System<'_, S, UnitDevice>,
+    system: &System<'_, S, AnyDevice>,
     units: u16,
 ) -> Result<usize, AllocError>
     requires { units ≤ S.rows.units }
@@ -354,7 +354,7 @@ fn rows_and_books(
     alloc: Global,
     script: &Script,
     room: usize,
-) -> Result<(Rows, Vec<UnitBook<UnitDevice>>), JobError>
+) -> Result<(Rows, Vec<UnitBook<AnyDevice>>), JobError>
     requires tasks { (1 ≤ script.now.set_up.tasks) × (script.now.set_up.tasks ≤ 64) }
     requires units { (1 ≤ vec_len script.now.set_up.units) × (vec_len script.now.set_up.units ≤ 64) }
     requires some { 1 ≤ room }

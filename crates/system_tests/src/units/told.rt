@@ -14,7 +14,7 @@ const MOST: u32 = 200;
 /// Has the task collect a post when it is told of one, and stops the worker behind the third, or where it was told
 /// wrongly.
 #[derive(Drop)]
-struct Told<'a, 't, 'r, S: Site, R: Wait> {
+struct CollectingGate<'a, 't, 'r, S: Site, R: Wait> {
     rt: &'a R,
     task: Cell<Option<&'t mut Task<'r, S>>>,
     posts: Cell<u32>,
@@ -22,7 +22,7 @@ struct Told<'a, 't, 'r, S: Site, R: Wait> {
     stop: Stop,
 }
 
-impl<'a, 't, 'r, S: Site, R: Wait> Gate for Told<'a, 't, 'r, S, R> {
+impl<'a, 't, 'r, S: Site, R: Wait> Gate for CollectingGate<'a, 't, 'r, S, R> {
     fn pass(&self, _unit: u16, _point: Point) {
         self.passed.set(self.passed.get().saturating_add(1));
         if self.passed.get() > MOST {
@@ -57,7 +57,7 @@ fn collected<'t, 'r, S: Site, R: Wait>(
 ) -> u32
     requires { 0 < S.rows.units }
 {
-    let gate = Told {
+    let gate = CollectingGate {
         rt,
         task: Cell::new(Some(task)),
         posts: Cell::new(0),

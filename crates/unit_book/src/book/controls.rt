@@ -51,7 +51,7 @@ impl<D: Device> UnitBook<D> {
         ensures full { IfErr result (λ e. e ≡ DcbError.NoMemory → PurgeLacks self.old) }
         ensures pending { OnOk result (is_pending D.meaning self.new ≡ (is_pending D.meaning self.old || halts_program D.meaning self.old (Scope.Dcb dcb) mode)) }
     {
-        if self.ledger.dcb_state(dcb) == DcbState::Unknown {
+        if self.entries.dcb_state(dcb) == DcbState::Unknown {
             return Err(DcbError::NoSuchDcb);
         }
         self.purge_scope(Scope::Dcb(dcb), mode)
@@ -76,10 +76,10 @@ impl<D: Device> UnitBook<D> {
         ensures full { OnErr result (PurgeLacks self.old) }
         ensures pending { OnOk result (is_pending D.meaning self.new ≡ (is_pending D.meaning self.old || halts_program D.meaning self.old scope mode)) }
     {
-        self.ledger.holds();
-        self.ledger.reserve_posts(2)?;
+        self.entries.holds();
+        self.entries.reserve_posts(2)?;
         self.purge_in_room(scope, mode);
-        Ok(purging(self.ledger.active_of(scope)))
+        Ok(purging(self.entries.active_of(scope)))
     }
 
     /// Purges the requests of a scope, where there is room for the entries.
@@ -88,12 +88,12 @@ impl<D: Device> UnitBook<D> {
         requires can { CanPurge D.meaning self.old.mounted scope self.old.trace }
         ensures { PurgesBy D.meaning (covers_awaiting self.old scope mode) self.old scope mode self.new }
     {
-        if self.ledger.covers_awaiting(scope, mode) {
-            self.ledger.purge_awaiting(scope, mode);
+        if self.entries.covers_awaiting(scope, mode) {
+            self.entries.purge_awaiting(scope, mode);
             return;
         }
-        self.ledger.purge(scope, mode);
-        self.ledger.sweep(Some(Selection::Scope(scope)));
+        self.entries.purge(scope, mode);
+        self.entries.sweep(Some(Selection::Scope(scope)));
     }
 
     /// Closes a DCB (DFSMSdfp Advanced Services, CLOSE): its requests that wait are posted 48, an active one goes
@@ -105,14 +105,14 @@ impl<D: Device> UnitBook<D> {
         ensures err { OnErr result (self.new ≡ self.old) }
         ensures pending { is_pending D.meaning self.new ≡ is_pending D.meaning self.old }
     {
-        let state = self.ledger.dcb_state(dcb);
+        let state = self.entries.dcb_state(dcb);
         if state == DcbState::Unknown {
             return Err(DcbError::NoSuchDcb);
         }
         if state == DcbState::Open && self.close_open(dcb).is_err() {
             return Err(DcbError::NoMemory);
         }
-        Ok(closing(self.ledger.active_of(Scope::Dcb(dcb))))
+        Ok(closing(self.entries.active_of(Scope::Dcb(dcb))))
     }
 
     /// Closes a DCB that is open.
@@ -123,10 +123,10 @@ impl<D: Device> UnitBook<D> {
         ensures full { OnErr result (CloseLacks self.old dcb) }
         ensures pending { is_pending D.meaning self.new ≡ is_pending D.meaning self.old }
     {
-        self.ledger.holds();
-        self.ledger.reserve_posts(1)?;
-        self.ledger.close(dcb);
-        self.ledger.sweep(Some(Selection::Scope(Scope::Dcb(dcb))));
+        self.entries.holds();
+        self.entries.reserve_posts(1)?;
+        self.entries.close(dcb);
+        self.entries.sweep(Some(Selection::Scope(Scope::Dcb(dcb))));
         Ok(())
     }
 
@@ -140,13 +140,13 @@ impl<D: Device> UnitBook<D> {
         ensures err { OnErr result (self.new ≡ self.old) }
         ensures pending { is_pending D.meaning self.new ≡ is_pending D.meaning self.old }
     {
-        if self.ledger.dcb_state(dcb) != DcbState::Open {
+        if self.entries.dcb_state(dcb) != DcbState::Open {
             return Err(DcbError::NoSuchDcb);
         }
-        if self.ledger.reserve(1).is_err() {
+        if self.entries.reserve(1).is_err() {
             return Err(DcbError::NoMemory);
         }
-        self.ledger.reset(dcb);
+        self.entries.reset(dcb);
         Ok(())
     }
 }

@@ -16,21 +16,21 @@ impl<D: Device> UnitBook<D> {
     pub fn trace(&self) -> &[Entry]
         ensures { reverse result.now ≡ self.now.trace }
     {
-        self.ledger.trace()
+        self.entries.trace()
     }
 
     /// The device with its medium as it stands.
     pub fn device(&self) -> &D
         ensures { result.now ≡ device D.meaning self.now.mounted self.now.trace }
     {
-        self.ledger.device()
+        self.entries.device()
     }
 
     /// The device as it was mounted.
     pub fn mounted(&self) -> &D
         ensures { result.now ≡ self.now.mounted }
     {
-        self.ledger.mounted()
+        self.entries.mounted()
     }
 
     /// The interruption subclass of the subchannel (0 to 7).
@@ -38,42 +38,42 @@ impl<D: Device> UnitBook<D> {
         ensures is { result ≡ self.now.isc }
         ensures few { result ≤ 7 }
     {
-        self.ledger.isc()
+        self.entries.isc()
     }
 
     /// Whether a status is pending that no `interrupt` has taken.
     pub fn pending(&self) -> bool
         ensures { result ≡ is_pending D.meaning self.now }
     {
-        self.ledger.pending()
+        self.entries.pending()
     }
 
     /// How many requests wait.
     pub fn waiting_len(&self) -> usize
         ensures { result ≡ length (waiting self.now.trace) }
     {
-        self.ledger.waiting_len()
+        self.entries.waiting_len()
     }
 
     /// How many posted values were not yet taken.
     pub fn out_len(&self) -> usize
         ensures { result ≡ length self.now.out }
     {
-        self.ledger.out_len()
+        self.entries.out_len()
     }
 
     /// Whether the book may hold another request.
     pub fn has_room(&self) -> bool
         ensures { IsTrue result ↔ (occupancy self.now < self.now.capacity) }
     {
-        self.ledger.has_room()
+        self.entries.has_room()
     }
 
     /// The state of the DCB with a number.
     pub fn dcb_state(&self, dcb: u16) -> DcbState
         ensures { result ≡ dcb_state dcb self.now.trace }
     {
-        self.ledger.dcb_state(dcb)
+        self.entries.dcb_state(dcb)
     }
 
     /// Whether the first two bits of DCBIFLGS are 11, permanent error, in place of 00 (DFSMSdfp Advanced
@@ -81,20 +81,20 @@ impl<D: Device> UnitBook<D> {
     pub fn dcb_flag(&self, dcb: u16) -> bool
         ensures { result ≡ flag dcb self.now.trace }
     {
-        self.ledger.in_error(dcb)
+        self.entries.in_error(dcb)
     }
 
     /// The file mask under which the programs of the DCB with a number run (profile).
     pub fn mask(&self, dcb: u16) -> u8
         ensures { result ≡ mask_of dcb self.now.trace }
     {
-        self.ledger.mask(dcb)
+        self.entries.mask(dcb)
     }
 
     /// How many entries the trace has room for.
     pub fn spare(&self) -> usize
         ensures { result ≡ self.now.spare }
     {
-        self.ledger.spare()
+        self.entries.spare()
     }
 }

@@ -1,6 +1,6 @@
 use Rattle.std.proofs.Common.{arith, ap, sym, ◌∙◌, nat_eq, ◌-◌, Ok, Err, refl, length, length-append, [], ◌∷◌}
 use Rattle.std.proofs.lemmas.List.{append-nil}
-use Rattle.ccw_programs.specs.Areas.{prefixed}
+use Rattle.ccw_programs.specs.Areas.{parts_after}
 use Rattle.ccw_programs.proofs.Parts.{no_part, part_more, parts_from-none}
 use Rattle.ccw_programs.proofs.areas.push_words.Goals as goal
 
@@ -19,5 +19,5 @@ loop-place-preserved c = record {
 pub returns-clause-parts : goal.returns-clause-parts
 returns-clause-parts c =
     c.loop-place.invariant.told
-    ∙ ap (prefixed c.loop-place.chain) (parts_from-none _ _ _ _ (c.args.words - c.loop-place.place) _ (omega arith))
+    ∙ ap (parts_after c.loop-place.chain) (parts_from-none _ _ _ _ (c.args.words - c.loop-place.place) _ (omega arith))
     ∙ ap Ok (append-nil _)

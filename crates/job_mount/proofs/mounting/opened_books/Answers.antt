@@ -3,7 +3,7 @@ use Rattle.std.specs.Result.{IsErr, IsErrAnd}
 use Rattle.std.proofs.lemmas.Bool.{false≢true}
 use Rattle.std.proofs.lemmas.List.Elements.{All-push}
 use Rattle.unit_book.specs.Book.{Book}
-use Rattle.unit_device.specs.declared.device.UnitDevice.{UnitDevice}
+use Rattle.any_device.specs.declared.device.AnyDevice.{AnyDevice}
 use Rattle.job_script.specs.declared.fault.JobError.{JobError}
 use Rattle.job_script.specs.Grammar.{FaultAt}
 use Rattle.job_script.specs.Outcomes.{Gives}
@@ -12,7 +12,7 @@ use Rattle.job_script.specs.Views.{opening_said, unit_said}
 use Rattle.job_mount.specs.Books.{HasRoom, IsFresh}
 use Rattle.job_mount.specs.Mounting.{units_with}
 use Rattle.job_mount.specs.Openings.{open_all}
-use Rattle.job_mount.specs.Outcomes.{Opens, all_known, known}
+use Rattle.job_mount.specs.Outcomes.{Opens, all_without_spare, without_spare}
 use Rattle.job_mount.proofs.Openings.{after, no_unit_yet, unit_at_fault, unit_opened, unit_refused, units_at_fault, units_opened}
 use Rattle.job_mount.proofs.mounting.opened_books.Goals as goal
 use Rattle.job_mount.proofs.mounting.opened_books.Goals.{in-None+in_ok-push-in-None, in-Some}
@@ -21,7 +21,7 @@ pub loop-unit-init : goal.loop-unit-init
 loop-unit-init c =
     let units = map unit_said c.args.units.now in
     record {
-      exact = subst (λ (books : List (Book UnitDevice)). after c.args.capacity None (map known books) units ≡ units_with c.args.capacity units)
+      exact = subst (λ (books : List (Book AnyDevice)). after c.args.capacity None (map without_spare books) units ≡ units_with c.args.capacity units)
           (sym c.new-books.ensures.items) (no_unit_yet c.args.capacity units);
       count = search rules;
       fresh = search rules;
@@ -37,7 +37,7 @@ pub returns-in_err-book-clause-exact : goal.returns-in_err-book-clause-exact
 returns-in_err-book-clause-exact c =
     let refused = unit_refused c.args.capacity c.loop-unit.first c.loop-unit.books.items c.args.units.now c.loop-unit.unit-index c.unit-item.result
     c.in_err-book.field-0.0 _ c.loop-unit-test.true c.unit-item.is c.in_err-book.ensures.exact c.loop-unit.invariant.exact in
-    gives_as all_known c.from_residual.result c.in_err-book.field-0.0 _ c.from_residual.ensures.0 c.from_residual.ensures.1 refused
+    gives_as all_without_spare c.from_residual.result c.in_err-book.field-0.0 _ c.from_residual.ensures.0 c.from_residual.ensures.1 refused
 
 pub loop-unit-preserved : goal.loop-unit-preserved
 loop-unit-preserved c =
@@ -49,7 +49,7 @@ loop-unit-preserved c =
     let so_far = c.loop-unit.invariant in
     elim c.match-branch-3.branch [
       | in-None+in_ok-push-in-None w ↦
-          let opens = subst (λ (openings : List Opening). open_all (known mounted) (map opening_said openings) ≡ Ok (known book)) c.deref.ensures.value
+          let opens = subst (λ (openings : List Opening). open_all (without_spare mounted) (map opening_said openings) ≡ Ok (without_spare book)) c.deref.ensures.value
           (subst (λ (at_fault : Option ℕ). Opens mounted (map opening_said c.deref.result.now) (Ok at_fault) book) w.in-None.is
           c.in_ok-open_dcbs.ensures.exact) in
           let items = w.in_ok-push-in-None.ensures.items in
@@ -64,7 +64,7 @@ loop-unit-preserved c =
           }
       | in-Some w ↦
           let line = w.in-Some.line in
-          let opens = subst (λ (openings : List Opening). open_all (known mounted) (map opening_said openings) ≡ Err line) c.deref.ensures.value
+          let opens = subst (λ (openings : List Opening). open_all (without_spare mounted) (map opening_said openings) ≡ Err line) c.deref.ensures.value
           (subst (λ (at_fault : Option ℕ). Opens mounted (map opening_said c.deref.result.now) (Ok at_fault) book) w.in-Some.is
           c.in_ok-open_dcbs.ensures.exact) in
           record {
@@ -83,7 +83,7 @@ returns-in-None-first-clause-exact c =
     let all : length units ≤ c.loop-unit.unit-index = omega (arith, c.loop-unit-test.false) in
     units_opened c.args.capacity c.loop-unit.books.items units c.loop-unit.unit-index _ all
     (subst
-    (λ (first : Option ℕ). after c.args.capacity first (all_known c.loop-unit.books) (map unit_said (drop c.loop-unit.unit-index units))
+    (λ (first : Option ℕ). after c.args.capacity first (all_without_spare c.loop-unit.books) (map unit_said (drop c.loop-unit.unit-index units))
     ≡ units_with c.args.capacity (map unit_said units))
     c.in-None-first.is c.loop-unit.invariant.exact)
 
@@ -93,6 +93,6 @@ returns-in-Some-first-clause-exact c =
     let all : length units ≤ c.loop-unit.unit-index = omega (arith, c.loop-unit-test.false) in
     units_at_fault c.args.capacity c.in-Some-first.line c.loop-unit.books.items units c.loop-unit.unit-index _ all
     (subst
-    (λ (first : Option ℕ). after c.args.capacity first (all_known c.loop-unit.books) (map unit_said (drop c.loop-unit.unit-index units))
+    (λ (first : Option ℕ). after c.args.capacity first (all_without_spare c.loop-unit.books) (map unit_said (drop c.loop-unit.unit-index units))
     ≡ units_with c.args.capacity (map unit_said units))
     c.in-Some-first.is c.loop-unit.invariant.exact)

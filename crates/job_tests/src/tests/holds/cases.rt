@@ -4,17 +4,17 @@ use super::Step::{
     Close, Collect, Deliver, Excp, Interrupt, Open, Purge, PurgeTask, Run, Start, Take,
 };
 use super::tables::{HALTED, HALTED_RETRY, READ, WAITED};
-use super::{Step, Told};
+use super::{Answer, Step};
 use unit_book::Mode::{Halt, Quiesce};
 
 /// A purge or close while a request is active, or each of a few: what it meets, what it answers, and what comes of it.
 #[derive(Clone, Copy)]
 pub struct Case {
     pub fails_once: bool,
-    pub before: &'static [(Step, Told)],
+    pub before: &'static [(Step, Answer)],
     pub steps: &'static [Step],
-    pub answer: Told,
-    pub behind: &'static [(Step, Told)],
+    pub answer: Answer,
+    pub behind: &'static [(Step, Answer)],
 }
 
 const HALTS: &[Step] = &[Purge(1, Halt), PurgeTask(0, Halt)];
@@ -30,7 +30,7 @@ const OF_OTHERS: &[Step] = &[
 ];
 
 /// Between the first and the second command of a program, while another request waits.
-const BETWEEN: &[(Step, Told)] = &[
+const BETWEEN: &[(Step, Answer)] = &[
     (Open, ("opened", 1)),
     (Open, ("opened", 2)),
     (Excp(1), ("sent", 1)),
@@ -42,7 +42,7 @@ const BETWEEN: &[(Step, Told)] = &[
 ];
 
 /// Before the status of an attempt that would be tried again is taken.
-const FAILING: &[(Step, Told)] = &[
+const FAILING: &[(Step, Answer)] = &[
     (Open, ("opened", 1)),
     (Excp(1), ("sent", 1)),
     (Take, ("took", 1)),
@@ -52,7 +52,7 @@ const FAILING: &[(Step, Told)] = &[
 ];
 
 /// Behind it.
-const AWAITING: &[(Step, Told)] = &[
+const AWAITING: &[(Step, Answer)] = &[
     (Open, ("opened", 1)),
     (Excp(1), ("sent", 1)),
     (Take, ("took", 1)),
@@ -63,7 +63,7 @@ const AWAITING: &[(Step, Told)] = &[
 ];
 
 /// What waits is posted, and the program goes on where it stood.
-const GOES_ON: &[(Step, Told)] = &[
+const GOES_ON: &[(Step, Answer)] = &[
     (Deliver, ("delivered", 2)),
     (Collect, (WAITED, 2)),
     (Run(1), ("runs", 1)),

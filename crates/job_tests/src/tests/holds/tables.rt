@@ -4,7 +4,7 @@ use super::Step::{
     Close, Collect, Deliver, Excp, Fill, Flag, Interrupt, Open, Outside, Purge, PurgeTask, Related,
     Reset, Run, Settle, Start, Take,
 };
-use super::{Step, Told};
+use super::{Answer, Step};
 use unit_book::Mode::{Halt, Quiesce};
 
 /// Posts, as `Collect` tells them: the record was read; what waited was purged, or came for a DCB that takes nothing;
@@ -25,7 +25,7 @@ const FAILED: &str = "41 001038 0E00 0005 0800 41000000 00000000";
 const VIOLATED: &str = "42 000000 0000 0000 0000 42000000 00000000";
 
 /// `halt_before_during_and_after`
-pub const HALT_AT_EACH_PLACE: &[(Step, Told)] = &[
+pub const HALT_AT_EACH_PLACE: &[(Step, Answer)] = &[
     (Open, ("opened", 1)),
     (Excp(1), ("sent", 1)),
     (Take, ("took", 1)),
@@ -54,7 +54,7 @@ pub const HALT_AT_EACH_PLACE: &[(Step, Told)] = &[
 ];
 
 /// A program by single commands.
-pub const BY_COMMANDS: &[(Step, Told)] = &[
+pub const BY_COMMANDS: &[(Step, Answer)] = &[
     (Open, ("opened", 1)),
     (Excp(1), ("sent", 1)),
     (Take, ("took", 1)),
@@ -68,7 +68,7 @@ pub const BY_COMMANDS: &[(Step, Told)] = &[
 ];
 
 /// `quiesce_lets_active_end`
-pub const QUIESCE: &[(Step, Told)] = &[
+pub const QUIESCE: &[(Step, Answer)] = &[
     (Open, ("opened", 1)),
     (Open, ("opened", 2)),
     (Excp(1), ("sent", 1)),
@@ -94,7 +94,7 @@ pub const QUIESCE: &[(Step, Told)] = &[
 ];
 
 /// `unknown_dcb`; a post as purged sets no flag.
-pub const UNKNOWN: &[(Step, Told)] = &[
+pub const UNKNOWN: &[(Step, Answer)] = &[
     (Open, ("opened", 1)),
     (Flag(9), ("00", 9)),
     (Related(9), ("sent", 1)),
@@ -111,7 +111,7 @@ pub const UNKNOWN: &[(Step, Told)] = &[
 ];
 
 /// `close_lets_active_retry`
-pub const CLOSE: &[(Step, Told)] = &[
+pub const CLOSE: &[(Step, Answer)] = &[
     (Open, ("opened", 1)),
     (Excp(1), ("sent", 1)),
     (Excp(1), ("sent", 2)),
@@ -139,7 +139,7 @@ pub const CLOSE: &[(Step, Told)] = &[
 ];
 
 /// `extent_violation_dooms_related`
-pub const VIOLATION: &[(Step, Told)] = &[
+pub const VIOLATION: &[(Step, Answer)] = &[
     (Open, ("opened", 1)),
     (Outside(1), ("sent", 1)),
     (Related(1), ("sent", 2)),
@@ -155,7 +155,7 @@ pub const VIOLATION: &[(Step, Told)] = &[
 ];
 
 /// `related_error_flags_dcb_until_reset`: before the first start.
-pub const RELATED: &[(Step, Told)] = &[
+pub const RELATED: &[(Step, Answer)] = &[
     (Open, ("opened", 1)),
     (Open, ("opened", 2)),
     (Related(1), ("sent", 1)),
@@ -167,7 +167,7 @@ pub const RELATED: &[(Step, Told)] = &[
 ];
 
 /// One of the ten attempts that are tried again.
-pub const TRIED_AGAIN: &[(Step, Told)] = &[
+pub const TRIED_AGAIN: &[(Step, Answer)] = &[
     (Start, ("started", 1)),
     (Run(16), ("pending", 1)),
     (Interrupt, ("again", 1)),
@@ -175,7 +175,7 @@ pub const TRIED_AGAIN: &[(Step, Told)] = &[
 ];
 
 /// The eleventh attempt, and up to the reset.
-pub const FLAGGED: &[(Step, Told)] = &[
+pub const FLAGGED: &[(Step, Answer)] = &[
     (Start, ("started", 1)),
     (Run(16), ("pending", 1)),
     (Interrupt, ("error", 1)),
@@ -201,7 +201,7 @@ pub const FLAGGED: &[(Step, Told)] = &[
 ];
 
 /// Behind the reset.
-pub const RESET: &[(Step, Told)] = &[
+pub const RESET: &[(Step, Answer)] = &[
     (Related(1), ("sent", 5)),
     (Take, ("took", 5)),
     (Start, ("started", 5)),
@@ -213,7 +213,7 @@ pub const RESET: &[(Step, Told)] = &[
 ];
 
 /// `full_intake_row`, `full_book`, and rows and a book with room for one, up to the end of the run.
-pub const ROOM_FOR_ONE: &[(Step, Told)] = &[
+pub const ROOM_FOR_ONE: &[(Step, Answer)] = &[
     (Open, ("opened", 1)),
     (Excp(1), ("sent", 1)),
     (Excp(1), ("full", 2)),
@@ -240,7 +240,7 @@ pub const ROOM_FOR_ONE: &[(Step, Told)] = &[
 ];
 
 /// `full_post_row`: two posts are out, of one that was read and one that waited.
-pub const FULL_POST_ROW: &[(Step, Told)] = &[
+pub const FULL_POST_ROW: &[(Step, Answer)] = &[
     (Open, ("opened", 1)),
     (Excp(1), ("sent", 1)),
     (Take, ("took", 1)),
@@ -260,7 +260,7 @@ pub const FULL_POST_ROW: &[(Step, Told)] = &[
 ];
 
 /// A step of each kind where the trace has room for one entry less than the step may add.
-pub const FULL_TRACES: &[(Step, Told)] = &[
+pub const FULL_TRACES: &[(Step, Answer)] = &[
     (Open, ("opened", 1)),
     (Open, ("opened", 2)),
     (Excp(1), ("sent", 1)),
@@ -319,7 +319,7 @@ pub const FULL_TRACES: &[(Step, Told)] = &[
 
 /// A unit is settled where the trace has room for no entry, for the start, and for a start and a run but not for the
 /// posts.
-pub const SETTLED: &[(Step, Told)] = &[
+pub const SETTLED: &[(Step, Answer)] = &[
     (Open, ("opened", 1)),
     (Open, ("opened", 2)),
     (Excp(1), ("sent", 1)),
@@ -349,7 +349,7 @@ pub const SETTLED: &[(Step, Told)] = &[
 
 /// Behind as many requests as a book holds: the next one is held in its row until there is room, and what waits is
 /// purged.
-pub const BEHIND_MOST: &[(Step, Told)] = &[
+pub const BEHIND_MOST: &[(Step, Answer)] = &[
     (Excp(1), ("sent", 65_537)),
     (Take, ("held", 0)),
     (Start, ("started", 1)),
@@ -362,7 +362,7 @@ pub const BEHIND_MOST: &[(Step, Told)] = &[
 ];
 
 /// Behind as many posts as a post row holds.
-pub const MOST_POSTS: &[(Step, Told)] = &[
+pub const MOST_POSTS: &[(Step, Answer)] = &[
     (Deliver, ("full", 65_537)),
     (Collect, (READ, 1)),
     (Deliver, ("delivered", 65_537)),

@@ -1,11 +1,11 @@
 //! Steps of the unit, and what each answers.
 
-use super::{EXTENT, Step, Told};
+use super::{Answer, EXTENT, Step};
+use any_device::AnyDevice;
 use excp_system::{Delivery, Intake, Site, UnitState};
 use io_images::{Code, Extent};
 use std::sync::Wait;
 use unit_book::{Closing, DcbError, Interruption, OpenError, Purging, Running, Starting};
-use unit_device::UnitDevice;
 
 /// The word for a completion code.
 fn word(code: Code) -> &'static str {
@@ -19,9 +19,9 @@ fn word(code: Code) -> &'static str {
 /// A step of the unit that its workers do.
 pub fn by_worker<S: Site, R: Wait>(
     rt: &R,
-    unit: &mut UnitState<'_, S, UnitDevice>,
+    unit: &mut UnitState<'_, S, AnyDevice>,
     step: Step,
-) -> Option<Told> {
+) -> Option<Answer> {
     match step {
         Step::Take => match unit.take(rt).ok()? {
             Intake::Held => Some(("held", 0)),
@@ -54,7 +54,7 @@ pub fn by_worker<S: Site, R: Wait>(
 }
 
 /// What a purge answers of the active request.
-fn purged(answer: Purging) -> Told {
+fn purged(answer: Purging) -> Answer {
     match answer {
         Purging::Quiet => ("quiet", 0),
         Purging::Active(name) => ("active", name.seq),
@@ -62,7 +62,7 @@ fn purged(answer: Purging) -> Told {
 }
 
 /// What a call on a DCB answers, which is unknown or was refused.
-fn refused(error: DcbError, dcb: u16) -> Option<Told> {
+fn refused(error: DcbError, dcb: u16) -> Option<Answer> {
     match error {
         DcbError::NoSuchDcb => Some(("unknown", u32::from(dcb))),
         DcbError::NoMemory => None,
@@ -72,9 +72,9 @@ fn refused(error: DcbError, dcb: u16) -> Option<Told> {
 /// An opening, a purge, a close or a reset, or a look at a flag.
 pub fn by_control<S: Site, R: Wait>(
     rt: &R,
-    unit: &mut UnitState<'_, S, UnitDevice>,
+    unit: &mut UnitState<'_, S, AnyDevice>,
     step: Step,
-) -> Option<Told> {
+) -> Option<Answer> {
     match step {
         Step::Open => match unit.open(false, &[Extent::read(&EXTENT)]) {
             Ok(dcb) => Some(("opened", u32::from(dcb))),

@@ -3,13 +3,13 @@
 ghost use Rattle.std.specs.Prelude.{◌≡◌, ℕ, All, vec_len};
 ghost use Rattle.job_mount.specs.Requests.{CanBeDone};
 
+use any_device::AnyDevice;
 use excp_system::{Site, System};
-use job_run::{Job, Lines};
-use job_script::{JobError, Script};
+use job_run::{Job, Lines, TaskError};
+use job_script::Script;
 use std::alloc::Global;
 use std::sync::Wait;
-use system_threads::{Alarm, Client, Program};
-use unit_device::UnitDevice;
+use system_threads::{Alarm, Client, TaskProgram};
 
 /// Each task leaves what is printed of its requests.
 #[derive(Drop)]
@@ -31,10 +31,10 @@ impl<'a> NotAwaited<'a> {
         &self,
         rt: &R,
         alloc: Global,
-        system: &System<'_, S, UnitDevice>,
+        system: &System<'_, S, AnyDevice>,
         alarm: &Alarm,
         client: &mut Client<'_, S>,
-    ) -> Result<Lines, JobError>
+    ) -> Result<Lines, TaskError>
         requires { S.rows.units ≡ vec_len self.now.script.now.set_up.units }
         ensures { client.new.number ≡ client.old.number }
     {
@@ -44,8 +44,8 @@ impl<'a> NotAwaited<'a> {
     }
 }
 
-impl<'a> Program<UnitDevice> for NotAwaited<'a> {
-    type Outcome = Result<Lines, JobError>;
+impl<'a> TaskProgram<AnyDevice> for NotAwaited<'a> {
+    type Outcome = Result<Lines, TaskError>;
 
     ghost units = { λ tasks. vec_len tasks.script.now.set_up.units };
 
@@ -53,10 +53,10 @@ impl<'a> Program<UnitDevice> for NotAwaited<'a> {
         &self,
         rt: &R,
         alloc: Global,
-        system: &System<'_, S, UnitDevice>,
+        system: &System<'_, S, AnyDevice>,
         alarm: &Alarm,
         client: &mut Client<'_, S>,
-    ) -> Result<Lines, JobError> {
+    ) -> Result<Lines, TaskError> {
         self.commands(rt, alloc, system, alarm, client)
     }
 }

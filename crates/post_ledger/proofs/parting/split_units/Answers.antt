@@ -6,7 +6,7 @@ use Rattle.std.proofs.lemmas.List.Elements.{All-push}
 use Rattle.excp_system.specs.States.{Locked}
 use Rattle.std.specs.List.{All}
 use Rattle.std.proofs.lemmas.Grind.{common_steps}
-use Rattle.post_ledger.specs.Parting.{IsBack, IsSound, Paired, book_of, intake_end}
+use Rattle.post_ledger.specs.Parting.{IsBack, BookKeeps, Paired, book_of, intake_end}
 use Rattle.post_ledger.proofs.Pairs.{map_snoc, paired_none, paired_snoc}
 use Rattle.post_ledger.proofs.parting.split_units.Goals as goal
 
@@ -23,7 +23,7 @@ loop-unit-preserved g c =
       intakes = c.push_reserved-in-loop-unit.ensures.items ∙ map_snoc (intake_end s) c.loop-unit.yielded v c.loop-unit.intakes.items c.into_parts-book.result.1 i.intakes e.ends.intake_is;
       backs = subst (Paired (IsBack g.D.Device.meaning s) (c.loop-unit.yielded ++ v ∷ [])) (sym c.push_reserved-in-loop-unit-2.ensures.items)
           (paired_snoc (IsBack g.D.Device.meaning s) c.loop-unit.yielded c.loop-unit.backs.items v c.into_parts-book.result.2 i.backs (record { number_is = e.ends.back_is; count = e.ends.count; sent = e.ends.sent }));
-      sound = All-push (λ (u : Locked _). IsSound g.D.Device.meaning u.book) c.loop-unit.yielded v i.sound (record { legal = c.holds.ensures.legal; given = c.holds.ensures.given });
+      sound = All-push (λ (u : Locked _). BookKeeps g.D.Device.meaning u.book) c.loop-unit.yielded v i.sound (record { legal = c.holds.ensures.legal; given = c.holds.ensures.given });
       room = (omega (arith, i.room.0, c.push_reserved.ensures.capacity), omega (arith, i.room.1, c.push_reserved-in-loop-unit.ensures.capacity), omega (arith, i.room.2, c.push_reserved-in-loop-unit-2.ensures.capacity));
     }
 
@@ -67,4 +67,4 @@ pub returns-clause-sound : goal.returns-clause-sound
 returns-clause-sound g c =
     let none : into_iter_items c.loop-unit.unit-iterator ≡ [] = none_left (into_iter_items c.loop-unit.unit-iterator) (omega (arith, c.loop-unit.unit-iterator.rest.ok, c.in-None.ensures.steps.0)) in
     let all : c.args.units.items ≡ c.loop-unit.yielded = c.loop-unit.invariant.all ∙ (ap (λ r. c.loop-unit.yielded ++ r) none ∙ append-nil c.loop-unit.yielded) in
-    subst (All (λ (u : Locked _). IsSound g.D.Device.meaning u.book)) (sym all) c.loop-unit.invariant.sound
+    subst (All (λ (u : Locked _). BookKeeps g.D.Device.meaning u.book)) (sym all) c.loop-unit.invariant.sound

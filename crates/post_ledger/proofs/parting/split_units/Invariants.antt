@@ -3,7 +3,7 @@ use Rattle.std.specs.Prelude.{vec_len, vec_capacity}
 use Rattle.std.specs.Vec.Iter.{into_iter_items}
 use Rattle.std.specs.List.{All}
 use Rattle.excp_system.specs.States.{Locked}
-use Rattle.post_ledger.specs.Parting.{IsBack, IsSound, Paired, book_of, intake_end}
+use Rattle.post_ledger.specs.Parting.{IsBack, BookKeeps, Paired, book_of, intake_end}
 use Rattle.post_ledger.proofs.parting.split_units.Given as goal
 
 abbrev pub invariant-loop-unit : goal.invariant-loop-unit
@@ -12,6 +12,6 @@ invariant-loop-unit g l = record {
   books : l.books.items ≡ map book_of l.yielded;
   intakes : l.intakes.items ≡ map (intake_end g.S.Site.rows) l.yielded;
   backs : Paired (IsBack g.D.Device.meaning g.S.Site.rows) l.yielded l.backs.items;
-  sound : All (λ (v : Locked _). IsSound g.D.Device.meaning v.book) l.yielded;
+  sound : All (λ (v : Locked _). BookKeeps g.D.Device.meaning v.book) l.yielded;
   room : (vec_len l.fn.units ≤ vec_capacity l.books) × (vec_len l.fn.units ≤ vec_capacity l.intakes) × (vec_len l.fn.units ≤ vec_capacity l.backs);
 }

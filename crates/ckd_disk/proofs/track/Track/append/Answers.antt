@@ -2,7 +2,7 @@ use Rattle.std.proofs.Common.{◌≡◌, ◌+◌, ℕ, List, length, ap, ◌∙�
 use Rattle.std.proofs.lemmas.List.{with_items_is}
 use Rattle.std.specs.Vec.{with_items}
 use Rattle.device_port.specs.Moves.{written}
-use Rattle.ckd_disk.specs.Record.{Record, Fits, packed}
+use Rattle.ckd_disk.specs.Record.{Record, FitsCountArea, packed}
 use Rattle.ckd_disk.specs.Track.{with_last}
 use Rattle.ckd_disk.proofs.Tracks.{Kept, appended, bounds}
 use Rattle.ckd_disk.proofs.track.Track.append.Goals as goal
@@ -17,7 +17,7 @@ keeps c =
     let v = c.self.inside.bytes in
     let image = c.put_record.new.image in
     let r : Record = record { id = c.args.id.now; key = c.args.key.now; content = c.args.content.now } in
-    let fit : Fits r = record { id = c.told-id; key = c.requires.key; content = c.requires.content } in
+    let fit : FitsCountArea r = record { id = c.told-id; key = c.requires.key; content = c.requires.content } in
     let same : length image ≡ v.len = search rules in
     let after-is = with_items_is v image same ∙ c.put_record.ensures ∙ ap (λ (x : List ℕ). written x c.self.inside.used (packed r)) c.deref_mut.ensures.value in
     appended c.args.self.now v.items (with_items v image).items c.self.inside.used c.self.inside.count r c.self.invariant c.self.view_is fit c.requires.room after-is

@@ -4,7 +4,7 @@ use Rattle.unit_book.specs.Book.{Book}
 use Rattle.unit_book.specs.Trace.{arrived_of}
 use Rattle.unit_book.proofs.Kept.{keeps-then, sound-kept}
 use Rattle.unit_book.proofs.WorldBooks.{Keeps, Sound, keeps-arrive, keeps-again}
-use Rattle.fifo_row.specs.Ends.{IsNext, Taking}
+use Rattle.fifo_row.specs.Ends.{IsNextItem, Taking}
 use Rattle.fifo_row.specs.Lists.{of}
 use Rattle.excp_system.specs.Sites.{RequestFact, task_of}
 use Rattle.excp_system.proofs.Units.{unit-takes}
@@ -21,7 +21,7 @@ invariant_of-self-in-Some g c =
     let is = c.self.invariant.intake_is in
     let r = c.into_request-request.result in
     let same : r ≡ c.in-Some.sent = c.into_request-request.ensures in
-    let next : IsNext task_of RequestFact taker r = subst (IsNext task_of RequestFact taker) (sym same) c.in-Some.ensures.next in
+    let next : IsNextItem task_of RequestFact taker r = subst (IsNextItem task_of RequestFact taker) (sym same) c.in-Some.ensures.next in
     let sound : Sound meaning old = (c.holds.ensures.legal, c.holds.ensures.settled) in
     let reserved : Keeps meaning old [] mid = keeps-again meaning old mid old.awaits sound c.in_ok-reserve.ensures.book in
     let counted : length (of task_of r.name.task taker.taken) ≡ arrived_of r.name.task mid.trace =

@@ -1,19 +1,19 @@
 use Rattle.std.proofs.Common.{ap}
 use Rattle.job_mount.specs.Requests.{excp_of}
-use Rattle.job_script.specs.Commands.{dcb_of}
+use Rattle.job_script.specs.Commands.{named_dcb}
 use Rattle.job_run.proofs.job.Job.command.Goals as goal
 
 pub issue-requires-clause-unit : goal.issue-requires-clause-unit
-issue-requires-clause-unit g c = c.requires.units c.in-Excp.excp.dcb (ap dcb_of c.in-Excp.is)
+issue-requires-clause-unit g c = c.requires.units c.in-Excp.excp.dcb (ap named_dcb c.in-Excp.is)
 
 pub issue-requires-clause-request : goal.issue-requires-clause-request
 issue-requires-clause-request g c = c.requires.request c.in-Excp.excp (ap excp_of c.in-Excp.is)
 
 pub purge-requires : goal.purge-requires
-purge-requires g c = c.requires.units c.in-Purge.dcb (ap dcb_of c.in-Purge.is)
+purge-requires g c = c.requires.units c.in-Purge.dcb (ap named_dcb c.in-Purge.is)
 
 pub close-requires : goal.close-requires
-close-requires g c = c.requires.units c.in-Close.dcb (ap dcb_of c.in-Close.is)
+close-requires g c = c.requires.units c.in-Close.dcb (ap named_dcb c.in-Close.is)
 
 pub reset-requires : goal.reset-requires
-reset-requires g c = c.requires.units c.in-Reset.dcb (ap dcb_of c.in-Reset.is)
+reset-requires g c = c.requires.units c.in-Reset.dcb (ap named_dcb c.in-Reset.is)

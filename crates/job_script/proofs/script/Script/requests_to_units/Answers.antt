@@ -3,7 +3,7 @@ use Rattle.std.specs.List.{Contains}
 use Rattle.std.proofs.lemmas.List.{get_or-replicate, length-take}
 use Rattle.std.proofs.lemmas.List.Elements.{Contains-get_or}
 use Rattle.unit_book.proofs.Dooms.{length-filter_le}
-use Rattle.job_script.specs.Commands.{dcb_of, excp_is_to, issues_to}
+use Rattle.job_script.specs.Commands.{named_dcb, excp_is_to, issues_to}
 use Rattle.job_script.proofs.Grouping.{counts_none, counts_one, to_no_unit}
 use Rattle.job_script.proofs.script.Script.requests_to_units.Goals as goal
 use Rattle.job_script.proofs.script.Script.requests_to_units.Goals.{in-Excp, in_default}
@@ -19,7 +19,7 @@ below c =
     let item = c.command-item.result in
     let at : item ≡ get_or commands index item = c.command-item.is ∙ ap (λ l. get_or l index item) c.deref-command-items.ensures.value in
     let is : Contains commands item = subst (Contains commands) (sym at) (Contains-get_or commands index item within) in
-    let unit = c.args.self.now.declared item is c.in-Excp.excp.dcb (ap dcb_of c.in-Excp.is) in
+    let unit = c.args.self.now.declared item is c.in-Excp.excp.dcb (ap named_dcb c.in-Excp.is) in
     omega (arith, unit, c.args.self.now.set_up.few_units, c.from.ensures)
 
 pub bounds-counts-from : goal.bounds-counts-from
@@ -48,7 +48,7 @@ loop-command-preserved c =
     elim c.match-command.branch [
       | in-Excp w ↦
           let is : Contains commands item = subst (Contains commands) (sym at) (Contains-get_or commands index item within) in
-          let unit = c.args.self.now.declared item is w.in-Excp.excp.dcb (ap dcb_of w.in-Excp.is) in
+          let unit = c.args.self.now.declared item is w.in-Excp.excp.dcb (ap named_dcb w.in-Excp.is) in
           let few : w.from.result < length counts = omega (arith, unit, c.args.self.now.set_up.few_units, w.from.ensures, c.loop-command.invariant.room) in
           let tests : (k : ℕ) → issues_to k item ≡ (w.from.result == k) = λ k. ap (excp_is_to k) w.in-Excp.is ∙ ap (λ (n : ℕ). n == k) (sym w.from.ensures) in
           record {

@@ -3,15 +3,20 @@ use Rattle.job_script.specs.declared.fault.FaultName.{FaultName}
 use Rattle.job_script.specs.Adding.{add_item}
 use Rattle.tape_unit.specs.Mount.{initial}
 use Rattle.job_script.specs.Views.{set_up_said}
-use Rattle.job_script.proofs.Changing.{changes, unchanged}
+use Rattle.job_script.proofs.Changing.{changes, keeps, unchanged}
 use Rattle.job_script.proofs.set_up.SetUp.add_item.Goals as goal
 
-pub returns-then-place-len : goal.returns-then-place-len
-returns-then-place-len c =
+pub returns-then-place-len-clause-adds : goal.returns-then-place-len-clause-adds
+returns-then-place-len-clause-adds c =
     rw (unchanged (add_item (initial c.args.item)) (set_up_said c.args.self.now) c.args.self.now.units.items c.args.place refl (search rules))
     (ap (λ (n : FaultName). Err n) (sym c.no_unit.ensures))
 
-pub returns : goal.returns
-returns c =
+pub returns-clause-adds : goal.returns-clause-adds
+returns-clause-adds c =
     changes _ (add_item (initial c.args.item)) (set_up_said c.args.self.now) c.args.self.now.units.items c.args.place c.index_mut-unit.result.now
-    c.add_item.new.self refl (search rules) c.index_mut-unit.ensures.value c.add_item.ensures
+    c.add_item.new.self refl (search rules) c.index_mut-unit.ensures.value c.add_item.ensures.adds
+
+pub returns-clause-kept : goal.returns-clause-kept
+returns-clause-kept c =
+    keeps _ (set_up_said c.args.self.now) c.args.self.now.units.items c.args.place c.index_mut-unit.result.now
+    c.add_item.new.self refl (search rules) c.index_mut-unit.ensures.value c.add_item.ensures.kept

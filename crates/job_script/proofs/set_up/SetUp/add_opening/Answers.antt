@@ -2,15 +2,20 @@ use Rattle.std.proofs.Common.{rules, refl, ap, sym, Err}
 use Rattle.job_script.specs.declared.fault.FaultName.{FaultName}
 use Rattle.job_script.specs.Adding.{add_opening}
 use Rattle.job_script.specs.Views.{opening_said, set_up_said}
-use Rattle.job_script.proofs.Changing.{changes, unchanged}
+use Rattle.job_script.proofs.Changing.{changes, keeps, unchanged}
 use Rattle.job_script.proofs.set_up.SetUp.add_opening.Goals as goal
 
-pub returns-then-place-len : goal.returns-then-place-len
-returns-then-place-len c =
+pub returns-then-place-len-clause-adds : goal.returns-then-place-len-clause-adds
+returns-then-place-len-clause-adds c =
     rw (unchanged (add_opening (opening_said c.args.opening)) (set_up_said c.args.self.now) c.args.self.now.units.items c.args.place refl (search rules))
     (ap (λ (n : FaultName). Err n) (sym c.no_unit.ensures))
 
-pub returns : goal.returns
-returns c =
+pub returns-clause-adds : goal.returns-clause-adds
+returns-clause-adds c =
     changes _ (add_opening (opening_said c.args.opening)) (set_up_said c.args.self.now) c.args.self.now.units.items c.args.place c.index_mut-unit.result.now
-    c.add_opening.new.self refl (search rules) c.index_mut-unit.ensures.value c.add_opening.ensures
+    c.add_opening.new.self refl (search rules) c.index_mut-unit.ensures.value c.add_opening.ensures.adds
+
+pub returns-clause-kept : goal.returns-clause-kept
+returns-clause-kept c =
+    keeps _ (set_up_said c.args.self.now) c.args.self.now.units.items c.args.place c.index_mut-unit.result.now
+    c.add_opening.new.self refl (search rules) c.index_mut-unit.ensures.value c.add_opening.ensures.kept

@@ -4,7 +4,7 @@ use Rattle.std.proofs.lemmas.Result.{IfErr-weaker, IfOk-weaker}
 use Rattle.excp_system.specs.States.{Locked}
 use Rattle.post_ledger.specs.Left.{GrewInto, IsCause, Left, WorkOn, free_states}
 use Rattle.post_ledger.specs.Report.{IsFor, PostedOnce, Received, ReturnedRest}
-use Rattle.post_ledger.specs.Work.{Collects}
+use Rattle.post_ledger.specs.Work.{CollectsAll}
 use Rattle.post_ledger.proofs.Works.{collects_none}
 use Rattle.post_ledger.proofs.unfinished.Unfinished.resume.Goals as goal
 
@@ -31,7 +31,7 @@ returns-in-Ok-clause-grew g c =
 
 pub returns-in-Ok-clause-collects : goal.returns-in-Ok-clause-collects
 returns-in-Ok-clause-collects g c =
-    subst (λ (l : Left _). IfErr c.go_on-in-Ok.result (λ left. Collects g.S.Site.rows.units l.tasks left.tasks l.lists left.lists)) c.self.view_is c.go_on-in-Ok.ensures.collects
+    subst (λ (l : Left _). IfErr c.go_on-in-Ok.result (λ left. CollectsAll g.S.Site.rows.units l.tasks left.tasks l.lists left.lists)) c.self.view_is c.go_on-in-Ok.ensures.collects
 
 pub returns-in-Ok-clause-works : goal.returns-in-Ok-clause-works
 returns-in-Ok-clause-works g c =
@@ -41,4 +41,4 @@ returns-in-Ok-clause-works g c =
 
 pub returns-in-Err-clause-collects : goal.returns-in-Err-clause-collects
 returns-in-Err-clause-collects g c =
-    subst (λ (l : Left _). Collects g.S.Site.rows.units l.tasks c.self.inside.tasks.items l.lists c.self.inside.posts.items) c.self.view_is (collects_none g.S.Site.rows.units c.self.inside.tasks.items c.self.inside.posts.items)
+    subst (λ (l : Left _). CollectsAll g.S.Site.rows.units l.tasks c.self.inside.tasks.items l.lists c.self.inside.posts.items) c.self.view_is (collects_none g.S.Site.rows.units c.self.inside.tasks.items c.self.inside.posts.items)

@@ -1,4 +1,4 @@
-use Rattle.std.proofs.Common.{sym, refl, ◌∙◌}
+use Rattle.unit_book.proofs.Names.{sym, refl, ◌∙◌}
 use Rattle.unit_book.proofs.Pending.{pending-arrive}
 use Rattle.unit_book.proofs.book.UnitBook.arrive.Goals as goal
 
@@ -18,7 +18,9 @@ returns-then-refused-clause-pending g c =
     let request_is = c.into_parts-issued.ensures.issued in
     let book = rw request_is at c.refuse.ensures.book in
     let next = rw (← c.self.view_is) at c.requires in
-    rw (← c.self.view_is) (pending-arrive g.D.Device.meaning c.reserve.new.self c.refuse.new.self c.args.request (rw r c.holds.ensures.legal) (rw r c.self.invariant) (rw r next) book ∙ rw r refl)
+    rw (← c.self.view_is)
+    (pending-arrive g.D.Device.meaning c.reserve.new.self c.refuse.new.self c.args.request (rw r c.holds.ensures.legal)
+    (rw r c.self.invariant) (rw r next) book ∙ rw r refl)
 
 pub returns-clause-pending : goal.returns-clause-pending
 returns-clause-pending g c =
@@ -26,4 +28,6 @@ returns-clause-pending g c =
     let request_is = c.into_parts-issued.ensures.issued in
     let book = rw request_is at c.arrive.ensures.book in
     let next = rw (← c.self.view_is) at c.requires in
-    rw (← c.self.view_is) (pending-arrive g.D.Device.meaning c.reserve.new.self c.arrive.new.self c.args.request (rw r c.holds.ensures.legal) (rw r c.self.invariant) (rw r next) book ∙ rw r refl)
+    rw (← c.self.view_is)
+    (pending-arrive g.D.Device.meaning c.reserve.new.self c.arrive.new.self c.args.request (rw r c.holds.ensures.legal)
+    (rw r c.self.invariant) (rw r next) book ∙ rw r refl)

@@ -1,4 +1,4 @@
-use Rattle.std.proofs.Common.{◌≡◌, arith}
+use Rattle.unit_book.proofs.Names.{◌≡◌, arith}
 use Rattle.unit_book.specs.declared.answer.Starting.TheVariants.{Idle}
 use Rattle.unit_book.specs.Settle.{Stays, Then, ByStart, ByRun, ByInterrupt}
 use Rattle.unit_book.proofs.Lists.{no_both}
@@ -13,16 +13,19 @@ pub returns-then-matches-clause-steps : goal.returns-then-matches-clause-steps
 returns-then-matches-clause-steps g c = Then Stays (ByStart c.in_ok-start.field-0 c.in_ok-start.ensures.ok)
 
 pub returns-in_err-run-clause-steps : goal.returns-in_err-run-clause-steps
-returns-in_err-run-clause-steps g c = let e = c.in_err-run.ensures.err in rw e (Then Stays (ByStart c.in_ok-start.field-0 c.in_ok-start.ensures.ok))
+returns-in_err-run-clause-steps g c = let e = c.in_err-run.ensures.err in rw e
+    (Then Stays (ByStart c.in_ok-start.field-0 c.in_ok-start.ensures.ok))
 
 pub returns-in_err-interrupt-clause-steps : goal.returns-in_err-interrupt-clause-steps
 returns-in_err-interrupt-clause-steps g c =
     let e = c.in_err-interrupt.ensures.err in
-    rw e (Then (Then Stays (ByStart c.in_ok-start.field-0 c.in_ok-start.ensures.ok)) (ByRun 4294967295 c.in_ok-run.field-0 (omega arith) c.in_ok-run.ensures.ok))
+    rw e (Then (Then Stays (ByStart c.in_ok-start.field-0 c.in_ok-start.ensures.ok))
+    (ByRun 4294967295 c.in_ok-run.field-0 (omega arith) c.in_ok-run.ensures.ok))
 
 pub returns-clause-steps : goal.returns-clause-steps
 returns-clause-steps g c =
-    Then (Then (Then Stays (ByStart c.in_ok-start.field-0 c.in_ok-start.ensures.ok)) (ByRun 4294967295 c.in_ok-run.field-0 (omega arith) c.in_ok-run.ensures.ok))
+    Then (Then (Then Stays (ByStart c.in_ok-start.field-0 c.in_ok-start.ensures.ok))
+    (ByRun 4294967295 c.in_ok-run.field-0 (omega arith) c.in_ok-run.ensures.ok))
     (ByInterrupt c.in_ok-interrupt.field-0 c.in_ok-interrupt.ensures.ok)
 
 pub returns-clause-ok : goal.returns-clause-ok
@@ -31,5 +34,6 @@ returns-clause-ok g c =
       | in-Idle w ↦ no_both c.match-matches.matches w.matches-is c.if-matches.false
       | in_default w ↦ w.in_default.not-Idle
     ] in
-    nearer g.D.Device.meaning c.args.self.now c.start.new.self c.run.new.self c.interrupt.new.self c.in_ok-start.field-0 c.in_ok-run.field-0 c.in_ok-interrupt.field-0 k c.in_ok-start.ensures.ok
+    nearer g.D.Device.meaning c.args.self.now c.start.new.self c.run.new.self c.interrupt.new.self c.in_ok-start.field-0 c.in_ok-run.field-0
+    c.in_ok-interrupt.field-0 k c.in_ok-start.ensures.ok
     c.in_ok-run.ensures.ok c.holds.ensures.legal c.in_ok-interrupt.ensures.ok

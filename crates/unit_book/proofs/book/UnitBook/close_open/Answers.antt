@@ -1,5 +1,4 @@
-use Rattle.std.proofs.Common.{◌∷◌, true}
-use Rattle.unit_book.specs.declared.entry.Entry.TheVariants.{Close}
+use Rattle.unit_book.proofs.Names.{◌∷◌, true, Close}
 use Rattle.unit_book.proofs.Calls.{add-then-sweep, posted-close}
 use Rattle.unit_book.proofs.Pending.{pending-close}
 use Rattle.unit_book.proofs.book.UnitBook.close_open.Goals as goal
@@ -7,11 +6,14 @@ use Rattle.unit_book.proofs.book.UnitBook.close_open.Goals as goal
 pub returns-clause-ok : goal.returns-clause-ok
 returns-clause-ok g c =
     let m = g.D.Device.meaning in
-    let old = c.self.inside.ledger in
+    let old = c.self.inside.entries in
     let r = c.in_ok-reserve_posts.ensures.book in
     let a = rw r at c.close.ensures.book in
-    rw (← c.self.view_is) (add-then-sweep m old c.close.new.self c.sweep.new.self (Close c.args.dcb ∷ old.trace) (posted-close m old.mounted c.args.dcb old.trace) a c.sweep.ensures.book)
+    rw (← c.self.view_is)
+    (add-then-sweep m old c.close.new.self c.sweep.new.self (Close c.args.dcb ∷ old.trace)
+    (posted-close m old.mounted c.args.dcb old.trace) a c.sweep.ensures.book)
 
 pub returns-clause-pending : goal.returns-clause-pending
 returns-clause-pending g c =
-    pending-close g.D.Device.meaning true c.args.self.now c.sweep.new.self c.args.dcb (rw (← c.self.view_is) c.holds.ensures.legal) (returns-clause-ok g c)
+    pending-close g.D.Device.meaning true c.args.self.now c.sweep.new.self c.args.dcb (rw (← c.self.view_is) c.holds.ensures.legal)
+    (returns-clause-ok g c)

@@ -1,13 +1,12 @@
-use Rattle.std.proofs.Common.{◌∷◌, sym, ◌∙◌}
-use Rattle.unit_book.specs.declared.entry.Entry.TheVariants.{Purge}
-use Rattle.unit_book.specs.Controls.{after_halt}
+use Rattle.unit_book.proofs.Names.{◌∷◌, sym, ◌∙◌, Purge, after_halt}
 use Rattle.unit_book.proofs.Calls.{add-then-sweep, posted-halt}
 use Rattle.unit_book.proofs.book.UnitBook.purge_in_room.Goals as goal
 
 pub returns : goal.returns
 returns g c =
     let m = g.D.Device.meaning in
-    let old = c.self.inside.ledger in
+    let old = c.self.inside.entries in
     let b = sym c.covers_awaiting.ensures ∙ c.if-covers_awaiting.false in
-    let p = add-then-sweep m old c.purge.new.self c.sweep.new.self (after_halt m old.mounted (Purge c.args.scope c.args.mode ∷ old.trace)) (posted-halt m old.mounted c.args.scope c.args.mode old.trace) c.purge.ensures.book c.sweep.ensures.book in
+    let p = add-then-sweep m old c.purge.new.self c.sweep.new.self (after_halt m old.mounted (Purge c.args.scope c.args.mode ∷ old.trace))
+    (posted-halt m old.mounted c.args.scope c.args.mode old.trace) c.purge.ensures.book c.sweep.ensures.book in
     rw (← c.self.view_is) (rw b p)

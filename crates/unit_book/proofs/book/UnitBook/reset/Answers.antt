@@ -1,4 +1,4 @@
-use Rattle.std.proofs.Common.{refl, ◌∙◌}
+use Rattle.unit_book.proofs.Names.{refl, ◌∙◌}
 use Rattle.unit_book.proofs.Pending.{pending-reset}
 use Rattle.unit_book.proofs.book.UnitBook.reset.Goals as goal
 

@@ -11,4 +11,6 @@ invariant_of-self-2 g c =
 pub returns-clause-pending : goal.returns-clause-pending
 returns-clause-pending g c =
     let r = c.in_ok-reserve.ensures.book in
-    rw (← c.self.view_is) (rw r at (pending-run g.D.Device.meaning c.reserve.new.self c.run.new.self c.args.max c.run.result (rw r c.holds.ensures.awaits) c.run.ensures))
+    rw (← c.self.view_is)
+    (rw r at (pending-run g.D.Device.meaning c.reserve.new.self c.run.new.self c.args.max c.run.result
+    (rw r c.holds.ensures.awaits) c.run.ensures))

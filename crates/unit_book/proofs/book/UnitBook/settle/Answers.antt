@@ -13,10 +13,28 @@ pub returns-in_err-attempt : goal.returns-in_err-attempt
 returns-in_err-attempt g c =
     let s = settles-more g.D.Device.meaning c.loop.invariant c.attempt.ensures.steps in
     let k = settles-served g.D.Device.meaning s in
-    record { steps = s; adds = k.adds; mounted = k.mounted; isc = k.isc; capacity = k.capacity; waiting = search rules; active = search rules; full = search rules }
+    record {
+      steps = s;
+      adds = k.adds;
+      mounted = k.mounted;
+      isc = k.isc;
+      capacity = k.capacity;
+      waiting = search rules;
+      active = search rules;
+      full = search rules;
+    }
 
 pub returns : goal.returns
 returns g c =
     let s = settles-more g.D.Device.meaning c.loop.invariant c.attempt.ensures.steps in
     let k = settles-served g.D.Device.meaning s in
-    record { steps = s; adds = k.adds; mounted = k.mounted; isc = k.isc; capacity = k.capacity; waiting = search rules; active = search rules; full = search rules }
+    record {
+      steps = s;
+      adds = k.adds;
+      mounted = k.mounted;
+      isc = k.isc;
+      capacity = k.capacity;
+      waiting = search rules;
+      active = search rules;
+      full = search rules;
+    }

@@ -1,0 +1,34 @@
+//! What the tasks of a run do.
+
+ghost use Rattle.std.specs.Prelude.{◌≡◌, ℕ};
+
+use crate::alarm::Alarm;
+use crate::client::Client;
+use device_port::Device;
+use excp_system::{Site, System};
+use std::alloc::Global;
+use std::sync::Wait;
+
+/// What the tasks of a run do: each of them calls `run` with its client, on a thread of its own (where none can be made,
+/// behind another, so a task must not wait for what another task does).
+pub trait TaskProgram<D: Device>: Sync {
+    /// What a task leaves behind when it has ended.
+    type Outcome: Send + Drop;
+
+    // the number of units that it is written for
+    ghost units: { Self → ℕ };
+
+    /// Runs a task to its end. By the client it issues requests and collects their posts; by the system it may purge,
+    /// close and reset (who delivers a post there has to tell the alarm, or its task sleeps on). The number of the client
+    /// says which task it is.
+    fn run<S: Site, R: Wait>(
+        &self,
+        rt: &R,
+        alloc: Global,
+        system: &System<'_, S, D>,
+        alarm: &Alarm,
+        client: &mut Client<'_, S>,
+    ) -> Self::Outcome
+        requires { S.rows.units ≡ units self.now }
+        ensures { client.new.number ≡ client.old.number };
+}

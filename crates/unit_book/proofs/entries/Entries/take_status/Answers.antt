@@ -1,0 +1,148 @@
+use Rattle.unit_book.proofs.Names.{◌≡◌, ◌-◌, ◌∷◌, [], Some, None, length, length-append, reverse, arith, refl, sym, ap, ◌∙◌, Piece}
+use Rattle.unit_book.proofs.Names.{Ties, waiting, request_named}
+use Rattle.subchannel.specs.Subchannel.{status_of}
+use Rattle.unit_book.specs.Fields.{pending_code}
+use Rattle.unit_book.proofs.ActivePosts.{ties-post, value-is, doom-is}
+use Rattle.unit_book.proofs.Decisions.{decided, decided_pending, ties-await}
+use Rattle.unit_book.proofs.Dooms.{doomed-post, doomed-few, due-doomed}
+use Rattle.unit_book.proofs.Facts.{active-is}
+use Rattle.unit_book.proofs.Opens.{opened-row, started-opened}
+use Rattle.unit_book.proofs.Found.{ties-found, rooms-found}
+use Rattle.unit_book.proofs.entries.Entries.take_status.Given.{Over}
+use Rattle.unit_book.proofs.entries.Entries.take_status.Goals.{After-code}
+use Rattle.unit_book.proofs.entries.Entries.take_status.Goals as goal
+
+-- what was found: the active request, whose status is pending, and its code
+found : (g : Over) (c : After-code g) → let i = c.self.inside in let a = c.in-Some-take.active in
+    (i.active ≡ Some a)
+    × Ties g.D.Device.meaning i.mounted (reverse i.trace.items) i.channel (Some a) i.waiting.pieces i.dcbs i.out.items
+    × (status_of i.channel.phase ≡ Some (c.in-Some.csw, c.in-Some.sense))
+    × (pending_code (g.D.Device.meaning.kind i.mounted) c.in-Some.csw c.in-Some.sense a.starts a.halted a.covered ≡ c.code.result)
+found g c =
+    let o : c.self.inside.active ≡ Some c.in-Some-take.active = sym c.take.ensures.value ∙ c.in-Some-take.is in
+    let kind_is = c.kind.ensures in
+    let csw_is = c.in-Some.csw-is in
+    let sense_is = c.in-Some.sense-is in
+    (o, ties-found o c.self.invariant.0, cc (c.status.ensures, c.in-Some.is), sym (rw kind_is at c.code.ensures))
+
+pub invariant_of-self-in_default-code : goal.invariant_of-self-in_default-code
+invariant_of-self-in_default-code g c =
+    let f = found g (goal.at.invariant_of-self-in_default-code g c).After-code in
+    let k = decided g.D.Device.meaning c.self.inside.mounted f.1 f.2 None (f.3 ∙ c.in_default-code.is) in
+    let h = c.tsch.ensures.state in
+    let v = c.awaiting.ensures in
+    let room = rooms-found f.0 c.self.invariant.1 in (
+      rw (h, v) (ties-await g.D.Device.meaning c.self.inside.mounted f.1 k.0 k.1),
+      rw v (record { occupancy = room.occupancy; waiting_room = room.waiting_room; swept_is = room.swept_is }),
+    )
+
+pub returns-in_default-code-clause-ok : goal.returns-in_default-code-clause-ok
+returns-in_default-code-clause-ok g c =
+    let f = found g (goal.at.returns-in_default-code-clause-ok g c).After-code in
+    let k = decided g.D.Device.meaning c.self.inside.mounted f.1 f.2 None (f.3 ∙ c.in_default-code.is) in
+    let h = c.tsch.ensures.state in
+    let v = c.awaiting.ensures in
+    let o = f.0 in
+    let n = c.name-name.ensures in
+    rw (← c.self.view_is, n, h, v, o) (decided_pending g.D.Device.meaning c.self.inside.mounted f.1 f.2, k.0, refl)
+
+pub returns-in-Err-clause-full : goal.returns-in-Err-clause-full
+returns-in-Err-clause-full g c =
+    let f = found g (goal.at.returns-in-Err-clause-full g c).After-code in
+    let fits = decided g.D.Device.meaning c.self.inside.mounted f.1 f.2 (Some c.in-Some-code.code) (f.3 ∙ c.in-Some-code.is) in
+    let full = c.in-Err.ensures.full in
+    let count = c.len.ensures.len in
+    let queue = ap length f.1.queue in
+    rw (← c.self.view_is) (record {
+      name = c.in-Some-take.active.piece.value.name;
+      csw = c.in-Some.csw;
+      sense = c.in-Some.sense;
+      code = c.in-Some-code.code;
+      fits = fits;
+      room = omega arith;
+    })
+
+pub returns-in-Err-clause-pending : goal.returns-in-Err-clause-pending
+returns-in-Err-clause-pending g c =
+    let f = found g (goal.at.returns-in-Err-clause-pending g c).After-code in
+    let o = f.0 in
+    rw (← c.self.view_is) (rw o (decided_pending g.D.Device.meaning c.self.inside.mounted f.1 f.2))
+
+pub note_post-requires : goal.note_post-requires
+note_post-requires g c =
+    let m = g.D.Device.meaning in
+    let i = c.self.inside in
+    let a = c.in-Some-take.active in
+    let t = (found g (goal.at.note_post-requires g c).After-code).1 in
+    let H = reverse i.trace.items in
+    let opened = started-opened m i.mounted a.piece.value.name H t.legal (active-is a.piece.value.name H t.activity.is).0 in
+    let same = ap (λ (r : Piece). r.dcb) t.activity.request in
+    let piece_is = c.deref-2.ensures in
+    rw (piece_is, same) (opened-row m i.mounted (request_named a.piece.value.name H).dcb H i.dcbs t.legal t.count opened)
+
+pub invariant_of-self-2 : goal.invariant_of-self-2
+invariant_of-self-2 g c =
+    let m = g.D.Device.meaning in
+    let i = c.self.inside in
+    let f = found g (goal.at.invariant_of-self-2 g c).After-code in
+    let fits = decided m i.mounted f.1 f.2 (Some c.in-Some-code.code) (f.3 ∙ c.in-Some-code.is) in
+    let piece_is = c.deref-2.ensures in
+    let noted = rw piece_is at c.note_post.ensures.dcbs in
+    let settled = rw (← c.self.view_is) at c.requires in
+    let k = ties-post m i.mounted settled f.1 fits noted c.note_post.ensures.count in
+    let w = c.write.ensures.items in
+    let r = c.reserve.ensures.items in
+    let n = c.name-name.ensures in
+    let q = c.hand_out.ensures in
+    let v = c.posted_from.ensures in
+    let h = c.tsch-2.ensures.state in
+    let z = c.take.ensures.after in
+    let room = rooms-found f.0 c.self.invariant.1 in (
+      rw (w, r, n, q, v, h, z) k,
+      record {
+        occupancy = rw (z, q) (omega (arith, length-append i.out.items (c.posted_from.result ∷ []), room.occupancy));
+        waiting_room = rw q room.waiting_room;
+        swept_is = rw q room.swept_is;
+      },
+    )
+
+pub returns-clause-ok : goal.returns-clause-ok
+returns-clause-ok g c =
+    let m = g.D.Device.meaning in
+    let i = c.self.inside in
+    let a = c.in-Some-take.active in
+    let H = reverse i.trace.items in
+    let f = found g (goal.at.returns-clause-ok g c).After-code in
+    let fits = decided m i.mounted f.1 f.2 (Some c.in-Some-code.code) (f.3 ∙ c.in-Some-code.is) in
+    let settled = rw (← c.self.view_is) at c.requires in
+    let value = value-is m i.mounted settled f.1 fits in
+    let dooms = doomed-post m i.mounted a.piece.value.name c.in-Some.csw c.in-Some.sense c.in-Some-code.code H
+    (due-doomed m i.mounted H settled) in
+    let same = doom-is m i.mounted c.in-Some-code.code f.1 in
+    let few = doomed-few m i.mounted a.piece.value.name c.in-Some.csw c.in-Some.sense c.in-Some-code.code H in
+    let w = c.write.ensures.items in
+    let r = c.reserve.ensures.items in
+    let n = c.name-name.ensures in
+    let q = c.hand_out.ensures in
+    let v = c.posted_from.ensures in
+    let h = c.tsch-2.ensures.state in
+    let z = c.take.ensures.after in
+    let o = f.0 in
+    let piece_is = c.deref.ensures in
+    let doom_is = c.doomed_by_post-doom.ensures in
+    let ok = c.in-Ok.ensures.ok in
+    let len = c.in-Ok.ensures.len in
+    let spare = c.write.ensures.spare in
+    let count = c.len.ensures.len in
+    let queue = ap length f.1.queue in
+    rw (← c.self.view_is) (
+      rw o (decided_pending m i.mounted f.1 f.2),
+      record {
+        csw = c.in-Some.csw;
+        sense = c.in-Some.sense;
+        fits = rw n fits;
+        extends = rw (w, r, n, q, v, h, z, value) refl;
+        room = rw (w, r, n) (omega arith);
+        dooms = rw (w, r, n, doom_is, piece_is, same) dooms;
+      },
+    )

@@ -1,6 +1,0 @@
-use Rattle.unit_book.specs.Posts.{posted_value}
-use Rattle.unit_book.proofs.ledger.posts.posted_from.Goals as goal
-
-pub returns : goal.returns
-unfolding posted_value
-returns c = c.new.ensures

@@ -1,0 +1,167 @@
+//! Purges, closes and resets.
+
+ghost use Rattle.std.specs.Prelude.{◌≡◌, ◌≤◌, ◌+◌, ◌∷◌, true, false, Some, length};
+ghost use Rattle.unit_book.specs.Answers.{Adds};
+ghost use Rattle.unit_book.specs.Controls.{active_of, after_halt, covers_awaiting, PurgeHalts, PurgesAwaiting};
+ghost use Rattle.unit_book.specs.Dcbs.{doomed, is_open};
+ghost use Rattle.unit_book.specs.Legal.{CanPurge, Settled, ToHalt, due, doomed_first};
+ghost use Rattle.unit_book.specs.Selected.{DoomedBy};
+ghost use Rattle.unit_book.specs.Trace.{waiting};
+
+use crate::entries::posts::{post_all, posted_from};
+use crate::entries::{Entries, hand_out, write};
+use crate::entry::{Entry, Mode};
+use device_port::Device;
+use io_images::Code;
+use request_piece::{Name, Scope};
+use unit_queue::Selection;
+
+impl<D: Device> Entries<D> {
+    /// The active request, if it is of a scope.
+    pub fn active_of(&self, scope: Scope) -> Option<Name>
+        ensures { result ≡ active_of scope self.now.trace }
+    {
+        match &self.active {
+            Some(active) if scope.covers_piece(&active.piece) => Some(active.name()),
+            Some(_) | None => None,
+        }
+    }
+
+    /// Whether the active request awaits its restart.
+    pub fn awaits(&self) -> bool
+        ensures { result ≡ self.now.awaits }
+    {
+        match &self.active {
+            Some(active) => active.awaits(),
+            None => false,
+        }
+    }
+
+    /// Whether a purge covers the active request, and this awaits its restart.
+    pub fn covers_awaiting(&self, scope: Scope, mode: Mode) -> bool
+        ensures { result ≡ covers_awaiting self.now scope mode }
+    {
+        mode == Mode::Halt && self.awaits() && self.active_of(scope).is_some()
+    }
+
+    /// Whom a purge halts.
+    fn to_halt(&self, scope: Scope, mode: Mode) -> Option<Name>
+        ensures { PurgeHalts D.meaning self.now.mounted scope mode self.now.trace result }
+    {
+        match mode {
+            Mode::Quiesce => None,
+            Mode::Halt => self.running_of(scope),
+        }
+    }
+
+    /// Whom a purge with Halt halts.
+    fn running_of(&self, scope: Scope) -> Option<Name>
+        ensures { PurgeHalts D.meaning self.now.mounted scope Mode.Halt self.now.trace result }
+    {
+        if !self.is_running() {
+            return None;
+        }
+        self.active_of(scope)
+    }
+
+    /// Adds a purge.
+    fn mark_purge(&mut self, scope: Scope, mode: Mode)
+        requires spare { 1 ≤ self.old.spare }
+        requires settled { Settled D.meaning self.old.mounted self.old.trace }
+        requires can { CanPurge D.meaning self.old.mounted scope self.old.trace }
+        requires uncovered { covers_awaiting self.old scope mode ≡ false }
+        ensures book { Adds self.old (Entry.Purge scope mode) self.new }
+        ensures spare { self.old.spare ≤ self.new.spare + 1 }
+    {
+        write(&mut self.trace, Entry::Purge(scope, mode));
+        if let Some(active) = self.active.take() {
+            self.active = Some(active.purged(scope, mode));
+        }
+    }
+
+    /// Halts the program of the active request.
+    fn halt(&mut self, name: Name)
+        requires spare { 1 ≤ self.old.spare }
+        requires due { due D.meaning self.old.mounted self.old.trace ≡ ToHalt name }
+        ensures book { Adds self.old (Entry.Halted name) self.new }
+        ensures spare { self.old.spare ≤ self.new.spare + 1 }
+    {
+        let Some(active) = self.active.take() else {
+            unreachable!();
+        };
+        self.channel.hsch();
+        write(&mut self.trace, Entry::Halted(name));
+        self.active = Some(active.once_halted());
+    }
+
+    /// Adds a purge that covers nothing that awaits its restart, and the halt that it asks for.
+    pub fn purge(&mut self, scope: Scope, mode: Mode)
+        requires spare { 2 ≤ self.old.spare }
+        requires settled { Settled D.meaning self.old.mounted self.old.trace }
+        requires can { CanPurge D.meaning self.old.mounted scope self.old.trace }
+        requires uncovered { covers_awaiting self.old scope mode ≡ false }
+        ensures book { self.new ≡ record self.old { trace = after_halt D.meaning self.old.mounted (Entry.Purge scope mode ∷ self.old.trace); spare = self.new.spare } }
+        ensures spare { self.old.spare ≤ self.new.spare + 2 }
+        ensures due { due D.meaning self.new.mounted self.new.trace ≡ doomed_first (doomed self.new.trace) }
+        ensures dooms { DoomedBy (Some (Selection.Scope scope)) self.new.trace }
+        ensures few { length (doomed self.new.trace) ≤ length (waiting self.old.trace) }
+    {
+        let halted = self.to_halt(scope, mode);
+        self.mark_purge(scope, mode);
+        if let Some(name) = halted {
+            self.halt(name);
+        }
+    }
+
+    /// A purge with Halt that covers the active request, which awaits its restart: what waits is posted as
+    /// purged first, then this.
+    pub fn purge_awaiting(&mut self, scope: Scope, mode: Mode)
+        requires spare { length (waiting self.old.trace) + 2 ≤ self.old.spare }
+        requires settled { Settled D.meaning self.old.mounted self.old.trace }
+        requires can { CanPurge D.meaning self.old.mounted scope self.old.trace }
+        requires covered { covers_awaiting self.old scope mode ≡ true }
+        ensures book { PurgesAwaiting D.meaning self.old scope mode self.new }
+        ensures settled { Settled D.meaning self.new.mounted self.new.trace }
+    {
+        let Some(active) = self.active.take() else {
+            unreachable!();
+        };
+        write(&mut self.trace, Entry::Purge(scope, mode));
+        self.waiting
+            .sweep(&Selection::Scope(scope), &mut self.swept);
+        post_all(&mut self.swept, &mut self.trace, &mut self.out);
+        let (csw, sense) = active.kept_status();
+        let name = active.name();
+        let code = Code::Purged;
+        let shown = csw;
+        write(&mut self.trace, Entry::Post(name, shown, sense, code));
+        hand_out(&mut self.out, posted_from(active.piece, csw, sense, code));
+    }
+
+    /// Closes a DCB.
+    pub fn close(&mut self, dcb: u16)
+        requires spare { 1 ≤ self.old.spare }
+        requires settled { Settled D.meaning self.old.mounted self.old.trace }
+        requires can { is_open dcb self.old.trace ≡ true }
+        ensures book { Adds self.old (Entry.Close dcb) self.new }
+        ensures spare { self.old.spare ≤ self.new.spare + 1 }
+        ensures due { due D.meaning self.new.mounted self.new.trace ≡ doomed_first (doomed self.new.trace) }
+        ensures dooms { DoomedBy (Some (Selection.Scope (Scope.Dcb dcb))) self.new.trace }
+        ensures few { length (doomed self.new.trace) ≤ length (waiting self.old.trace) }
+    {
+        write(&mut self.trace, Entry::Close(dcb));
+        self.dcbs.close(dcb);
+    }
+
+    /// Clears the error flag of a DCB.
+    pub fn reset(&mut self, dcb: u16)
+        requires spare { 1 ≤ self.old.spare }
+        requires settled { Settled D.meaning self.old.mounted self.old.trace }
+        requires can { is_open dcb self.old.trace ≡ true }
+        ensures book { Adds self.old (Entry.Reset dcb) self.new }
+        ensures settled { Settled D.meaning self.new.mounted self.new.trace }
+    {
+        write(&mut self.trace, Entry::Reset(dcb));
+        self.dcbs.reset(dcb);
+    }
+}
