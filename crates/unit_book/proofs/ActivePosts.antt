@@ -1,10 +1,10 @@
 -- The post of the active request: the fields stay those of the trace.
 use Rattle.unit_book.proofs.Names.{◌≡◌, ℕ, Bool, true, ◌&&◌, Some, None, List, [], ◌∷◌, ◌++◌, append_assoc, length, refl, sym, ap, ◌∙◌, eqb}
-use Rattle.unit_book.proofs.Names.{inl, inr, cases_Bool, Storage, is_error, Csw, Code, Meaning, Channel, Phase, Absent, Idle, Running}
-use Rattle.unit_book.proofs.Names.{Pending, PostedState, Name, Piece, Active, Standing, OnChannel, AwaitsRestart, Dcb, Entry, Post, same}
-use Rattle.unit_book.proofs.Names.{request_named, attempts, stand, newest, current, area, StillRunning, HasEnded, active_phase, is_opened}
-use Rattle.unit_book.proofs.Names.{extents_of, flag, Legal, due, Free, PostsActive, WithVerdict, OfActive, posted, posted_value}
-use Rattle.unit_book.proofs.Names.{doomed_by_post, StandingTies, Ties, dcb_at, dcb_of, noted}
+use Rattle.unit_book.proofs.Names.{inl, inr, cases_Bool, Storage, is_error, Csw, Code, Meaning, Channel, Phase, Idle, Running, Pending}
+use Rattle.unit_book.proofs.Names.{PostedState, Name, Piece, Active, Standing, OnChannel, Dcb, Entry, Post, same, request_named, attempts}
+use Rattle.unit_book.proofs.Names.{stand, newest, current, area, StillRunning, HasEnded, active_phase, is_opened, extents_of, flag, Legal}
+use Rattle.unit_book.proofs.Names.{due, Free, PostsActive, WithVerdict, OfActive, posted, posted_value, doomed_by_post, StandingTies, Ties}
+use Rattle.unit_book.proofs.Names.{dcb_at, dcb_of, noted}
 use Rattle.subchannel.specs.Subchannel.{tested_phase}
 use Rattle.request_piece.specs.Final.{posted_of}
 use Rattle.unit_book.specs.Media.{WasHalted}
@@ -46,11 +46,10 @@ module _ {D : Type 0} (meaning : Meaning D) (mounted : D) where
     posts-runs (AfterHalt e i) h = let k : WasHalted csw sense ≡ StillRunning = sym e ∙ h in absurd cc
 
     tested-idle : (phase : Phase) (standing : Standing) → StandingTies meaning mounted H phase a standing → tested_phase phase ≡ Idle
-    tested-idle Absent standing d = absurd d
     tested-idle Idle standing d = refl
     tested-idle (Running place) OnChannel d = absurd (posts-runs p.as_ended d.1)
-    tested-idle (Running place) (AwaitsRestart c s) d = absurd d
     tested-idle (Pending c s) standing d = refl
+    tested-idle _ _ d = absurd d
 
     -- what is handed out is the value that the trace says
     pub value-is : posted_value a.piece.value csw sense code a.piece.value.area ≡ posted_value (request_named n H) csw sense code

@@ -1,19 +1,16 @@
 -- A purge with Halt that covers the active request, which awaits its restart: what waits is posted first, then it.
 use Rattle.unit_book.proofs.Names.{◌≡◌, ℕ, Bool, true, false, not, ◌&&◌, Option, Some, None, List, [], ◌∷◌, ◌++◌, append_assoc, map, refl}
-use Rattle.unit_book.proofs.Names.{sym, ap, ◌∙◌, subst, if◌then◌else◌, filter, is_some, Csw, Purged, Meaning, Kind, Place, State, Channel}
-use Rattle.unit_book.proofs.Names.{Phase, Absent, Idle, Running, Pending, Retry, verdict, PostedState, Name, Piece, covers, Scope, Active}
-use Rattle.unit_book.proofs.Names.{Standing, OnChannel, AwaitsRestart, Dcb, Mode, Entry, Purge, Post, waiting, active, request_named, is_halt}
-use Rattle.unit_book.proofs.Names.{is_halted, doomed, area, current, active_phase, active_phase_by, HasEnded, due, Free, doomed_first}
-use Rattle.unit_book.proofs.Names.{CanPurge, PostsActive, all_posted, after_dooms, purged, posted, posted_since, posted_value}
-use Rattle.unit_book.proofs.Names.{running_name_by, active_of, after_purge, halted_by, awaits_by, dcb_at, StandingTies, Ties, noted}
-use Rattle.unit_book.proofs.Names.{pending_phase}
+use Rattle.unit_book.proofs.Names.{sym, ap, ◌∙◌, subst, filter, is_some, Csw, Purged, Meaning, Kind, Place, State, Channel, Phase, Idle}
+use Rattle.unit_book.proofs.Names.{Pending, Retry, verdict, PostedState, Name, Piece, covers, Scope, Active, Standing, OnChannel}
+use Rattle.unit_book.proofs.Names.{AwaitsRestart, Dcb, Mode, Entry, Purge, Post, waiting, active, request_named, is_halt, is_halted, doomed}
+use Rattle.unit_book.proofs.Names.{area, current, active_phase, active_phase_by, HasEnded, due, Free, doomed_first, CanPurge, PostsActive}
+use Rattle.unit_book.proofs.Names.{all_posted, after_dooms, purged, posted, posted_since, posted_value, running_name_by, active_of}
+use Rattle.unit_book.proofs.Names.{after_purge, halted_by, awaits_by, dcb_at, StandingTies, Ties, noted, pending_phase}
 use Rattle.unit_book.specs.Legal.{verdict_of}
 use Rattle.unit_book.specs.Fields.{kept_by, after_cover, pending_code}
 use Rattle.unit_book.proofs.Lists.{without}
-use Rattle.unit_book.proofs.Dooms.{due-doomed, due-no_halt, doomed-purged, halted-first}
-use Rattle.unit_book.proofs.Purges.{Swept, without_all, ties-dooms, since-is}
-use Rattle.unit_book.proofs.Controls.{covers-same, doomed-purge, ties-purge}
-use Rattle.unit_book.proofs.Halts.{halts-none}
+use Rattle.unit_book.proofs.Dooms.{due-doomed, due-no_halt, doomed-purged, halted-first, Swept, without_all, ties-dooms, since-is}
+use Rattle.unit_book.proofs.Controls.{doomed-purge, ties-purge, halts-none}
 use Rattle.unit_book.proofs.Decisions.{decides-post}
 use Rattle.unit_book.proofs.ActivePosts.{ties-post, value-is}
 
@@ -22,17 +19,9 @@ noted-nothing None = refl
 noted-nothing (Some c) = refl
 
 -- what awaits its restart keeps its status
-again-told : (h g s : Bool) → h && g && s ≡ true → g ≡ true
-again-told true true s k = refl
-again-told true false s k = absurd cc
-again-told false g s k = absurd cc
-
 again-is : (d : Standing) → awaits_by d ≡ true → d ≡ AwaitsRestart (kept_by d).0 (kept_by d).1
 again-is OnChannel h = absurd cc
 again-is (AwaitsRestart csw sense) h = refl
-
-kept-is : (d : Standing) (h s : Bool) → h && awaits_by d && s ≡ true → d ≡ AwaitsRestart (kept_by d).0 (kept_by d).1
-kept-is d h s k = again-is d (again-told h (awaits_by d) s k)
 
 module _ {D : Type 0} (meaning : Meaning D) (mounted : D) where
   -- a status that is kept here stands on no channel
@@ -43,10 +32,8 @@ module _ {D : Type 0} (meaning : Meaning D) (mounted : D) where
 
   kept-by : (H : List Entry) (phase : Phase) (a : Active) (csw : Csw) (sense : ℕ) →
       StandingTies meaning mounted H phase a (AwaitsRestart csw sense) → Kept H phase a csw sense
-  kept-by H Absent a csw sense d = absurd d
   kept-by H Idle a csw sense d = record { idle = refl; ended = d.0; retry = d.1 }
-  kept-by H (Running place) a csw sense d = absurd d
-  kept-by H (Pending c s) a csw sense d = absurd d
+  kept-by H _ a csw sense d = absurd d
 
   over-unhalted : (b : Bool) (place : Place) (state : State) (csw : Csw) (sense : ℕ) → active_phase_by b place state ≡ HasEnded csw sense →
       b ≡ false
@@ -62,7 +49,9 @@ module _ {D : Type 0} (meaning : Meaning D) (mounted : D) where
   pub record FoundAwaiting (H : List Entry) (a : Active) (scope : Scope) (mode : Mode) : Type 0 where
     pub settled : due meaning mounted H ≡ Free
     pub can : CanPurge meaning mounted scope H
-    pub covered : is_halt mode && awaits_by a.standing && is_some (active_of scope H) ≡ true
+    pub halts : is_halt mode ≡ true
+    pub again : awaits_by a.standing ≡ true
+    pub covered : covers scope a.piece.value ≡ true
 
   module _ {H : List Entry} {channel : Channel D} {a : Active} {waiters : List Piece} {table : List Dcb} {left : List PostedState}
       {scope : Scope} {mode : Mode}
@@ -77,7 +66,7 @@ module _ {D : Type 0} (meaning : Meaning D) (mounted : D) where
     settled = found.settled
 
     standing : a.standing ≡ AwaitsRestart csw sense
-    standing = kept-is a.standing (is_halt mode) (is_some (active_of scope H)) found.covered
+    standing = again-is a.standing found.again
 
     abbrev n : Name
     n = a.piece.value.name
@@ -165,23 +154,8 @@ module _ {D : Type 0} (meaning : Meaning D) (mounted : D) where
     after-is = ap (λ d. after_dooms (halted_by d P)) due-is ∙ ap after_dooms (halted-first (doomed P) P) ∙ sym dooms.2
 
     -- the post
-    and-ends : (h g s : Bool) → h && g && s ≡ true → (h ≡ true) × (s ≡ true)
-    and-ends true true true k = (refl, refl)
-    and-ends true true false k = absurd cc
-    and-ends true false s k = absurd cc
-    and-ends false g s k = absurd cc
-
-    some-covers : (b : Bool) → is_some (if b then Some n else None) ≡ true → b ≡ true
-    some-covers true h = refl
-    some-covers false h = absurd cc
-
     after-covered : after.covered ≡ true
-    after-covered =
-        let e = and-ends (is_halt mode) (awaits_by a.standing) (is_some (active_of scope H)) found.covered in
-        let s = rw t.activity.is at e.1 in
-        let k : covers scope a.piece.value ≡ true = covers-same meaning mounted scope mode t.activity
-        ∙ some-covers (covers scope (request_named n H)) s in
-        let h = e.0 in rw (k, h) refl
+    after-covered = let k = found.covered in let h = found.halts in rw (k, h) refl
 
     pub fits-purged : PostsActive meaning mounted n csw sense Purged S
     fits-purged =

@@ -1,19 +1,25 @@
 -- A purge, a halt, a close and a reset: what they doom, and that the fields stay those of the trace.
 use Rattle.unit_book.proofs.Names.{◌≡◌, ℕ, ◌≤◌, Bool, true, false, not, ◌&&◌, ◌||◌, Option, Some, None, List, [], ◌∷◌, length, refl, sym}
-use Rattle.unit_book.proofs.Names.{ap, ◌∙◌, eqb, if◌then◌else◌, is_some, Storage, Meaning, Channel, Phase, Absent, Idle, Running, Pending}
+use Rattle.unit_book.proofs.Names.{ap, ◌∙◌, eqb, if◌then◌else◌, is_some, Storage, Meaning, Channel, Phase, Idle, Running, Pending}
 use Rattle.unit_book.proofs.Names.{PostedState, Name, Piece, covers, Scope, Active, Standing, OnChannel, AwaitsRestart, Mode, Entry, Halted}
 use Rattle.unit_book.proofs.Names.{Purge, Close, Reset, waiting, arrivals, active, started, request_named, is_halt, is_covered, doomed}
 use Rattle.unit_book.proofs.Names.{is_doomed, is_open, is_opened, is_closed, flag, extents_of, attempts, current, Legal, Free, due}
 use Rattle.unit_book.proofs.Names.{doomed_first, CanPurge, posted, DoomedBy, active_of, covered_by, awaits_by, ActivityTies, StandingTies}
-use Rattle.unit_book.proofs.Names.{Ties}
+use Rattle.unit_book.proofs.Names.{Ties, inl, inr, subst, cases_Bool, and_parts, Place, Quiesce, Halt, active_phase, still_runs, Fits}
+use Rattle.unit_book.proofs.Names.{FitsBy, ToHalt, due_by, is_to_halt, running_name_by, dcb_at, dcb_of}
 use Rattle.request_piece.specs.declared.scope.Scope.TheVariants.{Dcb, Task}
-use Rattle.unit_queue.specs.declared.selection.Selection.TheVariants as selection
 use Rattle.unit_book.specs.declared.dcb.Dcb.{Dcb as Row}
 use Rattle.unit_book.specs.Trace.{is_purged}
 use Rattle.unit_book.specs.Selected.{is_selected}
-use Rattle.unit_book.specs.Fields.{ActiveTies, after_cover}
+use Rattle.unit_book.specs.Fields.{ActiveTies, after_cover, shut, unflagged}
+use Rattle.subchannel.specs.Subchannel.{halted_phase}
+use Rattle.unit_book.specs.Controls.{due_after}
+use Rattle.unit_queue.specs.declared.selection.Selection.TheVariants as selection
 use Rattle.unit_book.proofs.Dooms.{none-pass, filter-agree, filter-never, due-doomed, due-no_halt, length-filter_le}
-use Rattle.unit_book.proofs.Same.{fits-free}
+use Rattle.unit_book.proofs.Same.{fits-free, activity-same}
+use Rattle.unit_book.proofs.Lists.{same-refl}
+use Rattle.unit_book.proofs.Runs.{not-over}
+use Rattle.unit_book.proofs.Facts.{due-halt}
 
 module _ {D : Type 0} (meaning : Meaning D) (mounted : D) where
   -- WHAT A PURGE DOOMS: what it covers of that which waits
@@ -21,9 +27,7 @@ module _ {D : Type 0} (meaning : Meaning D) (mounted : D) where
       (shut || (covered || purged) || flagged) ≡ covered
   purged-by true false purged flagged h = refl
   purged-by false false false false h = refl
-  purged-by false false false true h = absurd cc
-  purged-by false false true flagged h = absurd cc
-  purged-by covered true purged flagged h = absurd cc
+  purged-by _ _ _ _ h = absurd cc
 
   pub doomed-purge : (scope : Scope) (mode : Mode) (H : List Entry) → doomed H ≡ [] →
       DoomedBy (Some (selection.Scope scope)) (Purge scope mode ∷ H)
@@ -44,10 +48,7 @@ module _ {D : Type 0} (meaning : Meaning D) (mounted : D) where
       (not (opened && not (here || closed)) || purged || flagged) ≡ here
   closed-by true true false false false h = refl
   closed-by false true false false false h = refl
-  closed-by here true false false true h = absurd cc
-  closed-by here true false true flagged h = absurd cc
-  closed-by here true true purged flagged h = absurd cc
-  closed-by here false closed purged flagged h = absurd cc
+  closed-by here _ _ _ _ h = absurd cc
 
   pub doomed-close : (d : ℕ) (H : List Entry) → doomed H ≡ [] → DoomedBy (Some (selection.Scope (Dcb d))) (Close d ∷ H)
   unfolding waiting arrivals flag
@@ -60,12 +61,10 @@ module _ {D : Type 0} (meaning : Meaning D) (mounted : D) where
   -- A RESET DOOMS nothing
   reset-spares : (here shut purged related flagged : Bool) → not (shut || purged || (related && flagged)) ≡ true →
       (shut || purged || (related && (if here then false else flagged))) ≡ false
-  reset-spares here true purged related flagged h = absurd cc
-  reset-spares here false true related flagged h = absurd cc
   reset-spares true false false true flagged h = refl
   reset-spares false false false true false h = refl
-  reset-spares false false false true true h = absurd cc
   reset-spares here false false false flagged h = refl
+  reset-spares _ _ _ _ _ h = absurd cc
 
   pub settled-reset : (d : ℕ) (H : List Entry) → due meaning mounted H ≡ Free → due meaning mounted (Reset d ∷ H) ≡ Free
   unfolding waiting arrivals flag
@@ -85,12 +84,24 @@ module _ {D : Type 0} (meaning : Meaning D) (mounted : D) where
   covers-area (Dcb d) r m = refl
   covers-area (Task t) r m = refl
 
+  some-covers : (n : Name) (b : Bool) → b ≡ is_some (if b then Some n else None)
+  some-covers n true = refl
+  some-covers n false = refl
+
   module _ {H : List Entry} (scope : Scope) (mode : Mode) where
     -- the purge covers the active request as its piece tells
     pub covers-same : {phase : Phase} {a : Active} → ActiveTies meaning mounted H phase a →
         covers scope a.piece.value ≡ covers scope (request_named a.piece.value.name H)
     covers-same {a = a} t = ap (covers scope) t.request ∙ covers-area scope (request_named a.piece.value.name H)
         (current meaning mounted H).area
+
+    -- whether the purge covers what awaits its restart, by the piece
+    pub awaiting-is : {phase : Phase} {a : Active} → ActiveTies meaning mounted H phase a →
+        is_halt mode && awaits_by a.standing && covers scope a.piece.value
+        ≡ (is_halt mode && awaits_by a.standing && is_some (active_of scope H))
+    awaiting-is {a = a} t = ap (λ b. is_halt mode && awaits_by a.standing && b)
+        (covers-same t ∙ some-covers a.piece.value.name (covers scope (request_named a.piece.value.name H))
+        ∙ sym (ap (λ o. is_some (covered_by scope H o)) t.is))
 
     uncovered : (phase : Phase) (a : Active) (standing : Standing) → ActiveTies meaning mounted H phase a →
         is_halt mode && awaits_by standing && is_some (covered_by scope H (Some a.piece.value.name)) ≡ false →
@@ -109,15 +120,12 @@ module _ {D : Type 0} (meaning : Meaning D) (mounted : D) where
         StandingTies meaning mounted H phase a standing →
         StandingTies meaning mounted (Purge scope mode ∷ H) phase (after_cover scope mode a) standing
     unfolding attempts request_named
-    standing-purge Absent a standing t u d = absurd d
-    standing-purge Idle a OnChannel t u d = absurd d
     standing-purge Idle a (AwaitsRestart csw sense) t u d =
         let e = ap (λ b. b && is_halt mode) (sym (covers-same t)) ∙ u refl in
         (d.0, d.1, rw e d.2)
     standing-purge (Running place) a OnChannel t u d = d
-    standing-purge (Running place) a (AwaitsRestart csw sense) t u d = absurd d
     standing-purge (Pending csw sense) a OnChannel t u d = d
-    standing-purge (Pending csw sense) a (AwaitsRestart c s) t u d = absurd d
+    standing-purge _ a _ t u d = absurd d
 
     active-purge : (phase : Phase) (a : Active) → ActiveTies meaning mounted H phase a →
         (awaits_by a.standing ≡ true → covers scope a.piece.value && is_halt mode ≡ false) →
@@ -183,3 +191,154 @@ module _ {D : Type 0} (meaning : Meaning D) (mounted : D) where
       length (doomed (Halted n ∷ Purge scope mode ∷ H)) ≤ length (waiting H)
   unfolding waiting arrivals
   doomed-halted_few n scope mode H = doomed-some (Halted n ∷ Purge scope mode ∷ H)
+
+-- A halt, a close and a reset: the fields stay those of the trace.
+
+module _ {D : Type 0} (meaning : Meaning D) (mounted : D) where
+  -- WHOM A PURGE HALTS
+  pub quiesces : (scope : Scope) (H : List Entry) →
+      due meaning mounted (Purge scope Quiesce ∷ H) ≡ doomed_first (doomed (Purge scope Quiesce ∷ H))
+  quiesces scope H = due-no_halt meaning mounted (Purge scope Quiesce ∷ H) (λ n a. refl)
+
+  -- none, if no program runs
+  pub halts-none : (scope : Scope) (mode : Mode) (H : List Entry) → is_some (running_name_by meaning mounted H (active H)) ≡ false →
+      due meaning mounted (Purge scope mode ∷ H) ≡ due_after None (doomed (Purge scope mode ∷ H))
+  unfolding active started attempts request_named
+  halts-none scope Quiesce H g = quiesces scope H
+  halts-none scope Halt H g = due-no_halt meaning mounted (Purge scope Halt ∷ H) (λ n a. still n (rw a at g)) where
+    still : (n : Name) → is_some (if still_runs (active_phase meaning mounted n H) then Some n else None) ≡ false →
+        is_to_halt meaning mounted (Purge scope Halt ∷ H) n ≡ false
+    still n h = by_bools (still_runs (active_phase meaning mounted n H)) (covers scope (request_named n H)) h where
+      by_bools : (b c : Bool) → is_some (if b then Some n else None) ≡ false → c && b ≡ false
+      by_bools true c k = absurd cc
+      by_bools false true k = refl
+      by_bools false false k = refl
+
+  -- the one that it covers, if its program runs
+  pub halts-active : (scope : Scope) (H : List Entry) → is_some (running_name_by meaning mounted H (active H)) ≡ true →
+      due meaning mounted (Purge scope Halt ∷ H) ≡ due_after (active_of scope H) (doomed (Purge scope Halt ∷ H))
+  unfolding due active started attempts request_named
+  halts-active scope H g = by_active (active H) g where
+    P : List Entry
+    P = Purge scope Halt ∷ H
+
+    by_active : (o : Option Name) → is_some (running_name_by meaning mounted H o) ≡ true →
+        due_by meaning mounted P o ≡ due_after (covered_by scope H o) (doomed P)
+    by_active None h = absurd cc
+    by_active (Some n) h = by_bools (covers scope (request_named n H)) (still_runs (active_phase meaning mounted n H)) h where
+      by_bools : (c b : Bool) → is_some (if b then Some n else None) ≡ true → (if c && b then ToHalt n else doomed_first (doomed P))
+          ≡ due_after (if c then Some n else None) (doomed P)
+      by_bools true true k = refl
+      by_bools false true k = refl
+      by_bools c false k = absurd cc
+
+  -- what is to be halted has a program that runs
+  to-halt : (H : List Entry) (n : Name) → is_to_halt meaning mounted H n ≡ true → still_runs (active_phase meaning mounted n H) ≡ true
+  to-halt (Purge scope Halt ∷ H) n h = (and_parts (covers scope (request_named n H)) _ h).1
+  to-halt _ n h = absurd cc
+
+  pub halt-runs : (n : Name) (H : List Entry) → due meaning mounted H ≡ ToHalt n → still_runs (active_phase meaning mounted n H) ≡ true
+  halt-runs n H h = to-halt H n (due-halt meaning mounted H n h).1
+
+  -- A HALT
+  module _ {H : List Entry} {channel : Channel D} {a : Active} {waiters : List Piece} {table : List Row} {left : List PostedState}
+      (d : due meaning mounted H ≡ ToHalt a.piece.value.name) (t : Ties meaning mounted H channel (Some a) waiters table left) where
+    abbrev n : Name
+    n = a.piece.value.name
+
+    abbrev G : List Entry
+    G = Halted n ∷ H
+
+    -- where a program goes
+    record Going (phase : Phase) (standing : Standing) : Type 0 where
+      place : Place
+      phase_is : phase ≡ Running place
+      place_is : place ≡ (current meaning mounted H).place
+      standing_is : standing ≡ OnChannel
+
+    runs : (phase : Phase) (standing : Standing) → still_runs (active_phase meaning mounted n H) ≡ true →
+        StandingTies meaning mounted H phase a standing → Going phase standing
+    runs Idle (AwaitsRestart csw sense) g k = absurd (not-over (active_phase meaning mounted n H) g false csw sense k.0)
+    runs (Running place) OnChannel g k = record { place = place; phase_is = refl; place_is = k.0; standing_is = refl }
+    runs (Pending csw sense) OnChannel g k = absurd (not-over (active_phase meaning mounted n H) g a.halted csw sense k)
+    runs _ _ g k = absurd k
+
+    stopped : Active
+    stopped = record a { halted = true }
+
+    standing-halt : (phase : Phase) (standing : Standing) → Going phase standing →
+        StandingTies meaning mounted G (halted_phase phase) (record a { halted = true }) standing
+    unfolding attempts
+    standing-halt phase standing k =
+        let e = k.phase_is in
+        let i = k.standing_is in
+        let p = k.place_is in
+        let s = same-refl n in
+        rw (e, i, p, s) refl
+
+    pub ties-halt : Ties meaning mounted G (record channel { phase = halted_phase channel.phase })
+        (Some (record a { halted = true })) waiters table left
+    unfolding Legal waiting arrivals active started request_named attempts extents_of flag posted
+    ties-halt =
+        let fits : Fits meaning mounted (Halted n) H = subst (λ x. FitsBy meaning mounted x (Halted n) H) (sym d) refl in
+        let s = same-refl n in
+        record {
+          legal = (fits, t.legal);
+          queue = t.queue;
+          placed = t.placed;
+          device = t.device;
+          activity = record {
+            is = t.activity.is;
+            request = t.activity.request;
+            placed = t.activity.placed;
+            starts = t.activity.starts;
+            halted = rw s refl;
+            covered = t.activity.covered;
+            standing = standing-halt channel.phase a.standing (runs channel.phase a.standing (halt-runs n H d) t.activity.standing);
+          };
+          count = t.count;
+          dcbs = t.dcbs;
+          out = t.out;
+        }
+
+  -- A CLOSE AND A RESET
+  dcb-closed : (c : ℕ) (H : List Entry) (d : ℕ) → shut (eqb c d) (dcb_of d H) ≡ dcb_of d (Close c ∷ H)
+  unfolding flag extents_of
+  dcb-closed c H d = elim (cases_Bool (is_opened d H)) [ inl i ↦ rw i refl | inr i ↦ rw i refl ]
+
+  dcb-reset : (c : ℕ) (H : List Entry) (d : ℕ) → unflagged (eqb c d) (dcb_of d H) ≡ dcb_of d (Reset c ∷ H)
+  unfolding flag extents_of
+  dcb-reset c H d = elim (cases_Bool (is_opened d H)) [ inl i ↦ rw i refl | inr i ↦ rw i refl ]
+
+  module _ {H : List Entry} {channel : Channel D} {o : Option Active} {waiters : List Piece} {table : List Row} {left : List PostedState}
+      {c : ℕ}
+      (settled : due meaning mounted H ≡ Free) (opened : is_open c H ≡ true) (t : Ties meaning mounted H channel o waiters table left) where
+    pub ties-close : {new : List Row} → ((d : ℕ) → dcb_at new d ≡ shut (eqb c d) (dcb_at table d)) → length new ≡ length table →
+        Ties meaning mounted (Close c ∷ H) channel o waiters new left
+    unfolding Legal waiting arrivals active started request_named attempts extents_of flag posted
+    ties-close rows count = record {
+      legal = (fits-free meaning mounted (Close c) H settled opened, t.legal);
+      queue = t.queue;
+      placed = t.placed;
+      device = t.device;
+      activity = activity-same meaning mounted H (Close c ∷ H) channel.phase o refl
+          (λ m e. record { active = refl; request = refl; starts = refl; attempts = refl; halted = refl; covered = refl }) t.activity;
+      count = count ∙ t.count;
+      dcbs = λ d. rows d ∙ ap (shut (eqb c d)) (t.dcbs d) ∙ dcb-closed c H d;
+      out = t.out;
+    }
+
+    pub ties-reset : {new : List Row} → ((d : ℕ) → dcb_at new d ≡ unflagged (eqb c d) (dcb_at table d)) → length new ≡ length table →
+        Ties meaning mounted (Reset c ∷ H) channel o waiters new left
+    unfolding Legal waiting arrivals active started request_named attempts extents_of flag posted
+    ties-reset rows count = record {
+      legal = (fits-free meaning mounted (Reset c) H settled opened, t.legal);
+      queue = t.queue;
+      placed = t.placed;
+      device = t.device;
+      activity = activity-same meaning mounted H (Reset c ∷ H) channel.phase o refl
+          (λ m e. record { active = refl; request = refl; starts = refl; attempts = refl; halted = refl; covered = refl }) t.activity;
+      count = count ∙ t.count;
+      dcbs = λ d. rows d ∙ ap (unflagged (eqb c d)) (t.dcbs d) ∙ dcb-reset c H d;
+      out = t.out;
+    }

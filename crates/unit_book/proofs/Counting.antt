@@ -1,11 +1,9 @@
 -- What the entries of a trace add to the arrivals of a task: only an arrival adds one, and the other calls of a
 -- book add none.
 use Rattle.unit_book.proofs.Names.{◌≡◌, ℕ, ◌+◌, ◌==◌, Bool, true, false, List, [], ◌∷◌, length, length-append, refl, ap, ◌∙◌, if◌then◌else◌}
-use Rattle.unit_book.proofs.Names.{filter, filter-append, Piece, Entry, Arrive, Post, ExtentViolated, Extent, Meaning}
-use Rattle.unit_book.proofs.Names.{no_status, Starting, Busy, Started, Violated, NothingRuns, RanSome, Interruption, NothingPending}
-use Rattle.unit_book.proofs.Names.{TriedAgain, WasPosted, StartsBook, RunsBook, InterruptsBook}
-use Rattle.unit_book.proofs.Names.{Book, arrivals, arrived_of, all_posted, after_dooms, doomed}
-use Rattle.unit_book.specs.declared.answer.Starting.TheVariants.{Idle}
+use Rattle.unit_book.proofs.Names.{filter, filter-append, Piece, Entry, Arrive, Post, ExtentViolated, Extent, Meaning, no_status, Starting}
+use Rattle.unit_book.proofs.Names.{Started, Violated, NothingRuns, RanSome, Interruption, NothingPending, TriedAgain, WasPosted, StartsBook}
+use Rattle.unit_book.proofs.Names.{RunsBook, InterruptsBook, Book, arrivals, arrived_of, all_posted, after_dooms, doomed}
 use Rattle.unit_book.specs.declared.answer.Running.{Running}
 use Rattle.unit_book.specs.Answers.{OpensBook}
 
@@ -36,11 +34,10 @@ module _ {D : Type 0} (meaning : Meaning D) where
   pub starts-keep : (old : Book D) (answer : Starting) (new : Book D) → StartsBook meaning old answer new →
       arrivals new.trace ≡ arrivals old.trace
   unfolding arrivals
-  starts-keep old Busy new h = ap (λ (b : Book D). arrivals b.trace) h.2
-  starts-keep old Idle new h = ap (λ (b : Book D). arrivals b.trace) h.2
   starts-keep old (Started n) new h = ap (λ (b : Book D). arrivals b.trace) h.1
   starts-keep old (Violated n) new h = ap (λ (b : Book D). arrivals b.trace) h.1
       ∙ arrivals-after_dooms (Post n no_status 0 ExtentViolated ∷ old.trace)
+  starts-keep old _ new h = ap (λ (b : Book D). arrivals b.trace) h.2
 
   pub runs-keep : (old : Book D) (max : ℕ) (answer : Running) (new : Book D) → RunsBook meaning old max answer new →
       arrivals new.trace ≡ arrivals old.trace

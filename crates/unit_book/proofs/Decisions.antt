@@ -1,7 +1,7 @@
 -- What becomes of the active request when its status is taken.
 use Rattle.unit_book.proofs.Names.{◌≡◌, ℕ, Bool, true, false, Option, Some, None, List, refl, sym, ap, ◌∙◌, subst, Csw, Code, Purged}
-use Rattle.unit_book.proofs.Names.{Meaning, Kind, Channel, Phase, Absent, Idle, Running, Pending, Retry, Final, verdict, PostedState, Name}
-use Rattle.unit_book.proofs.Names.{Piece, Active, Standing, OnChannel, AwaitsRestart, Dcb, Entry, active, request_named, is_covered, HasEnded}
+use Rattle.unit_book.proofs.Names.{Meaning, Kind, Channel, Phase, Idle, Running, Pending, Retry, Final, verdict, PostedState, Name, Piece}
+use Rattle.unit_book.proofs.Names.{Active, Standing, OnChannel, AwaitsRestart, Dcb, Entry, active, request_named, is_covered, HasEnded}
 use Rattle.unit_book.proofs.Names.{still_runs, active_phase, PostsActive, WithVerdict, StartsAgain, StandingTies, Ties, awaits_by}
 use Rattle.unit_book.proofs.Names.{pending_phase}
 use Rattle.subchannel.specs.Subchannel.{status_of, tested_phase}
@@ -20,13 +20,12 @@ module _ {D : Type 0} (meaning : Meaning D) (mounted : D) where
     pending-phase : (phase : Phase) (standing : Standing) → StandingTies meaning mounted H phase a standing →
         status_of phase ≡ Some (csw, sense) →
         (active_phase meaning mounted n H ≡ pending_phase a.halted csw sense) × (awaits_by standing ≡ false)
-    pending-phase Absent standing d h = absurd d
     pending-phase Idle standing d h = absurd cc
     pending-phase (Running place) standing d h = absurd cc
     pending-phase (Pending c k) OnChannel d h =
         let p : (c, k) ≡ (csw, sense) = cc in
         (d ∙ ap (λ (x : Csw × ℕ). pending_phase a.halted x.0 x.1) p, refl)
-    pending-phase (Pending c k) (AwaitsRestart x y) d h = absurd d
+    pending-phase _ _ d h = absurd d
 
     phase-is : active_phase meaning mounted n H ≡ pending_phase a.halted csw sense
     phase-is = (pending-phase channel.phase a.standing t.activity.standing pending).0
@@ -64,9 +63,8 @@ module _ {D : Type 0} (meaning : Meaning D) (mounted : D) where
     decides-post code h = record { active = t.activity.is; as_ended = posts-as a.halted code refl h }
 
     none-code : (v : Verdict) (covered : Bool) → ended_code v covered ≡ None → (v ≡ Retry) × (covered ≡ false)
-    none-code (Final code) covered h = absurd cc
-    none-code Retry true h = absurd cc
     none-code Retry false h = (refl, refl)
+    none-code _ _ h = absurd cc
 
     none-pending : (kind : Kind) (starts : ℕ) (halted covered : Bool) → pending_code kind csw sense starts halted covered ≡ None →
         (halted ≡ false) × (verdict kind csw sense starts ≡ Retry) × (covered ≡ false)
@@ -97,11 +95,10 @@ module _ {D : Type 0} (meaning : Meaning D) (mounted : D) where
       (t : Ties meaning mounted H channel (Some a) waiters table left) (s : StartsAgain meaning mounted a.piece.value.name H)
       (e : active_phase meaning mounted a.piece.value.name H ≡ HasEnded csw sense) where
     await-idle : (phase : Phase) (standing : Standing) → StandingTies meaning mounted H phase a standing → tested_phase phase ≡ Idle
-    await-idle Absent standing d = absurd d
     await-idle Idle standing d = refl
     await-idle (Running place) OnChannel d = let k = sym d.1 ∙ e in absurd cc
-    await-idle (Running place) (AwaitsRestart c k) d = absurd d
     await-idle (Pending c k) standing d = refl
+    await-idle _ _ d = absurd d
 
     abbrev pub awaiting : Active
     awaiting = record a { standing = AwaitsRestart csw sense }

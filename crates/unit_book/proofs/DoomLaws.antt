@@ -33,30 +33,16 @@ any-without m n s (r ∷ rs) h =
 -- a Start that is not of the name does not start it
 starts-of : (n : Name) (e : Entry) → is_of_name n e ≡ false → starts n e ≡ false
 starts-of n (Start m) h = h
-starts-of n (Opened d i x) h = refl
-starts-of n (Arrive r) h = refl
-starts-of n (Ran m j) h = refl
-starts-of n (Halted m) h = refl
-starts-of n (Purge s m) h = refl
-starts-of n (Close d) h = refl
-starts-of n (Reset d) h = refl
-starts-of n (Post m csw sense code) h = refl
+starts-of n _ h = refl
 
 -- the request of a name that arrived has the name
 request-named : (n : Name) (H : List Entry) → has_arrived n H ≡ true → (request_named n H).name ≡ n
 unfolding request_named
 request-named n [] h = absurd cc
-request-named n (Opened d i x ∷ H) h = request-named n H h
 request-named n (Arrive r ∷ H) h =
     let ih : has_arrived n H ≡ true → (request_named n H).name ≡ n = λ k. request-named n H k in
     elim (cases_Bool (same r.name n)) [ inl e ↦ rw e (same-true r.name n e) | inr e ↦ rw e (ih (rw e at h)) ]
-request-named n (Start m ∷ H) h = request-named n H h
-request-named n (Ran m j ∷ H) h = request-named n H h
-request-named n (Halted m ∷ H) h = request-named n H h
-request-named n (Purge s m ∷ H) h = request-named n H h
-request-named n (Close d ∷ H) h = request-named n H h
-request-named n (Reset d ∷ H) h = request-named n H h
-request-named n (Post m csw sense code ∷ H) h = request-named n H h
+request-named n (_ ∷ H) h = request-named n H h
 
 -- what an older part has, the whole has
 any-later : (p : Entry → Bool) (later earlier : List Entry) → list_any p earlier ≡ true → list_any p (later ++ earlier) ≡ true
@@ -122,20 +108,13 @@ module _ {D : Type 0} (meaning : Meaning D) (mounted : D) where
   request-stays : (n : Name) (e : Entry) (G : List Entry) → Facts G → Fits meaning mounted e G → has_arrived n G ≡ true →
       request_named n (e ∷ G) ≡ request_named n G
   unfolding request_named
-  request-stays n (Opened d i x) G f h a = refl
   request-stays n (Arrive r) G f h a =
       let new = fresh meaning mounted r G f (fits-arrive meaning mounted r G (due meaning mounted G) h) in
       elim (cases_Bool (same r.name n)) [
         | inl s ↦ no_both (has_arrived n G) a (subst (λ (x : Name). has_arrived x G ≡ false) (same-true r.name n s) new)
         | inr s ↦ rw s refl
       ]
-  request-stays n (Start m) G f h a = refl
-  request-stays n (Ran m j) G f h a = refl
-  request-stays n (Halted m) G f h a = refl
-  request-stays n (Purge s m) G f h a = refl
-  request-stays n (Close d) G f h a = refl
-  request-stays n (Reset d) G f h a = refl
-  request-stays n (Post m csw sense code) G f h a = refl
+  request-stays n _ G f h a = refl
 
   abbrev Covered : Piece → List Entry → Type 0
   Covered r G = (has_started r.name G ≡ true) × (request_named r.name G ≡ r) × (is_covered r G ≡ true)
@@ -202,9 +181,8 @@ module _ {D : Type 0} (meaning : Meaning D) (mounted : D) where
   doomed-closed false closed purged related flagged h = refl
 
   doomed-flagged : (shut purged related flagged : Bool) → related ≡ true → flagged ≡ true → (shut || purged || (related && flagged)) ≡ true
-  doomed-flagged true purged related flagged h k = refl
-  doomed-flagged false true related flagged h k = refl
   doomed-flagged false false related flagged h k = rw (h, k) refl
+  doomed-flagged _ _ related flagged h k = refl
 
   of-closed : (n : Name) (H : List Entry) → Legal meaning mounted (Start n ∷ H) → is_closed (request_named n H).dcb H ≡ true →
       has_started n H ≡ true

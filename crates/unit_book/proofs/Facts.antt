@@ -1,11 +1,10 @@
 -- What a legal trace keeps, and what follows from it.
 use Rattle.unit_book.proofs.Names.{◌≡◌, ℕ, zero, suc, ◌+◌, ◌≤◌, ◌⊎◌, Bool, true, false, not, ◌&&◌, ◌||◌, Option, Some, None, List, [], ◌∷◌}
 use Rattle.unit_book.proofs.Names.{◌++◌, refl, sym, ap, ◌∙◌, arith, inl, inr, subst, and_from, or_parts, or_left, or_right, cases_Bool}
-use Rattle.unit_book.proofs.Names.{filter-append, filter, list_any, list_all, slice_get, Csw, Meaning, Name, Piece, Code, Entry, Opened}
-use Rattle.unit_book.proofs.Names.{Arrive, Start, Ran, Halted, Purge, Close, Reset, Post, same, arrivals, arrived_of, has_arrived}
-use Rattle.unit_book.proofs.Names.{has_started, is_posted, waiting, started, active, request_named, Each, Attempt, attempts, doomed, is_doomed}
-use Rattle.unit_book.proofs.Names.{Due, ToHalt, ToPost, Free, due, due_by, doomed_first, is_to_halt, Fits, FitsBy, PostFits, OfActive}
-use Rattle.unit_book.proofs.Names.{OfFirst}
+use Rattle.unit_book.proofs.Names.{filter-append, filter, list_any, list_all, slice_get, Csw, Meaning, Name, Piece, Code, Entry, Arrive}
+use Rattle.unit_book.proofs.Names.{Start, Ran, Post, same, arrivals, arrived_of, has_arrived, has_started, is_posted, waiting, started}
+use Rattle.unit_book.proofs.Names.{active, request_named, Each, Attempt, attempts, doomed, is_doomed, Due, ToHalt, ToPost, Free, due}
+use Rattle.unit_book.proofs.Names.{due_by, doomed_first, is_to_halt, Fits, FitsBy, PostFits, OfActive, OfFirst}
 use Rattle.unit_book.specs.Legal.{FitsFree}
 use Rattle.unit_book.proofs.Lists.{same-refl, same-true, same-is, filter-all, same-not-sym, no_both, filter-filter, all-weaker, find-passes}
 use Rattle.unit_book.proofs.Lists.{find-any, find-agree, find-none, without, Apart, Apart-filter}
@@ -58,15 +57,8 @@ Each-at P (y ∷ xs) (suc k) x e s = Each-at P xs k x e.1 s
 pub started-any : (n : Name) (H : List Entry) → list_any (λ k. same k n) (started H) ≡ has_started n H
 unfolding started
 started-any n [] = refl
-started-any n (Opened d i x ∷ H) = started-any n H
-started-any n (Arrive r ∷ H) = started-any n H
 started-any n (Start m ∷ H) = ap (λ b. same m n || b) (started-any n H)
-started-any n (Ran m j ∷ H) = started-any n H
-started-any n (Halted m ∷ H) = started-any n H
-started-any n (Purge s m ∷ H) = started-any n H
-started-any n (Close d ∷ H) = started-any n H
-started-any n (Reset d ∷ H) = started-any n H
-started-any n (Post m csw sense code ∷ H) = started-any n H
+started-any n (_ ∷ H) = started-any n H
 
 any-none : {X : Type 0} (p : X → Bool) (xs : List X) → list_any p xs ≡ false → list_all (λ x. not (p x)) xs ≡ true
 any-none p [] h = refl
@@ -118,19 +110,16 @@ waits H f = by_list (arrivals H) f.6 where
 -- what fits where it is neither a Halted nor a Post fits freely
 module _ {D : Type 0} (meaning : Meaning D) (mounted : D) where
   pub fits-arrive : (r : Piece) (H : List Entry) (d : Due) → FitsBy meaning mounted d (Arrive r) H → FitsFree meaning mounted (Arrive r) H
-  fits-arrive r H (ToHalt n) h = absurd cc
-  fits-arrive r H (ToPost n) h = absurd cc
   fits-arrive r H Free h = h
+  fits-arrive r H _ h = absurd cc
 
   pub fits-start : (n : Name) (H : List Entry) (d : Due) → FitsBy meaning mounted d (Start n) H → FitsFree meaning mounted (Start n) H
-  fits-start n H (ToHalt m) h = absurd cc
-  fits-start n H (ToPost m) h = absurd cc
   fits-start n H Free h = h
+  fits-start n H _ h = absurd cc
 
   pub fits-ran : (n : Name) (j : ℕ) (H : List Entry) (d : Due) → FitsBy meaning mounted d (Ran n j) H → FitsFree meaning mounted (Ran n j) H
-  fits-ran n j H (ToHalt m) h = absurd cc
-  fits-ran n j H (ToPost m) h = absurd cc
   fits-ran n j H Free h = h
+  fits-ran n j H _ h = absurd cc
 
   -- what is due: a Halted of the active request, or a doom
   pub data DueIs (H : List Entry) : Type 0 where

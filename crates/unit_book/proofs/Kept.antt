@@ -1,9 +1,8 @@
 -- What the calls of a book keep, one after another: nothing that was given is taken back, and what is posted is of
 -- what arrived.
 use Rattle.unit_book.proofs.Names.{◌≡◌, ℕ, true, List, [], ◌∷◌, ◌++◌, append_assoc, length, ◌-◌, refl, sym, ap, ◌∙◌, inl, inr, subst, Ok}
-use Rattle.unit_book.proofs.Names.{Err, OnOk, OnErr, cases_Bool, Csw, Code, Meaning, Storage, PostedState, Name, Piece, Entry, Opened}
-use Rattle.unit_book.proofs.Names.{Arrive, Start, Ran, Halted, Purge, Close, Reset, Post, same, arrivals, has_arrived, request_named, area}
-use Rattle.unit_book.proofs.Names.{Legal, due, posted, posted_value, Book, Each}
+use Rattle.unit_book.proofs.Names.{Err, OnOk, OnErr, cases_Bool, Csw, Code, Meaning, Storage, PostedState, Name, Piece, Entry, Arrive, Post}
+use Rattle.unit_book.proofs.Names.{same, arrivals, has_arrived, request_named, area, Legal, due, posted, posted_value, Book, Each}
 use Rattle.std.proofs.Common.{take}
 use Rattle.std.specs.Prelude.{IfOk}
 use Rattle.std.specs.declared.result.Result.{Result}
@@ -12,7 +11,7 @@ use Rattle.unit_book.specs.Settle.{Steps, ByStart, ByRun, ByInterrupt, Settles, 
 use Rattle.unit_book.proofs.Facts.{Each-behind}
 use Rattle.unit_book.proofs.LegalFacts.{facts}
 use Rattle.unit_book.proofs.Lists.{same-refl}
-use Rattle.unit_book.proofs.Outs.{taken-all}
+use Rattle.unit_book.proofs.Posting.{taken-all}
 use Rattle.unit_book.proofs.WorldBooks.{Keeps, Sound, keeps-same, keeps-start, keeps-run, keeps-interrupt}
 
 -- what follows where a call was done and where it was refused follows of it
@@ -93,14 +92,7 @@ request-among P n (Arrive r ∷ H) a h =
       | inl s ↦ rw s (Each-back P (arrivals H) (r ∷ []) h).0
       | inr s ↦ let a' : has_arrived n H ≡ true = rw s at a in rw s (request-among P n H a' (Each-front P (arrivals H) (r ∷ []) h))
     ]
-request-among P n (Opened d i x ∷ H) a h = request-among P n H a h
-request-among P n (Start m ∷ H) a h = request-among P n H a h
-request-among P n (Ran m j ∷ H) a h = request-among P n H a h
-request-among P n (Halted m ∷ H) a h = request-among P n H a h
-request-among P n (Purge s m ∷ H) a h = request-among P n H a h
-request-among P n (Close d ∷ H) a h = request-among P n H a h
-request-among P n (Reset d ∷ H) a h = request-among P n H a h
-request-among P n (Post m csw sense code ∷ H) a h = request-among P n H a h
+request-among P n (_ ∷ H) a h = request-among P n H a h
 
 module _ {D : Type 0} (meaning : Meaning D) (mounted : D) (P : Piece → Type 0) (Q : PostedState → Type 0)
     (link : (r : Piece) (csw : Csw) (sense : ℕ) (code : Code) (m : Storage) → P r → Q (posted_value r csw sense code m)) where
@@ -108,17 +100,11 @@ module _ {D : Type 0} (meaning : Meaning D) (mounted : D) (P : Piece → Type 0)
   unfolding Legal arrivals posted
   posted-of [] l h = tt
   posted-of (Arrive r ∷ H) l h = posted-of H l.1 (Each-front P (arrivals H) (r ∷ []) h)
-  posted-of (Opened d i x ∷ H) l h = posted-of H l.1 h
-  posted-of (Start n ∷ H) l h = posted-of H l.1 h
-  posted-of (Ran n j ∷ H) l h = posted-of H l.1 h
-  posted-of (Halted n ∷ H) l h = posted-of H l.1 h
-  posted-of (Purge s m ∷ H) l h = posted-of H l.1 h
-  posted-of (Close d ∷ H) l h = posted-of H l.1 h
-  posted-of (Reset d ∷ H) l h = posted-of H l.1 h
   posted-of (Post n csw sense code ∷ H) l h =
       let v = posted_value (request_named n H) csw sense code (area meaning mounted (request_named n H) H) in
       let arrived : has_arrived n H ≡ true = (facts meaning mounted (Post n csw sense code ∷ H) l).1 n (rw (same-refl n) refl) in
       Each-behind Q (posted meaning mounted H) v (posted-of H l.1 h) (link _ csw sense code _ (request-among P n H arrived h))
+  posted-of (_ ∷ H) l h = posted-of H l.1 h
 
   -- what is out is of what arrived
   pub out-of : (b : Book D) → Legal meaning mounted b.trace → given meaning b ++ b.out ≡ posted meaning mounted b.trace →

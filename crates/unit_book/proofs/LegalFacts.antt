@@ -1,9 +1,8 @@
 -- The facts hold of every legal trace.
 use Rattle.unit_book.proofs.Names.{sym, ◌≡◌, ℕ, ◌+◌, ◌≤◌, ◌⊎◌, true, false, Some, List, [], ◌∷◌, ◌++◌, length, refl, ap, ◌∙◌, arith, eqb}
 use Rattle.unit_book.proofs.Names.{inl, inr, subst, eq-eqb, or_parts, or_left, or_right, cases_Bool, filter, slice_get, Csw, Meaning, Name}
-use Rattle.unit_book.proofs.Names.{Piece, Code, Entry, Opened, Arrive, Start, Ran, Halted, Purge, Close, Reset, Post, same, arrivals}
-use Rattle.unit_book.proofs.Names.{arrived_of, has_arrived, has_started, is_posted, waiting, started, active, request_named, Each, attempts}
-use Rattle.unit_book.proofs.Names.{due, Legal, StartFits, First, Again}
+use Rattle.unit_book.proofs.Names.{Piece, Code, Entry, Arrive, Start, Ran, Post, same, arrivals, arrived_of, has_arrived, has_started}
+use Rattle.unit_book.proofs.Names.{is_posted, waiting, started, active, request_named, Each, attempts, due, Legal, StartFits, First, Again}
 use Rattle.unit_book.proofs.Lists.{same-true, same-refl, same-is, no_both, none_named, Apart, Apart-push}
 use Rattle.unit_book.proofs.Facts.{ArrivedPost, ArrivedStart, Each-behind, Each-weaker, Facts, Known, Newest, NewestIs, Numbered, One}
 use Rattle.unit_book.proofs.Facts.{WaitsAmong, active-is, active-post, active-post_waiting, active-start, fits-arrive, fits-ran, fits-start}
@@ -177,13 +176,9 @@ module _ {D : Type 0} (meaning : Meaning D) (mounted : D) where
   pub facts : (H : List Entry) → Legal meaning mounted H → Facts H
   unfolding Legal arrivals active started attempts request_named
   facts [] l = no-facts
-  facts (Opened d i x ∷ H) l = facts H l.1
   facts (Arrive r ∷ H) l = facts-arrive r H (facts H l.1) (fits-arrive meaning mounted r H (due meaning mounted H) l.0)
   facts (Start n ∷ H) l = facts-start_by n H (facts H l.1) (fits-start meaning mounted n H (due meaning mounted H) l.0)
   facts (Ran n j ∷ H) l = facts-ran n j H (facts H l.1) (fits-ran meaning mounted n j H (due meaning mounted H) l.0).active
-  facts (Halted n ∷ H) l = facts H l.1
-  facts (Purge s m ∷ H) l = facts H l.1
-  facts (Close d ∷ H) l = facts H l.1
-  facts (Reset d ∷ H) l = facts H l.1
   facts (Post n csw sense code ∷ H) l = facts-post n csw sense code H (facts H l.1)
       (post-whom meaning mounted n csw sense code H (facts H l.1) l.0)
+  facts (_ ∷ H) l = facts H l.1

@@ -6,8 +6,6 @@ pub mod LegalFacts
 pub mod TraceLaws
 pub mod Same
 pub mod Arrivals
-pub mod Places
-pub mod Found
 pub mod Runs
 pub mod ActivePosts
 pub mod Decisions
@@ -15,12 +13,8 @@ pub mod Dooms
 pub mod Seeks
 pub mod Starts
 pub mod Restarts
-pub mod WaitingPosts
-pub mod Purges
 pub mod Posting
 pub mod Opens
-pub mod Outs
-pub mod Refusals
 pub mod Calls
 pub mod NameLaws
 pub mod OrderLaws
@@ -28,7 +22,6 @@ pub mod DoomLaws
 pub mod Worked
 pub mod Counting
 pub mod Controls
-pub mod Halts
 pub mod Awaiting
 pub mod WorldTraces
 pub mod WorldBooks
@@ -38,4 +31,3 @@ pub mod Worlds
 mod WorldRows
 pub mod Settling
 pub mod Kept
-pub mod Pending

@@ -1,8 +1,8 @@
 -- A name that arrived has one place; at most one request is active.
 use Rattle.unit_book.proofs.Names.{◌≡◌, ◌≤◌, ◌+◌, Bool, true, false, not, ◌&&◌, ◌||◌, Option, Some, None, List, [], ◌∷◌, ◌++◌, length, refl}
-use Rattle.unit_book.proofs.Names.{sym, ap, ◌∙◌, arith, inl, inr, subst, cases_Bool, filter, list_any, Meaning, Name, Piece, Entry, Opened}
-use Rattle.unit_book.proofs.Names.{Arrive, Start, Ran, Halted, Purge, Close, Reset, Post, same, starts, arrivals, has_arrived, has_started}
-use Rattle.unit_book.proofs.Names.{is_posted, waiting, active, starts_of, due, Legal, StartFits, First, Again}
+use Rattle.unit_book.proofs.Names.{sym, ap, ◌∙◌, arith, inl, inr, subst, cases_Bool, filter, list_any, Meaning, Name, Piece, Entry, Arrive}
+use Rattle.unit_book.proofs.Names.{Start, same, starts, arrivals, has_arrived, has_started, is_posted, waiting, active, starts_of, due}
+use Rattle.unit_book.proofs.Names.{Legal, StartFits, First, Again}
 use Rattle.unit_book.specs.Laws.{OnePlace, FewStarts, waits, is_one, is_active, times}
 use Rattle.unit_book.proofs.Lists.{same-true, same-refl, no_both}
 use Rattle.unit_book.proofs.Facts.{Facts, active-is, fits-start}
@@ -21,7 +21,6 @@ any-append p (x ∷ xs) ys = ap (λ b. p x || b) (any-append p xs ys) ∙ assoc 
 pub arrived-any : (n : Name) (H : List Entry) → has_arrived n H ≡ list_any (λ r. same r.name n) (arrivals H)
 unfolding arrivals
 arrived-any n [] = refl
-arrived-any n (Opened d i x ∷ H) = arrived-any n H
 arrived-any n (Arrive r ∷ H) = ap (λ b. same r.name n || b) (arrived-any n H)
     ∙ flip (same r.name n) (list_any (λ r. same r.name n) (arrivals H)) ∙ sym (any-append (λ r. same r.name n) (arrivals H) (r ∷ [])) where
       flip : (a b : Bool) → (a || b) ≡ (b || (a || false))
@@ -29,13 +28,7 @@ arrived-any n (Arrive r ∷ H) = ap (λ b. same r.name n || b) (arrived-any n H)
       flip true false = refl
       flip false true = refl
       flip false false = refl
-arrived-any n (Start m ∷ H) = arrived-any n H
-arrived-any n (Ran m j ∷ H) = arrived-any n H
-arrived-any n (Halted m ∷ H) = arrived-any n H
-arrived-any n (Purge s m ∷ H) = arrived-any n H
-arrived-any n (Close d ∷ H) = arrived-any n H
-arrived-any n (Reset d ∷ H) = arrived-any n H
-arrived-any n (Post m csw sense code ∷ H) = arrived-any n H
+arrived-any n (_ ∷ H) = arrived-any n H
 
 -- one of a name passes a test that depends on the name alone
 any-filter : (n : Name) (b : Bool) (p : Piece → Bool) → ((r : Piece) → same r.name n ≡ true → p r ≡ b) → (rs : List Piece) →
@@ -105,8 +98,6 @@ module _ {D : Type 0} (meaning : Meaning D) where
     few : (n : Name) (H : List Entry) → Legal meaning mounted H → starts_of n H ≤ 11
     unfolding Legal
     few n [] l = omega arith
-    few n (Opened d i x ∷ H) l = few n H l.1
-    few n (Arrive r ∷ H) l = few n H l.1
     few n (Start m ∷ H) l =
         let ih = few n H l.1 in
         elim (cases_Bool (same m n)) [
@@ -116,12 +107,7 @@ module _ {D : Type 0} (meaning : Meaning D) where
               rw s (omega (arith, k))
           | inr s ↦ rw s ih
         ]
-    few n (Ran m j ∷ H) l = few n H l.1
-    few n (Halted m ∷ H) l = few n H l.1
-    few n (Purge s m ∷ H) l = few n H l.1
-    few n (Close d ∷ H) l = few n H l.1
-    few n (Reset d ∷ H) l = few n H l.1
-    few n (Post m c s k ∷ H) l = few n H l.1
+    few n (_ ∷ H) l = few n H l.1
 
     one : (n m : Name) (H : List Entry) → Legal meaning mounted H → has_started n H ≡ true → is_posted n H ≡ false →
         has_started m H ≡ true → is_posted m H ≡ false → n ≡ m

@@ -3,10 +3,10 @@ use Rattle.unit_book.proofs.Names.{◌≡◌, ℕ, zero, suc, ◌+◌, ◌-◌, 
 use Rattle.unit_book.proofs.Names.{◌∷◌, ◌++◌, length, length-append, refl, sym, ap, ◌∙◌, arith, eqb, inl, inr, subst, if◌then◌else◌}
 use Rattle.unit_book.proofs.Names.{cases_Bool, and_parts, or_right, eqb-true, eq-eqb, slice_get-append_right, slice_get, is_error, Csw}
 use Rattle.unit_book.proofs.Names.{Code, Purged, Extent, Meaning, Channel, Idle, PostedState, Name, Piece, Active, Dcb, Entry, Opened}
-use Rattle.unit_book.proofs.Names.{Arrive, Start, Ran, Halted, Purge, Close, Reset, Post, same, has_arrived, has_started, waiting, arrivals}
-use Rattle.unit_book.proofs.Names.{active, started, request_named, is_open, is_opened, is_closed, opened_count, extents_of, flag, attempts}
-use Rattle.unit_book.proofs.Names.{stand, Due, ToHalt, ToPost, Free, due, Fits, FitsBy, Legal, StartFits, First, Again, PostFits, OfActive}
-use Rattle.unit_book.proofs.Names.{OfFirst, posted, Ties, dcb_at, dcb_of}
+use Rattle.unit_book.proofs.Names.{Arrive, Start, Close, Reset, Post, same, has_arrived, has_started, waiting, arrivals, active, started}
+use Rattle.unit_book.proofs.Names.{request_named, is_open, is_opened, is_closed, opened_count, extents_of, flag, attempts, stand, Due}
+use Rattle.unit_book.proofs.Names.{ToHalt, ToPost, Free, due, Fits, FitsBy, Legal, StartFits, First, Again, PostFits, OfActive, OfFirst}
+use Rattle.unit_book.proofs.Names.{posted, Ties, dcb_at, dcb_of}
 use Rattle.unit_book.specs.Trace.{opens}
 use Rattle.unit_book.specs.Legal.{OpenFits}
 use Rattle.unit_book.specs.Fields.{HasRow}
@@ -24,9 +24,8 @@ more d H e h = or_right (opens d e) (is_opened d H) h
 module _ {D : Type 0} (meaning : Meaning D) (mounted : D) where
   free-open : (d : ℕ) (input : Bool) (x : List Extent) (H : List Entry) (k : Due) → FitsBy meaning mounted k (Opened d input x) H →
       OpenFits meaning mounted d x H
-  free-open d input x H (ToHalt n) f = absurd cc
-  free-open d input x H (ToPost n) f = absurd cc
   free-open d input x H Free f = f
+  free-open d input x H _ f = absurd cc
 
   -- a DCB that was opened has a number from 1 to the count
   pub opened-few : (d : ℕ) (H : List Entry) → Legal meaning mounted H → is_opened d H ≡ true → (1 ≤ d) × (d ≤ opened_count H)
@@ -39,25 +38,13 @@ module _ {D : Type 0} (meaning : Meaning D) (mounted : D) where
         | inl e ↦ let k : c ≡ d = eqb-true c d e in (omega (arith, k, f), omega (arith, k, f))
         | inr e ↦ let k = ih (rw e at h) in (k.0, omega (arith, k.1))
       ]
-  opened-few d (Arrive r ∷ H) l h = opened-few d H l.1 h
-  opened-few d (Start n ∷ H) l h = opened-few d H l.1 h
-  opened-few d (Ran n j ∷ H) l h = opened-few d H l.1 h
-  opened-few d (Halted n ∷ H) l h = opened-few d H l.1 h
-  opened-few d (Purge s m ∷ H) l h = opened-few d H l.1 h
-  opened-few d (Close c ∷ H) l h = opened-few d H l.1 h
-  opened-few d (Reset c ∷ H) l h = opened-few d H l.1 h
-  opened-few d (Post n c s k ∷ H) l h = opened-few d H l.1 h
+  opened-few d (_ ∷ H) l h = opened-few d H l.1 h
 
   -- a DCB that was closed was opened
   pub closed-opened : (d : ℕ) (H : List Entry) → Legal meaning mounted H → is_closed d H ≡ true → is_opened d H ≡ true
   unfolding Legal
   closed-opened d [] l h = absurd cc
   closed-opened d (Opened c i x ∷ H) l h = more d H (Opened c i x) (closed-opened d H l.1 h)
-  closed-opened d (Arrive r ∷ H) l h = closed-opened d H l.1 h
-  closed-opened d (Start n ∷ H) l h = closed-opened d H l.1 h
-  closed-opened d (Ran n j ∷ H) l h = closed-opened d H l.1 h
-  closed-opened d (Halted n ∷ H) l h = closed-opened d H l.1 h
-  closed-opened d (Purge s m ∷ H) l h = closed-opened d H l.1 h
   closed-opened d (Close c ∷ H) l h =
       let ih : is_closed d H ≡ true → is_opened d H ≡ true = λ k. closed-opened d H l.1 k in
       elim (cases_Bool (eqb c d)) [
@@ -68,8 +55,7 @@ module _ {D : Type 0} (meaning : Meaning D) (mounted : D) where
         opened (ToHalt n) f = absurd cc
         opened (ToPost n) f = absurd cc
         opened Free f = (and_parts (is_opened c H) (not (is_closed c H)) f).0
-  closed-opened d (Reset c ∷ H) l h = closed-opened d H l.1 h
-  closed-opened d (Post n c s k ∷ H) l h = closed-opened d H l.1 h
+  closed-opened d (_ ∷ H) l h = closed-opened d H l.1 h
 
   -- the DCB of what waits first, where nothing is due
   pub first-opened : (r : Piece) (H : List Entry) → due meaning mounted H ≡ Free → slice_get (waiting H) 0 ≡ Some r →
@@ -118,12 +104,7 @@ module _ {D : Type 0} (meaning : Meaning D) (mounted : D) where
             (fits-start meaning mounted m H (due meaning mounted H) l.0) own)
         | inr s ↦ ih (rw s at h)
       ]
-  started-opened n (Ran m j ∷ H) l h = started-opened n H l.1 h
-  started-opened n (Halted m ∷ H) l h = started-opened n H l.1 h
-  started-opened n (Purge s m ∷ H) l h = started-opened n H l.1 h
-  started-opened n (Close d ∷ H) l h = started-opened n H l.1 h
-  started-opened n (Reset d ∷ H) l h = started-opened n H l.1 h
-  started-opened n (Post m c s k ∷ H) l h = started-opened n H l.1 h
+  started-opened n (_ ∷ H) l h = started-opened n H l.1 h
 
   -- whose post has an error was of an opened DCB
   error-opened : (n : Name) (csw : Csw) (sense : ℕ) (code : Code) (H : List Entry) → Legal meaning mounted H →
@@ -146,12 +127,6 @@ module _ {D : Type 0} (meaning : Meaning D) (mounted : D) where
   unfolding Legal flag
   flag-opened d [] l h = absurd cc
   flag-opened d (Opened c i x ∷ H) l h = more d H (Opened c i x) (flag-opened d H l.1 h)
-  flag-opened d (Arrive r ∷ H) l h = flag-opened d H l.1 h
-  flag-opened d (Start n ∷ H) l h = flag-opened d H l.1 h
-  flag-opened d (Ran n j ∷ H) l h = flag-opened d H l.1 h
-  flag-opened d (Halted n ∷ H) l h = flag-opened d H l.1 h
-  flag-opened d (Purge s m ∷ H) l h = flag-opened d H l.1 h
-  flag-opened d (Close c ∷ H) l h = flag-opened d H l.1 h
   flag-opened d (Reset c ∷ H) l h =
       let ih : flag d H ≡ true → is_opened d H ≡ true = λ k. flag-opened d H l.1 k in
       elim (cases_Bool (eqb c d)) [ inl e ↦ let k = rw e at h in absurd cc | inr e ↦ ih (rw e at h) ]
@@ -164,6 +139,7 @@ module _ {D : Type 0} (meaning : Meaning D) (mounted : D) where
             subst (λ (x : ℕ). is_opened x H ≡ true) (eqb-true (request_named n H).dcb d a.1) (error-opened n c s k H l.1 l.0 b.0)
         | inr e ↦ ih (rw e at h)
       ]
+  flag-opened d (_ ∷ H) l h = flag-opened d H l.1 h
 
   not-so : (a b : Bool) → (a ≡ true → b ≡ true) → b ≡ false → a ≡ false
   not-so true b f h = no_both b (f refl) h
@@ -196,9 +172,8 @@ module _ {D : Type 0} (meaning : Meaning D) (mounted : D) where
 at-push : (table : List Dcb) (row : Dcb) (k : ℕ) → slice_get (table ++ row ∷ []) k ≡ slice_get table k
     ⊎ ((k ≡ length table) × (slice_get (table ++ row ∷ []) k ≡ Some row))
 at-push [] row zero = inr (refl, refl)
-at-push [] row (suc k) = inl refl
-at-push (r ∷ rs) row zero = inl refl
 at-push (r ∷ rs) row (suc k) = elim (at-push rs row k) [ inl e ↦ inl e | inr e ↦ inr (omega (arith, e.0), e.1) ]
+at-push _ row _ = inl refl
 
 module _ {D : Type 0} (meaning : Meaning D) (mounted : D) where
   pub ties-open : {d : ℕ} (input : Bool) {x : List Extent} {H : List Entry} {channel : Channel D} {o : Option Active} {waiters : List Piece}
@@ -279,11 +254,4 @@ module _ {D : Type 0} (meaning : Meaning D) (mounted : D) where
   unfolding Legal
   opened-most [] l = omega arith
   opened-most (Opened c i x ∷ H) l = let f = free-open meaning mounted c i x H (due meaning mounted H) l.0 in omega (arith, f.next, f.few)
-  opened-most (Arrive r ∷ H) l = opened-most H l.1
-  opened-most (Start n ∷ H) l = opened-most H l.1
-  opened-most (Ran n j ∷ H) l = opened-most H l.1
-  opened-most (Halted n ∷ H) l = opened-most H l.1
-  opened-most (Purge s m ∷ H) l = opened-most H l.1
-  opened-most (Close c ∷ H) l = opened-most H l.1
-  opened-most (Reset c ∷ H) l = opened-most H l.1
-  opened-most (Post n c s k ∷ H) l = opened-most H l.1
+  opened-most (_ ∷ H) l = opened-most H l.1

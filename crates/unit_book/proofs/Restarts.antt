@@ -1,7 +1,7 @@
 -- A further start of the active request: the fields stay those of the trace.
 use Rattle.unit_book.proofs.Names.{◌≡◌, ℕ, ◌+◌, ◌≤◌, Bool, true, false, ◌&&◌, ◌||◌, Some, List, ◌∷◌, refl, sym, ap, ◌∙◌, arith, subst}
-use Rattle.unit_book.proofs.Names.{if◌then◌else◌, and_parts, Csw, Ended, Meaning, Kind, Program, Channel, Phase, Absent, Idle, Running}
-use Rattle.unit_book.proofs.Names.{Pending, ssch_started, Retry, Final, verdict, PostedState, Name, Piece, Active, Standing, OnChannel}
+use Rattle.unit_book.proofs.Names.{if◌then◌else◌, and_parts, Csw, Ended, Meaning, Kind, Program, Channel, Phase, Idle, Running, Pending}
+use Rattle.unit_book.proofs.Names.{ssch_started, Retry, Final, verdict, PostedState, Name, Piece, Active, Standing, OnChannel}
 use Rattle.unit_book.proofs.Names.{AwaitsRestart, Dcb, Entry, Start, same, starts_of, active, request_named, extents_of, flag, mask_of}
 use Rattle.unit_book.proofs.Names.{current, device, Legal, due, Free, StartsAgain, posted, StandingTies, Ties, awaits_by, dcb_at, mask_at}
 use Rattle.std.proofs.lemmas.Bool.{leb-true}
@@ -42,7 +42,6 @@ module _ {D : Type 0} (meaning : Meaning D) (mounted : D) where
       (left : List PostedState) : Type 0 where
     pub ties : Ties meaning mounted H channel (Some a) waiters table left
     pub settled : due meaning mounted H ≡ Free
-    pub starts : StartsAgain meaning mounted a.piece.value.name H
     pub again : awaits_by a.standing ≡ true
 
   module _ {H : List Entry} {channel : Channel D} {a : Active} {waiters : List Piece} {table : List Dcb} {left : List PostedState}
@@ -55,16 +54,31 @@ module _ {D : Type 0} (meaning : Meaning D) (mounted : D) where
 
     is-idle : (phase : Phase) (standing : Standing) → StandingTies meaning mounted H phase a standing → awaits_by standing ≡ true →
         phase ≡ Idle
-    is-idle Absent standing d h = absurd d
     is-idle Idle standing d h = refl
     is-idle (Running place) OnChannel d h = absurd cc
-    is-idle (Running place) (AwaitsRestart csw sense) d h = absurd d
     is-idle (Pending csw sense) OnChannel d h = absurd cc
-    is-idle (Pending csw sense) (AwaitsRestart c k) d h = absurd d
+    is-idle _ _ d h = absurd d
+
+    -- it may be started again
+    pub may-restart : StartsAgain meaning mounted n H
+    may-restart = by_standing channel.phase a.standing t.activity.standing found.again where
+      by_standing : (phase : Phase) (standing : Standing) → StandingTies meaning mounted H phase a standing → awaits_by standing ≡ true →
+          StartsAgain meaning mounted n H
+      by_standing Idle (AwaitsRestart csw sense) d h = record {
+        active = t.activity.is;
+        csw = csw;
+        sense = sense;
+        ended = d.0;
+        retry = d.1;
+        free = d.2;
+      }
+      by_standing (Running place) OnChannel d h = absurd cc
+      by_standing (Pending csw sense) OnChannel d h = absurd cc
+      by_standing _ _ d h = absurd d
 
     -- it was started at most ten times
     pub few-starts : a.starts ≤ 10
-    few-starts = let e = t.activity.starts in let s = found.starts in rw e
+    few-starts = let e = t.activity.starts in let s = may-restart in rw e
         (retry-few (meaning.kind mounted) s.csw s.sense (starts_of n H) s.retry)
 
     -- its seek fits the device
@@ -102,7 +116,7 @@ module _ {D : Type 0} (meaning : Meaning D) (mounted : D) where
           phase = Running (start_place r.start);
         } in
         let whole : Ties meaning mounted G running (Some (restarted a)) waiters table left = record {
-          legal = (fits-free meaning mounted (Start n) H found.settled (Restart found.starts), t.legal);
+          legal = (fits-free meaning mounted (Start n) H found.settled (Restart may-restart), t.legal);
           queue = t.queue ∙ sym (waiting-start meaning mounted n H ∙ without-started meaning mounted n H f (active-is n H t.activity.is).0);
           placed = t.placed;
           device = device_is;
@@ -121,26 +135,3 @@ module _ {D : Type 0} (meaning : Meaning D) (mounted : D) where
         } in
         subst (λ x. Ties meaning mounted G (ssch_started meaning channel r.start r.seek mask x) (Some (restarted a)) waiters table left)
         (sym idle) whole
-
-  -- a request that awaits its restart may be started again
-  pub awaits-told : {H : List Entry} {channel : Channel D} {a : Active} {waiters : List Piece} {table : List Dcb}
-      {left : List PostedState} →
-      Ties meaning mounted H channel (Some a) waiters table left → awaits_by a.standing ≡ true →
-      StartsAgain meaning mounted a.piece.value.name H
-  awaits-told {H} {channel} {a} t again = by_standing channel.phase a.standing t.activity.standing again where
-    by_standing : (phase : Phase) (standing : Standing) → StandingTies meaning mounted H phase a standing → awaits_by standing ≡ true →
-        StartsAgain meaning mounted a.piece.value.name H
-    by_standing Absent standing d h = absurd d
-    by_standing Idle OnChannel d h = absurd d
-    by_standing Idle (AwaitsRestart csw sense) d h = record {
-      active = t.activity.is;
-      csw = csw;
-      sense = sense;
-      ended = d.0;
-      retry = d.1;
-      free = d.2;
-    }
-    by_standing (Running place) OnChannel d h = absurd cc
-    by_standing (Running place) (AwaitsRestart csw sense) d h = absurd d
-    by_standing (Pending csw sense) OnChannel d h = absurd cc
-    by_standing (Pending csw sense) (AwaitsRestart c k) d h = absurd d

@@ -17,8 +17,7 @@ use Rattle.unit_book.specs.Fields.{with_area}
 use Rattle.unit_book.proofs.Lists.{same-is, no_both}
 use Rattle.unit_book.proofs.Facts.{NewestIs}
 use Rattle.unit_book.proofs.LegalFacts.{facts, newest-ran}
-use Rattle.unit_book.proofs.Same.{fits-free}
-use Rattle.unit_book.proofs.Places.{placed-moved}
+use Rattle.unit_book.proofs.Same.{fits-free, placed-moved}
 use Rattle.unit_book.specs.Legal.{RanFits}
 
 -- what still runs has no status pending
@@ -42,9 +41,8 @@ pending-over false csw sense = refl
 
 module _ {D : Type 0} (meaning : Meaning D) (mounted : D) where
   runs-running : (b : Bool) (place : Place) (state : State) → active_phase_by b place state ≡ StillRunning → (b ≡ false) × (state ≡ Runs)
-  runs-running true place state h = absurd cc
   runs-running false place Runs h = (refl, refl)
-  runs-running false place (Ended csw sense) h = absurd cc
+  runs-running _ place _ h = absurd cc
 
   runs-by : (b : Bool) (place : Place) (state : State) → b ≡ false → still_runs (active_phase_by b place state) ≡ is_running state
   runs-by true place state h = absurd cc
@@ -116,8 +114,6 @@ module _ {D : Type 0} (meaning : Meaning D) (mounted : D) where
         RunsAs meaning channel a.piece.value.area u.max (running_program (Some (device meaning mounted H)) phase a.piece.value.area)
         (Some u.burst) u.new u.area →
         Goes standing
-    goes Absent standing d r = absurd r
-    goes Idle standing d r = absurd r
     goes (Running place) (AwaitsRestart csw sense) d r = absurd d
     goes (Running place) OnChannel d r =
         let same_device = device-current n H newest-is in
@@ -125,7 +121,7 @@ module _ {D : Type 0} (meaning : Meaning D) (mounted : D) where
         let p : program place (device meaning mounted H) a.piece.value.area
         ≡ current meaning mounted H = rw (d.0, same_device, same_area) refl in
         record { on_channel = refl; still = d.1; runs = rw p at r }
-    goes (Pending csw sense) standing d r = absurd r
+    goes _ standing d r = absurd r
 
     -- what the burst says of the trace
     pub record Told : Type 0 where

@@ -1,13 +1,16 @@
 -- What an entry that says nothing of the active request leaves as it is.
 use Rattle.unit_book.proofs.Names.{◌≡◌, ℕ, ◌+◌, ◌<◌, Bool, Option, Some, None, List, length, refl, sym, ap, ◌∙◌, arith, subst, Meaning}
-use Rattle.unit_book.proofs.Names.{Program, Channel, Phase, Absent, Idle, Running, Pending, PostedState, Name, Piece, Active, Standing}
-use Rattle.unit_book.proofs.Names.{OnChannel, AwaitsRestart, Dcb, Entry, waiting, active, request_named, starts_of, is_halted, is_covered}
-use Rattle.unit_book.proofs.Names.{attempts, newest, current, active_phase, active_phase_by, Fits, FitsBy, due, Free, ActivityTies}
-use Rattle.unit_book.proofs.Names.{StandingTies, Ties}
+use Rattle.unit_book.proofs.Names.{Program, Channel, Phase, Idle, Running, Pending, PostedState, Name, Piece, Active, Standing, OnChannel}
+use Rattle.unit_book.proofs.Names.{AwaitsRestart, Dcb, Entry, waiting, active, request_named, starts_of, is_halted, is_covered, attempts}
+use Rattle.unit_book.proofs.Names.{newest, current, active_phase, active_phase_by, Fits, FitsBy, due, Free, ActivityTies, StandingTies}
+use Rattle.unit_book.proofs.Names.{Ties, ◌++◌, [], slice_get, Buffer, Queue, queue, Ok, Err, OnErr, Storage, Placed}
 use Rattle.unit_book.specs.Media.{ActivePhase}
 use Rattle.unit_book.specs.Legal.{FitsFree}
 use Rattle.unit_book.specs.Book.{active_count}
-use Rattle.unit_book.specs.Fields.{active_field_count, ActiveTies}
+use Rattle.unit_book.specs.Fields.{active_field_count, ActiveTies, Rooms}
+use Rattle.std.proofs.Common.{Result}
+use Rattle.std.specs.Prelude.{option_map, box_value, Box}
+use Rattle.io_area.specs.Storage.{SamePlace, lies_in}
 
 module _ {D : Type 0} (meaning : Meaning D) (mounted : D) where
   -- the later trace says of this name what the earlier one does
@@ -30,17 +33,14 @@ module _ {D : Type 0} (meaning : Meaning D) (mounted : D) where
 
   standing-same : (H G : List Entry) (phase : Phase) (a : Active) (standing : Standing) → Silent H G a.piece.value.name →
       StandingTies meaning mounted H phase a standing → StandingTies meaning mounted G phase a standing
-  standing-same H G Absent a standing s t = t
-  standing-same H G Idle a OnChannel s t = t
   standing-same H G Idle a (AwaitsRestart csw sense) s t =
       (phase-same H G a.piece.value.name s.attempts s.halted ∙ t.0, rw s.starts t.1, s.covered ∙ t.2)
   standing-same H G (Running place) a OnChannel s t = (
     t.0 ∙ ap (λ (p : Program D). p.place) (sym (current-same H G s.attempts)),
     phase-same H G a.piece.value.name s.attempts s.halted ∙ t.1,
   )
-  standing-same H G (Running place) a (AwaitsRestart csw sense) s t = t
   standing-same H G (Pending csw sense) a OnChannel s t = phase-same H G a.piece.value.name s.attempts s.halted ∙ t
-  standing-same H G (Pending csw sense) a (AwaitsRestart c d) s t = t
+  standing-same H G _ a _ s t = t
 
   active-same : (H G : List Entry) (phase : Phase) (a : Active) → Silent H G a.piece.value.name →
       ActiveTies meaning mounted H phase a → ActiveTies meaning mounted G phase a
@@ -81,3 +81,51 @@ module _ {D : Type 0} (meaning : Meaning D) (mounted : D) where
   -- what fits freely fits where nothing is due
   pub fits-free : (e : Entry) (H : List Entry) → due meaning mounted H ≡ Free → FitsFree meaning mounted e H → Fits meaning mounted e H
   fits-free e H h f = subst (λ d. FitsBy meaning mounted d e H) (sym h) f
+
+-- What the fields of a book say once it is known what a place of them has.
+
+module _ {D : Type 0} {meaning : Meaning D} {mounted : D} {H : List Entry} {channel : Channel D} {waiters : List Piece} {table : List Dcb}
+    {left : List PostedState} where
+  -- the active place has this
+  pub ties-found : {busy found : Option Active} → busy ≡ found → Ties meaning mounted H channel busy waiters table left →
+      Ties meaning mounted H channel found waiters table left
+  ties-found o t = subst (λ (x : Option Active). Ties meaning mounted H channel x waiters table left) o t
+
+  -- the name that is active is that of the request in the active place
+  pub name-found : {a : Active} {n : Name} → active H ≡ Some n → Ties meaning mounted H channel (Some a) waiters table left →
+      n ≡ a.piece.value.name
+  name-found {a = a} {n = n} e t = let s : Some n ≡ Some a.piece.value.name = sym e ∙ t.activity.is in cc
+
+  -- what was taken from the front of the queue is the request that waits first
+  pub first-found : {Z : Type 0} {busy : Option Active} {popped : Option (Box Piece Z)} {b : Box Piece Z} {r : Piece} → popped ≡ Some b →
+      option_map box_value popped ≡ slice_get waiters 0 → Ties meaning mounted H channel busy waiters table left →
+      slice_get (waiting H) 0 ≡ Some r → b.value ≡ r
+  first-found {b = b} {r = r} is popped t first = let z : Some b.value ≡ Some r = sym (ap (option_map box_value) is) ∙ popped
+      ∙ ap (λ (x : List Piece). slice_get x 0) t.queue ∙ first in cc
+
+-- the active place has this
+pub rooms-found : {busy found : Option Active} {waiters swept : Queue} {outs : Buffer PostedState} → busy ≡ found →
+    Rooms busy waiters swept outs → Rooms found waiters swept outs
+rooms-found {waiters = waiters} {swept = swept} {outs = outs} o room = subst (λ (x : Option Active). Rooms x waiters swept outs) o room
+
+-- what a sweep took was put into a queue that was empty
+pub swept-found : {swept empty : Queue} {capacity : ℕ} {taken : List Piece} → swept ≡ queue (empty.pieces ++ taken) empty.capacity →
+    empty ≡ queue [] capacity → swept ≡ queue taken capacity
+swept-found {taken = taken} e o = e ∙ ap (λ (x : Queue). queue (x.pieces ++ taken) x.capacity) o
+
+-- what holds of every error
+pub on-err : {X E : Type 0} (r : Result X E) (P : Type 0) → P → OnErr r P
+on-err (Ok x) P p = tt
+on-err (Err e) P p = p
+
+-- Control blocks stay in storage that keeps its place.
+
+lies-moved : (old new : Storage) (at count : ℕ) → SamePlace old new → lies_in new at count ≡ lies_in old at count
+lies-moved old new at count s = rw (s.base, s.len) refl
+
+pub placed-moved : (p : Piece) (m : Storage) → Placed p → SamePlace p.area m → Placed (record p { area = m })
+placed-moved p m h s = record {
+  iob = rw (lies-moved p.area m p.iob 40 s) h.iob;
+  ecb = rw (lies-moved p.area m p.ecb 4 s) h.ecb;
+  program = rw (lies-moved p.area m p.start 8 s) h.program;
+}

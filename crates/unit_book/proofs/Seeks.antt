@@ -1,17 +1,17 @@
 -- The seek of a request that was started is one of the device.
 use Rattle.unit_book.proofs.Names.{◌≡◌, ℕ, zero, suc, ◌+◌, ◌<◌, ◌≤◌, Bool, true, false, not, ◌&&◌, Option, Some, None, List, [], ◌∷◌}
 use Rattle.unit_book.proofs.Names.{length, refl, ◌∙◌, arith, eqb, inl, inr, subst, cases_Bool, and_parts, and_from, or_parts, list_all}
-use Rattle.unit_book.proofs.Names.{slice_get, Extent, Meaning, Kind, Printer, Name, Piece, Entry, Opened, Arrive, Start, Ran, Halted, Purge}
-use Rattle.unit_book.proofs.Names.{Close, Reset, Post, passes_check, same, has_arrived, has_started, waiting, request_named, is_opened}
-use Rattle.unit_book.proofs.Names.{is_closed, is_open, extents_of, doomed, is_doomed, Attempt, attempts, stand, device, beginning, Due}
-use Rattle.unit_book.proofs.Names.{ToHalt, ToPost, Free, due, FitsBy, Legal, StartFits, First, Again}
+use Rattle.unit_book.proofs.Names.{slice_get, Extent, Meaning, Kind, Name, Piece, Entry, Opened, Arrive, Start, passes_check, same}
+use Rattle.unit_book.proofs.Names.{has_arrived, has_started, waiting, request_named, is_opened, is_closed, is_open, extents_of, doomed}
+use Rattle.unit_book.proofs.Names.{is_doomed, Attempt, attempts, stand, device, beginning, Due, ToHalt, ToPost, Free, due, FitsBy, Legal}
+use Rattle.unit_book.proofs.Names.{StartFits, First, Again}
 use Rattle.std.proofs.Common.{◌*◌}
 use Rattle.std.proofs.lemmas.Bool.{cases_lt, ltb-true, lt-ltb, leb-true}
 use Rattle.std.proofs.Math.Nat.{mul-le-mul_right, suc-mul}
 use Rattle.std.specs.Prelude.{nat_lt, nat_le}
 use Rattle.io_images.specs.declared.seek.Seek.{Seek}
 use Rattle.device_port.specs.Meaning.{Lawful, fits, fits_seek}
-use Rattle.device_port.specs.declared.kind.Kind.TheVariants.{Disk, Tape}
+use Rattle.device_port.specs.declared.kind.Kind.TheVariants.{Disk}
 use Rattle.ccw_programs.proofs.StepLaws.{device-stays}
 use Rattle.unit_book.specs.Extents.{track, last_track, is_extent, is_inside, counts_tracks, takes_extents, lies_within}
 use Rattle.unit_book.specs.Legal.{passes}
@@ -62,8 +62,7 @@ check-fits Disk cylinders heads extents seek t p =
     let c = within-fits cylinders heads seek extents (slice_get extents seek.extent) refl all b.1 a.1 in
     and_from ((eqb seek.bin 0) && nat_lt seek.cylinder cylinders) (nat_lt seek.head heads)
     (and_from (eqb seek.bin 0) (nat_lt seek.cylinder cylinders) b.0 c) b.1
-check-fits Tape cylinders heads extents seek t p = refl
-check-fits Printer cylinders heads extents seek t p = refl
+check-fits _ cylinders heads extents seek t p = refl
 
 module _ {D : Type 0} (meaning : Meaning D) (mounted : D) where
   abbrev pub SeekFits : Piece → Type 0
@@ -86,14 +85,7 @@ module _ {D : Type 0} (meaning : Meaning D) (mounted : D) where
         taken (ToHalt n) f = absurd cc
         taken (ToPost n) f = absurd cc
         taken Free f = f.taken
-  opened-takes d (Arrive r ∷ H) l h = opened-takes d H l.1 h
-  opened-takes d (Start n ∷ H) l h = opened-takes d H l.1 h
-  opened-takes d (Ran n j ∷ H) l h = opened-takes d H l.1 h
-  opened-takes d (Halted n ∷ H) l h = opened-takes d H l.1 h
-  opened-takes d (Purge s m ∷ H) l h = opened-takes d H l.1 h
-  opened-takes d (Close c ∷ H) l h = opened-takes d H l.1 h
-  opened-takes d (Reset c ∷ H) l h = opened-takes d H l.1 h
-  opened-takes d (Post n c s k ∷ H) l h = opened-takes d H l.1 h
+  opened-takes d (_ ∷ H) l h = opened-takes d H l.1 h
 
   not-false : (b : Bool) → not b ≡ false → b ≡ true
   not-false true h = refl
@@ -114,9 +106,8 @@ module _ {D : Type 0} (meaning : Meaning D) (mounted : D) where
       (opened-takes r.dcb H l o) p
 
   pub free-start : (n : Name) (H : List Entry) (d : Due) → FitsBy meaning mounted d (Start n) H → d ≡ Free
-  free-start n H (ToHalt m) h = absurd cc
-  free-start n H (ToPost m) h = absurd cc
   free-start n H Free h = refl
+  free-start n H _ h = absurd cc
 
   start-fits : (n : Name) (H : List Entry) → Legal meaning mounted H → due meaning mounted H ≡ Free → StartFits meaning mounted n H →
       (has_started n H ≡ true → SeekFits (request_named n H)) → SeekFits (request_named n H)
@@ -129,7 +120,6 @@ module _ {D : Type 0} (meaning : Meaning D) (mounted : D) where
   pub seeks : (H : List Entry) → Legal meaning mounted H → (n : Name) → has_started n H ≡ true → SeekFits (request_named n H)
   unfolding Legal request_named
   seeks [] l n h = absurd cc
-  seeks (Opened d i x ∷ H) l n h = seeks H l.1 n h
   seeks (Arrive r ∷ H) l n h =
       let f = facts meaning mounted H l.1 in
       let new = fresh meaning mounted r H f (fits-arrive meaning mounted r H (due meaning mounted H) l.0) in
@@ -147,12 +137,7 @@ module _ {D : Type 0} (meaning : Meaning D) (mounted : D) where
             own)
         | inr s ↦ ih (rw s at h)
       ]
-  seeks (Ran m j ∷ H) l n h = seeks H l.1 n h
-  seeks (Halted m ∷ H) l n h = seeks H l.1 n h
-  seeks (Purge s m ∷ H) l n h = seeks H l.1 n h
-  seeks (Close d ∷ H) l n h = seeks H l.1 n h
-  seeks (Reset d ∷ H) l n h = seeks H l.1 n h
-  seeks (Post m c s k ∷ H) l n h = seeks H l.1 n h
+  seeks (_ ∷ H) l n h = seeks H l.1 n h
 
   -- what no command and no prefix changes is as it was mounted
   kept-stand : {X : Type 0} (f : D → X) → ((d : D) (command : ℕ) (bytes : List ℕ) → f (meaning.act d command bytes).device ≡ f d) →

@@ -65,12 +65,11 @@ module _ {D : Type 0} (meaning : Meaning D) where
   served-none b = record { adds = adds-none b.trace; mounted = refl; isc = refl; capacity = refl }
 
   starts-served : (old new : Book D) (answer : Starting) → StartsBook meaning old answer new → IsServed old new
-  starts-served old new Busy h = let e = h.2 in rw e (served-none old)
-  starts-served old new Idle h = let e = h.2 in rw e (served-none old)
   starts-served old new (Started n) h =
       let e = h.1 in rw e (record { adds = adds-one (Start n) old.trace refl; mounted = refl; isc = refl; capacity = refl })
   starts-served old new (Violated n) h =
       let e = h.1 in rw e (record { adds = adds-post n no_status 0 ExtentViolated old.trace; mounted = refl; isc = refl; capacity = refl })
+  starts-served old new _ h = let e = h.2 in rw e (served-none old)
 
   runs-served : (old new : Book D) (max : ℕ) (answer : RunAnswer) → RunsBook meaning old max answer new → IsServed old new
   runs-served old new max NothingRuns h = let e = h.1 in rw e (served-none old)
@@ -135,9 +134,8 @@ first-fewer r (q ∷ qs) e =
 -- WHAT IS LEFT TO DO, entry by entry
 
 not-or_right : (a b : Bool) → not (a || b) ≡ true → b ≡ false
-not-or_right true b h = absurd cc
-not-or_right false true h = absurd cc
 not-or_right false false h = refl
+not-or_right _ _ h = absurd cc
 
 pub first-unposted : (r : Piece) (H : List Entry) → slice_get (waiting H) 0 ≡ Some r → is_posted r.name H ≡ false
 unfolding waiting
@@ -328,8 +326,7 @@ module _ {D : Type 0} (meaning : Meaning D) where
 
   interrupt-none : (ran new : Book D) (answer : Interruption) → active ran.trace ≡ None → InterruptsBook meaning ran answer new → new ≡ ran
   interrupt-none ran new NothingPending a h = h.1
-  interrupt-none ran new (TriedAgain n) a h = let k = rw a at h.0 in absurd cc
-  interrupt-none ran new (WasPosted n code) a h = let k = rw a at h.0 in absurd cc
+  interrupt-none ran new _ a h = let k = rw a at h.0 in absurd cc
 
   -- after the interruption the request was posted, or awaits its restart
   ends : (n : Name) (ran new : Book D) (answer : Interruption) (left : ℕ) → active ran.trace ≡ Some n → is_pending meaning ran ≡ true →

@@ -2,23 +2,26 @@
 use Rattle.unit_book.proofs.Names.{◌≡◌, ℕ, Bool, true, false, ◌||◌, Option, Some, None, List, [], ◌∷◌, length, refl, sym, ap, ◌∙◌, eqb, inl}
 use Rattle.unit_book.proofs.Names.{inr, subst, cases_Bool, and_parts, and_from, or_parts, or_left, or_right, filter, list_any, list_all}
 use Rattle.unit_book.proofs.Names.{slice_get, drop, Meaning, Program, after, Channel, Phase, Idle, Running, ssch_started, PostedState}
-use Rattle.unit_book.proofs.Names.{Placed, Name, Piece, Active, OnChannel, Dcb, Entry, Opened, Arrive, Start, Ran, Halted, Purge, Close}
-use Rattle.unit_book.proofs.Names.{Reset, Post, same, starts, has_started, waiting, active, request_named, passes_check, is_opened, extents_of}
-use Rattle.unit_book.proofs.Names.{flag, mask_of, Attempt, attempts, stand, newest, current, device, area, Legal, due, Free, First}
-use Rattle.unit_book.proofs.Names.{StartsFirst, posted, Each, ActivityTies, Ties, dcb_at, dcb_of, mask_at}
+use Rattle.unit_book.proofs.Names.{Placed, Name, Piece, Active, OnChannel, Dcb, Entry, Opened, Start, Ran, same, starts, has_started}
+use Rattle.unit_book.proofs.Names.{waiting, active, request_named, passes_check, is_opened, extents_of, flag, mask_of, Attempt, attempts}
+use Rattle.unit_book.proofs.Names.{stand, newest, current, device, area, Legal, due, Free, First, StartsFirst, posted, Each, ActivityTies}
+use Rattle.unit_book.proofs.Names.{Ties, dcb_at, dcb_of, mask_at, ◌&&◌, ◌++◌, append_assoc, Storage, is_error, Csw, Code, Post, Fits}
+use Rattle.unit_book.proofs.Names.{posted_value, noted}
 use Rattle.std.specs.Global.{Box}
+use Rattle.std.specs.Prelude.{option_map, box_value, MatchOption, IsSomeAnd}
 use Rattle.ccw_programs.specs.Place.{start_place}
 use Rattle.ccw_programs.specs.Step.{begun}
 use Rattle.subchannel.specs.Subchannel.{prefixed}
 use Rattle.unit_book.specs.Trace.{opens_for_input}
 use Rattle.unit_book.specs.Media.{lengthened}
 use Rattle.unit_book.specs.Legal.{passes}
-use Rattle.unit_book.specs.Fields.{extents_at}
+use Rattle.unit_book.specs.Fields.{extents_at, active_field_count}
 use Rattle.unit_book.proofs.Lists.{same-true, same-refl, same-is, no_both, without, without-first, Apart, first-rest}
-use Rattle.unit_book.proofs.Facts.{active-start, waiting-start, waiting-apart, fits-start, Each-at}
-use Rattle.unit_book.proofs.LegalFacts.{facts, first-waits}
-use Rattle.unit_book.proofs.Same.{fits-free}
+use Rattle.unit_book.proofs.Facts.{active-start, waiting-start, waiting-apart, fits-start, Each-at, waiting-post, active-post_waiting}
+use Rattle.unit_book.proofs.LegalFacts.{facts, first-waits, waits-at}
+use Rattle.unit_book.proofs.Same.{fits-free, activity-same}
 use Rattle.unit_book.proofs.TraceLaws.{start-unposted}
+use Rattle.unit_book.proofs.ActivePosts.{dcb-post}
 
 -- the name of the attempt was started
 abbrev named_within : List Entry → Attempt → Bool
@@ -50,27 +53,13 @@ no-starts n (e ∷ H) h = let p = or_parts (starts n e) (has_started n H) h in l
 pub no-input : (d : ℕ) (H : List Entry) → is_opened d H ≡ false → list_any (opens_for_input d) H ≡ false
 no-input d [] h = refl
 no-input d (Opened c i x ∷ H) h = let p = or_parts (eqb c d) (is_opened d H) h in let a = p.0 in rw a (no-input d H p.1)
-no-input d (Arrive r ∷ H) h = no-input d H h
-no-input d (Start n ∷ H) h = no-input d H h
-no-input d (Ran n j ∷ H) h = no-input d H h
-no-input d (Halted n ∷ H) h = no-input d H h
-no-input d (Purge s m ∷ H) h = no-input d H h
-no-input d (Close c ∷ H) h = no-input d H h
-no-input d (Reset c ∷ H) h = no-input d H h
-no-input d (Post n c s k ∷ H) h = no-input d H h
+no-input d (_ ∷ H) h = no-input d H h
 
 pub no-extents : (d : ℕ) (H : List Entry) → is_opened d H ≡ false → extents_of d H ≡ []
 unfolding extents_of
 no-extents d [] h = refl
 no-extents d (Opened c i x ∷ H) h = let p = or_parts (eqb c d) (is_opened d H) h in let a = p.0 in rw a (no-extents d H p.1)
-no-extents d (Arrive r ∷ H) h = no-extents d H h
-no-extents d (Start n ∷ H) h = no-extents d H h
-no-extents d (Ran n j ∷ H) h = no-extents d H h
-no-extents d (Halted n ∷ H) h = no-extents d H h
-no-extents d (Purge s m ∷ H) h = no-extents d H h
-no-extents d (Close c ∷ H) h = no-extents d H h
-no-extents d (Reset c ∷ H) h = no-extents d H h
-no-extents d (Post n c s k ∷ H) h = no-extents d H h
+no-extents d (_ ∷ H) h = no-extents d H h
 
 -- the table has the file mask of the trace
 pub mask-is : (d : ℕ) (H : List Entry) → mask_at (dcb_of d H) ≡ mask_of d H
@@ -85,8 +74,6 @@ module _ {D : Type 0} (meaning : Meaning D) (mounted : D) where
   pub named : (H : List Entry) → Legal meaning mounted H → list_all (named_within H) (attempts H) ≡ true
   unfolding Legal attempts request_named
   named [] l = refl
-  named (Opened d i x ∷ H) l = named H l.1
-  named (Arrive r ∷ H) l = named H l.1
   named (Start n ∷ H) l =
       let f = facts meaning mounted H l.1 in
       let u = start-unposted meaning mounted n H f (fits-start meaning mounted n H (due meaning mounted H) l.0) in
@@ -96,11 +83,7 @@ module _ {D : Type 0} (meaning : Meaning D) (mounted : D) where
       (or_left (same n (request_named n H).name) (has_started (request_named n H).name H) (same-is n (request_named n H).name (sym e)))
       (named-more H n (attempts H) (named H l.1))
   named (Ran n j ∷ H) l = lengthened-named H n j (attempts H) (named H l.1)
-  named (Halted n ∷ H) l = named H l.1
-  named (Purge s m ∷ H) l = named H l.1
-  named (Close d ∷ H) l = named H l.1
-  named (Reset d ∷ H) l = named H l.1
-  named (Post n c s k ∷ H) l = named H l.1
+  named (_ ∷ H) l = named H l.1
 
   as-issued_by : (r : Piece) (H : List Entry) → has_started r.name H ≡ false → (rest : List Attempt) →
       list_all (named_within H) rest ≡ true → (stand meaning mounted rest).area r ≡ r.area
@@ -214,3 +197,68 @@ module _ {D : Type 0} (meaning : Meaning D) (mounted : D) where
         } in
         subst (λ x. Ties meaning mounted G (ssch_started meaning channel r.start r.seek mask x) (Some (held_first b))
         (drop 1 waiters) table left) (sym idle) whole
+
+  -- the first of the queue is started, and what is taken from the queue is made active
+  pub ties-first : (popped : Option (Box Piece)) (made : Option Active) {r : Piece} {H : List Entry} {channel : Channel D}
+      {o : Option Active} {waiters : List Piece} {table : List Dcb} {left : List PostedState} {mask : ℕ} →
+      due meaning mounted H ≡ Free → StartsFirst meaning mounted r.name H → Ties meaning mounted H channel o waiters table left →
+      slice_get (waiting H) 0 ≡ Some r → mask ≡ mask_at (dcb_at table r.dcb) → option_map box_value popped ≡ Some r →
+      MatchOption popped (made ≡ None) (λ x. IsSomeAnd made (λ y. y ≡ held_first x)) →
+      Ties meaning mounted (Start r.name ∷ H) (ssch_started meaning channel r.start r.seek mask channel.phase) made (drop 1 waiters) table left
+      × (active_field_count made ≡ 1)
+  ties-first None made settled s t first mask_is popped_is made_is = absurd cc
+  ties-first (Some b) None settled s t first mask_is popped_is made_is = absurd made_is
+  ties-first (Some b) (Some a) {r = r} {H = H} {table = table} settled s t first mask_is popped_is made_is =
+      let e : r ≡ b.value = cc in
+      let k = ties-start b settled (subst (λ (x : Piece). StartsFirst meaning mounted x.name H) e s) t (first ∙ ap Some e)
+      (mask_is ∙ ap (λ (x : Piece). mask_at (dcb_at table x.dcb)) e) in
+      (rw (made_is, e) k, refl)
+
+-- The post of a request that waits first: the fields stay those of the trace.
+
+module _ {D : Type 0} (meaning : Meaning D) (mounted : D) where
+  module _ (r : Piece) (csw : Csw) (sense : ℕ) (code : Code) {H : List Entry} {channel : Channel D} {o : Option Active}
+      {waiters : List Piece} {table : List Dcb} {left : List PostedState}
+      (t : Ties meaning mounted H channel o waiters table left) where
+    -- what is handed out is the value that the trace says
+    pub waiting-value : (i : ℕ) → slice_get (waiting H) i ≡ Some r →
+        posted_value r csw sense code r.area ≡ posted_value (request_named r.name H) csw sense code
+        (area meaning mounted (request_named r.name H) H)
+    waiting-value i there =
+        let w = waits-at meaning mounted r i H (facts meaning mounted H t.legal) there in
+        let issued : area meaning mounted r H ≡ r.area = as-issued meaning mounted r H t.legal w.unstarted in
+        ap (λ (m : Storage). posted_value r csw sense code m) (sym issued)
+        ∙ ap (λ q. posted_value q csw sense code (area meaning mounted q H)) (sym w.known.0)
+
+    pub ties-first_post : {new : List Dcb} → Fits meaning mounted (Post r.name csw sense code) H → slice_get (waiting H) 0 ≡ Some r →
+        ((d : ℕ) → dcb_at new d ≡ noted (is_error code && r.related && eqb r.dcb d) (dcb_at table d)) → length new ≡ length table →
+        Ties meaning mounted (Post r.name csw sense code ∷ H) channel o (drop 1 waiters) new
+        (left ++ posted_value r csw sense code r.area ∷ [])
+    unfolding Legal attempts posted request_named
+    ties-first_post fits there dcbs count =
+        let f = facts meaning mounted H t.legal in
+        let n = r.name in
+        let w = waits-at meaning mounted r 0 H f there in
+        let a = active-post_waiting meaning mounted n csw sense code H w.unstarted in
+        let z = first-rest (waiting H) r there in
+        let apart = subst Apart z (waiting-apart meaning mounted H f) in
+        let v = posted_value r csw sense code r.area in
+        let related = ap (λ (q : Piece). q.related) w.known.0 in
+        let dcb = ap (λ (q : Piece). q.dcb) w.known.0 in
+        record {
+          legal = (fits, t.legal);
+          queue = ap (λ x. drop 1 x) t.queue
+              ∙ sym (waiting-post meaning mounted n csw sense code H ∙ ap (without n) z ∙ without-first r (drop 1 (waiting H)) apart);
+          placed = placed-rest meaning mounted waiters t.placed;
+          device = t.device;
+          activity = activity-same meaning mounted H (Post n csw sense code ∷ H) channel.phase o a
+              (λ m e. record { active = a; request = refl; starts = refl; attempts = refl; halted = refl; covered = refl }) t.activity;
+          count = count ∙ t.count;
+          dcbs = λ d. dcbs d ∙ ap (noted (is_error code && r.related && eqb r.dcb d)) (t.dcbs d)
+              ∙ dcb-post meaning mounted n csw sense code H r.related r.dcb d related dcb;
+          out = (
+            t.out.0,
+            sym (append_assoc t.out.0 left (v ∷ [])) ∙ ap (λ x. x ++ v ∷ []) t.out.1
+                ∙ ap (λ x. posted meaning mounted H ++ x ∷ []) (waiting-value 0 there),
+          );
+        }

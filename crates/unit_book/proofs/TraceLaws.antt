@@ -1,8 +1,8 @@
 -- Laws of legal traces.
 use Rattle.unit_book.proofs.Names.{◌≡◌, ℕ, ◌⊎◌, true, false, Some, List, [], ◌∷◌, ◌++◌, refl, sym, ap, ◌∙◌, inl, inr, subst, cases_Bool}
-use Rattle.unit_book.proofs.Names.{or_left, or_right, list_any, Csw, Meaning, Name, Piece, Code, Entry, Opened, Arrive, Start, Ran, Halted}
-use Rattle.unit_book.proofs.Names.{Purge, Close, Reset, Post, same, is_posted, active, has_arrived, Due, ToHalt, ToPost, Free, due, Fits}
-use Rattle.unit_book.proofs.Names.{FitsBy, Legal, StartFits, First, Again}
+use Rattle.unit_book.proofs.Names.{or_left, or_right, list_any, Csw, Meaning, Name, Piece, Code, Entry, Arrive, Start, Ran, Halted, Post}
+use Rattle.unit_book.proofs.Names.{same, is_posted, active, has_arrived, Due, ToHalt, ToPost, Free, due, Fits, FitsBy, Legal, StartFits}
+use Rattle.unit_book.proofs.Names.{First, Again}
 use Rattle.std.proofs.lemmas.Bool.{or_from}
 use Rattle.unit_book.specs.Laws.{is_of_name}
 use Rattle.unit_book.proofs.Lists.{same-true, same-refl, no_both}
@@ -35,7 +35,6 @@ module _ {D : Type 0} (meaning : Meaning D) (mounted : D) where
 
   -- an entry that fits is not of a posted name
   pub not-of : (n : Name) (e : Entry) (H : List Entry) → Facts H → is_posted n H ≡ true → Fits meaning mounted e H → is_of_name n e ≡ false
-  not-of n (Opened d i x) H f p h = refl
   not-of n (Arrive r) H f p h =
       let new = fresh meaning mounted r H f (fits-arrive meaning mounted r H (due meaning mounted H) h) in
       elim (cases_Bool (same r.name n)) [
@@ -45,10 +44,8 @@ module _ {D : Type 0} (meaning : Meaning D) (mounted : D) where
   not-of n (Start m) H f p h = unposted n m H p (start-unposted m H f (fits-start meaning mounted m H (due meaning mounted H) h))
   not-of n (Ran m j) H f p h = unposted n m H p (active-is m H (fits-ran meaning mounted m j H (due meaning mounted H) h).active).1
   not-of n (Halted m) H f p h = unposted n m H p (active-is m H (halted-active m H (due meaning mounted H) refl h)).1
-  not-of n (Purge s m) H f p h = refl
-  not-of n (Close d) H f p h = refl
-  not-of n (Reset d) H f p h = refl
   not-of n (Post m csw sense code) H f p h = unposted n m H p (whom-unposted m H (post-whom meaning mounted m csw sense code H f h))
+  not-of n _ H f p h = refl
 
   still-posted : (n : Name) (csw : Csw) (sense : ℕ) (code : Code) (later earlier : List Entry) →
       is_posted n (later ++ Post n csw sense code ∷ earlier) ≡ true

@@ -1,31 +1,29 @@
 -- What each call of a book keeps: a legal trace with nothing due, and that what is posted is out.
 use Rattle.unit_book.proofs.Names.{◌≡◌, ◌≤◌, ℕ, suc, ◌+◌, Bool, true, false, Option, Some, None, List, [], ◌∷◌, ◌++◌, refl, sym, ap, ◌∙◌}
 use Rattle.unit_book.proofs.Names.{arith, inl, inr, subst, cases_Bool, append-nil, ExtentViolated, Purged, Extent, Meaning, Place, State}
-use Rattle.unit_book.proofs.Names.{length_of, is_running, no_status, PostedState, Name, Piece, Scope, Starting, Busy, Started, Violated}
+use Rattle.unit_book.proofs.Names.{length_of, is_running, no_status, PostedState, Name, Piece, Scope, Starting, Started, Violated}
 use Rattle.unit_book.proofs.Names.{NothingRuns, RanSome, Interruption, NothingPending, TriedAgain, WasPosted, Mode, Entry, Opened, Arrive}
 use Rattle.unit_book.proofs.Names.{Start, Ran, Close, Reset, Post, arrivals, arrived_of, active, is_open, StillRunning, still_runs}
 use Rattle.unit_book.proofs.Names.{active_phase, active_phase_by, current, Free, due, Legal, StartFits, First, Again, OfActive, OfFirst}
 use Rattle.unit_book.proofs.Names.{CanPurge, posted, after_dooms, Book, running_name_by, Adds, Extends, MayStart, MayFirst, MayAgain}
 use Rattle.unit_book.proofs.Names.{StartsBook, RunsBook, InterruptsBook, PurgesBy, covers_awaiting, after_purge}
-use Rattle.ccw_programs.specs.declared.context.State.TheVariants.{Running as Runs, Ended}
+use Rattle.ccw_programs.specs.declared.context.State.TheVariants.{Running as Runs}
 use Rattle.ccw_programs.proofs.StepLaws.{steps_within-running}
-use Rattle.unit_book.specs.declared.answer.Starting.TheVariants.{Idle}
 use Rattle.unit_book.specs.declared.answer.Running.{Running}
 use Rattle.unit_book.specs.declared.answer.Purging.{Purging}
 use Rattle.unit_book.specs.declared.answer.Closing.{Closing}
 use Rattle.unit_book.specs.Legal.{RanFits}
 use Rattle.unit_book.specs.Answers.{OpensBook, RunsOn}
 use Rattle.unit_book.specs.Controls.{PurgesBook, ClosesBy, ClosesBook}
-use Rattle.unit_book.proofs.Purges.{since-is}
+use Rattle.unit_book.proofs.Dooms.{since-is}
 use Rattle.unit_book.proofs.WorldTraces.{Grows, grows-not, grows-open, grows-arrive, grows-start, grows-ran, grows-post, grows-close}
 use Rattle.unit_book.proofs.WorldTraces.{grows-reset, grows-purge, grows-purged}
 
 -- one command is left at least, where a program runs
 runs-running : (b : Bool) (place : Place) (state : State) → still_runs (active_phase_by b place state) ≡ true →
     (active_phase_by b place state ≡ StillRunning) × (is_running state ≡ true)
-runs-running true place state h = absurd cc
 runs-running false place Runs h = (refl, refl)
-runs-running false place (Ended csw sense) h = absurd cc
+runs-running _ place _ h = absurd cc
 
 module _ {D : Type 0} (meaning : Meaning D) where
   -- A CALL KEEPS A BOOK: the trace stays legal and nothing is due; these requests arrived; what was posted is out
@@ -102,14 +100,13 @@ module _ {D : Type 0} (meaning : Meaning D) where
 
   pub keeps-start : (old new : Book D) (answer : Starting) → Sound old → StartsBook meaning old answer new → Keeps old [] new
   unfolding posted
-  keeps-start old new Busy s h = keeps-same old new s h.2
-  keeps-start old new Idle s h = keeps-same old new s h.2
   keeps-start old new (Started n) s h =
       keeps-adds old new (Start n ∷ old.trace) false h.1 (grows-start meaning old.mounted n old.trace s.0 s.1 (start-fits old n h.0)) refl
   keeps-start old new (Violated n) s h =
       let f = OfFirst (record { fails = h.0; code_is = refl; csw_is = refl; sense_is = refl }) in
       keeps-posts old new (after_dooms (Post n no_status 0 ExtentViolated ∷ old.trace)) false [] h.1
       (grows-post meaning old.mounted n no_status 0 ExtentViolated old.trace s.0 s.1 f)
+  keeps-start old new _ s h = keeps-same old new s h.2
 
   -- a program that is to run is that of the active request, and goes
   pub running-is : (mounted : D) (H : List Entry) (n : Name) → running_name_by meaning mounted H (active H) ≡ Some n →

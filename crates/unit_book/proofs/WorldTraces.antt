@@ -10,8 +10,7 @@ use Rattle.unit_book.proofs.Lists.{without}
 use Rattle.unit_book.proofs.Same.{fits-free}
 use Rattle.unit_book.proofs.Counting.{arrivals-after_dooms}
 use Rattle.unit_book.proofs.Dooms.{doomed-purged, due-doomed, due-no_halt, dooms-settle, settled-new, settled-open, settled-ran}
-use Rattle.unit_book.proofs.Dooms.{settled-start, halted-first}
-use Rattle.unit_book.proofs.Purges.{posted-more}
+use Rattle.unit_book.proofs.Dooms.{settled-start, halted-first, posted-more}
 use Rattle.unit_book.proofs.Controls.{settled-reset}
 use Rattle.unit_book.proofs.Facts.{DueIs, Halts, Dooms, due-is}
 
@@ -154,11 +153,4 @@ module _ {D : Type 0} (meaning : Meaning D) (mounted : D) where
   unfolding arrivals posted
   opened-only [] h = (refl, refl, settled-new meaning mounted)
   opened-only (Opened d i x ∷ H) h = let ih = opened-only H h in (ih.0, ih.1, settled-open meaning mounted d i x H ih.2)
-  opened-only (Arrive r ∷ H) h = absurd cc
-  opened-only (Start n ∷ H) h = absurd cc
-  opened-only (Ran n j ∷ H) h = absurd cc
-  opened-only (Halted n ∷ H) h = absurd cc
-  opened-only (Purge s m ∷ H) h = absurd cc
-  opened-only (Close d ∷ H) h = absurd cc
-  opened-only (Reset d ∷ H) h = absurd cc
-  opened-only (Post n csw sense code ∷ H) h = absurd cc
+  opened-only (_ ∷ H) h = absurd cc

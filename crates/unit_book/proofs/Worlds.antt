@@ -1,7 +1,7 @@
 -- The laws of worlds: in a finished one each request that was sent has one post.
 use Rattle.unit_book.proofs.Names.{◌≡◌, ◌≤◌, ℕ, ◌+◌, ◌==◌, Bool, true, false, None, List, [], ◌∷◌, ◌++◌, refl, sym, ap, ◌∙◌, arith, inl}
-use Rattle.unit_book.proofs.Names.{inr, subst, cases_Bool, append-nil, Meaning, Name, Piece, Entry, Opened, Arrive, Start, Ran, Halted}
-use Rattle.unit_book.proofs.Names.{Purge, Close, Reset, Post, same, arrivals, has_arrived, is_posted, waiting, active, Legal, Each}
+use Rattle.unit_book.proofs.Names.{inr, subst, cases_Bool, append-nil, Meaning, Name, Piece, Entry, Post, same, arrivals, has_arrived}
+use Rattle.unit_book.proofs.Names.{is_posted, waiting, active, Legal, Each}
 use Rattle.unit_book.specs.Laws.{times}
 use Rattle.unit_book.specs.World.{World, IsOpening, IsFinished, Reaches, requests_of}
 use Rattle.unit_book.specs.WorldLaws.{FinishedOnce, posts_of, KeepsRequests, WorldLaws}
@@ -21,14 +21,6 @@ module _ {D : Type 0} (meaning : Meaning D) where
     posts-once : (n : Name) (H : List Entry) → Legal meaning mounted H → posts_of n H ≡ times (is_posted n H)
     unfolding Legal
     posts-once n [] l = refl
-    posts-once n (Opened d i x ∷ H) l = posts-once n H l.1
-    posts-once n (Arrive r ∷ H) l = posts-once n H l.1
-    posts-once n (Start m ∷ H) l = posts-once n H l.1
-    posts-once n (Ran m j ∷ H) l = posts-once n H l.1
-    posts-once n (Halted m ∷ H) l = posts-once n H l.1
-    posts-once n (Purge s m ∷ H) l = posts-once n H l.1
-    posts-once n (Close d ∷ H) l = posts-once n H l.1
-    posts-once n (Reset d ∷ H) l = posts-once n H l.1
     posts-once n (Post m csw sense code ∷ H) l =
         let ih = posts-once n H l.1 in
         elim (cases_Bool (same m n)) [
@@ -38,6 +30,7 @@ module _ {D : Type 0} (meaning : Meaning D) where
           ]
           | inr s ↦ rw s ih
         ]
+    posts-once n (_ ∷ H) l = posts-once n H l.1
 
     -- what arrived and neither waits nor is active was posted
     arrived-posted : (n : Name) (H : List Entry) → Legal meaning mounted H → waiting H ≡ [] → active H ≡ None → has_arrived n H ≡ true →

@@ -21,8 +21,8 @@ use Rattle.unit_book.specs.declared.answer.Interruption.{Interruption}
 use Rattle.unit_book.specs.declared.answer.Interruption.TheVariants as interrupting
 use Rattle.unit_book.specs.declared.decision.Taken.{Taken}
 use Rattle.unit_book.specs.declared.decision.Taken.TheVariants as taking
-use Rattle.unit_book.specs.declared.decision.Next.{Next}
-use Rattle.unit_book.specs.declared.decision.Next.TheVariants.{Busy, Idle, First, Violated, Again}
+use Rattle.unit_book.specs.declared.decision.Begun.{Begun}
+use Rattle.unit_book.specs.declared.decision.Begun.TheVariants as beginning
 use Rattle.unit_book.specs.declared.entry.Entry.{Entry}
 use Rattle.unit_book.specs.declared.entry.Entry.TheVariants.{Opened, Start, Ran, Post}
 use Rattle.unit_book.specs.Trace.{active, waiting, request_named}
@@ -34,6 +34,15 @@ use Rattle.unit_book.specs.Dooms.{after_dooms}
 use Rattle.unit_book.specs.Selected.{DoomedBy}
 use Rattle.unit_book.specs.Posts.{posted_value, posted_since}
 use Rattle.unit_book.specs.Book.{Book, occupancy, running_name, is_pending}
+
+-- what a start comes to: a program runs or its status is pending; nothing is active and nothing waits; the request that
+-- waits first passes the extent check, or fails it; the active request awaits its restart
+pub data Next : Type 0 where
+  Busy : Next
+  Idle : Next
+  First : Name → Next
+  Violated : Name → Next
+  Again : Name → Next
 
 -- when a request is not taken, the first reason in this order
 abbrev pub ArriveRefused : {D : Type 0} → Book D → ArriveError → Type 0
@@ -115,6 +124,20 @@ module _ {D : Type 0} (meaning : Meaning D) where
   pub data MayStart (old : Book D) (n : Name) : Type 0 where
     MayFirst : StartsFirst meaning old.mounted n old.trace → MayStart old n
     MayAgain : old.awaits ≡ true → StartsAgain meaning old.mounted n old.trace → MayStart old n
+
+  -- the request that waited first was posted, with room for the posts that this dooms
+  pub record PostsViolated (old : Book D) (n : Name) (doom : Option Selection) (new : Book D) : Type 0 where
+    pub fits : FailsCheck meaning old.mounted n old.trace
+    pub extends : ExtendsByPost old n no_status 0 ExtentViolated new
+    pub room : length (doomed new.trace) ≤ new.spare
+    pub dooms : DoomedBy doom new.trace
+
+  -- a start, before what its post dooms is posted
+  abbrev pub IsBegun : Book D → Begun → Book D → Type 0
+  IsBegun old beginning.Busy new = IsSome (active old.trace) × (old.awaits ≡ false) × (new ≡ old)
+  IsBegun old beginning.Idle new = (active old.trace ≡ None) × (waiting old.trace ≡ []) × (new ≡ old)
+  IsBegun old (beginning.Started n) new = MayStart old n × StartsOne old n new
+  IsBegun old (beginning.Violated n doom) new = PostsViolated old n doom new
 
   abbrev pub StartsBook : Book D → Starting → Book D → Type 0
   StartsBook old starting.Busy new = IsSome (active old.trace) × (old.awaits ≡ false) × (new ≡ old)

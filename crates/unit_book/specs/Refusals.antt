@@ -5,13 +5,11 @@ use Rattle.io_images.specs.declared.csw.Csw.{Csw}
 use Rattle.io_images.specs.declared.code.Code.{Code}
 use Rattle.device_port.specs.Meaning.{Meaning}
 use Rattle.request_piece.specs.declared.piece.Name.{Name}
-use Rattle.unit_book.specs.declared.decision.Next.{Next}
-use Rattle.unit_book.specs.declared.decision.Next.TheVariants.{Busy, Idle, First, Violated, Again}
 use Rattle.unit_book.specs.Trace.{waiting}
 use Rattle.unit_book.specs.Dcbs.{is_open}
 use Rattle.unit_book.specs.Legal.{PostsActive}
 use Rattle.unit_book.specs.Book.{Book, running_name}
-use Rattle.unit_book.specs.Answers.{IsNext}
+use Rattle.unit_book.specs.Answers.{Next, Busy, Idle, First, Violated, Again, IsNext}
 
 -- the entries that have to have room for a start
 abbrev pub entries_of_start : {D : Type 0} → Book D → Next → ℕ

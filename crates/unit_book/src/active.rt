@@ -1,9 +1,11 @@
 //! The active request.
 
-ghost use Rattle.std.specs.Prelude.{◌≡◌, ◌+◌, ◌<◌, ◌≤◌, false, true};
+ghost use Rattle.std.specs.Prelude.{◌≡◌, ◌+◌, ◌<◌, ◌≤◌, ◌&&◌, false, true};
 ghost use Rattle.io_area.specs.Storage.{SamePlace};
+ghost use Rattle.request_piece.specs.Scope.{covers};
 ghost use Rattle.subchannel.specs.Subchannel.{RunsAs, running_program};
 ghost use Rattle.unit_book.specs.Fields.{after_cover, awaits_by, kept_by, pending_code, started_again, with_area};
+ghost use Rattle.unit_book.specs.Trace.{is_halt};
 
 use crate::entry::Mode;
 use ccw_programs::Burst;
@@ -86,6 +88,13 @@ impl Active {
             Standing::OnChannel => false,
             Standing::AwaitsRestart(_, _) => true,
         }
+    }
+
+    /// Whether the request awaits its restart, and a purge with Halt covers it.
+    pub fn is_covered_awaiting(&self, scope: Scope, mode: Mode) -> bool
+        ensures { result ≡ (is_halt mode && awaits_by self.now.standing && covers scope self.now.piece.value) }
+    {
+        mode == Mode::Halt && self.awaits() && scope.covers_piece(&self.piece)
     }
 
     /// The status of the last attempt of a request that awaits its restart.

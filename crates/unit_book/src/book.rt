@@ -14,7 +14,7 @@ ghost use Rattle.unit_book.specs.Refusals.{InterruptLacks, RunLacks, StartLacks}
 ghost use Rattle.unit_book.specs.Trace.{active, arrived_of, waiting};
 
 use crate::answer::{ArriveError, Interruption, OpenError, Running, Starting};
-use crate::decision::{Next, Taken};
+use crate::decision::{Begun, Taken};
 use crate::entries::Entries;
 use crate::entry::Entry;
 use device_port::Device;
@@ -147,22 +147,11 @@ impl<D: Device> UnitBook<D> {
         ensures full { OnErr result (StartLacks D.meaning self.old) }
         ensures pending { is_pending D.meaning self.new ≡ is_pending D.meaning self.old }
     {
-        match self.entries.next_start() {
-            Next::Busy => Ok(Starting::Busy),
-            Next::Idle => Ok(Starting::Idle),
-            Next::First(name) => {
-                self.entries.reserve(1)?;
-                self.entries.start_first(name);
-                Ok(Starting::Started(name))
-            }
-            Next::Again(name) => {
-                self.entries.reserve(1)?;
-                self.entries.start_again(name);
-                Ok(Starting::Started(name))
-            }
-            Next::Violated(name) => {
-                self.entries.reserve_posts(1)?;
-                let doom = self.entries.post_violated(name);
+        match self.entries.start()? {
+            Begun::Busy => Ok(Starting::Busy),
+            Begun::Idle => Ok(Starting::Idle),
+            Begun::Started(name) => Ok(Starting::Started(name)),
+            Begun::Violated { name, doom } => {
                 self.entries.sweep(doom);
                 Ok(Starting::Violated(name))
             }

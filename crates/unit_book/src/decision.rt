@@ -4,19 +4,18 @@ use io_images::Code;
 use request_piece::Name;
 use unit_queue::Selection;
 
-/// What a start comes to.
+/// What became of a start.
 #[derive(Clone, Copy, PartialEq, Eq, Debug)]
-pub(crate) enum Next {
+pub(crate) enum Begun {
     /// A program runs, or its status is pending.
     Busy,
     /// Nothing is active, and nothing waits.
     Idle,
-    /// The request that waits first passes the extent check.
-    First(Name),
-    /// The request that waits first fails the extent check.
-    Violated(Name),
-    /// The active request awaits its restart.
-    Again(Name),
+    /// The program of this request was started.
+    Started(Name),
+    /// This request failed the extent check and was posted, which dooms those of the waiting requests that the
+    /// selection has.
+    Violated { name: Name, doom: Option<Selection> },
 }
 
 /// What became of the active request when its status was taken.

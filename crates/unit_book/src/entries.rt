@@ -63,9 +63,7 @@ fn write(trace: &mut Vec<Entry>, entry: Entry)
     ensures items { reverse trace.new.items ≡ entry ∷ reverse trace.old.items }
     ensures spare { vec_capacity trace.old - vec_len trace.old ≤ vec_capacity trace.new - vec_len trace.new + 1 }
 {
-    if trace.push(entry).is_err() {
-        unreachable!();
-    }
+    trace.push_reserved(entry);
 }
 
 /// Adds a posted value where there is room.

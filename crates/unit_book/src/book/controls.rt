@@ -88,8 +88,7 @@ impl<D: Device> UnitBook<D> {
         requires can { CanPurge D.meaning self.old.mounted scope self.old.trace }
         ensures { PurgesBy D.meaning (covers_awaiting self.old scope mode) self.old scope mode self.new }
     {
-        if self.entries.covers_awaiting(scope, mode) {
-            self.entries.purge_awaiting(scope, mode);
+        if self.entries.purge_awaiting(scope, mode) {
             return;
         }
         self.entries.purge(scope, mode);

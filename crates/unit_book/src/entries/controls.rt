@@ -27,23 +27,6 @@ impl<D: Device> Entries<D> {
         }
     }
 
-    /// Whether the active request awaits its restart.
-    pub fn awaits(&self) -> bool
-        ensures { result ≡ self.now.awaits }
-    {
-        match &self.active {
-            Some(active) => active.awaits(),
-            None => false,
-        }
-    }
-
-    /// Whether a purge covers the active request, and this awaits its restart.
-    pub fn covers_awaiting(&self, scope: Scope, mode: Mode) -> bool
-        ensures { result ≡ covers_awaiting self.now scope mode }
-    {
-        mode == Mode::Halt && self.awaits() && self.active_of(scope).is_some()
-    }
-
     /// Whom a purge halts.
     fn to_halt(&self, scope: Scope, mode: Mode) -> Option<Name>
         ensures { PurgeHalts D.meaning self.now.mounted scope mode self.now.trace result }
@@ -64,36 +47,6 @@ impl<D: Device> Entries<D> {
         self.active_of(scope)
     }
 
-    /// Adds a purge.
-    fn mark_purge(&mut self, scope: Scope, mode: Mode)
-        requires spare { 1 ≤ self.old.spare }
-        requires settled { Settled D.meaning self.old.mounted self.old.trace }
-        requires can { CanPurge D.meaning self.old.mounted scope self.old.trace }
-        requires uncovered { covers_awaiting self.old scope mode ≡ false }
-        ensures book { Adds self.old (Entry.Purge scope mode) self.new }
-        ensures spare { self.old.spare ≤ self.new.spare + 1 }
-    {
-        write(&mut self.trace, Entry::Purge(scope, mode));
-        if let Some(active) = self.active.take() {
-            self.active = Some(active.purged(scope, mode));
-        }
-    }
-
-    /// Halts the program of the active request.
-    fn halt(&mut self, name: Name)
-        requires spare { 1 ≤ self.old.spare }
-        requires due { due D.meaning self.old.mounted self.old.trace ≡ ToHalt name }
-        ensures book { Adds self.old (Entry.Halted name) self.new }
-        ensures spare { self.old.spare ≤ self.new.spare + 1 }
-    {
-        let Some(active) = self.active.take() else {
-            unreachable!();
-        };
-        self.channel.hsch();
-        write(&mut self.trace, Entry::Halted(name));
-        self.active = Some(active.once_halted());
-    }
-
     /// Adds a purge that covers nothing that awaits its restart, and the halt that it asks for.
     pub fn purge(&mut self, scope: Scope, mode: Mode)
         requires spare { 2 ≤ self.old.spare }
@@ -107,25 +60,38 @@ impl<D: Device> Entries<D> {
         ensures few { length (doomed self.new.trace) ≤ length (waiting self.old.trace) }
     {
         let halted = self.to_halt(scope, mode);
-        self.mark_purge(scope, mode);
-        if let Some(name) = halted {
-            self.halt(name);
-        }
+        write(&mut self.trace, Entry::Purge(scope, mode));
+        let Some(active) = self.active.take() else {
+            return;
+        };
+        let active = active.purged(scope, mode);
+        let Some(name) = halted else {
+            self.active = Some(active);
+            return;
+        };
+        self.channel.hsch();
+        write(&mut self.trace, Entry::Halted(name));
+        self.active = Some(active.once_halted());
     }
 
-    /// A purge with Halt that covers the active request, which awaits its restart: what waits is posted as
-    /// purged first, then this.
-    pub fn purge_awaiting(&mut self, scope: Scope, mode: Mode)
+    /// A purge of the active request if it covers this and this awaits its restart: what waits is posted as purged
+    /// first, then this. Returns whether it is so; if not, nothing changes.
+    pub fn purge_awaiting(&mut self, scope: Scope, mode: Mode) -> bool
         requires spare { length (waiting self.old.trace) + 2 ≤ self.old.spare }
         requires settled { Settled D.meaning self.old.mounted self.old.trace }
         requires can { CanPurge D.meaning self.old.mounted scope self.old.trace }
-        requires covered { covers_awaiting self.old scope mode ≡ true }
-        ensures book { PurgesAwaiting D.meaning self.old scope mode self.new }
+        ensures covered { result ≡ covers_awaiting self.old scope mode }
+        ensures book { result ≡ true → PurgesAwaiting D.meaning self.old scope mode self.new }
         ensures settled { Settled D.meaning self.new.mounted self.new.trace }
+        ensures uncovered { result ≡ false → self.new ≡ self.old }
     {
         let Some(active) = self.active.take() else {
-            unreachable!();
+            return false;
         };
+        if !active.is_covered_awaiting(scope, mode) {
+            self.active = Some(active);
+            return false;
+        }
         write(&mut self.trace, Entry::Purge(scope, mode));
         self.waiting
             .sweep(&Selection::Scope(scope), &mut self.swept);
@@ -136,6 +102,7 @@ impl<D: Device> Entries<D> {
         let shown = csw;
         write(&mut self.trace, Entry::Post(name, shown, sense, code));
         hand_out(&mut self.out, posted_from(active.piece, csw, sense, code));
+        true
     }
 
     /// Closes a DCB.

@@ -7,15 +7,15 @@ ghost use Rattle.unit_book.specs.Lists.{Each};
 ghost use Rattle.io_images.specs.Images.{no_status};
 ghost use Rattle.unit_book.specs.Book.{occupancy, given, is_pending, IsLastGiven};
 ghost use Rattle.unit_book.specs.Legal.{Fits, Settled, due, doomed_first, FailsCheck};
-ghost use Rattle.unit_book.specs.Refusals.{InterruptLacks};
+ghost use Rattle.unit_book.specs.Refusals.{InterruptLacks, StartLacks};
 ghost use Rattle.unit_book.specs.Selected.{DoomedBy};
 ghost use Rattle.unit_book.specs.Dcbs.{doomed, is_refused};
 ghost use Rattle.unit_book.specs.Dooms.{all_posted, after_dooms, purged};
 ghost use Rattle.unit_book.specs.Posts.{posted_value};
 ghost use Rattle.unit_queue.specs.Queue.{queue};
-ghost use Rattle.unit_book.specs.Answers.{ExtendsByPost, Extends, Takes};
+ghost use Rattle.unit_book.specs.Answers.{IsBegun, Extends, Takes};
 
-use crate::decision::Taken;
+use crate::decision::{Begun, Taken};
 use crate::doom::doomed_by_post;
 use crate::entries::{Entries, hand_back, hand_out, write};
 use crate::entry::Entry;
@@ -122,24 +122,26 @@ impl<D: Device> Entries<D> {
         Ok(Taken::Posted { name, code, doom })
     }
 
-    /// Posts the request that waits first and fails the extent check.
-    pub fn post_violated(&mut self, name: Name) -> Option<Selection>
-        requires spare { 1 ≤ self.old.spare }
+    /// Posts the request that waits first, which fails the extent check.
+    pub(super) fn post_violated(&mut self) -> Result<Begun, AllocError>
+        requires first { (name : Name) × FailsCheck D.meaning self.old.mounted name self.old.trace }
         requires settled { Settled D.meaning self.old.mounted self.old.trace }
-        requires fits { FailsCheck D.meaning self.old.mounted name self.old.trace }
-        ensures book { ExtendsByPost D.meaning self.old name no_status 0 Code.ExtentViolated self.new }
-        ensures spare { self.old.spare ≤ self.new.spare + 1 }
-        ensures dooms { DoomedBy result self.new.trace }
+        ensures ok { IfOk result (λ begun. IsBegun D.meaning self.old begun self.new) }
+        ensures err { OnErr result (self.new ≡ self.old) }
+        ensures full { OnErr result (StartLacks D.meaning self.old) }
     {
-        let code = Code::ExtentViolated;
+        let _capacity = self.out.capacity();
+        self.trace.reserve(self.waiting.len() + 1)?;
         let Some(piece) = self.waiting.pop() else {
             unreachable!();
         };
+        let code = Code::ExtentViolated;
+        let name = piece.name;
         write(&mut self.trace, Entry::Post(name, Csw::empty(), 0, code));
         let doom = doomed_by_post(&piece, code);
         self.dcbs.note_post(&piece, code);
         hand_out(&mut self.out, posted_from(piece, Csw::empty(), 0, code));
-        doom
+        Ok(Begun::Violated { name, doom })
     }
 
     /// A request arrives that is doomed: it is posted as purged at once.

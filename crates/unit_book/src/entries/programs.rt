@@ -1,21 +1,23 @@
 //! Starts of requests, and the commands of their programs.
 
-ghost use Rattle.std.specs.Prelude.{◌≡◌, ◌≤◌, ◌+◌, true, false, not, None};
+ghost use Rattle.std.specs.Prelude.{◌≡◌, ◌≤◌, true, false, not, None, IfOk, OnErr};
 ghost use Rattle.ccw_programs.specs.Step.{is_running};
 ghost use Rattle.subchannel.specs.Subchannel.{TakesSeek, after_ssch};
-ghost use Rattle.unit_book.specs.Legal.{Settled, StartsFirst, StartsAgain};
-ghost use Rattle.unit_book.specs.Answers.{IsNext, RunsBook, StartsOne};
+ghost use Rattle.unit_book.specs.Legal.{Settled};
+ghost use Rattle.unit_book.specs.Refusals.{StartLacks};
+ghost use Rattle.unit_book.specs.Answers.{IsBegun, RunsBook};
 ghost use Rattle.unit_book.specs.Trace.{active};
 
-use crate::active::{Active, Standing};
+use crate::active::Active;
 use crate::answer::Running;
-use crate::decision::Next;
+use crate::decision::Begun;
 use crate::entries::{Entries, write};
 use crate::entry::Entry;
 use crate::extents::passes_check;
 use ccw_programs::State;
 use device_port::Device;
 use request_piece::{Name, Piece};
+use std::alloc::AllocError;
 use subchannel::Subchannel;
 
 /// Starts the program of a request.
@@ -37,69 +39,60 @@ fn has_ended(state: State) -> bool
 }
 
 impl<D: Device> Entries<D> {
-    /// What a start comes to.
-    pub fn next_start(&self) -> Next
-        ensures { IsNext D.meaning self.now result }
-    {
-        match &self.active {
-            Some(active) => match active.standing {
-                Standing::OnChannel => Next::Busy,
-                Standing::AwaitsRestart(_, _) => Next::Again(active.name()),
-            },
-            None => self.first_of_queue(),
-        }
-    }
-
-    /// What a start comes to where nothing is active.
-    fn first_of_queue(&self) -> Next
-        requires { active self.now.trace ≡ None }
-        ensures { IsNext D.meaning self.now result }
-    {
-        let Some(piece) = self.waiting.front() else {
-            return Next::Idle;
-        };
-        let extents = self.dcbs.extents(piece.dcb);
-        let kind = self.mounted.kind();
-        if passes_check(kind, self.mounted.heads(), extents, &piece.seek) {
-            Next::First(piece.name)
-        } else {
-            Next::Violated(piece.name)
-        }
-    }
-
-    /// The first start of the request that waits first.
-    pub fn start_first(&mut self, name: Name)
-        requires spare { 1 ≤ self.old.spare }
-        requires settled { Settled D.meaning self.old.mounted self.old.trace }
-        requires fits { StartsFirst D.meaning self.old.mounted name self.old.trace }
-        ensures book { StartsOne self.old name self.new }
-        ensures spare { self.old.spare ≤ self.new.spare + 1 }
-    {
-        let Some(piece) = self.waiting.pop() else {
-            unreachable!();
-        };
-        let mask = self.dcbs.mask(piece.dcb);
-        launch(&mut self.channel, &piece, mask);
-        write(&mut self.trace, Entry::Start(name));
-        self.active = Some(Active::first(piece));
-    }
-
-    /// A further start of the active request, which awaits it.
-    pub fn start_again(&mut self, name: Name)
-        requires spare { 1 ≤ self.old.spare }
-        requires settled { Settled D.meaning self.old.mounted self.old.trace }
-        requires awaits { self.old.awaits ≡ true }
-        requires fits { StartsAgain D.meaning self.old.mounted name self.old.trace }
-        ensures book { StartsOne self.old name self.new }
-        ensures spare { self.old.spare ≤ self.new.spare + 1 }
+    /// Starts the active request again if it awaits that. If nothing is active, starts the request that waits first,
+    /// or posts it if it fails the extent check. Makes room for the entry, and for the posts of all that the post may
+    /// doom.
+    pub fn start(&mut self) -> Result<Begun, AllocError>
+        requires { Settled D.meaning self.old.mounted self.old.trace }
+        ensures ok { IfOk result (λ begun. IsBegun D.meaning self.old begun self.new) }
+        ensures err { OnErr result (self.new ≡ self.old) }
+        ensures full { OnErr result (StartLacks D.meaning self.old) }
     {
         let Some(active) = self.active.take() else {
-            unreachable!();
+            return self.start_waiting();
         };
+        if !active.awaits() {
+            self.active = Some(active);
+            return Ok(Begun::Busy);
+        }
+        match self.trace.reserve(1) {
+            Ok(()) => {}
+            Err(error) => {
+                self.active = Some(active);
+                return Err(error);
+            }
+        }
+        let name = active.name();
         let mask = self.dcbs.mask(active.piece.dcb);
         launch(&mut self.channel, &active.piece, mask);
         write(&mut self.trace, Entry::Start(name));
         self.active = Some(active.restarted());
+        Ok(Begun::Started(name))
+    }
+
+    /// Starts the request that waits first, or posts it if it fails the extent check.
+    fn start_waiting(&mut self) -> Result<Begun, AllocError>
+        requires none { active self.old.trace ≡ None }
+        requires settled { Settled D.meaning self.old.mounted self.old.trace }
+        ensures ok { IfOk result (λ begun. IsBegun D.meaning self.old begun self.new) }
+        ensures err { OnErr result (self.new ≡ self.old) }
+        ensures full { OnErr result (StartLacks D.meaning self.old) }
+    {
+        let Some(piece) = self.waiting.front() else {
+            return Ok(Begun::Idle);
+        };
+        let extents = self.dcbs.extents(piece.dcb);
+        let kind = self.mounted.kind();
+        if !passes_check(kind, self.mounted.heads(), extents, &piece.seek) {
+            return self.post_violated();
+        }
+        self.trace.reserve(1)?;
+        let name = piece.name;
+        let mask = self.dcbs.mask(piece.dcb);
+        launch(&mut self.channel, piece, mask);
+        write(&mut self.trace, Entry::Start(name));
+        self.active = self.waiting.pop().map(Active::first);
+        Ok(Begun::Started(name))
     }
 
     /// Runs the program of the active request, by `max` commands at most, if it runs.

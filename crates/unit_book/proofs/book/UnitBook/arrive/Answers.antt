@@ -1,5 +1,5 @@
 use Rattle.unit_book.proofs.Names.{sym, refl, ◌∙◌}
-use Rattle.unit_book.proofs.Pending.{pending-arrive}
+use Rattle.unit_book.proofs.Calls.{pending-arrive}
 use Rattle.unit_book.proofs.book.UnitBook.arrive.Goals as goal
 
 pub refuse-requires-clause-refused : goal.refuse-requires-clause-refused

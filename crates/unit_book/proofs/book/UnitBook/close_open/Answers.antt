@@ -1,6 +1,5 @@
 use Rattle.unit_book.proofs.Names.{◌∷◌, true, Close}
-use Rattle.unit_book.proofs.Calls.{add-then-sweep, posted-close}
-use Rattle.unit_book.proofs.Pending.{pending-close}
+use Rattle.unit_book.proofs.Calls.{add-then-sweep, posted-close, pending-close}
 use Rattle.unit_book.proofs.book.UnitBook.close_open.Goals as goal
 
 pub returns-clause-ok : goal.returns-clause-ok

@@ -3,8 +3,7 @@ use Rattle.unit_book.specs.declared.decision.Taken.{Taken}
 use Rattle.unit_book.specs.Answers.{Takes, TakesByPost}
 use Rattle.unit_book.specs.Book.{is_pending}
 use Rattle.std.proofs.Common.{◌≡◌, true}
-use Rattle.unit_book.proofs.Calls.{post-then-sweep, sweep-due}
-use Rattle.unit_book.proofs.Pending.{pending-interrupt}
+use Rattle.unit_book.proofs.Calls.{post-then-sweep, sweep-due, pending-interrupt}
 use Rattle.unit_book.proofs.book.UnitBook.interrupt.Given.{Over}
 use Rattle.unit_book.proofs.book.UnitBook.interrupt.Goals.{In-Posted}
 use Rattle.unit_book.proofs.book.UnitBook.interrupt.Goals as goal

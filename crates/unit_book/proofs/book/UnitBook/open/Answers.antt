@@ -1,6 +1,5 @@
 use Rattle.unit_book.proofs.Names.{refl, ◌∙◌}
-use Rattle.unit_book.proofs.Calls.{open-settled}
-use Rattle.unit_book.proofs.Pending.{pending-opening}
+use Rattle.unit_book.proofs.Calls.{open-settled, pending-opening}
 use Rattle.unit_book.proofs.book.UnitBook.open.Goals as goal
 
 pub invariant_of-self-2 : goal.invariant_of-self-2

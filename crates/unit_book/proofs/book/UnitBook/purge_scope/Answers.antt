@@ -1,7 +1,6 @@
 use Rattle.unit_book.proofs.Names.{ap, ◌∙◌, Book, active_of}
 use Rattle.unit_book.specs.Controls.{purging}
-use Rattle.unit_book.proofs.Calls.{purge-reserved}
-use Rattle.unit_book.proofs.Pending.{pending-purge}
+use Rattle.unit_book.proofs.Calls.{purge-reserved, pending-purge}
 use Rattle.unit_book.proofs.book.UnitBook.purge_scope.Goals as goal
 
 pub returns-clause-pending : goal.returns-clause-pending

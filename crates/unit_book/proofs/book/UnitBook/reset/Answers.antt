@@ -1,5 +1,5 @@
 use Rattle.unit_book.proofs.Names.{refl, ◌∙◌}
-use Rattle.unit_book.proofs.Pending.{pending-reset}
+use Rattle.unit_book.proofs.Calls.{pending-reset}
 use Rattle.unit_book.proofs.book.UnitBook.reset.Goals as goal
 
 pub returns-clause-pending : goal.returns-clause-pending

@@ -1,5 +1,4 @@
-use Rattle.unit_book.proofs.Calls.{run-settled}
-use Rattle.unit_book.proofs.Pending.{pending-run}
+use Rattle.unit_book.proofs.Calls.{run-settled, pending-run}
 use Rattle.unit_book.proofs.book.UnitBook.run.Goals as goal
 
 pub invariant_of-self-2 : goal.invariant_of-self-2

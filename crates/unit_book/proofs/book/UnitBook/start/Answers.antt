@@ -1,63 +1,52 @@
-use Rattle.unit_book.proofs.Names.{refl, ExtentViolated, no_status, MayFirst, MayAgain, Started, Violated}
+use Rattle.unit_book.proofs.Names.{refl, subst, ExtentViolated, no_status, Started, Violated}
+use Rattle.unit_book.specs.declared.decision.Begun.{Begun}
+use Rattle.unit_book.specs.Answers.{IsBegun, PostsViolated, MayStart, StartsOne}
 use Rattle.unit_book.proofs.Dooms.{settled-start}
-use Rattle.unit_book.proofs.Calls.{post-then-sweep, sweep-room, sweep-due}
-use Rattle.unit_book.proofs.Pending.{pending-start}
+use Rattle.unit_book.proofs.Calls.{post-then-sweep, sweep-due, pending-start}
+use Rattle.unit_book.proofs.book.UnitBook.start.Given.{Over}
+use Rattle.unit_book.proofs.book.UnitBook.start.Goals.{In-Started, In-Violated}
 use Rattle.unit_book.proofs.book.UnitBook.start.Goals as goal
 
-pub invariant_of-self-in-First : goal.invariant_of-self-in-First
-invariant_of-self-in-First g c =
-    let m = g.D.Device.meaning in
-    let r = c.reserve.ensures.book in
-    let b = c.start_first.ensures.book in
-    rw (b, r) (settled-start m c.self.inside.entries.mounted c.in-First.name c.self.inside.entries.trace c.self.invariant)
+-- what was begun: a program was started
+started : (g : Over) (c : In-Started g) → MayStart g.D.Device.meaning c.self.inside.entries c.in-Started.name
+    × StartsOne c.self.inside.entries c.in-Started.name c.start.new.self
+started g c =
+    subst (λ (x : Begun). IsBegun g.D.Device.meaning c.self.inside.entries x c.start.new.self) c.in-Started.is c.in_ok-start.ensures.ok
 
-pub invariant_of-self-in-Again : goal.invariant_of-self-in-Again
-invariant_of-self-in-Again g c =
-    let m = g.D.Device.meaning in
-    let r = c.reserve-in-Again.ensures.book in
-    let b = c.start_again.ensures.book in
-    rw (b, r) (settled-start m c.self.inside.entries.mounted c.in-Again.name c.self.inside.entries.trace c.self.invariant)
+-- or the request that waited first was posted
+violated : (g : Over) (c : In-Violated g) →
+    PostsViolated g.D.Device.meaning c.self.inside.entries c.in-Violated.name c.in-Violated.doom c.start.new.self
+violated g c =
+    subst (λ (x : Begun). IsBegun g.D.Device.meaning c.self.inside.entries x c.start.new.self) c.in-Violated.is c.in_ok-start.ensures.ok
 
-pub sweep-requires-clause-spare : goal.sweep-requires-clause-spare
-sweep-requires-clause-spare g c =
-    sweep-room g.D.Device.meaning c.self.inside.entries c.reserve_posts.new.self c.post_violated-doom.new.self c.post_violated-doom.new.self
-    c.in-Violated.name no_status 0 ExtentViolated c.reserve_posts.ensures.book
-    c.post_violated-doom.ensures.book c.in_ok-reserve_posts-in-Violated.ensures.room c.post_violated-doom.ensures.spare
+pub invariant_of-self-in-Started : goal.invariant_of-self-in-Started
+invariant_of-self-in-Started g c =
+    let old = c.self.inside.entries in
+    let e = (started g (goal.at.invariant_of-self-in-Started g c).In-Started).1 in
+    rw e (settled-start g.D.Device.meaning old.mounted c.in-Started.name old.trace c.self.invariant)
 
 pub sweep-requires-clause-due : goal.sweep-requires-clause-due
 sweep-requires-clause-due g c =
-    sweep-due g.D.Device.meaning c.self.inside.entries c.reserve_posts.new.self c.post_violated-doom.new.self c.post_violated-doom.new.self
-    c.in-Violated.name no_status 0 ExtentViolated c.post_violated-doom.ensures.book
+    let old = c.self.inside.entries in
+    let new = c.start.new.self in
+    sweep-due g.D.Device.meaning old old new new c.in-Violated.name no_status 0 ExtentViolated
+    (violated g (goal.at.sweep-requires-clause-due g c).In-Violated).extends
 
-pub returns-in_ok-reserve-in-First-clause-ok : goal.returns-in_ok-reserve-in-First-clause-ok
-returns-in_ok-reserve-in-First-clause-ok g c =
-    let r = c.reserve.ensures.book in
-    let b = c.start_first.ensures.book in
-    rw (← c.self.view_is) (MayFirst c.in-First.ensures, rw (b, r) refl)
+pub returns-in-Started-clause-pending : goal.returns-in-Started-clause-pending
+returns-in-Started-clause-pending g c =
+    let k = started g (goal.at.returns-in-Started-clause-pending g c).In-Started in
+    rw (← c.self.view_is) (pending-start g.D.Device.meaning c.self.inside.entries c.start.new.self (Started c.in-Started.name) k)
 
-pub returns-in_ok-reserve_posts-in-Violated-clause-ok : goal.returns-in_ok-reserve_posts-in-Violated-clause-ok
-returns-in_ok-reserve_posts-in-Violated-clause-ok g c =
+pub returns-in-Violated-clause-ok : goal.returns-in-Violated-clause-ok
+returns-in-Violated-clause-ok g c =
+    let old = c.self.inside.entries in
+    let k = violated g (goal.at.returns-in-Violated-clause-ok g c).In-Violated in
     rw (← c.self.view_is) (
-      c.in-Violated.ensures,
-      post-then-sweep g.D.Device.meaning c.self.inside.entries c.reserve_posts.new.self c.post_violated-doom.new.self c.sweep.new.self
-          c.in-Violated.name no_status 0 ExtentViolated c.reserve_posts.ensures.book
-          c.post_violated-doom.ensures.book c.sweep.ensures.book,
+      k.fits,
+      post-then-sweep g.D.Device.meaning old old c.start.new.self c.sweep.new.self c.in-Violated.name no_status 0 ExtentViolated refl k.extends
+          c.sweep.ensures.book,
     )
 
-pub returns-in_ok-reserve-in-First-clause-pending : goal.returns-in_ok-reserve-in-First-clause-pending
-returns-in_ok-reserve-in-First-clause-pending g c =
-    pending-start g.D.Device.meaning c.args.self.now c.start_first.new.self (Started c.in-First.name)
-    (returns-in_ok-reserve-in-First-clause-ok g c)
-
-pub returns-in_ok-reserve-in-Again-clause-pending : goal.returns-in_ok-reserve-in-Again-clause-pending
-returns-in_ok-reserve-in-Again-clause-pending g c =
-    let r = c.reserve-in-Again.ensures.book in
-    let b = c.start_again.ensures.book in
-    rw (← c.self.view_is)
-    (pending-start g.D.Device.meaning c.self.inside.entries c.start_again.new.self (Started c.in-Again.name)
-    (MayAgain c.in-Again.ensures.0 c.in-Again.ensures.1, rw (b, r) refl))
-
-pub returns-in_ok-reserve_posts-in-Violated-clause-pending : goal.returns-in_ok-reserve_posts-in-Violated-clause-pending
-returns-in_ok-reserve_posts-in-Violated-clause-pending g c =
-    pending-start g.D.Device.meaning c.args.self.now c.sweep.new.self (Violated c.in-Violated.name)
-    (returns-in_ok-reserve_posts-in-Violated-clause-ok g c)
+pub returns-in-Violated-clause-pending : goal.returns-in-Violated-clause-pending
+returns-in-Violated-clause-pending g c =
+    pending-start g.D.Device.meaning c.args.self.now c.sweep.new.self (Violated c.in-Violated.name) (returns-in-Violated-clause-ok g c)

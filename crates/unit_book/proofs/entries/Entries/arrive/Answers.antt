@@ -1,8 +1,7 @@
 use Rattle.unit_book.proofs.Names.{◌∷◌, [], reverse, arith, length-append, refl, append-nil, Arrive}
-use Rattle.unit_book.proofs.Arrivals.{ties-arrive}
+use Rattle.unit_book.proofs.Arrivals.{ties-arrive, settled-arrive}
 use Rattle.unit_book.proofs.LegalFacts.{facts}
-use Rattle.unit_book.proofs.Purges.{dooms-none, since-arrive}
-use Rattle.unit_book.proofs.Refusals.{settled-arrive}
+use Rattle.unit_book.proofs.Dooms.{dooms-none, since-arrive}
 use Rattle.unit_book.proofs.Same.{room-of}
 use Rattle.unit_book.proofs.entries.Entries.arrive.Goals as goal
 

@@ -1,8 +1,7 @@
 use Rattle.unit_book.proofs.Names.{◌∷◌, reverse, refl, Close}
-use Rattle.unit_book.proofs.Controls.{doomed-close, doomed-close_few}
+use Rattle.unit_book.proofs.Controls.{doomed-close, doomed-close_few, ties-close}
 use Rattle.unit_book.proofs.Dooms.{due-doomed, due-no_halt}
 use Rattle.unit_book.proofs.Opens.{open-row}
-use Rattle.unit_book.proofs.Halts.{ties-close}
 use Rattle.unit_book.proofs.entries.Entries.close.Goals as goal
 
 pub invariant_of-self : goal.invariant_of-self

@@ -1,40 +1,77 @@
 use Rattle.unit_book.proofs.Names.{◌≡◌, ◌∷◌, [], Some, List, length, reverse, arith, refl, sym, ap, subst, ◌∙◌, length-append, slice_get}
-use Rattle.unit_book.proofs.Names.{ExtentViolated, no_status, Name, Piece, Post, OfFirst, doomed_by_post}
+use Rattle.unit_book.proofs.Names.{ExtentViolated, no_status, Name, Piece, Post, OfFirst, doomed_by_post, waiting}
+use Rattle.unit_book.specs.Answers.{Violated}
 use Rattle.unit_book.specs.Legal.{FailsCheck}
-use Rattle.unit_book.proofs.Dooms.{doomed-post, due-doomed}
+use Rattle.unit_book.proofs.Dooms.{doomed-post, doomed-few, due-doomed}
 use Rattle.unit_book.proofs.LegalFacts.{facts, first-waits}
-use Rattle.unit_book.proofs.Same.{fits-free}
-use Rattle.unit_book.proofs.Starts.{none-in_field}
-use Rattle.unit_book.proofs.WaitingPosts.{ties-first_post, waiting-value}
+use Rattle.unit_book.proofs.Same.{fits-free, first-found, on-err}
+use Rattle.unit_book.proofs.Starts.{none-in_field, ties-first_post, waiting-value}
 use Rattle.unit_book.proofs.Opens.{first-opened, opened-row}
-use Rattle.unit_book.proofs.Found.{first-found}
 use Rattle.unit_book.proofs.Lists.{first-rest}
+use Rattle.unit_book.proofs.entries.Entries.post_violated.Given.{Over}
+use Rattle.unit_book.proofs.entries.Entries.post_violated.Goals.{In-Some}
 use Rattle.unit_book.proofs.entries.Entries.post_violated.Goals as goal
 
-pub invariant_of-self : goal.invariant_of-self
-invariant_of-self g c =
+-- what was found: the request that waits first, which fails the check
+found : (g : Over) (c : In-Some g) → let i = c.self.inside in let b = c.in-Some.piece.value in
+    FailsCheck g.D.Device.meaning i.mounted b.name (reverse i.trace.items)
+    × (slice_get (waiting (reverse i.trace.items)) 0 ≡ Some b)
+    × (slice_get i.waiting.pieces 0 ≡ Some b)
+found g c =
+    let i = c.self.inside in
+    let s = rw (← c.self.view_is) at c.requires.first in
+    let e = first-found c.in-Some.is c.pop.ensures.first c.self.invariant.0 s.1.first in
+    let n = ap (λ (x : Piece). x.name) e ∙ s.1.name in
+    let first = s.1.first ∙ ap Some (sym e) in (
+      subst (λ (x : Name). FailsCheck g.D.Device.meaning i.mounted x (reverse i.trace.items)) (sym n) s.1,
+      first,
+      ap (λ (x : List Piece). slice_get x 0) c.self.invariant.0.queue ∙ first,
+    )
+
+pub returns-in_err-reserve-clause-full : goal.returns-in_err-reserve-clause-full
+returns-in_err-reserve-clause-full g c =
+    let s = rw (← c.self.view_is) at c.requires.first in
+    let full = c.in_err-reserve.ensures.full in
+    let count = c.len.ensures.len in
+    let queue = ap length c.self.invariant.0.queue in
+    on-err c.from_residual.result _
+    (rw (← c.self.view_is) (record { next = Violated s.0; is = s.1; room = omega (arith, full, count, queue) }))
+
+pub note_post-requires : goal.note_post-requires
+note_post-requires g c =
     let m = g.D.Device.meaning in
     let i = c.self.inside in
     let b = c.in-Some.piece.value in
-    let settled = rw (← c.self.view_is) at c.requires.settled in
-    let s = rw (← c.self.view_is) at c.requires.fits in
+    let f = found g (goal.at.note_post-requires g c).In-Some in
     let t = c.self.invariant.0 in
-    let e = first-found c.in-Some.is c.pop.ensures.first t s.first in
-    let n : b.name ≡ c.args.name = ap (λ (x : Piece). x.name) e ∙ s.name in
-    let p = subst (λ (x : Name). FailsCheck m i.mounted x (reverse i.trace.items)) (sym n) s in
+    let settled = rw (← c.self.view_is) at c.requires.settled in
+    let opened = first-opened m i.mounted b (reverse i.trace.items) settled f.1 in
+    let piece_is = c.deref-3.ensures in
+    rw piece_is (opened-row m i.mounted b.dcb (reverse i.trace.items) i.dcbs t.legal t.count opened)
+
+pub invariant_of-self-2 : goal.invariant_of-self-2
+invariant_of-self-2 g c =
+    let m = g.D.Device.meaning in
+    let i = c.self.inside in
+    let b = c.in-Some.piece.value in
+    let f = found g (goal.at.invariant_of-self-2 g c).In-Some in
+    let t = c.self.invariant.0 in
+    let settled = rw (← c.self.view_is) at c.requires.settled in
     let fits = fits-free m i.mounted (Post b.name no_status 0 ExtentViolated) (reverse i.trace.items) settled
-    (OfFirst (record { fails = p; code_is = refl; csw_is = refl; sense_is = refl })) in
-    let piece_is = c.deref-2.ensures in
-    let noted = rw piece_is at c.note_post.ensures.dcbs in
-    let k = ties-first_post m i.mounted b no_status 0 ExtentViolated t fits (s.first ∙ ap Some (sym e)) noted c.note_post.ensures.count in
+    (OfFirst (record { fails = f.0; code_is = refl; csw_is = refl; sense_is = refl })) in
+    let noted_is = c.deref-3.ensures in
+    let noted = rw noted_is at c.note_post.ensures.dcbs in
+    let k = ties-first_post m i.mounted b no_status 0 ExtentViolated t fits f.1 noted c.note_post.ensures.count in
+    let n = c.deref.ensures in
     let w = c.write.ensures.items in
+    let r = c.reserve.ensures.items in
     let y = c.empty.ensures in
     let x = c.empty-2.ensures in
     let q = c.hand_out.ensures in
     let v = c.posted_from.ensures in
     let h = c.pop.ensures.rest in
-    let count = ap length (first-rest i.waiting.pieces s.request (ap (λ (x : List Piece). slice_get x 0) t.queue ∙ s.first)) in (
-      rw (w, y, h, q, v, x, ← n) k,
+    let count = ap length (first-rest i.waiting.pieces b f.2) in (
+      rw (w, r, n, y, h, q, v, x) k,
       record {
         occupancy = rw (h, q) (omega (arith, length-append i.out.items (c.posted_from.result ∷ []), c.self.invariant.1.occupancy, count));
         waiting_room = rw (h, q) c.self.invariant.1.waiting_room;
@@ -42,43 +79,36 @@ invariant_of-self g c =
       },
     )
 
-pub returns : goal.returns
-returns g c =
+pub returns-clause-ok : goal.returns-clause-ok
+returns-clause-ok g c =
     let m = g.D.Device.meaning in
     let i = c.self.inside in
     let b = c.in-Some.piece.value in
-    let settled = rw (← c.self.view_is) at c.requires.settled in
-    let s = rw (← c.self.view_is) at c.requires.fits in
+    let H = reverse i.trace.items in
+    let f = found g (goal.at.returns-clause-ok g c).In-Some in
     let t = c.self.invariant.0 in
-    let e = first-found c.in-Some.is c.pop.ensures.first t s.first in
-    let n : b.name ≡ c.args.name = ap (λ (x : Piece). x.name) e ∙ s.name in
-    let there = s.first ∙ ap Some (sym e) in
-    let value = waiting-value m i.mounted b no_status 0 ExtentViolated t 0 there in
-    let none = (none-in_field m i.mounted (reverse i.trace.items) i.channel.phase i.active s.none t.activity).1 in
-    let issued = (first-waits m i.mounted b (reverse i.trace.items) (facts m i.mounted (reverse i.trace.items) t.legal) there).known.0 in
-    let dooms = doomed-post m i.mounted b.name no_status 0 ExtentViolated (reverse i.trace.items)
-    (due-doomed m i.mounted (reverse i.trace.items) settled) in
+    let settled = rw (← c.self.view_is) at c.requires.settled in
+    let value = waiting-value m i.mounted b no_status 0 ExtentViolated t 0 f.1 in
+    let none = (none-in_field m i.mounted H i.channel.phase i.active f.0.none t.activity).1 in
+    let issued = (first-waits m i.mounted b H (facts m i.mounted H t.legal) f.1).known.0 in
+    let dooms = doomed-post m i.mounted b.name no_status 0 ExtentViolated H (due-doomed m i.mounted H settled) in
+    let few = doomed-few m i.mounted b.name no_status 0 ExtentViolated H in
+    let n = c.deref.ensures in
     let w = c.write.ensures.items in
+    let r = c.reserve.ensures.items in
     let y = c.empty.ensures in
     let x = c.empty-2.ensures in
     let q = c.hand_out.ensures in
     let v = c.posted_from.ensures in
-    let doom_is = c.doomed_by_post-doom.ensures ∙ ap (λ (x : Piece). doomed_by_post x ExtentViolated) (c.deref.ensures ∙ sym issued) in
-    record {
-      book = rw (← c.self.view_is) (rw (w, y, q, v, x, value, ← n, none) refl);
-      spare = rw (← c.self.view_is) c.write.ensures.spare;
-      dooms = rw (w, y, doom_is, ← n) dooms;
-    }
-
-pub note_post-requires : goal.note_post-requires
-note_post-requires g c =
-    let m = g.D.Device.meaning in
-    let i = c.self.inside in
-    let b = c.in-Some.piece.value in
-    let settled = rw (← c.self.view_is) at c.requires.settled in
-    let s = rw (← c.self.view_is) at c.requires.fits in
-    let t = c.self.invariant.0 in
-    let e = first-found c.in-Some.is c.pop.ensures.first t s.first in
-    let opened = first-opened m i.mounted b (reverse i.trace.items) settled (s.first ∙ ap Some (sym e)) in
-    let piece_is = c.deref-2.ensures in
-    rw piece_is (opened-row m i.mounted b.dcb (reverse i.trace.items) i.dcbs t.legal t.count opened)
+    let doom_is = c.doomed_by_post-doom.ensures ∙ ap (λ (x : Piece). doomed_by_post x ExtentViolated) (c.deref-2.ensures ∙ sym issued) in
+    let ok = c.in_ok-reserve.ensures.ok in
+    let len = c.in_ok-reserve.ensures.len in
+    let spare = c.write.ensures.spare in
+    let count = c.len.ensures.len in
+    let queue = ap length t.queue in
+    rw (← c.self.view_is, n) (record {
+      fits = f.0;
+      extends = rw (w, r, n, y, q, v, x, value, none) refl;
+      room = rw (w, r, n, y) (omega arith);
+      dooms = rw (w, r, n, y, doom_is) dooms;
+    })

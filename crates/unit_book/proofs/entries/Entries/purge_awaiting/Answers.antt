@@ -1,15 +1,16 @@
 use Rattle.unit_book.proofs.Names.{◌≡◌, ◌++◌, [], ◌∷◌, Some, length, length-append, append_assoc, map, reverse, arith, refl, sym, ap, ◌∙◌}
-use Rattle.unit_book.proofs.Names.{Ties, PostsActive}
+use Rattle.unit_book.proofs.Names.{true, Ties, PostsActive, and_parts, ◌&&◌, is_halt, awaits_by, covers_awaiting}
 use Rattle.unit_book.proofs.Names.{subst, Purged, filter, Queue, queue, Placed, covers, purged}
 use Rattle.unit_book.proofs.Names.{posted_value}
 use Rattle.unit_book.specs.Fields.{kept_by}
 use Rattle.unit_book.proofs.Facts.{Each-filter}
 use Rattle.unit_book.proofs.Posting.{length-map}
-use Rattle.unit_book.proofs.Purges.{length-filters}
+use Rattle.unit_book.proofs.Dooms.{length-filters}
 use Rattle.unit_book.proofs.Awaiting.{ties-awaiting, settled-awaiting, since-awaiting, after-is, fits-purged, FoundAwaiting}
-use Rattle.unit_book.proofs.Found.{ties-found, rooms-found, swept-found}
+use Rattle.unit_book.proofs.Controls.{awaiting-is}
+use Rattle.unit_book.proofs.Same.{ties-found, rooms-found, swept-found}
 use Rattle.unit_book.proofs.entries.Entries.purge_awaiting.Given.{Over}
-use Rattle.unit_book.proofs.entries.Entries.purge_awaiting.Goals.{In-Some}
+use Rattle.unit_book.proofs.entries.Entries.purge_awaiting.Goals.{After-is_covered_awaiting}
 use Rattle.unit_book.proofs.entries.Entries.purge_awaiting.Goals as goal
 
 pub post_all-requires : goal.post_all-requires
@@ -63,27 +64,33 @@ hand_out-requires g c =
     ))
 
 -- what was found: the active request awaits its restart, and the purge covers it
-found : (g : Over) (c : In-Some g) → let i = c.self.inside in let m = g.D.Device.meaning in
-    (i.active ≡ Some c.in-Some.active)
+found : (g : Over) (c : After-is_covered_awaiting g) → let i = c.self.inside in let m = g.D.Device.meaning in
+    c.is_covered_awaiting.result ≡ true → (i.active ≡ Some c.in-Some.active)
     × Ties m i.mounted (reverse i.trace.items) i.channel (Some c.in-Some.active) i.waiting.pieces i.dcbs i.out.items
     × FoundAwaiting m i.mounted (reverse i.trace.items) c.in-Some.active c.args.scope c.args.mode
-found g c =
-    let covered = rw (← c.self.view_is) at c.requires.covered in
-    let o : c.self.inside.active ≡ Some c.in-Some.active = sym c.take.ensures.value ∙ c.in-Some.is in (
+found g c covered =
+    let m = g.D.Device.meaning in
+    let i = c.self.inside in
+    let o : i.active ≡ Some c.in-Some.active = sym c.take.ensures.value ∙ c.in-Some.is in
+    let both = and_parts (is_halt c.args.mode && awaits_by c.in-Some.active.standing) (covers c.args.scope c.in-Some.active.piece.value)
+    (sym c.is_covered_awaiting.ensures ∙ covered) in
+    let awaits = and_parts (is_halt c.args.mode) (awaits_by c.in-Some.active.standing) both.0 in (
       o,
       ties-found o c.self.invariant.0,
       record {
         settled = rw (← c.self.view_is) at c.requires.settled;
         can = rw (← c.self.view_is) at c.requires.can;
-        covered = rw o at covered;
+        halts = awaits.0;
+        again = awaits.1;
+        covered = both.1;
       },
     )
 
-pub invariant_of-self : goal.invariant_of-self
-invariant_of-self g c =
+pub invariant_of-self-2 : goal.invariant_of-self-2
+invariant_of-self-2 g c =
     let i = c.self.inside in
     let p = covers c.args.scope in
-    let f = found g (goal.at.invariant_of-self g c).In-Some in
+    let f = found g (goal.at.invariant_of-self-2 g c).After-is_covered_awaiting c.if-not-is_covered_awaiting.false in
     let k = ties-awaiting g.D.Device.meaning i.mounted f.1 f.2 in
     let room = rooms-found f.0 c.self.invariant.1 in
     let sw = swept-found c.sweep.ensures.swept room.swept_is in
@@ -115,16 +122,15 @@ invariant_of-self g c =
       },
     )
 
-pub returns : goal.returns
-returns g c =
+pub returns-clause-book : goal.returns-clause-book
+returns-clause-book g c =
     let m = g.D.Device.meaning in
     let i = c.self.inside in
     let a = c.in-Some.active in
-    let f = found g (goal.at.returns g c).In-Some in
+    let f = found g (goal.at.returns-clause-book g c).After-is_covered_awaiting c.if-not-is_covered_awaiting.false in
     let fits = fits-purged m i.mounted f.1 f.2 in
     let since = since-awaiting m i.mounted f.1 f.2 in
     let after = after-is m i.mounted f.1 f.2 in
-    let k = settled-awaiting m i.mounted f.1 f.2 in
     let csw = (kept_by a.standing).0 in
     let sense = (kept_by a.standing).1 in
     let sw = swept-found c.sweep.ensures.swept c.self.invariant.1.swept_is in
@@ -140,13 +146,40 @@ returns g c =
     let z = c.take.ensures.after in
     let value = posted_value a.piece.value csw sense Purged a.piece.value.area in
     let joined = append_assoc i.out.items (map purged (filter (covers c.args.scope) i.waiting.pieces)) (value ∷ []) in
-    record {
-      book = rw (← c.self.view_is) (record {
-        name = a.piece.value.name;
-        csw = csw;
-        sense = sense;
-        fits = subst (PostsActive m i.mounted a.piece.value.name csw sense Purged) (sym after) fits;
-        extends = rw after (rw since (rw (w2, trace_is, w, q, out_is, v, st, nm, z, joined) refl));
-      });
-      settled = rw (w2, trace_is, w, st, nm) k;
-    }
+    rw (← c.self.view_is) (λ is. record {
+      name = a.piece.value.name;
+      csw = csw;
+      sense = sense;
+      fits = subst (PostsActive m i.mounted a.piece.value.name csw sense Purged) (sym after) fits;
+      extends = rw after (rw since (rw (w2, trace_is, w, q, out_is, v, st, nm, z, joined) refl));
+    })
+
+pub returns-clause-settled : goal.returns-clause-settled
+returns-clause-settled g c =
+    let f = found g (goal.at.returns-clause-settled g c).After-is_covered_awaiting c.if-not-is_covered_awaiting.false in
+    let sw = swept-found c.sweep.ensures.swept c.self.invariant.1.swept_is in
+    let items_is = ap (λ (x : Queue). x.pieces) sw in
+    let trace_is = rw items_is at c.post_all.ensures.trace in
+    let w = c.write.ensures.items in
+    let w2 = c.write-2.ensures.items in
+    let st = c.kept_status-sense.ensures in
+    let nm = c.name-name.ensures in
+    rw (w2, trace_is, w, st, nm) (settled-awaiting g.D.Device.meaning c.self.inside.mounted f.1 f.2)
+
+-- whether the purge covers it, as the trace says
+told : (g : Over) (c : After-is_covered_awaiting g) →
+    c.is_covered_awaiting.result ≡ covers_awaiting c.args.self.now c.args.scope c.args.mode
+told g c =
+    let i = c.self.inside in
+    let o : i.active ≡ Some c.in-Some.active = sym c.take.ensures.value ∙ c.in-Some.is in
+    let t = ties-found o c.self.invariant.0 in
+    rw (← c.self.view_is, o)
+    (c.is_covered_awaiting.ensures ∙ awaiting-is g.D.Device.meaning i.mounted c.args.scope c.args.mode t.activity)
+
+pub returns-clause-covered : goal.returns-clause-covered
+returns-clause-covered g c =
+    sym c.if-not-is_covered_awaiting.false ∙ told g (goal.at.returns-clause-covered g c).After-is_covered_awaiting
+
+pub returns-then-not-is_covered_awaiting-clause-covered : goal.returns-then-not-is_covered_awaiting-clause-covered
+returns-then-not-is_covered_awaiting-clause-covered g c =
+    sym c.if-not-is_covered_awaiting.true ∙ told g (goal.at.returns-then-not-is_covered_awaiting-clause-covered g c).After-is_covered_awaiting

@@ -1,6 +1,6 @@
 use Rattle.unit_book.proofs.Names.{◌∷◌, [], length-append, arith, refl, purged}
 use Rattle.unit_book.proofs.Same.{room-of}
-use Rattle.unit_book.proofs.Refusals.{ties-refused, after-refusal, since-refused, settled-refused}
+use Rattle.unit_book.proofs.Arrivals.{ties-refused, after-refusal, since-refused, settled-refused}
 use Rattle.unit_book.proofs.entries.Entries.refuse.Goals as goal
 
 pub invariant_of-self : goal.invariant_of-self

@@ -1,7 +1,6 @@
 use Rattle.unit_book.proofs.Names.{reverse}
-use Rattle.unit_book.proofs.Controls.{settled-reset}
+use Rattle.unit_book.proofs.Controls.{settled-reset, ties-reset}
 use Rattle.unit_book.proofs.Opens.{open-row}
-use Rattle.unit_book.proofs.Halts.{ties-reset}
 use Rattle.unit_book.proofs.entries.Entries.reset.Goals as goal
 
 pub invariant_of-self : goal.invariant_of-self

@@ -3,7 +3,7 @@ use Rattle.unit_book.proofs.Names.{running_name_by}
 use Rattle.ccw_programs.specs.declared.context.Burst.{Burst}
 use Rattle.subchannel.specs.Subchannel.{RunsAs, running_program}
 use Rattle.unit_book.proofs.Runs.{Bursts, ties-ran, told, runs-quiet}
-use Rattle.unit_book.proofs.Found.{ties-found, rooms-found}
+use Rattle.unit_book.proofs.Same.{ties-found, rooms-found}
 use Rattle.unit_book.proofs.entries.Entries.run.Given.{Over}
 use Rattle.unit_book.proofs.entries.Entries.run.Goals.{In-Some-run, In_default-run, After-run}
 use Rattle.unit_book.specs.Fields.{with_area}

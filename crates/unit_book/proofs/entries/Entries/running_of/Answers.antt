@@ -1,5 +1,5 @@
 use Rattle.unit_book.proofs.Names.{sym, ◌∙◌, Halt}
-use Rattle.unit_book.proofs.Halts.{halts-none, halts-active}
+use Rattle.unit_book.proofs.Controls.{halts-none, halts-active}
 use Rattle.unit_book.proofs.entries.Entries.running_of.Goals as goal
 
 pub returns-then-not-is_running : goal.returns-then-not-is_running

@@ -4,10 +4,9 @@ use Rattle.unit_book.proofs.Names.{all_posted, after_dooms, purged, due, doomed_
 use Rattle.unit_queue.specs.Selection.{selects}
 use Rattle.unit_queue.specs.declared.selection.Selection.{Selection}
 use Rattle.unit_book.proofs.Facts.{Each-filter}
-use Rattle.unit_book.proofs.Dooms.{filter-never}
+use Rattle.unit_book.proofs.Dooms.{filter-never, length-filters, ties-dooms, since-is, since-same, dooms-none}
 use Rattle.unit_book.proofs.Posting.{length-map}
-use Rattle.unit_book.proofs.Purges.{length-filters, ties-dooms, since-is, since-same, dooms-none}
-use Rattle.unit_book.proofs.Found.{swept-found}
+use Rattle.unit_book.proofs.Same.{swept-found}
 use Rattle.unit_book.proofs.entries.Entries.sweep.Goals as goal
 
 pub returns-in_default-clause-book : goal.returns-in_default-clause-book

@@ -1,5 +1,5 @@
 use Rattle.unit_book.proofs.Names.{arith, reverse, posted}
-use Rattle.unit_book.proofs.Outs.{given-some, ties-taken, length-rest}
+use Rattle.unit_book.proofs.Posting.{given-some, ties-taken, length-rest}
 use Rattle.unit_book.proofs.entries.Entries.take_out.Goals as goal
 
 pub invariant_of-self : goal.invariant_of-self

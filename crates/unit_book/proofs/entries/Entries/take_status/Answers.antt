@@ -7,7 +7,7 @@ use Rattle.unit_book.proofs.Decisions.{decided, decided_pending, ties-await}
 use Rattle.unit_book.proofs.Dooms.{doomed-post, doomed-few, due-doomed}
 use Rattle.unit_book.proofs.Facts.{active-is}
 use Rattle.unit_book.proofs.Opens.{opened-row, started-opened}
-use Rattle.unit_book.proofs.Found.{ties-found, rooms-found}
+use Rattle.unit_book.proofs.Same.{ties-found, rooms-found}
 use Rattle.unit_book.proofs.entries.Entries.take_status.Given.{Over}
 use Rattle.unit_book.proofs.entries.Entries.take_status.Goals.{After-code}
 use Rattle.unit_book.proofs.entries.Entries.take_status.Goals as goal

@@ -1,4 +1,4 @@
-use Rattle.unit_book.proofs.Halts.{quiesces}
+use Rattle.unit_book.proofs.Controls.{quiesces}
 use Rattle.unit_book.proofs.entries.Entries.to_halt.Goals as goal
 
 pub returns-in-Quiesce : goal.returns-in-Quiesce

@@ -1,0 +1,86 @@
+use Rattle.unit_book.proofs.Names.{◌≡◌, Some, length, reverse, arith, refl, sym, ap, ◌∙◌, slice_get, waiting, StartsFirst}
+use Rattle.std.specs.Option.{option_copied}
+use Rattle.unit_book.specs.Answers.{First}
+use Rattle.unit_book.specs.Legal.{passes}
+use Rattle.unit_book.proofs.Seeks.{first-fits, fits-device}
+use Rattle.unit_book.proofs.Starts.{no-first, first-told, ties-first, none-in_field}
+use Rattle.unit_book.proofs.Same.{rooms-found, on-err}
+use Rattle.unit_book.proofs.Lists.{first-rest}
+use Rattle.unit_book.proofs.entries.Entries.start_waiting.Given.{Over}
+use Rattle.unit_book.proofs.entries.Entries.start_waiting.Goals.{After-passes_check}
+use Rattle.unit_book.proofs.entries.Entries.start_waiting.Goals as goal
+
+-- what was found: the request that waits first, and whether it passes the check
+found : (g : Over) (c : After-passes_check g) → let i = c.self.inside in let r = c.in-Some.piece.now in
+    (slice_get (waiting (reverse i.trace.items)) 0 ≡ Some r)
+    × (passes g.D.Device.meaning i.mounted r (reverse i.trace.items) ≡ c.passes_check.result)
+    × (slice_get i.waiting.pieces 0 ≡ Some r)
+found g c =
+    let there = sym c.front.ensures ∙ ap option_copied c.in-Some.is in
+    let k = first-told g.D.Device.meaning c.self.inside.mounted c.self.invariant.0 there in
+    let p = rw (c.kind-kind.ensures, c.heads.ensures, c.extents-extents.ensures) at c.passes_check.ensures in
+    (k.0, k.1 ∙ sym p, there)
+
+pub returns-in_default-clause-ok : goal.returns-in_default-clause-ok
+returns-in_default-clause-ok g c =
+    let i = c.self.inside in
+    let z = sym c.front.ensures ∙ ap option_copied c.in_default.is in
+    let none = rw (← c.self.view_is) at c.requires.none in
+    rw (← c.self.view_is) (none, sym c.self.invariant.0.queue ∙ no-first g.D.Device.meaning i.mounted i.waiting.pieces z, refl)
+
+pub post_violated-requires-clause-first : goal.post_violated-requires-clause-first
+post_violated-requires-clause-first g c =
+    let f = found g (goal.at.post_violated-requires-clause-first g c).After-passes_check in
+    let none = rw (← c.self.view_is) at c.requires.none in
+    let r = c.in-Some.piece.now in
+    rw (← c.self.view_is)
+    (r.name, record { none = none; request = r; first = f.0; name = refl; fails = f.1 ∙ c.if-not-passes_check.true })
+
+pub returns-in_err-reserve-clause-full : goal.returns-in_err-reserve-clause-full
+returns-in_err-reserve-clause-full g c =
+    let f = found g (goal.at.returns-in_err-reserve-clause-full g c).After-passes_check in
+    let none = rw (← c.self.view_is) at c.requires.none in
+    let full = c.in_err-reserve.ensures.full in
+    let r = c.in-Some.piece.now in
+    on-err c.from_residual.result _ (rw (← c.self.view_is) (record {
+      next = First r.name;
+      is = record { none = none; request = r; first = f.0; name = refl; passes = f.1 ∙ c.if-not-passes_check.false };
+      room = omega (arith, full);
+    }))
+
+pub launch-requires : goal.launch-requires
+launch-requires g c =
+    let m = g.D.Device.meaning in
+    let i = c.self.inside in
+    let f = found g (goal.at.launch-requires g c).After-passes_check in
+    let t = c.self.invariant.0 in
+    let settled = rw (← c.self.view_is) at c.requires.settled in
+    let fits = first-fits m i.mounted c.in-Some.piece.now (reverse i.trace.items) t.legal settled f.0 (f.1 ∙ c.if-not-passes_check.false) in
+    let device_is = t.device in
+    rw device_is (fits-device m i.mounted g.met.D.Device.lawful (reverse i.trace.items) c.in-Some.piece.now.seek fits)
+
+pub invariant_of-self-2 : goal.invariant_of-self-2
+invariant_of-self-2 g c =
+    let m = g.D.Device.meaning in
+    let i = c.self.inside in
+    let H = reverse i.trace.items in
+    let f = found g (goal.at.invariant_of-self-2 g c).After-passes_check in
+    let t = c.self.invariant.0 in
+    let settled = rw (← c.self.view_is) at c.requires.settled in
+    let none = rw (← c.self.view_is) at c.requires.none in
+    let starts : StartsFirst m i.mounted c.in-Some.piece.now.name H = record { none = none; request = c.in-Some.piece.now; first = f.0; name = refl; passes = f.1 ∙ c.if-not-passes_check.false } in
+    let k = ties-first m i.mounted c.pop.result c.map.result settled starts t f.0 c.mask-mask.ensures (c.pop.ensures.first ∙ f.2)
+    c.map.ensures.cases in
+    let w = c.write.ensures.items in
+    let r = c.reserve.ensures.items in
+    let q = c.pop.ensures.rest in
+    let l = c.launch.ensures in
+    let room = rooms-found (none-in_field m i.mounted H i.channel.phase i.active none t.activity).1 c.self.invariant.1 in
+    let count = ap length (first-rest i.waiting.pieces c.in-Some.piece.now f.2) in (
+      rw (w, r, q, l) k.0,
+      record {
+        occupancy = rw q (omega (arith, room.occupancy, count, k.1));
+        waiting_room = rw q room.waiting_room;
+        swept_is = room.swept_is;
+      },
+    )
