@@ -19,17 +19,13 @@ pub(crate) fn ending_of(links: &[Link], n: u32) -> Ending
     requires { 1 ≤ length links.now }
     ensures { result ≡ ending links.now n }
 {
-    match links {
-        [] => unreachable!(),
-        [only] => ended_in(*only, n),
-        [first, rest @ ..] => {
-            let count = u32::from(first.ccw.count);
-            if n < count {
-                ended_in(*first, n)
-            } else {
-                ending_of(rest, n - count)
-            }
-        }
+    let first = links[0];
+    let rest = &links[1..];
+    let count = u32::from(first.ccw.count);
+    if rest.is_empty() || n < count {
+        ended_in(first, n)
+    } else {
+        ending_of(rest, n - count)
     }
 }
 

@@ -63,9 +63,7 @@ impl<'a> Given<'a> {
         match self.segments {
             [only] => {
                 let len = usize::from(only.count).min(most);
-                let Some(bytes) = self.area.get(only.address, len) else {
-                    unreachable!()
-                };
+                let bytes = self.area.get(only.address, len)?;
                 Some(bytes)
             }
             _ => None,

@@ -27,7 +27,7 @@ const NO_OPERATION: u8 = 0x03;
 const READ_BACKWARD: u8 = 0x0C;
 
 /// A block of four bytes: 01 writes it, 02 reads it, 0C reads it backward, 03 is no-operation and every
-/// other command is rejected. Standing for a disk it has one track.
+/// other command is rejected. Standing for a disk it has one track. Only tests use it: no script and no client has it.
 #[derive(Drop)]
 pub struct ToyBlock {
     kind: Kind,

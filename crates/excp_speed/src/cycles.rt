@@ -10,7 +10,7 @@ use io_images::Extent;
 use request_piece::{Name, Request};
 use std::alloc::{AllocError, Global};
 use std::marker::Model;
-use unit_book::{Entry, UnitBook};
+use unit_book::{Entry, ProcessingMethod, UnitBook};
 
 /// An unrelated IOB, its ECB, and search, transfer back and read data, from X'1000' on.
 const IMAGE: [u8; 104] = [
@@ -94,7 +94,7 @@ fn admit(book: &mut UnitBook<Disk>, request: Request) -> Result<(), AllocError>
 fn open(book: &mut UnitBook<Disk>) -> Result<(), AllocError>
     ensures { arrivals book.new.trace ≡ arrivals book.old.trace }
 {
-    match book.open(false, &[Extent::read(&EXTENT)]) {
+    match book.open(ProcessingMethod::Output, &[Extent::read(&EXTENT)]) {
         Ok(_) => Ok(()),
         Err(_) => Err(AllocError),
     }

@@ -45,14 +45,14 @@ impl<'r, I: Item, F: Reach> Fan<'r, I, F> {
     }
 
     /// The number of the sender.
-    pub fn number(&self) -> u16
+    pub(crate) fn number(&self) -> u16
         ensures { result ≡ self.now.number }
     {
         self.number
     }
 
     /// How many items it sent into a row.
-    pub fn sent_len(&self, k: u16) -> u64
+    pub(crate) fn sent_len(&self, k: u16) -> u64
         requires { k < length self.now.sent }
         ensures { result ≡ length (sent_to self.now k) }
     {

@@ -51,7 +51,7 @@ impl<'r, S: Site> IscTaker<'r, S> {
 
     /// The unit of the next notice, and none only where the row was empty at one moment of the call. It takes no memory
     /// and no unit's lock.
-    pub fn next<R: Wait>(&mut self, rt: &R) -> Option<u16>
+    pub(crate) fn next<R: Wait>(&mut self, rt: &R) -> Option<u16>
         ensures taken { IfSome result (λ unit. TakesNotice self.old unit self.new) }
         ensures of_unit { IfSome result (λ unit. unit < S.rows.units) }
         ensures unchanged { IfNone result (self.new ≡ self.old) }

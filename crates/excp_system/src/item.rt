@@ -40,7 +40,7 @@ impl Sent {
     }
 
     /// The request.
-    pub fn into_request(self) -> Request
+    pub(crate) fn into_request(self) -> Request
         ensures { result ≡ self }
     {
         self.request
@@ -63,7 +63,7 @@ impl Returned {
     }
 
     /// The posted value.
-    pub fn into_posted(self) -> Posted
+    pub(crate) fn into_posted(self) -> Posted
         ensures { result ≡ self }
     {
         self.value

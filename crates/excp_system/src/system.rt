@@ -152,11 +152,7 @@ fn make_tasks<'r, S: Site>(
     ensures { IfOk result (λ tasks. AreTasks S.rows.tasks S.rows.units tasks.items) }
 {
     let mut tasks = Vec::new(alloc);
-    let mut rest = collected.into_iter();
-    for fan in out {
-        let Some(taker) = rest.next() else {
-            unreachable!()
-        };
+    for (fan, taker) in out.into_iter().zip(collected) {
         tasks.push(Task::new(fan.number(), fan, taker))?;
     }
     Ok(tasks)
@@ -190,19 +186,8 @@ fn lock_units<'r, S: Site, D: Device>(
     requires room { S.rows.units ≤ vec_capacity locks }
     ensures { vec_len result ≡ S.rows.units }
 {
-    let mut intakes = ends.intake.into_iter();
-    let mut backs = ends.back.into_iter();
-    let mut notices = ends.notice.into_iter();
-    for book in books {
-        let Some(intake) = intakes.next() else {
-            unreachable!()
-        };
-        let Some(back) = backs.next() else {
-            unreachable!()
-        };
-        let Some(notice) = notices.next() else {
-            unreachable!()
-        };
+    let rows = ends.intake.into_iter().zip(ends.back).zip(ends.notice);
+    for (book, ((intake, back), notice)) in books.into_iter().zip(rows) {
         let notice = notice.into_end(u16::from(book.isc()));
         let unit = UnitState::new(back.number(), book, intake, back, notice);
         locks.push_reserved(Mutex::new(unit));

@@ -156,11 +156,8 @@ impl<'r, S: Site, D: Device> UnitState<'r, S, D> {
             Some(sent) => {
                 let request = sent.into_request();
                 let name = request.name();
-                match self.book.arrive(request) {
-                    Ok(()) => Ok(Intake::Took(name)),
-                    // it has room, and memory for one arrival
-                    Err(_) => unreachable!(),
-                }
+                self.book.arrive_reserved(request);
+                Ok(Intake::Took(name))
             }
         }
     }

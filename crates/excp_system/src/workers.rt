@@ -35,7 +35,7 @@ pub fn serve<'r, S: Site, D: Device, G: Gate, R: Wait>(
     let idle = Backoff::new();
     for _ in rt.forever() {
         if stop.raised() {
-            return;
+            break;
         }
         let served = serve_units(rt, system, units, gate);
         let handled = serve_notices(rt, system, takers, gate);
@@ -45,7 +45,6 @@ pub fn serve<'r, S: Site, D: Device, G: Gate, R: Wait>(
             idle.snooze();
         }
     }
-    unreachable!()
 }
 
 /// Serves units alone, as a channel does.

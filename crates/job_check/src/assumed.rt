@@ -9,6 +9,7 @@ use job_script::{
 };
 use script_words::{Words, decimal, decimal_in};
 use std::alloc::{AllocError, Global};
+use unit_book::ProcessingMethod;
 
 /// The most areas that are assumed.
 const MOST_AREAS: u64 = 4096;
@@ -123,7 +124,7 @@ fn assume_units(alloc: Global, line: usize, set_up: &mut SetUp, last: u16) -> Re
 fn assume_dcb(alloc: Global, line: usize, set_up: &mut SetUp, unit: u16) -> Result<(), AllocError> {
     let opening = Opening {
         line,
-        input: false,
+        method: ProcessingMethod::Output,
         extents: Vec::new(alloc),
     };
     declare(alloc, line, set_up, SetUpLine::Opening(unit, opening))

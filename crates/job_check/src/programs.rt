@@ -9,7 +9,7 @@ use any_device::AnyDevice;
 use ccw_programs::{Context, Link, Listing, Rule, Workspace, look};
 use device_port::{Device, Flow, Kind};
 use io_area::Area;
-use io_images::{Address, FileMask, Iob, Seek};
+use io_images::{Address, Iob, Seek};
 use job_script::{Excp, Message, Opening, UnitSetup};
 use std::alloc::AllocError;
 use unit_book::{extents_refusal, passes_check};
@@ -98,7 +98,7 @@ fn sure_failure(
     let mut walk = Walk {
         device,
         area: &excp.area,
-        is_masked: kind == Kind::Disk && mask_of(opening).inhibits_seeks(),
+        is_masked: kind == Kind::Disk && opening.method.file_mask().inhibits_seeks(),
         reads: Reads { from: 0, to: 0 },
     };
     walk.first_note(iob.start, workspace)
@@ -113,15 +113,6 @@ fn violated(seek: &Seek) -> FindingKind {
         u64::from(seek.head),
     ];
     FindingKind::Note(Message::new(VIOLATED, &numbers))
-}
-
-/// The file mask that the supervisor sets for a DCB.
-fn mask_of(opening: &Opening) -> FileMask {
-    if opening.input {
-        FileMask::INPUT
-    } else {
-        FileMask::OUTPUT
-    }
 }
 
 /// A walk through the commands of a program as its CCWs are now. No command is done.

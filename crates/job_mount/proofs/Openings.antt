@@ -186,13 +186,13 @@ units_at_fault capacity line books units k whole over so_far =
     ∙ one_not_opened capacity line (map without_spare books)
 
 -- one DCB is opened
-one_more_dcb : (old new : Book AnyDevice) (dcb : ℕ) (o : OpeningSaid) → OpensBook any_device old dcb o.input o.extents new
+one_more_dcb : (old new : Book AnyDevice) (dcb : ℕ) (o : OpeningSaid) → OpensBook any_device old dcb o.method o.extents new
     → with_dcb (without_spare old) o ≡ without_spare new
 one_more_dcb old new dcb o h =
-    ap (λ (n : ℕ). record (without_spare old) { trace = Opened n o.input o.extents ∷ old.trace }) (sym h.fits.next) ∙ sym (ap without_spare h.adds)
+    ap (λ (n : ℕ). record (without_spare old) { trace = Opened n o.method o.extents ∷ old.trace }) (sym h.fits.next) ∙ sym (ap without_spare h.adds)
 
 one_opened : (old new : Book AnyDevice) (dcb : ℕ) (o : OpeningSaid) (others : List OpeningSaid)
-    → OpensBook any_device old dcb o.input o.extents new → open_all (without_spare old) (o ∷ others) ≡ open_all (without_spare new) others
+    → OpensBook any_device old dcb o.method o.extents new → open_all (without_spare old) (o ∷ others) ≡ open_all (without_spare new) others
 unfolding open_all
 one_opened old new dcb o others h =
     let few : nat_lt (opened_count old.trace) 65535 ≡ true = grind (arith, nat_tests, h.fits.next, h.fits.few) in
@@ -216,7 +216,7 @@ none_left book = refl
 
 -- the DCBs of a unit, one after another
 pub dcb_opened : (old new : Book AnyDevice) (dcb : ℕ) (openings : List Opening) (k : ℕ) (o : Opening) (whole : Result (Book AnyDevice) ℕ)
-    → k < length openings → o ≡ get_or openings k o → OpensBook any_device old dcb o.input o.extents.items new
+    → k < length openings → o ≡ get_or openings k o → OpensBook any_device old dcb o.method o.extents.items new
     → open_all (without_spare old) (map opening_said (drop k openings)) ≡ whole → open_all (without_spare new) (map opening_said (drop (k + 1) openings)) ≡ whole
 dcb_opened old new dcb openings k o whole within is opens so_far =
     sym (one_opened old new dcb (opening_said o) (map opening_said (drop (k + 1) openings)) opens)

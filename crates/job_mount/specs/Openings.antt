@@ -14,7 +14,7 @@ can_open book o = nat_lt (opened_count book.trace) 65_535 && takes any_device bo
 
 -- the book with one more DCB open, which has the next number
 abbrev pub with_dcb : Book AnyDevice → OpeningSaid → Book AnyDevice
-with_dcb book o = record book { trace = Opened (opened_count book.trace + 1) o.input o.extents ∷ book.trace }
+with_dcb book o = record book { trace = Opened (opened_count book.trace + 1) o.method o.extents ∷ book.trace }
 
 -- the book with all DCBs of a unit open, or the line of the first that cannot be opened
 unfoldable pub open_all : Book AnyDevice → List OpeningSaid → Result (Book AnyDevice) ℕ

@@ -5,6 +5,7 @@ use Rattle.ckd_disk.specs.declared.mount.Geometry.{Geometry}
 use Rattle.line_printer.specs.Mount.{opening as opening_printer}
 use Rattle.tape_unit.specs.Item.{tape_mark}
 use Rattle.unit_book.specs.Book.{Book, opening}
+use Rattle.unit_book.specs.declared.dcb.ProcessingMethod.TheVariants.{Output}
 use Rattle.any_device.specs.declared.device.AnyDevice.{AnyDevice}
 use Rattle.any_device.specs.declared.device.AnyDevice.TheVariants.{Disk, Printer, Tape}
 use Rattle.job_script.specs.declared.fault.FaultName.{FaultName}
@@ -30,7 +31,7 @@ four_bytes = record { cylinder = 0; head = 0; number = 1; key = []; content = 19
 
 -- the DCB of its line 4
 abbrev pub output_dcb : OpeningSaid
-output_dcb = record { line = 4; input = false; extents = whole_track ∷ [] }
+output_dcb = record { line = 4; method = Output; extents = whole_track ∷ [] }
 
 -- the book of the stored script
 abbrev pub stored_book : Book AnyDevice

@@ -103,7 +103,7 @@ fn open_dcbs(
     ensures room { book.new.capacity ≡ book.old.capacity }
 {
     for opening in openings {
-        match book.open(opening.input, &opening.extents) {
+        match book.open(opening.method, &opening.extents) {
             Ok(_) => {}
             Err(OpenError::NoMemory) => return Err(AllocError),
             Err(_) => return Ok(Some(opening.line)),

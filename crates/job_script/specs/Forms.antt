@@ -1,10 +1,12 @@
 -- THE WORDS OF A LINE: how many there are, and what each says if it is of its form (profile).
-use Rattle.std.specs.Prelude.{ℕ, Bool, true, false, ◌==◌, nat_le, codes, if◌then◌else◌}
+use Rattle.std.specs.Prelude.{ℕ, ◌==◌, nat_le, codes, if◌then◌else◌}
 use Rattle.std.specs.Prelude.{List, [], length, get_or, Option, Some, None, Result, Ok, Err}
 use Rattle.std.specs.Option.{option_map}
 use Rattle.std.specs.Str.{bytes_eq}
 use Rattle.io_images.specs.Images.{extent_of}
 use Rattle.io_images.specs.declared.extent.Extent.{Extent}
+use Rattle.unit_book.specs.declared.dcb.ProcessingMethod.{ProcessingMethod}
+use Rattle.unit_book.specs.declared.dcb.ProcessingMethod.TheVariants as methods
 use Rattle.unit_book.specs.declared.entry.Mode.{Mode}
 use Rattle.unit_book.specs.declared.entry.Mode.TheVariants as modes
 use Rattle.script_words.specs.Forms.{decimal, decimal_in, each, hex_bytes, hexadecimal, joined, sized_pairs}
@@ -81,11 +83,11 @@ dcb_name u d = do
   dcb ← number_in 1 65535 d
   Ok (record { unit = unit; number = dcb })
 
--- in or out: whether a DCB is for input
-unfoldable pub input_of : Word → Result Bool FaultName
-input_of w =
-    if bytes_eq w (codes "in") then Ok true
-    else if bytes_eq w (codes "out") then Ok false
+-- in or out: what a DCB is opened for
+unfoldable pub method_of : Word → Result ProcessingMethod FaultName
+method_of w =
+    if bytes_eq w (codes "in") then Ok methods.Input
+    else if bytes_eq w (codes "out") then Ok methods.Output
     else Err names.Number
 
 -- quiesce or halt

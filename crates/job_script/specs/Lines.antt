@@ -11,7 +11,7 @@ use Rattle.job_script.specs.declared.line.verb.SetUpVerb.{SetUpVerb}
 use Rattle.job_script.specs.declared.line.verb.SetUpVerb.TheVariants as set_up_verbs
 use Rattle.job_script.specs.Steps.{◌>>=◌}
 use Rattle.job_script.specs.Forms.{Word, word, has, has_least, number, number_in, index, subclass, digits, address}
-use Rattle.job_script.specs.Forms.{bytes, joined_bytes, extents, dcb_name, input_of, mode_of}
+use Rattle.job_script.specs.Forms.{bytes, joined_bytes, extents, dcb_name, method_of, mode_of}
 use Rattle.job_script.specs.Said.{CommandSaid, LineSaid, MediumSaid, SetUpLineSaid, UnitSaid}
 use Rattle.job_script.specs.Said.{close, disk, printer, purge, purge_task, reset, tape, wait}
 use Rattle.job_script.specs.Said.{says_area, says_fault, says_item, says_opening, says_record, says_tasks, says_unit}
@@ -102,9 +102,9 @@ unfoldable pub open_line : ℕ → List Word → Result SetUpLineSaid FaultName
 open_line line ws = do
   _ ← has_least 3 ws
   unit ← index (word 1 ws)
-  input ← input_of (word 2 ws)
+  method ← method_of (word 2 ws)
   ranges ← extents (drop 3 ws)
-  Ok (says_opening unit (record { line = line; input = input; extents = ranges }))
+  Ok (says_opening unit (record { line = line; method = method; extents = ranges }))
 
 -- area A ADDR HEX ...
 unfoldable pub area_line : List Word → Result SetUpLineSaid FaultName

@@ -5,6 +5,7 @@ use Rattle.io_area.specs.Storage.{Storage}
 use Rattle.io_images.specs.declared.extent.Extent.{Extent}
 use Rattle.ckd_disk.specs.declared.mount.Geometry.{Geometry}
 use Rattle.job_script.specs.declared.fault.FaultName.{FaultName}
+use Rattle.unit_book.specs.declared.dcb.ProcessingMethod.TheVariants.{Output}
 use Rattle.job_script.specs.declared.fault.FaultName.TheVariants.{Words, Number, Order, Name, Kind, Area}
 use Rattle.job_script.specs.Said.{CommandSaid, Said, UnitSaid, disk, excp, wait}
 use Rattle.job_script.specs.Grammar.{script_of}
@@ -67,7 +68,7 @@ stored_disk = record {
   isc = 0;
   medium = disk one_track (record { cylinder = 0; head = 0; number = 1; key = []; content = 193 ∷ 194 ∷ 195 ∷ 196 ∷ [] } ∷ []);
   faults = [];
-  openings = record { line = 4; input = false; extents = whole_track ∷ [] } ∷ [];
+  openings = record { line = 4; method = Output; extents = whole_track ∷ [] } ∷ [];
 }
 
 -- its area

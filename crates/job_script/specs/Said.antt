@@ -1,10 +1,11 @@
 -- WHAT A SCRIPT SAYS: values, without where they lie in memory (profile).
-use Rattle.std.specs.Prelude.{ℕ, Bool, List, []}
+use Rattle.std.specs.Prelude.{ℕ, List, []}
 use Rattle.io_area.specs.Storage.{Storage}
 use Rattle.io_images.specs.declared.extent.Extent.{Extent}
 use Rattle.device_port.specs.declared.faults.Fault.{Fault as DeviceFault}
 use Rattle.ckd_disk.specs.declared.mount.Geometry.{Geometry}
 use Rattle.tape_unit.specs.Item.{Item}
+use Rattle.unit_book.specs.declared.dcb.ProcessingMethod.{ProcessingMethod}
 use Rattle.unit_book.specs.declared.entry.Mode.{Mode}
 use Rattle.job_script.specs.declared.command.DcbName.{DcbName}
 use Rattle.job_script.specs.declared.line.ExcpLine.{ExcpLine}
@@ -26,7 +27,7 @@ pub data MediumSaid : Type 0 where
 -- a DCB
 pub record OpeningSaid : Type 0 where
   pub line : ℕ
-  pub input : Bool
+  pub method : ProcessingMethod
   pub extents : List Extent
 
 -- a unit

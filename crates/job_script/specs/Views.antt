@@ -25,7 +25,7 @@ medium_said (media.Tape size items) = tape size (map initial items.items)
 medium_said (media.Printer lines pages) = printer lines pages
 
 abbrev pub opening_said : Opening → OpeningSaid
-opening_said o = record { line = o.line; input = o.input; extents = o.extents.items }
+opening_said o = record { line = o.line; method = o.method; extents = o.extents.items }
 
 -- the lines of records, items and faults serve messages, and are no part of what a script says
 abbrev pub unit_said : UnitSetup → UnitSaid

@@ -2,7 +2,7 @@
 
 ghost use Rattle.std.specs.Prelude.{◌≡◌, ◌<◌, ◌≤◌, IfOk};
 ghost use Rattle.std.specs.Prelude.{drop};
-ghost use Rattle.job_script.specs.Forms.{address, bytes, dcb_name, digits, extent, extents, has, has_least, index, input_of, joined_bytes, mode_of, number, number_in, subclass, word};
+ghost use Rattle.job_script.specs.Forms.{address, bytes, dcb_name, digits, extent, extents, has, has_least, index, joined_bytes, method_of, mode_of, number, number_in, subclass, word};
 ghost use Rattle.job_script.specs.Lines.{is_comment};
 ghost use Rattle.job_script.specs.Outcomes.{IsNoBytes, Reads, Returns, words_in};
 ghost use Rattle.job_script.specs.declared.fault.FaultName.TheVariants as names;
@@ -13,7 +13,7 @@ use crate::fault::FaultName;
 use io_images::Extent;
 use script_words::{FormError, Words};
 use std::alloc::Global;
-use unit_book::Mode;
+use unit_book::{Mode, ProcessingMethod};
 
 /// The line has `count` words.
 #[inline(always)]
@@ -263,19 +263,19 @@ pub fn dcb_of(line: &Words<'_>, unit: usize, dcb: usize) -> Result<DcbName, Caus
     Ok(DcbName { unit, number })
 }
 
-/// Reads `in` or `out`: whether a DCB is for input.
+/// Reads `in` or `out`: what a DCB is opened for.
 #[inline(always)]
-#[tactic(auto, unfolding(crate::specs::Forms::input_of))]
-pub fn input_of(line: &Words<'_>, place: usize) -> Result<bool, Cause>
+#[tactic(auto, unfolding(crate::specs::Forms::method_of))]
+pub fn method_of(line: &Words<'_>, place: usize) -> Result<ProcessingMethod, Cause>
     requires { place < 8 }
-    ensures { Reads result (input_of (word place (words_in line.now))) }
+    ensures { Reads result (method_of (word place (words_in line.now))) }
 {
     let word = line.word(place);
     if word == b"in".as_slice() {
-        return Ok(true);
+        return Ok(ProcessingMethod::Input);
     }
     if word == b"out".as_slice() {
-        return Ok(false);
+        return Ok(ProcessingMethod::Output);
     }
     Err(malformed(place, "word {n}, '{w}': in or out is wanted", 0, 0))
 }

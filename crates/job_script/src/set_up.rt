@@ -18,6 +18,7 @@ use io_images::Extent;
 use std::alloc::Global;
 use std::sync::Arc;
 use tape_unit::InitialItem;
+use unit_book::ProcessingMethod;
 
 /// The medium of a unit, and what lies on it.
 #[derive(Drop)]
@@ -32,7 +33,7 @@ pub enum Medium {
 #[derive(Drop)]
 pub struct Opening {
     pub line: usize,
-    pub input: bool,
+    pub method: ProcessingMethod,
     pub extents: Vec<Extent>,
 }
 

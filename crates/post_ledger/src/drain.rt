@@ -23,10 +23,10 @@ fn receive<S: Site, D: Device, R: Wait>(
     for _ in rt.forever() {
         match unit.take(rt)? {
             Intake::Took(_) => {}
-            Intake::Held | Intake::Quiet => return Ok(()),
+            Intake::Held | Intake::Quiet => break,
         }
     }
-    unreachable!()
+    Ok(())
 }
 
 /// Sends back what a unit has posted, as far as there is room.
@@ -38,10 +38,9 @@ fn give_back<S: Site, D: Device, R: Wait>(rt: &R, unit: &mut UnitState<'_, S, D>
     for _ in rt.forever() {
         match unit.deliver(rt) {
             Delivery::Delivered(_) => {}
-            Delivery::Quiet | Delivery::Full(_) => return,
+            Delivery::Quiet | Delivery::Full(_) => break,
         }
     }
-    unreachable!()
 }
 
 /// Does all that a unit can do.
@@ -116,8 +115,8 @@ pub(crate) fn drain<S: Site, D: Device, R: Wait>(
         work_all(rt, units)?;
         gather_all(rt, tasks, posts)?;
         if drained(units.as_slice(), tasks.as_slice()) {
-            return Ok(());
+            break;
         }
     }
-    unreachable!()
+    Ok(())
 }

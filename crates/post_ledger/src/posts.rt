@@ -77,10 +77,10 @@ fn gather<S: Site, R: Wait>(
                 let place = usize::from(value.unit());
                 lists[place].push_reserved(value);
             }
-            None => return Ok(()),
+            None => break,
         }
     }
-    unreachable!()
+    Ok(())
 }
 
 /// Makes room for one more value in each list.

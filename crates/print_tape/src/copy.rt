@@ -41,7 +41,7 @@ impl TaskProgram<AnyDevice> for CopyTape {
         let mut at_mark = false;
         for _ in rt.forever() {
             let Some(posted) = client.next_post(rt, alarm)? else {
-                return Ok(());
+                break;
             };
             let csw = posted.csw();
             let is_mark = csw.unit == UnitStatus::EXCEPTION_END;
@@ -59,7 +59,7 @@ impl TaskProgram<AnyDevice> for CopyTape {
                 (unit, code) => bail!("unit {unit} ended with code {:02X}", code.byte()),
             }
         }
-        unreachable!()
+        Ok(())
     }
 }
 

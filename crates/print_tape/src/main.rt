@@ -20,7 +20,7 @@ use std::alloc::Global;
 use std::io::Write;
 use system_threads::{Workers, run_program};
 use tape_unit::{InitialItem, Tape};
-use unit_book::UnitBook;
+use unit_book::{ProcessingMethod, UnitBook};
 use unit_history::Text;
 
 /// The blocks of the tape, in EBCDIC; the file `stdout` of this crate has them as they are printed.
@@ -69,7 +69,7 @@ fn book(alloc: Global, device: AnyDevice) -> Result<UnitBook<AnyDevice>>
     ensures { IfOk result (λ book. list_all is_opening book.trace ≡ true) }
 {
     let mut book = UnitBook::new(alloc, device, 0, 2)?;
-    book.open(false, &[])?;
+    book.open(ProcessingMethod::Output, &[])?;
     Ok(book)
 }
 

@@ -15,7 +15,7 @@ use io_images::{Extent, SubStatus, UnitStatus};
 use request_piece::{Name, Request};
 use std::alloc::{AllocError, Global};
 use std::sync::Wait;
-use unit_book::{Entry, UnitBook};
+use unit_book::{Entry, ProcessingMethod, UnitBook};
 
 /// What a test ends with where a call is refused memory once more: a test has one growth refused, so that is a fault of
 /// the call.
@@ -101,7 +101,7 @@ fn book<D: Device>(
     ensures { IfOk result (λ book. list_all is_opening book.trace ≡ true) }
 {
     let mut book = UnitBook::new(alloc, device, isc, capacity)?;
-    match book.open(false, extents) {
+    match book.open(ProcessingMethod::Output, extents) {
         Ok(_) => Ok(book),
         Err(_) => Err(AllocError),
     }
@@ -184,7 +184,7 @@ pub fn faulty_book(
     let extents = [Extent::read(&TRACK)];
     let disk = disk(alloc, BLOCK, faults)?;
     let mut book = book(alloc, disk, isc, &extents, capacity)?;
-    match book.open(false, &extents) {
+    match book.open(ProcessingMethod::Output, &extents) {
         Ok(_) => Ok(book),
         Err(_) => Err(AllocError),
     }

@@ -37,7 +37,7 @@ impl Alarm {
     }
 
     /// Whether a worker met want of memory.
-    pub fn raised(&self) -> bool {
+    pub(crate) fn raised(&self) -> bool {
         self.raised.load(Ordering::SeqCst)
     }
 }

@@ -156,7 +156,7 @@ impl<'r, S: Site> Client<'r, S> {
                 return Err(AllocError);
             }
             if self.awaited == 0 {
-                return Ok(None);
+                break;
             }
             if idle.is_completed() {
                 self.parker.park(rt);
@@ -164,11 +164,11 @@ impl<'r, S: Site> Client<'r, S> {
                 idle.snooze();
             }
         }
-        unreachable!()
+        Ok(None)
     }
 
     /// The task.
-    pub fn into_task(self) -> Task<'r, S>
+    pub(crate) fn into_task(self) -> Task<'r, S>
         ensures { result ≡ self.entry }
     {
         self.task

@@ -7,6 +7,7 @@ use Rattle.std.proofs.Math.Seq.{take-suc}
 use Rattle.std.specs.List.{list_any}
 use Rattle.std.specs.Prelude.{slice_get}
 use Rattle.device_port.specs.Meaning.{Meaning}
+use Rattle.unit_book.specs.declared.dcb.ProcessingMethod.{ProcessingMethod}
 use Rattle.unit_book.specs.declared.entry.Entry.{Entry}
 use Rattle.unit_book.specs.declared.entry.Entry.TheVariants.{Opened, Arrive, Start, Ran, Halted, Purge, Close, Reset, Post}
 use Rattle.unit_book.specs.Trace.{opens_for_input}
@@ -37,10 +38,10 @@ module _ {D : Type 0} (meaning : Meaning D) (mounted : D) where
   legal-before entries done l =
       legal-behind (reverse (drop done entries)) (before entries done) (subst (Legal meaning mounted) (parted entries done) l)
 
-  free-open : (d : ℕ) (input : Bool) (x : List Extent) (H : List Entry) (k : Due) → FitsBy meaning mounted k (Opened d input x) H → OpenFits meaning mounted d x H
-  free-open d input x H (ToHalt n) f = absurd cc
-  free-open d input x H (ToPost n) f = absurd cc
-  free-open d input x H Free f = f
+  free-open : (d : ℕ) (method : ProcessingMethod) (x : List Extent) (H : List Entry) (k : Due) → FitsBy meaning mounted k (Opened d method x) H → OpenFits meaning mounted d x H
+  free-open d method x H (ToHalt n) f = absurd cc
+  free-open d method x H (ToPost n) f = absurd cc
+  free-open d method x H Free f = f
 
   -- a DCB is opened once, so its file mask stays
   input-stays : (d : ℕ) (later earlier : List Entry) → Legal meaning mounted (later ++ earlier) → is_opened d earlier ≡ true →

@@ -9,6 +9,7 @@ use Rattle.unit_book.proofs.Names.{NothingPending, TriedAgain, WasPosted, Quiesc
 use Rattle.unit_book.proofs.Names.{has_started, is_posted, is_halt, is_halted, arrived_of, is_doomed, all_posted, attempts, newest}
 use Rattle.unit_book.proofs.Names.{still_runs, active_phase, Legal, CanPurge, due_by, is_to_halt, running_name_by, MayStart, MayFirst}
 use Rattle.unit_book.proofs.Names.{MayAgain, StartsBook, InterruptsBook, covered_by, after_purge, Each}
+use Rattle.unit_book.proofs.Names.{ProcessingMethod}
 use Rattle.std.proofs.Common.{Result}
 use Rattle.std.specs.declared.alloc.AllocError.{AllocError}
 use Rattle.unit_book.specs.declared.answer.Running.{Running}
@@ -34,13 +35,13 @@ run-settled meaning old new max Quiet s r = let e = r.1 in rw e s
 run-settled meaning old new max (Ran c pending) s r = let e = r.adds in rw e (settled-ran meaning old.mounted r.name c old.trace s)
 
 -- `open` keeps a book settled
-pub open-settled : {D : Type 0} (meaning : Meaning D) (old new : Book D) (input : Bool) (extents : List Extent)
+pub open-settled : {D : Type 0} (meaning : Meaning D) (old new : Book D) (method : ProcessingMethod) (extents : List Extent)
     (result : Result ℕ AllocError) → Settled meaning old.mounted old.trace →
-    OnOk result (Adds old (Opened (opened_count old.trace + 1) input extents) new) → OnErr result (new ≡ old) →
+    OnOk result (Adds old (Opened (opened_count old.trace + 1) method extents) new) → OnErr result (new ≡ old) →
     Settled meaning new.mounted new.trace
-open-settled meaning old new input extents (Ok d) s a b = let e = a in rw e
-    (settled-open meaning old.mounted (opened_count old.trace + 1) input extents old.trace s)
-open-settled meaning old new input extents (Err x) s a b = let e = b in rw e s
+open-settled meaning old new method extents (Ok d) s a b = let e = a in rw e
+    (settled-open meaning old.mounted (opened_count old.trace + 1) method extents old.trace s)
+open-settled meaning old new method extents (Err x) s a b = let e = b in rw e s
 
 -- a post and what it dooms, as one step
 module _ {D : Type 0} (meaning : Meaning D) (old mid posting new : Book D) (n : Name) (csw : Csw) (sense : ℕ) (code : Code) where
@@ -224,16 +225,16 @@ module _ {D : Type 0} (meaning : Meaning D) where
       pending-posts old new (Arrive r ∷ old.trace) old.awaits
       (facts meaning old.mounted (Arrive r ∷ old.trace) (fits-free meaning old.mounted (Arrive r) old.trace s n, l)) p
 
-  pub pending-open : (old new : Book D) (dcb : ℕ) (input : Bool) (extents : List Extent) → Adds old (Opened dcb input extents) new →
+  pub pending-open : (old new : Book D) (dcb : ℕ) (method : ProcessingMethod) (extents : List Extent) → Adds old (Opened dcb method extents) new →
       is_pending meaning new ≡ is_pending meaning old
   unfolding active started attempts
-  pending-open old new dcb input extents p = rw p refl
+  pending-open old new dcb method extents p = rw p refl
 
-  pub pending-opening : (old new : Book D) (input : Bool) (extents : List Extent) (result : Result ℕ AllocError) →
-      OnOk result (Adds old (Opened (opened_count old.trace + 1) input extents) new) →
+  pub pending-opening : (old new : Book D) (method : ProcessingMethod) (extents : List Extent) (result : Result ℕ AllocError) →
+      OnOk result (Adds old (Opened (opened_count old.trace + 1) method extents) new) →
       OnErr result (new ≡ old) → is_pending meaning new ≡ is_pending meaning old
-  pending-opening old new input extents (Ok d) a b = pending-open old new (opened_count old.trace + 1) input extents a
-  pending-opening old new input extents (Err x) a b = ap (is_pending meaning) b
+  pending-opening old new method extents (Ok d) a b = pending-open old new (opened_count old.trace + 1) method extents a
+  pending-opening old new method extents (Err x) a b = ap (is_pending meaning) b
 
   pub pending-reset : (old new : Book D) (dcb : ℕ) → Adds old (Reset dcb) new → is_pending meaning new ≡ is_pending meaning old
   unfolding active started attempts

@@ -4,6 +4,7 @@ use Rattle.unit_book.proofs.Names.{◌≡◌, ℕ, ◌+◌, ◌==◌, Bool, true
 use Rattle.unit_book.proofs.Names.{filter, filter-append, Piece, Entry, Arrive, Post, ExtentViolated, Extent, Meaning, no_status, Starting}
 use Rattle.unit_book.proofs.Names.{Started, Violated, NothingRuns, RanSome, Interruption, NothingPending, TriedAgain, WasPosted, StartsBook}
 use Rattle.unit_book.proofs.Names.{RunsBook, InterruptsBook, Book, arrivals, arrived_of, all_posted, after_dooms, doomed}
+use Rattle.unit_book.proofs.Names.{ProcessingMethod}
 use Rattle.unit_book.specs.declared.answer.Running.{Running}
 use Rattle.unit_book.specs.Answers.{OpensBook}
 
@@ -53,7 +54,7 @@ module _ {D : Type 0} (meaning : Meaning D) where
   interrupts-keep old (WasPosted n code) new h = ap (λ (b : Book D). arrivals b.trace) h.1.extends
       ∙ arrivals-after_dooms (Post n h.1.csw h.1.sense code ∷ old.trace)
 
-  pub opens-keep : (old : Book D) (dcb : ℕ) (input : Bool) (extents : List Extent) (new : Book D) →
-      OpensBook meaning old dcb input extents new → arrivals new.trace ≡ arrivals old.trace
+  pub opens-keep : (old : Book D) (dcb : ℕ) (method : ProcessingMethod) (extents : List Extent) (new : Book D) →
+      OpensBook meaning old dcb method extents new → arrivals new.trace ≡ arrivals old.trace
   unfolding arrivals
-  opens-keep old dcb input extents new h = ap (λ (b : Book D). arrivals b.trace) h.adds
+  opens-keep old dcb method extents new h = ap (λ (b : Book D). arrivals b.trace) h.adds

@@ -6,6 +6,7 @@ use Rattle.unit_book.proofs.Names.{active, started, request_named, doomed, is_do
 use Rattle.unit_book.proofs.Names.{doomed_first, is_to_halt, Fits, FitsBy, Legal, all_posted, after_dooms, doomed_by_post, DoomedBy}
 use Rattle.unit_book.proofs.Names.{halted_by, ◌+◌, Option, ◌++◌, append_assoc, map, append-nil, drop, Channel, PostedState, Placed, Active}
 use Rattle.unit_book.proofs.Names.{Dcb, Arrive, extents_of, attempts, area, purged, posted, posted_since, posted_value, Ties, Each}
+use Rattle.unit_book.proofs.Names.{ProcessingMethod}
 use Rattle.unit_book.specs.Trace.{is_purged}
 use Rattle.unit_book.specs.Selected.{is_selected}
 use Rattle.std.proofs.Math.Seq.{drop-append_seam, drop-length}
@@ -157,11 +158,11 @@ module _ {D : Type 0} (meaning : Meaning D) (mounted : D) where
   open-spares true false false false false h = refl
   open-spares _ now _ _ _ h = absurd cc
 
-  pub settled-open : (d : ℕ) (input : Bool) (x : List Extent) (H : List Entry) → due meaning mounted H ≡ Free →
-      due meaning mounted (Opened d input x ∷ H) ≡ Free
+  pub settled-open : (d : ℕ) (method : ProcessingMethod) (x : List Extent) (H : List Entry) → due meaning mounted H ≡ Free →
+      due meaning mounted (Opened d method x ∷ H) ≡ Free
   unfolding waiting arrivals flag
-  settled-open d input x H h =
-      let G = Opened d input x ∷ H in
+  settled-open d method x H h =
+      let G = Opened d method x ∷ H in
       let all = none-pass (is_doomed H) (waiting H) (due-doomed H h) in
       let same = filter-agree (is_doomed G) (λ r. false) (λ r. not (is_doomed H r))
       (λ r k. open-spares (is_opened r.dcb H) (eqb d r.dcb) (is_closed r.dcb H) (is_purged r H) (r.related && flag r.dcb H) k)

@@ -42,6 +42,8 @@ pub use Rattle.unit_book.specs.declared.answer.Running.TheVariants.{Quiet as Not
 pub use Rattle.unit_book.specs.declared.answer.Starting.{Starting}
 pub use Rattle.unit_book.specs.declared.answer.Starting.TheVariants.{Busy, Started, Violated}
 pub use Rattle.unit_book.specs.declared.dcb.Dcb.{Dcb}
+pub use Rattle.unit_book.specs.declared.dcb.ProcessingMethod.{ProcessingMethod}
+pub use Rattle.unit_book.specs.declared.dcb.ProcessingMethod.TheVariants.{Input, Output}
 pub use Rattle.unit_book.specs.declared.entry.Entry.{Entry}
 pub use Rattle.unit_book.specs.declared.entry.Entry.TheVariants.{Post, Arrive, Purge, Opened, Close, Halted, Reset, Start, Ran}
 pub use Rattle.unit_book.specs.declared.entry.Mode.{Mode}

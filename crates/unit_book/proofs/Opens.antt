@@ -8,6 +8,8 @@ use Rattle.unit_book.proofs.Names.{request_named, is_open, is_opened, is_closed,
 use Rattle.unit_book.proofs.Names.{ToHalt, ToPost, Free, due, Fits, FitsBy, Legal, StartFits, First, Again, PostFits, OfActive, OfFirst}
 use Rattle.unit_book.proofs.Names.{posted, Ties, dcb_at, dcb_of}
 use Rattle.unit_book.specs.Trace.{opens}
+use Rattle.unit_book.proofs.Names.{ProcessingMethod, Input, Output}
+use Rattle.unit_book.specs.Trace.{is_input}
 use Rattle.unit_book.specs.Legal.{OpenFits}
 use Rattle.unit_book.specs.Fields.{HasRow}
 use Rattle.unit_book.proofs.Lists.{same-true, no_both}
@@ -22,10 +24,10 @@ more : (d : ℕ) (H : List Entry) (e : Entry) → is_opened d H ≡ true → is_
 more d H e h = or_right (opens d e) (is_opened d H) h
 
 module _ {D : Type 0} (meaning : Meaning D) (mounted : D) where
-  free-open : (d : ℕ) (input : Bool) (x : List Extent) (H : List Entry) (k : Due) → FitsBy meaning mounted k (Opened d input x) H →
+  free-open : (d : ℕ) (method : ProcessingMethod) (x : List Extent) (H : List Entry) (k : Due) → FitsBy meaning mounted k (Opened d method x) H →
       OpenFits meaning mounted d x H
-  free-open d input x H Free f = f
-  free-open d input x H _ f = absurd cc
+  free-open d method x H Free f = f
+  free-open d method x H _ f = absurd cc
 
   -- a DCB that was opened has a number from 1 to the count
   pub opened-few : (d : ℕ) (H : List Entry) → Legal meaning mounted H → is_opened d H ≡ true → (1 ≤ d) × (d ≤ opened_count H)
@@ -146,28 +148,28 @@ module _ {D : Type 0} (meaning : Meaning D) (mounted : D) where
   not-so false b f h = refl
 
   -- what a trace says of a DCB that is opened next
-  pub dcb-new : (d : ℕ) (input : Bool) (x : List Extent) (H : List Entry) → Legal meaning mounted H → d ≡ opened_count H + 1 →
-      dcb_of d (Opened d input x ∷ H) ≡ Some (record { input = input; extents = x; closed = false; in_error = false })
+  pub dcb-new : (d : ℕ) (method : ProcessingMethod) (x : List Extent) (H : List Entry) → Legal meaning mounted H → d ≡ opened_count H + 1 →
+      dcb_of d (Opened d method x ∷ H) ≡ Some (record { method = method; extents = x; closed = false; in_error = false })
   unfolding extents_of flag
-  dcb-new d input x H l e =
+  dcb-new d method x H l e =
       let self : eqb d d ≡ true = eq-eqb d d refl in
       let new : is_opened d H
       ≡ false = elim (cases_Bool (is_opened d H)) [ inl o ↦ absurd (omega (arith, (opened-few d H l o).1, e)) | inr o ↦ o ] in
       let shut = not-so (is_closed d H) (is_opened d H) (closed-opened d H l) new in
       let flagged = not-so (flag d H) (is_opened d H) (flag-opened d H l) new in
       let none = no-input d H new in
-      rw (self, shut, flagged, none) (ap row (by_input input)) where
-        row : Bool → Option Dcb
-        row b = Some (record { input = b; extents = x; closed = false; in_error = false })
+      rw (self, shut, flagged, none) (ap row (by_method method)) where
+        row : ProcessingMethod → Option Dcb
+        row m = Some (record { method = m; extents = x; closed = false; in_error = false })
 
-        by_input : (b : Bool) → (b || false) ≡ b
-        by_input true = refl
-        by_input false = refl
+        by_method : (m : ProcessingMethod) → (if is_input m || false then Input else Output) ≡ m
+        by_method Input = refl
+        by_method Output = refl
 
   -- what it says of the others stays
-  dcb-other : (c d : ℕ) (input : Bool) (x : List Extent) (H : List Entry) → eqb d c ≡ false → dcb_of c (Opened d input x ∷ H) ≡ dcb_of c H
+  dcb-other : (c d : ℕ) (method : ProcessingMethod) (x : List Extent) (H : List Entry) → eqb d c ≡ false → dcb_of c (Opened d method x ∷ H) ≡ dcb_of c H
   unfolding extents_of flag
-  dcb-other c d input x H e = rw e refl
+  dcb-other c d method x H e = rw e refl
 
 at-push : (table : List Dcb) (row : Dcb) (k : ℕ) → slice_get (table ++ row ∷ []) k ≡ slice_get table k
     ⊎ ((k ≡ length table) × (slice_get (table ++ row ∷ []) k ≡ Some row))
@@ -176,25 +178,25 @@ at-push (r ∷ rs) row (suc k) = elim (at-push rs row k) [ inl e ↦ inl e | inr
 at-push _ row _ = inl refl
 
 module _ {D : Type 0} (meaning : Meaning D) (mounted : D) where
-  pub ties-open : {d : ℕ} (input : Bool) {x : List Extent} {H : List Entry} {channel : Channel D} {o : Option Active} {waiters : List Piece}
+  pub ties-open : {d : ℕ} (method : ProcessingMethod) {x : List Extent} {H : List Entry} {channel : Channel D} {o : Option Active} {waiters : List Piece}
       {table : List Dcb} {left : List PostedState} →
       due meaning mounted H ≡ Free → OpenFits meaning mounted d x H → Ties meaning mounted H channel o waiters table left →
-      Ties meaning mounted (Opened d input x ∷ H) channel o waiters
-      (table ++ record { input = input; extents = x; closed = false; in_error = false } ∷ []) left
+      Ties meaning mounted (Opened d method x ∷ H) channel o waiters
+      (table ++ record { method = method; extents = x; closed = false; in_error = false } ∷ []) left
   unfolding Legal waiting arrivals active started request_named attempts posted
-  ties-open {d} input {x} {H} {channel} {o} {waiters} {table} settled f t = record {
-    legal = (fits-free meaning mounted (Opened d input x) H settled f, t.legal);
+  ties-open {d} method {x} {H} {channel} {o} {waiters} {table} settled f t = record {
+    legal = (fits-free meaning mounted (Opened d method x) H settled f, t.legal);
     queue = t.queue;
     placed = t.placed;
     device = t.device;
-    activity = activity-same meaning mounted H (Opened d input x ∷ H) channel.phase o refl
+    activity = activity-same meaning mounted H (Opened d method x ∷ H) channel.phase o refl
         (λ n a. record { active = refl; request = refl; starts = refl; attempts = refl; halted = refl; covered = refl }) t.activity;
     count = omega (arith, length-append table (row ∷ []), t.count);
     dcbs = at;
     out = t.out;
   } where
     row : Dcb
-    row = record { input = input; extents = x; closed = false; in_error = false }
+    row = record { method = method; extents = x; closed = false; in_error = false }
 
     place : d ≡ length table + 1
     place = omega (arith, f.next, t.count)
@@ -218,11 +220,11 @@ module _ {D : Type 0} (meaning : Meaning D) (mounted : D) where
         let z : eqb d 0 ≡ false = elim (cases_Bool (eqb d 0)) [ inl z ↦ absurd (omega (arith, place, eqb-true d 0 z)) | inr z ↦ z ] in
         rw z (slice_get-append_right table (row ∷ []) (d - 1) 0 (omega (arith, place)))
 
-    at : (c : ℕ) → dcb_at (table ++ row ∷ []) c ≡ dcb_of c (Opened d input x ∷ H)
+    at : (c : ℕ) → dcb_at (table ++ row ∷ []) c ≡ dcb_of c (Opened d method x ∷ H)
     at c = elim (cases_Bool (eqb d c)) [
-      | inl e ↦ subst (λ (y : ℕ). dcb_at (table ++ row ∷ []) y ≡ dcb_of y (Opened d input x ∷ H)) (eqb-true d c e)
-          (new_at ∙ sym (dcb-new meaning mounted d input x H t.legal f.next))
-      | inr e ↦ same_at c e ∙ t.dcbs c ∙ sym (dcb-other meaning mounted c d input x H e)
+      | inl e ↦ subst (λ (y : ℕ). dcb_at (table ++ row ∷ []) y ≡ dcb_of y (Opened d method x ∷ H)) (eqb-true d c e)
+          (new_at ∙ sym (dcb-new meaning mounted d method x H t.legal f.next))
+      | inr e ↦ same_at c e ∙ t.dcbs c ∙ sym (dcb-other meaning mounted c d method x H e)
     ]
 
   -- a trace without entries

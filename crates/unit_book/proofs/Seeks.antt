@@ -73,14 +73,14 @@ module _ {D : Type 0} (meaning : Meaning D) (mounted : D) where
       takes_extents (meaning.kind mounted) (meaning.cylinders mounted) (meaning.heads mounted) (extents_of d H) ≡ true
   unfolding Legal extents_of
   opened-takes d [] l h = absurd cc
-  opened-takes d (Opened c input x ∷ H) l h =
+  opened-takes d (Opened c method x ∷ H) l h =
       let ih : is_opened d H ≡ true → takes_extents (meaning.kind mounted) (meaning.cylinders mounted) (meaning.heads mounted)
       (extents_of d H) ≡ true = λ k. opened-takes d H l.1 k in
       elim (cases_Bool (eqb c d)) [
         | inl e ↦ rw e (taken (due meaning mounted H) l.0)
         | inr e ↦ rw e (ih (rw e at h))
       ] where
-        taken : (k : Due) → FitsBy meaning mounted k (Opened c input x) H →
+        taken : (k : Due) → FitsBy meaning mounted k (Opened c method x) H →
             takes_extents (meaning.kind mounted) (meaning.cylinders mounted) (meaning.heads mounted) x ≡ true
         taken (ToHalt n) f = absurd cc
         taken (ToPost n) f = absurd cc

@@ -3,6 +3,7 @@ use Rattle.unit_book.proofs.Names.{◌≡◌, ℕ, Bool, true, false, Some, None
 use Rattle.unit_book.proofs.Names.{Printer, no_status, Retry, Final, Name, Piece, Quiesce, Halt, Entry, Opened, Arrive, Start, Ran, Halted}
 use Rattle.unit_book.proofs.Names.{Purge, Close, Reset, Post, arrivals, arrived_of, waiting, started, active, request_named, starts_of}
 use Rattle.unit_book.proofs.Names.{is_covered, is_halted, passes_check, extents_of, mask_of, flag, doomed, after_dooms}
+use Rattle.unit_book.proofs.Names.{Input, Output}
 use Rattle.io_images.specs.declared.code.Code.TheVariants.{PermanentError}
 use Rattle.io_images.specs.declared.seek.Seek.{Seek}
 use Rattle.device_port.specs.declared.kind.Kind.TheVariants.{Disk, Tape}
@@ -49,7 +50,7 @@ seek m bin cylinder head = record { extent = m; bin = bin; cylinder = cylinder; 
 quiesced : List Entry
 quiesced =
     Purge (Dcb 1) Quiesce ∷ Start (n 1) ∷ Arrive (r 3 2 false) ∷ Arrive (r 2 1 false) ∷ Arrive (r 1 1 false)
-    ∷ Opened 2 false [] ∷ Opened 1 false [] ∷ []
+    ∷ Opened 2 Output [] ∷ Opened 1 Output [] ∷ []
 
 quiesce_lets_active_end : (waiting quiesced ≡ r 2 1 false ∷ r 3 2 false ∷ []) × (active quiesced ≡ Some (n 1))
     × (doomed quiesced ≡ r 2 1 false ∷ [])
@@ -59,9 +60,9 @@ unfolding quiesced r n waiting arrivals active started flag
 quiesce_lets_active_end = (refl, refl, refl, refl, refl, refl)
 
 -- 2. A purge of a task takes the requests of all its DCBs
-of_task : (doomed (Purge (Task 0) Quiesce ∷ Arrive (r 2 2 false) ∷ Arrive (r 1 1 false) ∷ Opened 2 false [] ∷ Opened 1 false [] ∷ [])
+of_task : (doomed (Purge (Task 0) Quiesce ∷ Arrive (r 2 2 false) ∷ Arrive (r 1 1 false) ∷ Opened 2 Output [] ∷ Opened 1 Output [] ∷ [])
     ≡ r 1 1 false ∷ r 2 2 false ∷ [])
-    × (doomed (Arrive (r 1 1 false) ∷ Purge (Task 0) Quiesce ∷ Opened 1 false [] ∷ []) ≡ [])
+    × (doomed (Arrive (r 1 1 false) ∷ Purge (Task 0) Quiesce ∷ Opened 1 Output [] ∷ []) ≡ [])
 unfolding r waiting arrivals flag
 of_task = (refl, refl)
 
@@ -69,7 +70,7 @@ of_task = (refl, refl)
 in_error : List Entry
 in_error =
     Post (n 1) no_status 0 PermanentError ∷ Start (n 1) ∷ Arrive (r 3 1 false) ∷ Arrive (r 2 1 true) ∷ Arrive (r 1 1 true)
-    ∷ Opened 1 false [] ∷ []
+    ∷ Opened 1 Output [] ∷ []
 
 related_error_flags_dcb_until_reset : (flag 1 in_error ≡ true) × (doomed in_error ≡ r 2 1 true ∷ [])
     × (is_refused (r 4 1 true) in_error ≡ true)
@@ -82,7 +83,7 @@ related_error_flags_dcb_until_reset = (refl, refl, refl, refl, refl, refl)
 unrelated : List Entry
 unrelated =
     Post (n 1) no_status 0 PermanentError ∷ Start (n 1) ∷ Arrive (r 3 1 false) ∷ Arrive (r 2 1 true) ∷ Arrive (r 1 1 false)
-    ∷ Opened 1 false [] ∷ []
+    ∷ Opened 1 Output [] ∷ []
 
 unrelated_error_dooms_nothing : (flag 1 unrelated ≡ false) × (doomed unrelated ≡ [])
 unfolding unrelated r n waiting arrivals flag request_named
@@ -90,7 +91,7 @@ unrelated_error_dooms_nothing = (refl, refl)
 
 -- 5. A close while r1 is active and r2 waits, then the post of r1
 closing : List Entry
-closing = Close 1 ∷ Start (n 1) ∷ Arrive (r 2 1 false) ∷ Arrive (r 1 1 false) ∷ Opened 1 false [] ∷ []
+closing = Close 1 ∷ Start (n 1) ∷ Arrive (r 2 1 false) ∷ Arrive (r 1 1 false) ∷ Opened 1 Output [] ∷ []
 
 close_lets_active_retry : (dcb_state 1 closing ≡ Closing) × (doomed closing ≡ r 2 1 false ∷ [])
     × (dcb_state 1 (Post (n 1) no_status 0 Ended ∷ after_dooms closing) ≡ Closed) × (is_refused (r 5 1 false) closing ≡ true)
@@ -99,7 +100,7 @@ close_lets_active_retry = (refl, refl, refl, refl)
 
 -- 6. A DCB that was never opened
 unknown_dcb : (dcb_state 9 closing ≡ Unknown) × (flag 9 closing ≡ false) × (is_refused (r 3 9 false) closing ≡ true)
-    × (dcb_state 1 (Opened 1 false [] ∷ []) ≡ Open)
+    × (dcb_state 1 (Opened 1 Output [] ∷ []) ≡ Open)
 unfolding closing r flag active started
 unknown_dcb = (refl, refl, refl, refl)
 
@@ -131,7 +132,7 @@ extent_check = (refl, refl, refl, refl, refl, refl, refl)
 
 -- 10. Each DCB has its extents and its mask
 masks : List Entry
-masks = Opened 2 true (across ∷ []) ∷ Opened 1 false (one_track ∷ []) ∷ []
+masks = Opened 2 Input (across ∷ []) ∷ Opened 1 Output (one_track ∷ []) ∷ []
 
 dcbs_differ : (mask_of 1 masks ≡ 0x18) × (mask_of 2 masks ≡ 0x58) × (extents_of 1 masks ≡ one_track ∷ [])
     × (extents_of 2 masks ≡ across ∷ [])
@@ -143,7 +144,7 @@ covering : List Entry → Entry → Bool
 covering H e = is_covered (r 1 1 false) (e ∷ H)
 
 once : List Entry
-once = Start (n 1) ∷ Arrive (r 1 1 false) ∷ Opened 1 false [] ∷ []
+once = Start (n 1) ∷ Arrive (r 1 1 false) ∷ Opened 1 Output [] ∷ []
 
 halts_cover : (covering once (Purge (Dcb 1) Halt) ≡ true) × (covering once (Purge (Task 0) Halt) ≡ true)
     × (covering once (Purge (Dcb 1) Quiesce) ≡ false)
@@ -162,7 +163,7 @@ retried : List Entry
 retried =
     Start (n 2) ∷ Post (n 1) no_status 0 Ended ∷ Start (n 1) ∷ Ran (n 1) 1 ∷ Start (n 1) ∷ Arrive (r 3 1 false) ∷ Arrive
     (r 2 1 false) ∷ Arrive (r 1 1 false)
-    ∷ Opened 1 false [] ∷ []
+    ∷ Opened 1 Output [] ∷ []
 
 starts_and_places : (starts_of (n 1) retried ≡ 2) × (first_starts retried ≡ n 1 ∷ n 2 ∷ []) × (active retried ≡ Some (n 2))
     × (waits (n 3) retried ≡ true)
@@ -172,7 +173,7 @@ starts_and_places = (refl, refl, refl, refl, refl, refl, refl, refl)
 
 -- 14. A first request that violates its extents is posted without a Start, and flags its DCB if it is related
 violated : List Entry
-violated = Post (n 1) no_status 0 ExtentViolated ∷ Arrive (r 2 1 true) ∷ Arrive (r 1 1 true) ∷ Opened 1 false (one_track ∷ []) ∷ []
+violated = Post (n 1) no_status 0 ExtentViolated ∷ Arrive (r 2 1 true) ∷ Arrive (r 1 1 true) ∷ Opened 1 Output (one_track ∷ []) ∷ []
 
 extent_violation_dooms_related : (flag 1 violated ≡ true) × (doomed violated ≡ r 2 1 true ∷ []) × (waiting (after_dooms violated) ≡ [])
     × (first_starts (after_dooms violated) ≡ [])

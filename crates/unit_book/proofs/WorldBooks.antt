@@ -8,6 +8,7 @@ use Rattle.unit_book.proofs.Names.{active_phase, active_phase_by, current, Free,
 use Rattle.unit_book.proofs.Names.{CanPurge, posted, after_dooms, Book, running_name_by, Adds, Extends, MayStart, MayFirst, MayAgain}
 use Rattle.unit_book.proofs.Names.{StartsBook, RunsBook, InterruptsBook, PurgesBy, covers_awaiting, after_purge}
 use Rattle.ccw_programs.specs.declared.context.State.TheVariants.{Running as Runs}
+use Rattle.unit_book.proofs.Names.{ProcessingMethod}
 use Rattle.ccw_programs.proofs.StepLaws.{steps_within-running}
 use Rattle.unit_book.specs.declared.answer.Running.{Running}
 use Rattle.unit_book.specs.declared.answer.Purging.{Purging}
@@ -86,13 +87,13 @@ module _ {D : Type 0} (meaning : Meaning D) where
       keeps-posts old new (after_dooms (Arrive r ∷ old.trace)) old.awaits (r ∷ []) p
       (grows-arrive meaning old.mounted r old.trace s.0 s.1 n)
 
-  pub keeps-open : (old new : Book D) (dcb : ℕ) (input : Bool) (extents : List Extent) → Sound old →
-      OpensBook meaning old dcb input extents new →
+  pub keeps-open : (old new : Book D) (dcb : ℕ) (method : ProcessingMethod) (extents : List Extent) → Sound old →
+      OpensBook meaning old dcb method extents new →
       Keeps old [] new
   unfolding posted
-  keeps-open old new dcb input extents s h =
-      keeps-adds old new (Opened dcb input extents ∷ old.trace) old.awaits h.adds
-      (grows-open meaning old.mounted dcb input extents old.trace s.0 s.1 h.fits) refl
+  keeps-open old new dcb method extents s h =
+      keeps-adds old new (Opened dcb method extents ∷ old.trace) old.awaits h.adds
+      (grows-open meaning old.mounted dcb method extents old.trace s.0 s.1 h.fits) refl
 
   start-fits : (old : Book D) (n : Name) → MayStart meaning old n → StartFits meaning old.mounted n old.trace
   start-fits old n (MayFirst f) = First f

@@ -3,6 +3,7 @@ use Rattle.unit_book.proofs.Names.{◌≡◌, ℕ, true, false, List, [], ◌∷
 use Rattle.unit_book.proofs.Names.{no_status, PostedState, Name, Piece, Started, RanSome, WasPosted, Quiesce, Entry, Opened, Arrive, Ran}
 use Rattle.unit_book.proofs.Names.{Post, arrivals, waiting, started, active, request_named, extents_of, flag, attempts, stand, newest, Legal}
 use Rattle.unit_book.proofs.Names.{WithVerdict, due, posted, posted_value, MayFirst}
+use Rattle.unit_book.proofs.Names.{Output}
 use Rattle.std.proofs.Common.{replicate}
 use Rattle.device_port.specs.declared.kind.Flow.TheVariants.{None as NoFlow}
 use Rattle.ccw_programs.specs.Links.{chain_within}
@@ -116,7 +117,7 @@ abbrev normal_end : Csw
 normal_end = record { address = 8; unit = record { 0 = 12 }; sub = record { 0 = 0 }; residual = 1 }
 
 abbrev opened : List Entry
-opened = Opened 1 false [] ∷ []
+opened = Opened 1 Output [] ∷ []
 
 abbrev arrived : List Entry
 arrived = Arrive (r 1) ∷ opened

@@ -196,7 +196,7 @@ module _ {D : Type 0} (meaning : Meaning D) where
   step-kept : (old new : World D) → Kept old → Step meaning old new → Kept new
   step-kept old new k (Accept r s) = subst Kept (sym s.is) (accept-kept old r k s.of_unit s.next)
   step-kept old new k (Take s) = take-kept old new k s
-  step-kept old new k (Open dcb input extents s e) = in-book k e (keeps-open meaning old.book new.book dcb input extents (sound old k) s)
+  step-kept old new k (Open dcb method extents s e) = in-book k e (keeps-open meaning old.book new.book dcb method extents (sound old k) s)
   step-kept old new k (Start answer s e) = in-book k e (keeps-start meaning old.book new.book answer (sound old k) s)
   step-kept old new k (Run max answer m s e) = in-book k e (keeps-run meaning old.book new.book max answer (sound old k) m s)
   step-kept old new k (Interrupt answer s e) = in-book k e (keeps-interrupt meaning old.book new.book answer (sound old k) s)

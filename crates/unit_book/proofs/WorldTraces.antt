@@ -4,6 +4,7 @@ use Rattle.unit_book.proofs.Names.{list_all, Csw, Code, Purged, Extent, Meaning,
 use Rattle.unit_book.proofs.Names.{Arrive, Start, Ran, Halted, Purge, Close, Reset, Post, arrivals, arrived_of, request_named, doomed, is_open}
 use Rattle.unit_book.proofs.Names.{area, Free, due, doomed_first, FitsBy, Legal, StartFits, PostFits, OfActive, PostsActive, CanPurge}
 use Rattle.unit_book.proofs.Names.{posted, posted_value, after_dooms, halted_by, after_purge}
+use Rattle.unit_book.proofs.Names.{ProcessingMethod}
 use Rattle.unit_book.specs.Trace.{is_opening}
 use Rattle.unit_book.specs.Legal.{OpenFits, RanFits}
 use Rattle.unit_book.proofs.Lists.{without}
@@ -56,12 +57,12 @@ module _ {D : Type 0} (meaning : Meaning D) (mounted : D) where
         posted_is = m.1 ∙ ap (λ x. x ++ m.0) p ∙ append_assoc (posted meaning mounted H) vs m.0;
       }
 
-  pub grows-open : (d : ℕ) (input : Bool) (x : List Extent) (H : List Entry) → Legal meaning mounted H → due meaning mounted H ≡ Free →
-      OpenFits meaning mounted d x H → Grows H (Opened d input x ∷ H) []
+  pub grows-open : (d : ℕ) (method : ProcessingMethod) (x : List Extent) (H : List Entry) → Legal meaning mounted H → due meaning mounted H ≡ Free →
+      OpenFits meaning mounted d x H → Grows H (Opened d method x ∷ H) []
   unfolding Legal arrivals posted
-  grows-open d input x H l s f =
-      grows-quietly H (Opened d input x ∷ H) (fits-free meaning mounted (Opened d input x) H s f, l)
-      (settled-open meaning mounted d input x H s) refl refl
+  grows-open d method x H l s f =
+      grows-quietly H (Opened d method x ∷ H) (fits-free meaning mounted (Opened d method x) H s f, l)
+      (settled-open meaning mounted d method x H s) refl refl
 
   pub grows-arrive : (r : Piece) (H : List Entry) → Legal meaning mounted H → due meaning mounted H ≡ Free →
       r.name.seq ≡ arrived_of r.name.task H + 1 → Grows H (after_dooms (Arrive r ∷ H)) (r ∷ [])

@@ -23,6 +23,7 @@ use Rattle.unit_book.specs.declared.decision.Taken.{Taken}
 use Rattle.unit_book.specs.declared.decision.Taken.TheVariants as taking
 use Rattle.unit_book.specs.declared.decision.Begun.{Begun}
 use Rattle.unit_book.specs.declared.decision.Begun.TheVariants as beginning
+use Rattle.unit_book.specs.declared.dcb.ProcessingMethod.{ProcessingMethod}
 use Rattle.unit_book.specs.declared.entry.Entry.{Entry}
 use Rattle.unit_book.specs.declared.entry.Entry.TheVariants.{Opened, Start, Ran, Post}
 use Rattle.unit_book.specs.Trace.{active, waiting, request_named}
@@ -82,9 +83,9 @@ module _ {D : Type 0} (meaning : Meaning D) where
   }
 
   -- a DCB was opened
-  pub record OpensBook (old : Book D) (dcb : ℕ) (input : Bool) (extents : List Extent) (new : Book D) : Type 0 where
+  pub record OpensBook (old : Book D) (dcb : ℕ) (method : ProcessingMethod) (extents : List Extent) (new : Book D) : Type 0 where
     pub fits : OpenFits meaning old.mounted dcb extents old.trace
-    pub adds : Adds old (Opened dcb input extents) new
+    pub adds : Adds old (Opened dcb method extents) new
 
   -- extents that may be opened at this book
   abbrev pub takes : Book D → List Extent → Bool

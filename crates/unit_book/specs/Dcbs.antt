@@ -9,6 +9,8 @@ use Rattle.request_piece.specs.declared.piece.Name.{Name}
 use Rattle.request_piece.specs.declared.piece.Piece.{Piece}
 use Rattle.unit_book.specs.declared.dcb.DcbState.{DcbState}
 use Rattle.unit_book.specs.declared.dcb.DcbState.TheVariants.{Unknown, Open, Closing, Closed}
+use Rattle.unit_book.specs.declared.dcb.ProcessingMethod.{ProcessingMethod}
+use Rattle.unit_book.specs.declared.dcb.ProcessingMethod.TheVariants.{Input, Output}
 use Rattle.unit_book.specs.declared.entry.Entry.{Entry}
 use Rattle.unit_book.specs.declared.entry.Entry.TheVariants.{Opened, Reset, Post}
 use Rattle.unit_book.specs.Trace.{opens, opens_for_input, closes, is_opening, active, waiting, request_named, is_purged}
@@ -31,12 +33,21 @@ opened_count H = length (filter is_opening H)
 -- the extents of a DCB
 unfoldable pub extents_of : ℕ → List Entry → List Extent
 extents_of d [] = []
-extents_of d (Opened c input extents ∷ H) = if c == d then extents else extents_of d H
+extents_of d (Opened c method extents ∷ H) = if c == d then extents else extents_of d H
 extents_of d (_ ∷ H) = extents_of d H
 
--- the file mask of a DCB (profile)
+-- what a DCB was opened for
+abbrev pub opened_for : ℕ → List Entry → ProcessingMethod
+opened_for d H = if list_any (opens_for_input d) H then Input else Output
+
+-- the file mask of a DCB that is opened for this (profile)
+abbrev pub mask_for : ProcessingMethod → ℕ
+mask_for Input = input_mask
+mask_for Output = output_mask
+
+-- the file mask of a DCB
 abbrev pub mask_of : ℕ → List Entry → ℕ
-mask_of d H = if list_any (opens_for_input d) H then input_mask else output_mask
+mask_of d H = mask_for (opened_for d H)
 
 -- the request with this name, if there is one, is of this DCB
 abbrev pub is_of : ℕ → List Entry → Option Name → Bool

@@ -1,10 +1,9 @@
 -- WHAT THE FIELDS OF A BOOK SAY: they are those of its trace.
 use Rattle.std.specs.Prelude.{◌≡◌, ◌≤◌, ℕ, ◌+◌, ◌-◌, ◌==◌, Bool, true, false, ◌||◌, ◌&&◌, if◌then◌else◌, Option, Some, None, List, [], ◌++◌, length, slice_get}
-use Rattle.std.specs.List.{list_any}
 use Rattle.circular_buffer.specs.Buffer.{Buffer}
 use Rattle.std.specs.Box.{with_value}
 use Rattle.io_area.specs.Storage.{Storage}
-use Rattle.io_images.specs.FileMask.{input_mask, output_mask}
+use Rattle.io_images.specs.FileMask.{output_mask}
 use Rattle.io_images.specs.declared.csw.Csw.{Csw}
 use Rattle.io_images.specs.declared.extent.Extent.{Extent}
 use Rattle.io_images.specs.declared.code.Code.{Code}
@@ -29,9 +28,9 @@ use Rattle.unit_book.specs.declared.dcb.Dcb.{Dcb}
 use Rattle.unit_book.specs.declared.entry.Entry.{Entry}
 use Rattle.unit_book.specs.declared.entry.Mode.{Mode}
 use Rattle.unit_book.specs.Lists.{Each}
-use Rattle.unit_book.specs.Trace.{waiting, active, request_named, starts_of, is_halt, is_halted, is_covered, opens_for_input}
+use Rattle.unit_book.specs.Trace.{waiting, active, request_named, starts_of, is_halt, is_halted, is_covered}
 use Rattle.unit_book.specs.Media.{ActivePhase, StillRunning, WasHalted, HasEnded, current, active_phase, device}
-use Rattle.unit_book.specs.Dcbs.{is_opened, is_closed, extents_of, flag, opened_count}
+use Rattle.unit_book.specs.Dcbs.{is_opened, is_closed, extents_of, flag, mask_for, opened_count, opened_for}
 use Rattle.unit_book.specs.Legal.{Legal, verdict_of}
 use Rattle.unit_book.specs.Posts.{posted}
 
@@ -95,13 +94,13 @@ dcb_at table d = if d == 0 then None else slice_get table (d - 1)
 abbrev pub dcb_of : ℕ → List Entry → Option Dcb
 dcb_of d H =
     if is_opened d H
-    then Some (record { input = list_any (opens_for_input d) H; extents = extents_of d H; closed = is_closed d H; in_error = flag d H })
+    then Some (record { method = opened_for d H; extents = extents_of d H; closed = is_closed d H; in_error = flag d H })
     else None
 
 -- the file mask
 abbrev pub mask_at : Option Dcb → ℕ
 mask_at None = output_mask
-mask_at (Some c) = if c.input then input_mask else output_mask
+mask_at (Some c) = mask_for c.method
 
 -- the extents
 abbrev pub extents_at : Option Dcb → List Extent
@@ -111,17 +110,17 @@ extents_at (Some c) = c.extents
 -- the DCB has the flag, if there was such an error
 abbrev pub noted : Bool → Option Dcb → Option Dcb
 noted error None = None
-noted error (Some c) = Some (record { input = c.input; extents = c.extents; closed = c.closed; in_error = if error then true else c.in_error })
+noted error (Some c) = Some (record { method = c.method; extents = c.extents; closed = c.closed; in_error = if error then true else c.in_error })
 
 -- the DCB is closed, if it is this one
 abbrev pub shut : Bool → Option Dcb → Option Dcb
 shut here None = None
-shut here (Some c) = Some (record { input = c.input; extents = c.extents; closed = here || c.closed; in_error = c.in_error })
+shut here (Some c) = Some (record { method = c.method; extents = c.extents; closed = here || c.closed; in_error = c.in_error })
 
 -- the DCB loses its flag, if it is this one
 abbrev pub unflagged : Bool → Option Dcb → Option Dcb
 unflagged here None = None
-unflagged here (Some c) = Some (record { input = c.input; extents = c.extents; closed = c.closed; in_error = if here then false else c.in_error })
+unflagged here (Some c) = Some (record { method = c.method; extents = c.extents; closed = c.closed; in_error = if here then false else c.in_error })
 
 -- THE FIELDS AND THE TRACE
 

@@ -126,7 +126,7 @@ module _ {D : Type 0} (meaning : Meaning D) (mounted : D) where
 
   -- what fits where nothing is due
   abbrev pub FitsFree : Entry → List Entry → Type 0
-  FitsFree (Opened d input extents) H = OpenFits d extents H
+  FitsFree (Opened d method extents) H = OpenFits d extents H
   FitsFree (Arrive r) H = r.name.seq ≡ arrived_of r.name.task H + 1
   FitsFree (Start n) H = StartFits n H
   FitsFree (Ran n j) H = RanFits n j H

@@ -7,6 +7,8 @@ use Rattle.request_piece.specs.declared.piece.Piece.{Piece}
 use Rattle.request_piece.specs.Scope.{covers}
 use Rattle.unit_book.specs.declared.entry.Mode.{Mode}
 use Rattle.unit_book.specs.declared.entry.Mode.TheVariants.{Quiesce, Halt}
+use Rattle.unit_book.specs.declared.dcb.ProcessingMethod.{ProcessingMethod}
+use Rattle.unit_book.specs.declared.dcb.ProcessingMethod.TheVariants.{Input, Output}
 use Rattle.unit_book.specs.declared.entry.Entry.{Entry}
 use Rattle.unit_book.specs.declared.entry.Entry.TheVariants.{Opened, Arrive, Start, Halted, Purge, Close, Post}
 
@@ -52,17 +54,21 @@ purges_halting r _ = false
 
 -- the entry opens this DCB
 abbrev pub opens : ℕ → Entry → Bool
-opens d (Opened c input extents) = c == d
+opens d (Opened c method extents) = c == d
 opens d _ = false
+
+abbrev pub is_input : ProcessingMethod → Bool
+is_input Input = true
+is_input Output = false
 
 -- the entry opens this DCB for input
 abbrev pub opens_for_input : ℕ → Entry → Bool
-opens_for_input d (Opened c input extents) = (c == d) && input
+opens_for_input d (Opened c method extents) = (c == d) && is_input method
 opens_for_input d _ = false
 
 -- the entry opens a DCB
 abbrev pub is_opening : Entry → Bool
-is_opening (Opened c input extents) = true
+is_opening (Opened c method extents) = true
 is_opening _ = false
 
 -- the entry closes this DCB

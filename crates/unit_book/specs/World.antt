@@ -12,6 +12,7 @@ use Rattle.unit_book.specs.declared.answer.Interruption.{Interruption}
 use Rattle.unit_book.specs.declared.answer.Purging.{Purging}
 use Rattle.unit_book.specs.declared.answer.Running.{Running}
 use Rattle.unit_book.specs.declared.answer.Starting.{Starting}
+use Rattle.unit_book.specs.declared.dcb.ProcessingMethod.{ProcessingMethod}
 use Rattle.unit_book.specs.declared.entry.Mode.{Mode}
 use Rattle.unit_book.specs.declared.entry.Entry.TheVariants.{Arrive, Reset as ResetOf}
 use Rattle.unit_book.specs.Trace.{is_opening, waiting, active}
@@ -96,7 +97,7 @@ module _ {D : Type 0} (meaning : Meaning D) where
   pub data Step (old new : World D) : Type 0 where
     Accept : (r : Piece) → Accepts old r new → Step old new
     Take : Takes old new → Step old new
-    Open : (dcb : ℕ) (input : Bool) (extents : List Extent) → OpensBook meaning old.book dcb input extents new.book → InBook old new → Step old new
+    Open : (dcb : ℕ) (method : ProcessingMethod) (extents : List Extent) → OpensBook meaning old.book dcb method extents new.book → InBook old new → Step old new
     Start : (answer : Starting) → StartsBook meaning old.book answer new.book → InBook old new → Step old new
     Run : (max : ℕ) (answer : Running) → 1 ≤ max → RunsBook meaning old.book max answer new.book → InBook old new → Step old new
     Interrupt : (answer : Interruption) → InterruptsBook meaning old.book answer new.book → InBook old new → Step old new

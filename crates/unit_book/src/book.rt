@@ -14,6 +14,7 @@ ghost use Rattle.unit_book.specs.Refusals.{InterruptLacks, RunLacks, StartLacks}
 ghost use Rattle.unit_book.specs.Trace.{active, arrived_of, waiting};
 
 use crate::answer::{ArriveError, Interruption, OpenError, Running, Starting};
+use crate::dcb::ProcessingMethod;
 use crate::decision::{Begun, Taken};
 use crate::entries::Entries;
 use crate::entry::Entry;
@@ -97,28 +98,40 @@ impl<D: Device> UnitBook<D> {
         ensures err { OnErr result (self.new ≡ self.old) }
         ensures pending { is_pending D.meaning self.new ≡ is_pending D.meaning self.old }
     {
-        self.entries.holds();
         if !self.entries.has_room() {
             return Err((ArriveError::Held, request));
         }
-        if self.entries.reserve(2).is_err() {
+        if self.reserve().is_err() {
             return Err((ArriveError::NoMemory, request));
         }
+        self.arrive_reserved(request);
+        Ok(())
+    }
+
+    /// A request arrives, as [`UnitBook::arrive`], for which the book has room and `reserve` has made room. It takes no
+    /// memory.
+    pub fn arrive_reserved(&mut self, request: Request)
+        requires number { request.name.seq ≡ arrived_of request.name.task self.old.trace + 1 }
+        requires room { occupancy self.old < self.old.capacity }
+        requires spare { 2 ≤ self.old.spare }
+        ensures book { Extends D.meaning self.old (after_dooms (Entry.Arrive request ∷ self.old.trace)) self.old.awaits self.new }
+        ensures pending { is_pending D.meaning self.new ≡ is_pending D.meaning self.old }
+    {
+        self.entries.holds();
         let refused = self.entries.is_refused(&request);
         let (issued, work) = request.into_parts();
         if refused {
             self.entries.refuse(issued, work);
-            return Ok(());
+        } else {
+            self.entries.arrive(issued, work);
         }
-        self.entries.arrive(issued, work);
-        Ok(())
     }
 
     /// Opens a DCB for input or for output, with its extents, and answers its number. It is refused, and
     /// the trace stays, for the first reason that applies: the unit has 65,535 DCBs; the extents are not such
     /// as the device takes (DFSMSdfp Advanced Services, "Data Extent Block Fields"); there is no memory.
-    pub fn open(&mut self, input: bool, extents: &[Extent]) -> Result<u16, OpenError>
-        ensures ok { IfOk result (λ dcb. OpensBook D.meaning self.old dcb input extents.now self.new) }
+    pub fn open(&mut self, method: ProcessingMethod, extents: &[Extent]) -> Result<u16, OpenError>
+        ensures ok { IfOk result (λ dcb. OpensBook D.meaning self.old dcb method extents.now self.new) }
         ensures refused { IfErr result (OpenRefused D.meaning self.old extents.now) }
         ensures err { OnErr result (self.new ≡ record self.old { spare = self.new.spare }) }
         ensures kept { OnErr result (self.old.spare ≤ self.new.spare) }
@@ -134,7 +147,7 @@ impl<D: Device> UnitBook<D> {
             return Err(OpenError::NoMemory);
         }
         self.entries
-            .open(input, extents)
+            .open(method, extents)
             .map_err(|_| OpenError::NoMemory)
     }
 

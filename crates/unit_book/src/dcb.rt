@@ -3,6 +3,7 @@
 ghost use Rattle.std.specs.Prelude.{◌≡◌, ◌+◌, ◌==◌, ◌&&◌, ℕ, [], ◌∷◌, ◌++◌, length, OnOk, OnErr, true, false};
 ghost use Rattle.std.specs.Option.{option_copied};
 ghost use Rattle.io_images.specs.Codes.{is_error};
+ghost use Rattle.unit_book.specs.Dcbs.{mask_for};
 ghost use Rattle.unit_book.specs.Fields.{HasRow, dcb_at, mask_at, extents_at, noted, shut, unflagged};
 
 use crate::extents::Extents;
@@ -10,6 +11,25 @@ use io_images::{Code, Extent, FileMask};
 use request_piece::Piece;
 use std::alloc::{AllocError, Global};
 use std::marker::Model;
+
+/// What a DCB is opened for: the processing method of an OPEN (DFSMS Macro Instructions for Data Sets, OPEN).
+#[derive(Clone, Copy, PartialEq, Eq, Debug)]
+pub enum ProcessingMethod {
+    Input,
+    Output,
+}
+
+impl ProcessingMethod {
+    /// The file mask that the supervisor sets for a DCB that is opened so (profile).
+    pub fn file_mask(self) -> FileMask
+        ensures { result ≡ record { 0 = mask_for self } }
+    {
+        match self {
+            ProcessingMethod::Input => FileMask::INPUT,
+            ProcessingMethod::Output => FileMask::OUTPUT,
+        }
+    }
+}
 
 /// The state of a DCB at a unit: closing while a request of it is active, and closed after.
 #[derive(Clone, Copy, PartialEq, Eq, Debug)]
@@ -23,7 +43,7 @@ pub enum DcbState {
 /// What is kept of a DCB.
 #[derive(Drop)]
 pub(crate) struct Dcb {
-    pub input: bool,
+    pub method: ProcessingMethod,
     pub extents: Extents,
     pub closed: bool,
     pub in_error: bool,
@@ -84,8 +104,8 @@ impl DcbTable {
         ensures { result ≡ mask_at (dcb_at self.now dcb) }
     {
         match self.get(dcb) {
-            Some(row) if row.input => FileMask::INPUT.0,
-            Some(_) | None => FileMask::OUTPUT.0,
+            Some(row) => row.method.file_mask().0,
+            None => FileMask::OUTPUT.0,
         }
     }
 

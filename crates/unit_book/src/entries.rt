@@ -18,7 +18,7 @@ ghost use Rattle.unit_book.specs.Trace.{waiting};
 ghost use Rattle.unit_queue.specs.Queue.{queue};
 
 use crate::active::Active;
-use crate::dcb::{Dcb, DcbTable};
+use crate::dcb::{Dcb, DcbTable, ProcessingMethod};
 use crate::entry::Entry;
 use crate::extents::Extents;
 use circular_buffer::HeapCircularBuffer;
@@ -156,25 +156,25 @@ impl<D: Device> Entries<D> {
     }
 
     /// Opens the next DCB.
-    pub fn open(&mut self, input: bool, extents: &[Extent]) -> Result<u16, AllocError>
+    pub fn open(&mut self, method: ProcessingMethod, extents: &[Extent]) -> Result<u16, AllocError>
         requires spare { 1 ≤ self.old.spare }
         requires settled { Settled D.meaning self.old.mounted self.old.trace }
         requires fits { OpenFits D.meaning self.old.mounted (opened_count self.old.trace + 1) extents.now self.old.trace }
         ensures number { IfOk result (λ dcb. dcb ≡ opened_count self.old.trace + 1) }
-        ensures book { OnOk result (Adds self.old (Entry.Opened (opened_count self.old.trace + 1) input extents.now) self.new) }
+        ensures book { OnOk result (Adds self.old (Entry.Opened (opened_count self.old.trace + 1) method extents.now) self.new) }
         ensures err { OnErr result (self.new ≡ self.old) }
     {
         let alloc = *self.trace.allocator();
         let kept = Extents::new(alloc, extents)?;
         let shown = Extents::new(alloc, extents)?;
         self.dcbs.push(Dcb {
-            input,
+            method,
             extents: kept,
             closed: false,
             in_error: false,
         })?;
         let dcb = self.dcbs.len() as u16;
-        write(&mut self.trace, Entry::Opened(dcb, input, shown));
+        write(&mut self.trace, Entry::Opened(dcb, method, shown));
         Ok(dcb)
     }
 }

@@ -1,5 +1,6 @@
 //! The trace of a unit: its entries.
 
+use crate::dcb::ProcessingMethod;
 use crate::extents::Extents;
 use io_images::{Code, Csw};
 use request_piece::{Issued, Name, Scope};
@@ -15,8 +16,8 @@ pub enum Mode {
 /// What happened at a unit (profile).
 #[derive(Drop)]
 pub enum Entry {
-    /// A DCB was opened: its number, whether it is for input, and its extents.
-    Opened(u16, bool, Extents),
+    /// A DCB was opened: its number, what it is for, and its extents.
+    Opened(u16, ProcessingMethod, Extents),
     /// A request arrived.
     Arrive(Issued),
     /// The program of a request was started.

@@ -22,7 +22,7 @@ pub use answer::{
     ArriveError, Closing, DcbError, Interruption, OpenError, Purging, Running, Starting,
 };
 pub use book::UnitBook;
-pub use dcb::DcbState;
+pub use dcb::{DcbState, ProcessingMethod};
 pub use entry::{Entry, Mode};
 pub use extents::{ExtentRefusal, Extents, ExtentsRefusal, extents_refusal, passes_check};
 pub use request_piece::Issued;

@@ -12,7 +12,7 @@ use io_images::{Code, Csw};
 use request_piece::{Issued, Name, Scope};
 use std::io;
 use std::io::Write;
-use unit_book::{Entry, Mode, UnitBook};
+use unit_book::{Entry, Mode, ProcessingMethod, UnitBook};
 
 /// What the entries before one leave to be known at it.
 #[derive(Drop)]
@@ -152,8 +152,8 @@ fn write_entry<W: Write>(
     past: &Past<'_>,
 ) -> io::Result<()> {
     match entry {
-        Entry::Opened(dcb, input, extents) => {
-            write_opening(out, *dcb, *input, extents.as_slice().len())
+        Entry::Opened(dcb, method, extents) => {
+            write_opening(out, *dcb, *method, extents.as_slice().len())
         }
         Entry::Arrive(issued) => write_arrival(out, issued),
         Entry::Start(name) => write_start(out, *name, past),
@@ -166,9 +166,17 @@ fn write_entry<W: Write>(
     }
 }
 
-fn write_opening<W: Write>(out: &mut W, dcb: u16, input: bool, extents: usize) -> io::Result<()> {
-    let way = if input { "input" } else { "output" };
-    write!(out, "DCB {dcb} opened for {way}")?;
+fn write_opening<W: Write>(
+    out: &mut W,
+    dcb: u16,
+    method: ProcessingMethod,
+    extents: usize,
+) -> io::Result<()> {
+    let method = match method {
+        ProcessingMethod::Input => "input",
+        ProcessingMethod::Output => "output",
+    };
+    write!(out, "DCB {dcb} opened for {method}")?;
     if extents > 0 {
         let extents = Count::new(extents as u64, "extent", "extents");
         write!(out, ", {extents}")?;

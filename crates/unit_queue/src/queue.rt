@@ -74,9 +74,7 @@ impl WaitQueue {
         requires { length self.old.pieces < self.old.capacity }
         ensures { self.new ≡ queue (self.old.pieces ++ piece.value ∷ []) self.old.capacity }
     {
-        if self.ring.push_back(piece).is_some() {
-            unreachable!();
-        }
+        self.ring.push_back(piece);
     }
 
     /// The first request.

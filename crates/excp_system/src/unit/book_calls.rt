@@ -19,7 +19,8 @@ use request_piece::Scope;
 use std::alloc::AllocError;
 use std::sync::Wait;
 use unit_book::{
-    Closing, DcbError, Entry, Interruption, Mode, OpenError, Purging, Running, Starting,
+    Closing, DcbError, Entry, Interruption, Mode, OpenError, ProcessingMethod, Purging, Running,
+    Starting,
 };
 
 /// Whether the answer of a run tells of a status that is pending now.
@@ -34,15 +35,15 @@ fn leaves_pending(answer: Running) -> bool
 
 impl<'r, S: Site, D: Device> UnitState<'r, S, D> {
     /// Opens a DCB, as [`unit_book::UnitBook::open`].
-    pub fn open(&mut self, input: bool, extents: &[Extent]) -> Result<u16, OpenError>
-        ensures ok { IfOk result (λ dcb. OpensBook D.meaning self.old.book dcb input extents.now self.new.book) }
+    pub fn open(&mut self, method: ProcessingMethod, extents: &[Extent]) -> Result<u16, OpenError>
+        ensures ok { IfOk result (λ dcb. OpensBook D.meaning self.old.book dcb method extents.now self.new.book) }
         ensures refused { IfErr result (OpenRefused D.meaning self.old.book extents.now) }
         ensures err { OnErr result (self.new.book ≡ record self.old.book { spare = self.new.book.spare }) }
         ensures kept { OnErr result (self.old.book.spare ≤ self.new.book.spare) }
         ensures rest { InBook self.old self.new }
     {
         self.book.holds();
-        self.book.open(input, extents)
+        self.book.open(method, extents)
     }
 
     /// Starts what comes next, as [`unit_book::UnitBook::start`].

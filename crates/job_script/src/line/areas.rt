@@ -8,7 +8,7 @@ ghost use Rattle.job_script.specs.Outcomes.{Returns, words_in};
 use super::{AreaLine, SetUpLine, TasksLine};
 use crate::cause::Refusal;
 use crate::forms::{
-    address, extents, has, has_least, index, input_of, joined_bytes, number, number_in,
+    address, extents, has, has_least, index, joined_bytes, method_of, number, number_in,
 };
 use crate::set_up::Opening;
 use script_words::Words;
@@ -33,11 +33,11 @@ pub fn opening(alloc: Global, at: usize, line: &Words<'_>) -> Result<SetUpLine, 
 {
     has_least(line, 3)?;
     let unit = index(line, 1)?;
-    let input = input_of(line, 2)?;
+    let method = method_of(line, 2)?;
     let extents = extents(alloc, line)?;
     let opening = Opening {
         line: at,
-        input,
+        method,
         extents,
     };
     Ok(SetUpLine::Opening(unit, opening))

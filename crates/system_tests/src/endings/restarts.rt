@@ -13,7 +13,7 @@ use crate::units::calls::{Hold, R1, held};
 use device_port::Fault;
 use device_port::toy::ToyBlock;
 use io_images::{Extent, SubStatus, UnitStatus};
-use unit_book::Entry;
+use unit_book::{Entry, ProcessingMethod};
 
 /// The book of a disk of one block whose first command meets a channel-data check, with DCB 1 open on its track.
 fn book(alloc: Global) -> Result<UnitBook<ToyBlock>, AllocError>
@@ -27,7 +27,7 @@ fn book(alloc: Global) -> Result<UnitBook<ToyBlock>, AllocError>
     };
     let device = ToyBlock::mount(alloc, Kind::Disk, BLOCK, &[fault])?;
     let mut book = UnitBook::new(alloc, device, 5, 4)?;
-    match book.open(false, &[Extent::read(&TRACK)]) {
+    match book.open(ProcessingMethod::Output, &[Extent::read(&TRACK)]) {
         Ok(_) => Ok(book),
         Err(_) => Err(AllocError),
     }

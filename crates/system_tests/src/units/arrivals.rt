@@ -10,7 +10,7 @@ use io_area::Area;
 use io_images::Extent;
 use request_piece::Request;
 use std::alloc::Global;
-use unit_book::ArriveError;
+use unit_book::{ArriveError, ProcessingMethod};
 
 /// A book whose trace has room for no entry more: DCBs are opened until it is full.
 fn full_book(alloc: Global) -> Result<UnitBook<Disk>, AllocError>
@@ -22,7 +22,8 @@ fn full_book(alloc: Global) -> Result<UnitBook<Disk>, AllocError>
             return Ok(book);
         }
         let extents = [Extent::read(&TRACK)];
-        book.open(false, &extents).map_err(|_| AllocError)?;
+        book.open(ProcessingMethod::Output, &extents)
+            .map_err(|_| AllocError)?;
     }
     Err(AllocError)
 }

@@ -11,6 +11,7 @@ use super::*;
 use crate::fixtures::TWICE;
 use device_port::Kind;
 use std::alloc::Global;
+use unit_book::ProcessingMethod;
 
 /// The book of a unit on this subclass, in which nothing happened.
 fn book(alloc: Global, isc: u8) -> Result<UnitBook<ToyBlock>, AllocError>
@@ -89,7 +90,7 @@ fn book_again(alloc: Global, isc: u8) -> Result<UnitBook<ToyBlock>, Fail>
         Ok(book) => book,
         Err(failed) => UnitBook::new(alloc, failed.value, isc, 1).map_err(|_| TWICE)?,
     };
-    match book.open(false, &[]) {
+    match book.open(ProcessingMethod::Output, &[]) {
         Ok(_) => Ok(book),
         Err(_) => Err(Fail::from(AllocError)),
     }

@@ -7,7 +7,7 @@ use super::*;
 use crate::fixtures::TRACK;
 use excp_system::UnitState;
 use io_images::Extent;
-use unit_book::{DcbState, Entry, OpenError};
+use unit_book::{DcbState, Entry, OpenError, ProcessingMethod};
 
 /// The image of an extent of one track that says it has two.
 const TWO_TRACKS: [u8; 16] = [0x18, 0, 0, 0, 0, 0, 0, 0, 0, 0, 0, 0, 0, 0, 0, 2];
@@ -21,7 +21,8 @@ type Case<'e> = (&'e [Extent], Result<u16, OpenError>);
 /// Whether the newest entry of a trace tells that this DCB was opened for input on these extents.
 fn tells_of(trace: &[Entry], number: u16, extents: &[Extent]) -> bool {
     match trace.last() {
-        Some(Entry::Opened(dcb, true, list)) => *dcb == number && list.as_slice() == extents,
+        Some(Entry::Opened(dcb, ProcessingMethod::Input, list)) => *dcb == number
+            && list.as_slice() == extents,
         _ => false,
     }
 }
@@ -35,7 +36,7 @@ fn expect_opening<S: Site, D: Device>(
     wanted: Result<u16, OpenError>,
 ) {
     let before = unit.book().trace().len();
-    let answer = unit.open(true, extents);
+    let answer = unit.open(ProcessingMethod::Input, extents);
     let trace = unit.book().trace();
     let is_told = match answer {
         Ok(dcb) => tells_of(trace, dcb, extents) && unit.book().dcb_state(dcb) == DcbState::Open,
@@ -92,7 +93,7 @@ fn fill<S: Site, R: Wait + Abort + AllocGlobal>(
 /// Opens DCB 2 of a locked unit, and once more where there was no memory for it.
 fn expect_opened<S: Site>(rt: &impl Abort, unit: &mut UnitState<'_, S, Disk>) {
     let track = [Extent::read(&TRACK)];
-    if let Err(error) = unit.open(true, &track) {
+    if let Err(error) = unit.open(ProcessingMethod::Input, &track) {
         assert!(rt; error == OpenError::NoMemory && unit.book().trace().len() == 1);
         expect_opening(rt, unit, &track, Ok(2));
     }

@@ -9,7 +9,7 @@ use device_port::Fault;
 use excp_system::{Gate, IscTaker, Point, Stop, serve_channel, serve_isc};
 use io_images::Extent;
 use std::cell::Cell;
-use unit_book::OpenError;
+use unit_book::{OpenError, ProcessingMethod};
 
 /// Stops a worker after one turn on a unit, and counts the calls of which it is told that there was no memory.
 #[derive(Drop)]
@@ -96,7 +96,10 @@ fn open_more<S: Site, R: Wait>(
 {
     for _ in 0..more {
         let extents = [Extent::read(&TRACK)];
-        system.lock_of(0).lock(rt).open(false, &extents)?;
+        system
+            .lock_of(0)
+            .lock(rt)
+            .open(ProcessingMethod::Output, &extents)?;
     }
     Ok(())
 }

@@ -19,7 +19,7 @@ returns-in-Err c =
 pub loop-opening-preserved : goal.loop-opening-preserved
 loop-opening-preserved c =
     let o = c.opening-item.result in
-    let opens = subst (λ (xs : List Extent). OpensBook any_device c.loop-opening.book c.in-Ok.field-0 o.input xs c.open.new.self) c.deref.ensures.value (c.in-Ok.ensures.ok) in
+    let opens = subst (λ (xs : List Extent). OpensBook any_device c.loop-opening.book c.in-Ok.field-0 o.method xs c.open.new.self) c.deref.ensures.value (c.in-Ok.ensures.ok) in
     record {
       exact = dcb_opened c.loop-opening.book c.open.new.self c.in-Ok.field-0 c.args.openings.now c.loop-opening.opening-index o _
           c.loop-opening-test.true c.opening-item.is opens c.loop-opening.invariant.exact;

@@ -1,7 +1,7 @@
 use Rattle.std.proofs.Common.{refl}
 use Rattle.script_words.specs.Text.{lines, words}
 use Rattle.script_words.specs.Forms.{decimal, decimal_in, hexadecimal, pairs, hex_bytes, sized_pairs, each, joined}
-use Rattle.job_script.specs.Forms.{dcb_name, input_of, mode_of}
+use Rattle.job_script.specs.Forms.{dcb_name, method_of, mode_of}
 use Rattle.job_script.specs.Verbs.{verb_of}
 use Rattle.job_script.specs.Lines.{tasks_line, disk_line, tape_line, printer_line, record_line, block_line, mark_line}
 use Rattle.job_script.specs.Lines.{fault_line, open_line, area_line}
@@ -14,7 +14,7 @@ use Rattle.job_script.proofs.runs.worked_runs.Goals as goal
 
 pub returns : goal.returns
 unfolding
-    decimal decimal_in hexadecimal pairs hex_bytes sized_pairs each joined lines words dcb_name input_of mode_of verb_of
+    decimal decimal_in hexadecimal pairs hex_bytes sized_pairs each joined lines words dcb_name method_of mode_of verb_of
     tasks_line disk_line tape_line printer_line record_line block_line mark_line fault_line open_line area_line
     excp_line purge_line purgetask_line close_line reset_line wait_line set_up_line by_verb line_kind
     numbered is_dcb add_tasks add_unit change_unit add_area add_set_up names_command excp_command add_command add_line lines_from script_of

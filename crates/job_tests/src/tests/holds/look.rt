@@ -4,7 +4,7 @@ use super::Step;
 use device_port::Device;
 use io_images::{Csw, Extent};
 use request_piece::{Name, Scope};
-use unit_book::{DcbState, Entry, Mode, UnitBook};
+use unit_book::{DcbState, Entry, Mode, ProcessingMethod, UnitBook};
 
 /// What a book tells: its trace, as a number for so many entries; room for entries and for requests; how many requests
 /// wait and are out; whether a status is pending; and the states and flags of three DCBs.
@@ -117,8 +117,12 @@ fn with_scope(mark: u64, scope: Scope) -> u64 {
 /// A number for what was marked, and for an entry with all that it tells.
 fn with_entry(mark: u64, entry: &Entry) -> u64 {
     match entry {
-        Entry::Opened(dcb, input, extents) => {
-            let mark = with(with(mark, if *input { 1 } else { 2 }), u64::from(*dcb));
+        Entry::Opened(dcb, method, extents) => {
+            let method = match method {
+                ProcessingMethod::Input => 1,
+                ProcessingMethod::Output => 2,
+            };
+            let mark = with(with(mark, method), u64::from(*dcb));
             with_extents(mark, extents.as_slice())
         }
         Entry::Arrive(issued) => with_name(

@@ -5,7 +5,9 @@ use any_device::AnyDevice;
 use excp_system::{Delivery, Intake, Site, UnitState};
 use io_images::{Code, Extent};
 use std::sync::Wait;
-use unit_book::{Closing, DcbError, Interruption, OpenError, Purging, Running, Starting};
+use unit_book::{
+    Closing, DcbError, Interruption, OpenError, ProcessingMethod, Purging, Running, Starting,
+};
 
 /// The word for a completion code.
 fn word(code: Code) -> &'static str {
@@ -76,7 +78,7 @@ pub fn by_control<S: Site, R: Wait>(
     step: Step,
 ) -> Option<Answer> {
     match step {
-        Step::Open => match unit.open(false, &[Extent::read(&EXTENT)]) {
+        Step::Open => match unit.open(ProcessingMethod::Output, &[Extent::read(&EXTENT)]) {
             Ok(dcb) => Some(("opened", u32::from(dcb))),
             Err(OpenError::NoMemory) => None,
             Err(_) => Some(("not opened", 0)),

@@ -8,11 +8,11 @@ invariant_of-self-2 g c =
     let i = c.self.inside in
     let settled = rw (← c.self.view_is) at c.requires.settled in
     let fits = rw (← c.self.view_is) at c.requires.fits in
-    let k = ties-open m i.mounted c.args.input settled fits c.self.invariant.0 in
+    let k = ties-open m i.mounted c.args.method settled fits c.self.invariant.0 in
     let kept_is = c.in_ok-kept.ensures in
     let shown_is = c.in_ok-shown.ensures in
     let p = c.in_ok-push.ensures.ok in
-    let row : List Dcb = record { input = c.args.input; extents = c.in_ok-kept.kept; closed = false; in_error = false } ∷ [] in
+    let row : List Dcb = record { method = c.args.method; extents = c.in_ok-kept.kept; closed = false; in_error = false } ∷ [] in
     let number : c.len-dcb.result ≡ opened_count (reverse i.trace.items) + 1 = c.len-dcb.ensures ∙ ap length p ∙ length-append i.dcbs row
     ∙ ap (λ n. n + 1) c.self.invariant.0.count in
     let w = c.write.ensures.items in
