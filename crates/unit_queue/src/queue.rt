@@ -84,6 +84,13 @@ impl WaitQueue {
         self.ring.front().map(|piece| &**piece)
     }
 
+    /// The request at a place, counted from 0 at the front.
+    pub fn get(&self, at: usize) -> Option<&Piece>
+        ensures { option_copied result ≡ slice_get self.now.pieces at }
+    {
+        self.ring.get(at).map(|piece| &**piece)
+    }
+
     /// Takes the first request out.
     pub fn pop(&mut self) -> Option<Box<Piece>>
         ensures first { option_map box_value result ≡ slice_get self.old.pieces 0 }

@@ -1,15 +1,16 @@
 //! What a book tells. No reader takes memory.
 
-ghost use Rattle.std.specs.Prelude.{◌≡◌, ◌≤◌, ◌<◌, IsTrue, ◌↔◌, reverse, length};
+ghost use Rattle.std.specs.Prelude.{◌≡◌, ◌≤◌, ◌<◌, IsTrue, ◌↔◌, reverse, length, option_map, slice_get};
 ghost use Rattle.unit_book.specs.Book.{occupancy, is_pending};
 ghost use Rattle.unit_book.specs.Dcbs.{dcb_state, flag, mask_of};
 ghost use Rattle.unit_book.specs.Media.{device};
-ghost use Rattle.unit_book.specs.Trace.{waiting};
+ghost use Rattle.unit_book.specs.Trace.{active, waiting};
 
 use crate::book::UnitBook;
 use crate::dcb::DcbState;
 use crate::entry::Entry;
 use device_port::Device;
+use request_piece::Name;
 
 impl<D: Device> UnitBook<D> {
     /// The entries of the trace, oldest first.
@@ -46,6 +47,27 @@ impl<D: Device> UnitBook<D> {
         ensures { result ≡ is_pending D.meaning self.now }
     {
         self.entries.pending()
+    }
+
+    /// The name of the active request.
+    pub fn active_name(&self) -> Option<Name>
+        ensures { result ≡ active self.now.trace }
+    {
+        self.entries.active_name()
+    }
+
+    /// Whether the active request awaits its restart.
+    pub fn awaits(&self) -> bool
+        ensures { result ≡ self.now.awaits }
+    {
+        self.entries.awaits()
+    }
+
+    /// The name of the request that waits at a place, counted from 0 in order of arrival.
+    pub fn waiting_name(&self, at: usize) -> Option<Name>
+        ensures { result ≡ option_map (λ r. r.name) (slice_get (waiting self.now.trace) at) }
+    {
+        self.entries.waiting_name(at)
     }
 
     /// How many requests wait.

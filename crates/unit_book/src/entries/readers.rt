@@ -1,12 +1,12 @@
 //! What a book tells.
 
-ghost use Rattle.std.specs.Prelude.{◌≡◌, ◌≤◌, ◌<◌, IsTrue, ◌↔◌, reverse, length, is_some, false};
+ghost use Rattle.std.specs.Prelude.{◌≡◌, ◌≤◌, ◌<◌, IsTrue, ◌↔◌, reverse, length, is_some, false, option_map, slice_get};
 ghost use Rattle.request_piece.specs.declared.piece.Piece.{Piece};
 ghost use Rattle.unit_book.specs.Answers.{takes};
 ghost use Rattle.unit_book.specs.Book.{running_name, occupancy, is_pending};
 ghost use Rattle.unit_book.specs.Dcbs.{dcb_state, flag, is_refused, mask_of, opened_count};
 ghost use Rattle.unit_book.specs.Media.{device};
-ghost use Rattle.unit_book.specs.Trace.{waiting};
+ghost use Rattle.unit_book.specs.Trace.{active, waiting};
 
 use crate::active::Standing;
 use crate::dcb::DcbState;
@@ -15,7 +15,7 @@ use crate::entry::Entry;
 use crate::extents::takes_extents;
 use device_port::Device;
 use io_images::Extent;
-use request_piece::Request;
+use request_piece::{Name, Request};
 
 impl<D: Device> Entries<D> {
     /// The entries, oldest first.
@@ -64,6 +64,26 @@ impl<D: Device> Entries<D> {
                 Standing::AwaitsRestart(_, _) => false,
             },
             None => false,
+        }
+    }
+
+    /// The name of the active request.
+    pub fn active_name(&self) -> Option<Name>
+        ensures { result ≡ active self.now.trace }
+    {
+        match &self.active {
+            Some(active) => Some(active.name()),
+            None => None,
+        }
+    }
+
+    /// The name of the request that waits at a place, counted from 0 at the front.
+    pub fn waiting_name(&self, at: usize) -> Option<Name>
+        ensures { result ≡ option_map (λ r. r.name) (slice_get (waiting self.now.trace) at) }
+    {
+        match self.waiting.get(at) {
+            Some(piece) => Some(piece.name),
+            None => None,
         }
     }
 

@@ -1,0 +1,74 @@
+-- What a call does to a book it does to the book with other room for entries.
+use Rattle.std.proofs.Common.{◌≡◌, ℕ, Bool, true, false, List, refl, ap}
+use Rattle.io_images.specs.declared.extent.Extent.{Extent}
+use Rattle.device_port.specs.Meaning.{Meaning}
+use Rattle.request_piece.specs.declared.scope.Scope.{Scope}
+use Rattle.unit_book.specs.declared.answer.Closing.{Closing}
+use Rattle.unit_book.specs.declared.answer.Interruption.{Interruption}
+use Rattle.unit_book.specs.declared.answer.Interruption.TheVariants as interrupting
+use Rattle.unit_book.specs.declared.answer.Purging.{Purging}
+use Rattle.unit_book.specs.declared.answer.Running.{Running}
+use Rattle.unit_book.specs.declared.answer.Running.TheVariants as running
+use Rattle.unit_book.specs.declared.answer.Starting.{Starting}
+use Rattle.unit_book.specs.declared.answer.Starting.TheVariants as starting
+use Rattle.unit_book.specs.declared.entry.Entry.{Entry}
+use Rattle.unit_book.specs.declared.entry.Mode.{Mode}
+use Rattle.unit_book.specs.Answers.{Adds, Extends, InterruptsBook, MayStart, MayFirst, MayAgain, OpensBook, RunsBook, StartsBook}
+use Rattle.unit_book.specs.Book.{Book}
+use Rattle.unit_book.specs.Controls.{ClosesBook, ClosesBy, PurgesBook, PurgesBy, covers_awaiting}
+use Rattle.unit_book.specs.Dcbs.{is_open}
+use Rattle.unit_world.specs.States.{with_spare}
+
+module _ {D : Type 0} (meaning : Meaning D) (s : ℕ) where
+  pub adds : (old new : Book D) (e : Entry) → Adds old e new → Adds (with_spare s old) e (with_spare s new)
+  adds old new e h = ap (with_spare s) h
+
+  pub extends : (old new : Book D) (H : List Entry) (awaits : Bool) → Extends meaning old H awaits new →
+      Extends meaning (with_spare s old) H awaits (with_spare s new)
+  extends old new H awaits h = ap (with_spare s) h
+
+  pub opens : (old new : Book D) (dcb : ℕ) (input : Bool) (extents : List Extent) → OpensBook meaning old dcb input extents new →
+      OpensBook meaning (with_spare s old) dcb input extents (with_spare s new)
+  opens old new dcb input extents h = record { fits = h.fits; adds = ap (with_spare s) h.adds }
+
+  pub starts : (old new : Book D) (answer : Starting) → StartsBook meaning old answer new →
+      StartsBook meaning (with_spare s old) answer (with_spare s new)
+  starts old new starting.Busy h = (h.0, h.1, ap (with_spare s) h.2)
+  starts old new starting.Idle h = (h.0, h.1, ap (with_spare s) h.2)
+  starts old new (starting.Started n) h = (may h.0, ap (with_spare s) h.1) where
+    may : MayStart meaning old n → MayStart meaning (with_spare s old) n
+    may (MayFirst f) = MayFirst f
+    may (MayAgain a f) = MayAgain a f
+  starts old new (starting.Violated n) h = (h.0, ap (with_spare s) h.1)
+
+  pub runs : (old new : Book D) (max : ℕ) (answer : Running) → RunsBook meaning old max answer new →
+      RunsBook meaning (with_spare s old) max answer (with_spare s new)
+  runs old new max running.Quiet h = (h.0, ap (with_spare s) h.1)
+  runs old new max (running.Ran commands pending) h = record {
+    name = h.name;
+    running = h.running;
+    count = h.count;
+    adds = ap (with_spare s) h.adds;
+    pending_is = h.pending_is;
+  }
+
+  pub interrupts : (old new : Book D) (answer : Interruption) → InterruptsBook meaning old answer new →
+      InterruptsBook meaning (with_spare s old) answer (with_spare s new)
+  interrupts old new interrupting.Quiet h = (h.0, ap (with_spare s) h.1)
+  interrupts old new (interrupting.Again n) h = (h.0, h.1, ap (with_spare s) h.2)
+  interrupts old new (interrupting.Ended n code) h =
+      (h.0, record { csw = h.1.csw; sense = h.1.sense; fits = h.1.fits; extends = ap (with_spare s) h.1.extends })
+
+  pub purges : (old new : Book D) (scope : Scope) (mode : Mode) (answer : Purging) → PurgesBook meaning old scope mode answer new →
+      PurgesBook meaning (with_spare s old) scope mode answer (with_spare s new)
+  purges old new scope mode answer h = record { purges = by_test (covers_awaiting old scope mode) h.purges; answer_is = h.answer_is } where
+    by_test : (b : Bool) → PurgesBy meaning b old scope mode new → PurgesBy meaning b (with_spare s old) scope mode (with_spare s new)
+    by_test false p = ap (with_spare s) p
+    by_test true p = record { name = p.name; csw = p.csw; sense = p.sense; fits = p.fits; extends = ap (with_spare s) p.extends }
+
+  pub closes : (old new : Book D) (dcb : ℕ) (answer : Closing) → ClosesBook meaning old dcb answer new →
+      ClosesBook meaning (with_spare s old) dcb answer (with_spare s new)
+  closes old new dcb answer h = record { opened = h.opened; closes = by_test (is_open dcb old.trace) h.closes; answer_is = h.answer_is } where
+    by_test : (b : Bool) → ClosesBy meaning b old dcb new → ClosesBy meaning b (with_spare s old) dcb (with_spare s new)
+    by_test true p = ap (with_spare s) p
+    by_test false p = ap (with_spare s) p

@@ -1,0 +1,54 @@
+//! What the calls of a unit's world answer.
+
+use request_piece::Name;
+use thiserror::Error;
+
+/// Why a request is not accepted, the first reason in this order (profile).
+#[derive(Clone, Copy, PartialEq, Eq, Debug, Error)]
+pub enum AcceptError {
+    /// The request is for another unit.
+    #[error("the request is for another unit")]
+    OtherUnit,
+    /// The request is of a task that the unit does not have.
+    #[error("no such task")]
+    NoSuchTask,
+    /// The number of the request is not the next of its task.
+    #[error("the number is not the next of the task")]
+    OtherNumber,
+    /// As many requests are in flight as may be.
+    #[error("as many requests are in flight as may be")]
+    Full,
+}
+
+/// What `take` did.
+#[derive(Clone, Copy, PartialEq, Eq, Debug)]
+pub enum Arriving {
+    /// The book holds as many requests as it may.
+    Held,
+    /// Nothing is in flight.
+    Quiet,
+    /// This request arrived.
+    Took(Name),
+}
+
+/// What `deliver` did.
+#[derive(Clone, Copy, PartialEq, Eq, Debug)]
+pub enum Delivering {
+    /// Nothing is out.
+    Quiet,
+    /// The posted value of this request is on its way back.
+    Delivered(Name),
+    /// As many posted values are on the way back to this request's task as may be.
+    Full(Name),
+}
+
+/// What the active request waits for.
+#[derive(Clone, Copy, PartialEq, Eq, Debug)]
+pub enum ActivePhase {
+    /// Its program runs.
+    Running,
+    /// Its status is pending.
+    Pending,
+    /// It awaits its restart.
+    AwaitsRestart,
+}

@@ -1,0 +1,101 @@
+//! The posted values on the way back to the tasks of a unit.
+
+ghost use Rattle.std.specs.Prelude.{◌≡◌, ◌<◌, ◌≤◌, [], length, option_map, replicate, slice_get, IfErr, IfOk, OnErr, OnOk};
+ghost use Rattle.unit_world.specs.PostLists.{list_of, with_value, without_value};
+
+use circular_buffer::HeapCircularBuffer;
+use request_piece::{Name, Posted};
+use std::alloc::{AllocError, Global};
+use std::marker::Model;
+
+/// A ring of posted values for each task, whose room is made once.
+#[derive(Drop)]
+pub(crate) struct PostLists {
+    rings: Vec<HeapCircularBuffer<Posted>>,
+    room: usize,
+}
+
+impl Model for PostLists {
+    ghost use Rattle.std.specs.Prelude.{◌≡◌, map};
+    ghost use Rattle.unit_book.specs.Lists.{Each};
+    ghost use Rattle.unit_world.specs.PostLists.{PostLists};
+
+    ghost Value = { PostLists };
+
+    ghost view = { λ p. record { lists = map (λ r. r.items) p.rings.items; room = p.room } };
+
+    ghost invariant = { λ p. Each (λ r. r.capacity ≡ p.room) p.rings.items };
+}
+
+impl PostLists {
+    /// Empty lists for so many tasks, with room for so many values each.
+    pub fn new(alloc: Global, tasks: u16, room: usize) -> Result<PostLists, AllocError>
+        ensures { IfOk result (λ p. p ≡ record { lists = replicate tasks []; room = room }) }
+    {
+        let mut rings = Vec::new(alloc);
+        for _ in 0..tasks {
+            rings.push(HeapCircularBuffer::with_capacity(alloc, room)?)?;
+        }
+        Ok(PostLists { rings, room })
+    }
+
+    /// For how many tasks there are lists.
+    pub fn tasks(&self) -> usize
+        ensures { result ≡ length self.now.lists }
+    {
+        self.rings.len()
+    }
+
+    /// How many values there may be for a task.
+    pub fn room(&self) -> usize
+        ensures { result ≡ self.now.room }
+    {
+        self.room
+    }
+
+    /// How many values are on the way back to a task.
+    pub fn len(&self, task: u16) -> usize
+        ensures { result ≡ length (list_of self.now.lists task) }
+    {
+        match self.rings.get(usize::from(task)) {
+            Some(ring) => ring.len(),
+            None => 0,
+        }
+    }
+
+    /// The name of the value on the way back to a task at a place.
+    pub fn name(&self, task: u16, at: usize) -> Option<Name>
+        ensures { result ≡ option_map (λ v. v.name) (slice_get (list_of self.now.lists task) at) }
+    {
+        let ring = self.rings.get(usize::from(task))?;
+        let value = ring.get(at)?;
+        Some(value.name())
+    }
+
+    /// Puts a value behind the others of its task. It comes back if the task has no room.
+    pub fn push(&mut self, value: Posted) -> Result<(), Posted>
+        requires { value.name.task < length self.old.lists }
+        ensures ok { OnOk result (self.new ≡ record self.old { lists = with_value self.old.lists value.name.task value }) }
+        ensures room { OnOk result (length (list_of self.old.lists value.name.task) < self.old.room) }
+        ensures handed_back { IfErr result (λ v. v ≡ value) }
+        ensures err { OnErr result (self.new ≡ self.old) }
+        ensures full { OnErr result (self.old.room ≤ length (list_of self.old.lists value.name.task)) }
+    {
+        let task = usize::from(value.name().task);
+        let ring = &mut self.rings[task];
+        ring.try_push_back(value)
+    }
+
+    /// Takes out the first value of a task.
+    pub fn pop(&mut self, task: u16) -> Option<Posted>
+        ensures first { result ≡ slice_get (list_of self.old.lists task) 0 }
+        ensures rest { self.new ≡ record self.old { lists = without_value self.old.lists task } }
+    {
+        let task = usize::from(task);
+        if task >= self.rings.len() {
+            return None;
+        }
+        let ring = &mut self.rings[task];
+        ring.pop_front()
+    }
+}
