@@ -44,6 +44,7 @@ REJECTED = [
     (["assemble", "read.symbolic", "other"], "error: unexpected argument 'other' found"),
     (["assemble", "--channels", "2"], "error: unexpected argument '--channels' found"),
     (["assemble", "--steps"], "error: unexpected argument '--steps' found"),
+    (["step", "--steps"], "error: unexpected argument '--steps' found"),
     (["assembly"], "error: unrecognized subcommand 'assembly'"),
     (["report", "--steps", "--steps"], "error: the argument '--steps' cannot be used multiple times"),
     (["run", "--steps"], "error: unexpected argument '--steps' found"),
@@ -113,6 +114,7 @@ HELP_OF_OWN = [
             "How many channel workers serve the units, 1 to 16 [default: 1]",
         ],
     ),
+    ([["step", "--help"], ["help", "step"]], ["Carries out a scenario event by event, and prints each answer at once"]),
     ([["check", "--help"], ["check", "-h"]], ["Prints every fault of a script, and warnings, as FILE:LINE: TEXT"]),
 ]
 
@@ -123,6 +125,7 @@ NAMED = [
     (["assemble"], STORED),
     (["assemble"], f"{CASES}/refusals/assemble.symbolic"),
     (["check"], f"{CASES}/refusals/check.script"),
+    (["step"], f"{SAMPLES}/scenarios/halt-an-active-request.scenario"),
 ]
 
 

@@ -13,6 +13,7 @@ import subprocess
 import tempfile
 from dataclasses import dataclass, field, replace
 
+from groups.scenarios import scenarios
 from harness import CASES, SAMPLES, TOP, Case, Failed, Skipped, read, require, run, side_by_side
 
 LIBRARY = f"{TOP}/out/refuse.so"
@@ -213,6 +214,10 @@ def programs(setup):
     folder = f"{CASES}/refusals"
     yield plan("check", finds_all_or_nothing, f"{folder}/check.script", f"{folder}/check.findings", status=1)
     yield plan("assemble", finds_all_or_nothing, f"{folder}/assemble.symbolic", f"{folder}/assemble.findings", status=1)
+    for scenario in scenarios():
+        # all that is wanted of the text is that its lines come in this order: the scenario's own `expect` lines judge them
+        text = setup.run("step", file=scenario).out
+        yield f"step {os.path.relpath(scenario, TOP)}", Plan([setup.program, "step"], prints_a_part, scenario, text)
     client = f"{TOP}/crates/print_tape"
     yield "print_tape", Plan([f"{client}/out/print_tape"], is_program, text=read(f"{client}/stdout"))
 

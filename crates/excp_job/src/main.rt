@@ -1,6 +1,7 @@
 //! `excp_job` reads a script of EXCP requests, runs it on models of devices, and prints the post of each request. `report`
 //! also prints what the run left behind. `check` runs nothing and prints what is wrong in the script. `assemble` prints the
-//! plain script of one with symbolic areas. The script is standard input; all but `run` also take a file.
+//! plain script of one with symbolic areas. `step` carries out a scenario event by event. The script is standard input; all
+//! but `run` also take a file.
 //!
 //! Tests: `tests/run command_line`, and every group that runs the program.
 #![tactic(auto)]
@@ -13,6 +14,7 @@ use job_check::{Source, check_script};
 use job_options::{Counts, Order, Words};
 use job_run::{Workers, report_script, run_script};
 use job_script::JobError;
+use job_step::step_scenario;
 use screen::Screen;
 use std::cell::Cell;
 use std::env;
@@ -90,6 +92,7 @@ fn carry_out<R: Threads + Wait + Sync, I: Read>(
         Order::Report { counts, steps } => report(rt, threads, input, counts, steps, &is_broken),
         Order::Check => check(rt, input, name, &is_broken),
         Order::Assemble => assemble(rt, input, name, &is_broken),
+        Order::Step => step(rt, threads, input, name, &is_broken),
     };
     match done {
         Ok(status) => status,
@@ -167,6 +170,21 @@ fn assemble<I: Read>(
     let screen = Screen::new(rt.stdout(), false, is_broken);
     let is_rejected = assemble_script(rt.alloc(), input, source, screen, rt.stderr())?;
     Ok(if is_rejected { REJECTED } else { 0 })
+}
+
+/// Carries out a scenario, and returns the exit status.
+fn step<R: Wait, I: Read>(
+    rt: &HostRuntime,
+    threads: &R,
+    input: &mut I,
+    name: &str,
+    is_broken: &Cell<bool>,
+) -> Result<u8, JobError> {
+    let is_coloured = takes_colour(rt, rt.stderr());
+    let source = Source { name, is_coloured };
+    let mut screen = Screen::new(rt.stdout(), false, is_broken);
+    let is_met = step_scenario(threads, rt.alloc(), input, &mut screen, &mut rt.stderr(), source)?;
+    Ok(if is_met { 0 } else { REJECTED })
 }
 
 fn workers(counts: Counts) -> Workers {

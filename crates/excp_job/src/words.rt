@@ -17,6 +17,9 @@ const REJECTED: u8 = 1;
 /// The most bytes of a word that is looked at. A file name has fewer.
 const MOST_BYTES: usize = 4096;
 
+/// The subcommands that take the file of a script.
+const FILED: [&[u8]; 4] = [b"report", b"check", b"assemble", b"step"];
+
 /// Reads the command line, before any byte of the script is read; or prints why not, or the help that is asked for, and
 /// returns the exit status.
 pub fn read(rt: &HostRuntime) -> Result<Words, u8> {
@@ -38,7 +41,7 @@ pub fn read(rt: &HostRuntime) -> Result<Words, u8> {
     }
 }
 
-/// Prints what `clap` says, and returns the exit status. Help of `report`, `check` and `assemble`, and the version, are what
+/// Prints what `clap` says, and returns the exit status. Help of all subcommands but `run`, and the version, are what
 /// the user asked for; that of `run`, and of the whole program, goes to standard error (profile).
 fn told(rt: &HostRuntime, words: &[String], error: Error) -> u8 {
     match error.kind() {
@@ -66,7 +69,7 @@ fn is_of_own(words: &[String]) -> bool {
         .skip(1)
         .map(|word| word.as_str())
         .filter(|word| *word != "help");
-    matches!(words.next(), Some("report" | "check" | "assemble"))
+    matches!(words.next(), Some("report" | "check" | "assemble" | "step"))
 }
 
 /// Prints that a word is not UTF-8, and returns the exit status: of a file name that of a file that is not read, else that
@@ -96,7 +99,7 @@ fn is_file_not_utf8(rt: &HostRuntime) -> bool {
         if str::from_utf8(word).is_err() {
             return takes_file && !is_value && !word.starts_with(b"-");
         }
-        takes_file |= place == 1 && [b"report".as_slice(), b"check", b"assemble"].contains(&word);
+        takes_file |= place == 1 && FILED.contains(&word);
         is_value = [b"--channels".as_slice(), b"--handlers"].contains(&word);
     }
     false

@@ -16,6 +16,18 @@ use unit_book::{ExtentRefusal, ExtentsRefusal, extents_refusal};
 const STATUS: &str =
     "a device shows 0E 00 with any sense bytes, or 00 with 02, 04 or 08 and sense bytes 0000";
 
+/// Why units cannot be mounted, and why DCBs of them cannot be opened, in the order of the units' numbers.
+pub fn mount_faults(
+    alloc: Global,
+    units: &[UnitSetup],
+) -> Result<Vec<Finding<'static>>, AllocError> {
+    let mut findings = Vec::new(alloc);
+    for unit in units {
+        check_unit(alloc, unit, &[], &mut findings)?;
+    }
+    Ok(findings)
+}
+
 /// Reports why a unit cannot be mounted, and why each of its DCBs cannot be opened. Returns its device if it can be
 /// mounted. Reports nothing of what is only assumed, nor of the DCBs of a unit whose geometry is refused.
 pub fn check_unit(

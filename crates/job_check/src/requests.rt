@@ -1,5 +1,8 @@
 //! Why a request cannot be made.
 
+ghost use Rattle.std.specs.Prelude.{IfNone};
+ghost use Rattle.job_mount.specs.Requests.{CanIssue};
+
 use job_mount::can_issue;
 use job_script::{Cause, Excp, FaultName};
 use request_piece::{Misplaced, Request, RequestRefusal};
@@ -31,7 +34,9 @@ const SHOWN: &str =
 
 /// Why the request of an EXCP is refused, if it is. If nothing else is wrong, the bytes that are shown do not lie in its
 /// area.
-pub fn refused(excp: &Excp) -> Option<Cause> {
+pub fn why_refused(excp: &Excp) -> Option<Cause>
+    ensures { IfNone result (CanIssue excp.now) }
+{
     if can_issue(excp) {
         return None;
     }

@@ -10,6 +10,6 @@ mod requests;
 mod runs;
 
 pub use device::mounted;
-pub use mounting::books;
+pub use mounting::{books, mounted_book, open_dcbs};
 pub use requests::{can_issue, request};
 pub use runs::worked_runs;

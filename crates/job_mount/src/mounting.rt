@@ -70,8 +70,8 @@ fn opened_books(
     }
 }
 
-/// The book of a unit, mounted, without a DCB.
-fn mounted_book(
+/// The book of a unit, for up to `capacity` requests at a time (1 to 65,536), mounted, without a DCB.
+pub fn mounted_book(
     alloc: Global,
     unit: &UnitSetup,
     capacity: usize,
@@ -93,7 +93,7 @@ fn mounted_book(
 }
 
 /// Opens the DCBs of a unit, in the order of their lines. Returns the line of the first that cannot be opened.
-fn open_dcbs(
+pub fn open_dcbs(
     book: &mut UnitBook<AnyDevice>,
     openings: &[Opening],
 ) -> Result<Option<usize>, AllocError>

@@ -33,7 +33,8 @@ pub fn command<'a>(alloc: Global) -> Result<Command<'a>, AllocError> {
         .subcommand(run(alloc)?)?
         .subcommand(report(alloc)?)?
         .subcommand(check(alloc)?)?
-        .subcommand(assemble(alloc)?)
+        .subcommand(assemble(alloc)?)?
+        .subcommand(step(alloc)?)
 }
 
 fn run<'a>(alloc: Global) -> Result<Command<'a>, AllocError> {
@@ -65,6 +66,12 @@ fn check<'a>(alloc: Global) -> Result<Command<'a>, AllocError> {
 fn assemble<'a>(alloc: Global) -> Result<Command<'a>, AllocError> {
     Command::new(alloc, "assemble")
         .about("Prints the plain script of one with symbolic areas, or every fault of it")
+        .arg(script(alloc))
+}
+
+fn step<'a>(alloc: Global) -> Result<Command<'a>, AllocError> {
+    Command::new(alloc, "step")
+        .about("Carries out a scenario event by event, and prints each answer at once")
         .arg(script(alloc))
 }
 

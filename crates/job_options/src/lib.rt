@@ -1,5 +1,5 @@
-//! The command line: `excp_job run [--channels N] [--handlers N]`, `report` with the same options and `--steps`, `check`
-//! and `assemble`, the last three with the name of a script's file or without.
+//! The command line: `excp_job run [--channels N] [--handlers N]`, `report` with the same options and `--steps`, `check`,
+//! `assemble` and `step`, the last four with the name of a script's file or without.
 //!
 //! Tests: `tests/run command_line`.
 #![tactic(auto)]
@@ -36,6 +36,8 @@ pub enum Order {
     Check,
     /// To print the plain script of one with symbolic areas.
     Assemble,
+    /// To carry out a scenario, and print the answer of each event.
+    Step,
 }
 
 /// What the command line asks for, and the file of the script; standard input if no file is named.
@@ -77,6 +79,7 @@ fn asked_for(matches: &ArgMatches<'_>) -> Option<Order> {
     match name {
         "check" => Some(Order::Check),
         "assemble" => Some(Order::Assemble),
+        "step" => Some(Order::Step),
         "report" => {
             let counts = counts_of(options)?;
             let steps = options.get_flag("steps");

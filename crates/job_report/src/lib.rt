@@ -5,6 +5,8 @@
 #![tactic(auto)]
 
 mod medium;
+mod post;
 mod units;
 
+pub use post::{End, write_post};
 pub use units::write_units;

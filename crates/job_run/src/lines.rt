@@ -4,18 +4,10 @@ ghost use Rattle.std.specs.Prelude.{◌≡◌, ◌<◌, All, IfOk, IsTrue, vec_l
 ghost use Rattle.job_script.specs.Commands.{NamesUnits};
 ghost use Rattle.job_run.specs.Complete.{IsComplete, IsWhole};
 
-use io_images::{Code, Csw};
+use job_report::End;
 use job_script::{Action, Command, Script};
 use request_piece::Posted;
 use std::alloc::{AllocError, Global};
-
-/// How a request ended.
-#[derive(Clone, Copy)]
-pub(crate) struct End {
-    pub code: Code,
-    pub csw: Csw,
-    pub sense: u16,
-}
 
 /// What is printed of a request: the bytes of its area that are shown, and how it ended, once its post was collected.
 #[derive(Drop)]

@@ -6,10 +6,9 @@ ghost use Rattle.job_run.specs.Complete.{IsComplete, IsWhole};
 ghost use Rattle.job_run.specs.Faults.{IsWriteFault, LeavesWriter, has_steps};
 
 use crate::late_writer::LateWriter;
-use crate::lines::{End, Line, Lines};
+use crate::lines::{Line, Lines};
 use any_device::AnyDevice;
-use digits::{put_decimal, put_digits, write_bytes};
-use job_report::write_units;
+use job_report::{write_post, write_units};
 use job_script::{JobError, SetUp};
 use std::alloc::Global;
 use std::io;
@@ -128,42 +127,9 @@ fn write_lines<W: Write>(
     for place in 0..lines.len() {
         let line = &lines[place];
         let Some(end) = &line.end else { unreachable!() };
-        write_head(out, task, unit, place.saturating_add(1), end)?;
-        write_bytes(out, &shown[line.from..line.to])?;
+        let shown = &shown[line.from..line.to];
+        write_post(out, task, unit, place.saturating_add(1), end, shown)?;
         out.write_all(b"\n")?;
     }
     Ok(())
-}
-
-/// Writes a line up to its shown bytes: `post`, the numbers of task, unit and request, and how it ended, each with a
-/// blank behind it. Its text is put together from the end.
-fn write_head<W: Write>(
-    out: &mut W,
-    task: usize,
-    unit: usize,
-    number: usize,
-    end: &End,
-) -> io::Result<()> {
-    let mut text = [b' '; 96];
-    put_end(&mut text[71..], end);
-    let number = put_decimal(&mut text, 70, number);
-    let unit = put_decimal(&mut text, number - 1, unit);
-    let task = put_decimal(&mut text, unit - 1, task);
-    let start = task - 5;
-    text[start..start + 4].copy_from_slice(b"post");
-    out.write_all(&text[start..])
-}
-
-/// Puts the completion code, the CSW (the address, both status bytes, the residual count) and the sense bytes into a
-/// text of blanks.
-fn put_end(text: &mut [u8], end: &End)
-    requires { 25 ≤ length text.old }
-{
-    let mut csw = [0; 8];
-    end.csw.write(&mut csw);
-    put_digits(text, 0, &[end.code.byte()]);
-    put_digits(text, 3, &csw[1..4]);
-    put_digits(text, 10, &csw[4..6]);
-    put_digits(text, 15, &csw[6..]);
-    put_digits(text, 20, &end.sense.to_be_bytes());
 }

@@ -1,8 +1,7 @@
--- Lemmas on bytes that are read piece after piece, on joined words, on one changed unit, on lines one after the other, on the commands of a
--- task, and on words compared byte by byte.
+-- Lemmas on bytes that are read piece after piece, on joined words, on one changed unit, on lines one after the other, and on the
+-- commands of a task.
 pub mod Changing
 pub mod Consuming
 pub mod Grouping
 pub mod Joining
 pub mod Parsing
-pub mod Spelling

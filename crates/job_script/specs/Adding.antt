@@ -125,11 +125,15 @@ names_command command s = do
 abbrev pub excp_on : ExcpLine → Storage → ExcpSaid
 excp_on e area = record { dcb = e.dcb; iob = e.iob; area = area; show = e.show; len = e.len }
 
--- the command of an EXCP, on the area with the number that the line names
+-- an EXCP on the area with the number that the line names
+abbrev pub excp_over : ExcpLine → SetUpSaid → Result ExcpSaid FaultName
+excp_over e s = numbered e.area s.areas >>= λ area. Ok (excp_on e area)
+
+-- the command of an EXCP
 unfoldable pub excp_command : ExcpLine → SetUpSaid → Result CommandSaid FaultName
 excp_command e s = do
-  area ← numbered e.area s.areas
-  Ok (record { line = e.line; task = e.task; action = excp (excp_on e area) })
+  over ← excp_over e s
+  Ok (record { line = e.line; task = e.task; action = excp over })
 
 -- a command comes after the others
 unfoldable pub add_command : CommandSaid → Said → Result Said FaultName

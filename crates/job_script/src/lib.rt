@@ -9,7 +9,7 @@
 mod cause;
 mod command;
 mod fault;
-mod forms;
+pub mod forms;
 mod line;
 mod message;
 mod reading;

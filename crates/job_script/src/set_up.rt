@@ -8,7 +8,7 @@ ghost use Rattle.job_script.specs.Outcomes.{IsNamed, IsNoArea, MakesArea};
 ghost use Rattle.job_script.specs.declared.fault.FaultName.TheVariants as names;
 
 use crate::cause::{Cause, Refusal};
-use crate::command::{Action, Command, DcbName};
+use crate::command::{Action, Command, DcbName, Excp};
 use crate::fault::FaultName;
 use crate::line::{AreaLine, ExcpLine, SetUpLine, TasksLine, UnitLine};
 use ckd_disk::{Geometry, InitialRecord};
@@ -67,12 +67,12 @@ pub struct SetUp {
 }
 
 impl SetUp {
-    ghost use Rattle.job_script.specs.Adding.{add_area, add_set_up, add_tasks, add_unit, excp_command, names_command, is_dcb, is_task};
+    ghost use Rattle.job_script.specs.Adding.{add_area, add_set_up, add_tasks, add_unit, excp_command, excp_over, names_command, is_dcb, is_task};
     ghost use Rattle.job_script.specs.Adding.{add_fault, add_item, add_opening, add_record, change_unit, numbered};
     ghost use Rattle.job_script.specs.LineViews.{set_up_line_said, unit_line_said};
     ghost use Rattle.job_script.specs.Outcomes.{Leads, Reads, Returns};
     ghost use Rattle.job_script.specs.Said.{nothing};
-    ghost use Rattle.job_script.specs.Views.{command_said, opening_said, record_said, set_up_said, unit_said};
+    ghost use Rattle.job_script.specs.Views.{command_said, excp_said, opening_said, record_said, set_up_said, unit_said};
     ghost use Rattle.tape_unit.specs.Mount.{initial};
 
     /// Nothing is declared.
@@ -83,6 +83,17 @@ impl SetUp {
             tasks: 0,
             units: Vec::new(alloc),
             areas: Vec::new(alloc),
+        }
+    }
+
+    /// A unit has this number.
+    pub fn names_unit(&self, number: u16) -> Result<(), Cause>
+        ensures below { OnOk result (number < vec_len self.now.units) }
+    {
+        if usize::from(number) < self.units.len() {
+            Ok(())
+        } else {
+            Err(self.no_unit(usize::from(number)))
         }
     }
 
@@ -105,7 +116,7 @@ impl SetUp {
 
     /// A task has this number.
     #[inline(always)]
-    fn names_task(&self, number: u16) -> Result<(), Cause>
+    pub fn names_task(&self, number: u16) -> Result<(), Cause>
         ensures read { Reads result (is_task number (set_up_said self.now)) }
         ensures below { OnOk result (number < self.now.tasks) }
     {
@@ -146,17 +157,25 @@ impl SetUp {
         Ok(Arc::try_clone(area)?)
     }
 
+    /// The EXCP of a line, with its area.
+    #[inline(always)]
+    pub fn over_area(&self, line: ExcpLine) -> Result<Excp, Refusal>
+        ensures { Returns excp_said result (excp_over line (set_up_said self.now)) }
+    {
+        let area = self.area(line.area)?;
+        Ok(line.over(area))
+    }
+
     /// The command of an EXCP, with its area.
     #[inline(always)]
     #[tactic(auto, unfolding(crate::specs::Adding::excp_command))]
     pub fn excp(&self, line: ExcpLine) -> Result<Command, Refusal>
         ensures { Returns command_said result (excp_command line (set_up_said self.now)) }
     {
-        let area = self.area(line.area)?;
         Ok(Command {
             line: line.line,
             task: line.task,
-            action: Action::Excp(line.over(area)),
+            action: Action::Excp(self.over_area(line)?),
         })
     }
 

@@ -14,5 +14,5 @@ pub use forms::{
     FormError, byte, bytes_of, decimal, decimal_in, hexadecimal, push_bytes, sixteen_bytes,
     two_bytes,
 };
-pub use text::{after_words, next_word};
+pub use text::{after_words, is_word, next_word};
 pub use words::Words;

@@ -2,6 +2,7 @@
 
 ghost use Rattle.std.specs.Prelude.{◌≡◌, ◌∷◌, [], MatchOption, drop};
 ghost use Rattle.std.specs.List.{position_or_len};
+ghost use Rattle.std.specs.Str.{bytes_eq};
 ghost use Rattle.script_words.specs.Scan.{is_word_byte};
 ghost use Rattle.script_words.specs.Text.{is_space, words};
 
@@ -60,4 +61,21 @@ pub fn after_words(line: &[u8], count: usize) -> &[u8]
         rest = after_word(rest);
     }
     rest
+}
+
+/// Whether a word is this one. `==` on slices costs more, since it calls a search for long ones.
+#[inline(always)]
+#[tactic(auto, using(crate::proofs::Spelling::is_spelled, crate::proofs::Spelling::other_length, crate::proofs::Spelling::other_byte))]
+pub fn is_word(word: &[u8], name: &[u8]) -> bool
+    ensures { result ≡ bytes_eq word.now name.now }
+{
+    if word.len() != name.len() {
+        return false;
+    }
+    for place in 0..name.len() {
+        if word[place] != name[place] {
+            return false;
+        }
+    }
+    true
 }

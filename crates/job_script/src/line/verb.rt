@@ -1,8 +1,9 @@
 //! The first word of a line.
 
 ghost use Rattle.std.specs.Prelude.{◌≡◌};
-ghost use Rattle.std.specs.Str.{bytes_eq};
 ghost use Rattle.job_script.specs.Verbs.{verb_of};
+
+use script_words::is_word;
 
 /// The first word of a line.
 #[derive(Clone, Copy)]
@@ -88,23 +89,6 @@ impl Verb {
         }
         None
     }
-}
-
-/// Whether a word is this one. `==` on slices costs more, since it calls a search for long ones.
-#[inline(always)]
-#[tactic(auto, using(crate::proofs::Spelling::is_spelled, crate::proofs::Spelling::other_length, crate::proofs::Spelling::other_byte))]
-fn is_word(word: &[u8], name: &[u8]) -> bool
-    ensures { result ≡ bytes_eq word.now name.now }
-{
-    if word.len() != name.len() {
-        return false;
-    }
-    for place in 0..name.len() {
-        if word[place] != name[place] {
-            return false;
-        }
-    }
-    true
 }
 
 /// Whether a line of a script may begin with this word.

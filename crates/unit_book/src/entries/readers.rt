@@ -77,6 +77,16 @@ impl<D: Device> Entries<D> {
         }
     }
 
+    /// Whether the active request awaits its restart.
+    pub fn awaits(&self) -> bool
+        ensures { result ≡ self.now.awaits }
+    {
+        match &self.active {
+            Some(active) => active.awaits(),
+            None => false,
+        }
+    }
+
     /// The name of the request that waits at a place, counted from 0 at the front.
     pub fn waiting_name(&self, at: usize) -> Option<Name>
         ensures { result ≡ option_map (λ r. r.name) (slice_get (waiting self.now.trace) at) }

@@ -1,5 +1,5 @@
 use Rattle.std.proofs.Common.{◌≡◌, ◌<◌, ℕ, get_or}
-use Rattle.job_script.proofs.line.verb.is_word.Given as goal
+use Rattle.script_words.proofs.text.is_word.Given as goal
 
 abbrev pub invariant-loop-place : goal.invariant-loop-place
 invariant-loop-place l = (k : ℕ) → k < l.place → get_or l.word k 0 ≡ get_or l.name k 0

@@ -1,0 +1,63 @@
+//! The line of a post.
+
+ghost use Rattle.std.specs.Prelude.{◌≤◌, length};
+
+use digits::{put_decimal, put_digits, write_bytes};
+use io_images::{Code, Csw};
+use std::io;
+use std::io::Write;
+
+/// How a request ended.
+#[derive(Clone, Copy)]
+pub struct End {
+    pub code: Code,
+    pub csw: Csw,
+    pub sense: u16,
+}
+
+/// Writes what a request was posted with: `post`, the numbers of task, unit and request, how it ended, and the bytes that are
+/// shown of its area, without a line feed.
+pub fn write_post<W: Write>(
+    out: &mut W,
+    task: usize,
+    unit: usize,
+    number: usize,
+    end: &End,
+    shown: &[u8],
+) -> io::Result<()> {
+    write_head(out, task, unit, number, end)?;
+    write_bytes(out, shown)
+}
+
+/// Writes a line up to its shown bytes: `post`, the numbers of task, unit and request, and how it ended, each with a
+/// blank behind it. Its text is put together from the end.
+fn write_head<W: Write>(
+    out: &mut W,
+    task: usize,
+    unit: usize,
+    number: usize,
+    end: &End,
+) -> io::Result<()> {
+    let mut text = [b' '; 96];
+    put_end(&mut text[71..], end);
+    let number = put_decimal(&mut text, 70, number);
+    let unit = put_decimal(&mut text, number - 1, unit);
+    let task = put_decimal(&mut text, unit - 1, task);
+    let start = task - 5;
+    text[start..start + 4].copy_from_slice(b"post");
+    out.write_all(&text[start..])
+}
+
+/// Puts the completion code, the CSW (the address, both status bytes, the residual count) and the sense bytes into a
+/// text of blanks.
+fn put_end(text: &mut [u8], end: &End)
+    requires { 25 ≤ length text.old }
+{
+    let mut csw = [0; 8];
+    end.csw.write(&mut csw);
+    put_digits(text, 0, &[end.code.byte()]);
+    put_digits(text, 3, &csw[1..4]);
+    put_digits(text, 10, &csw[4..6]);
+    put_digits(text, 15, &csw[6..]);
+    put_digits(text, 20, &end.sense.to_be_bytes());
+}

@@ -1,0 +1,115 @@
+-- ONE LINE OF A SCENARIO: what it says by its words alone, or its first fault, Words or Number (profile).
+use Rattle.std.specs.Prelude.{◌≡◌, ℕ, List, codes, Option, Some, None, Result, Ok, Err, if◌then◌else◌}
+use Rattle.std.specs.Str.{bytes_eq}
+use Rattle.script_words.specs.Text.{is_printable, words}
+use Rattle.job_script.specs.declared.cause.Refusal.{Refusal}
+use Rattle.job_script.specs.declared.cause.Refusal.TheVariants.{Caused, NoMemory}
+use Rattle.job_script.specs.declared.fault.FaultName.{FaultName}
+use Rattle.job_script.specs.declared.fault.FaultName.TheVariants as names
+use Rattle.job_script.specs.Steps.{◌>>=◌}
+use Rattle.job_script.specs.Forms.{Word, word, has, has_least, number_in, index}
+use Rattle.job_script.specs.Said.{ActionSaid, LineSaid, says_command, says_excp, says_nothing, says_set_up}
+use Rattle.job_script.specs.Said.{close, excp, purge, purge_task, reset, wait}
+use Rattle.job_script.specs.Lines.{line_of}
+use Rattle.job_scenario.specs.declared.event.Room.{Room}
+use Rattle.job_scenario.specs.declared.event.Room.TheVariants as rooms
+use Rattle.job_scenario.specs.declared.verb.EventVerb.{EventVerb}
+use Rattle.job_scenario.specs.declared.verb.EventVerb.TheVariants as verbs
+use Rattle.job_scenario.specs.EventVerbs.{event_verb_of}
+use Rattle.job_scenario.specs.ScenarioSaid.{ScenarioSaid, says_event, says_expected, says_finish, says_line, says_room, says_run}
+
+-- the number of a unit or a task, alone on its line
+unfoldable pub number_line : List Word → Result ℕ FaultName
+number_line ws = do
+  _ ← has 2 ws
+  index (word 1 ws)
+
+-- run U N
+unfoldable pub run_line : List Word → Result ScenarioSaid FaultName
+run_line ws = do
+  _ ← has 3 ws
+  unit ← index (word 1 ws)
+  most ← number_in 1 65535 (word 2 ws)
+  Ok (says_run unit most)
+
+-- room intake N or room post N
+abbrev pub row_room : (ℕ → Room) → List Word → Result Room FaultName
+row_room room ws = do
+  _ ← has 3 ws
+  n ← number_in 1 65535 (word 2 ws)
+  Ok (room n)
+
+-- room book U N
+abbrev pub book_room : List Word → Result Room FaultName
+book_room ws = do
+  _ ← has 4 ws
+  unit ← index (word 2 ws)
+  n ← number_in 1 65535 (word 3 ws)
+  Ok (rooms.Book unit n)
+
+-- room of each kind
+abbrev pub room_by_row : List Word → Result Room FaultName
+room_by_row ws =
+    if bytes_eq (word 1 ws) (codes "intake") then row_room rooms.Intake ws
+    else if bytes_eq (word 1 ws) (codes "post") then row_room rooms.Post ws
+    else if bytes_eq (word 1 ws) (codes "book") then book_room ws
+    else Err names.Number
+
+unfoldable pub room_line : List Word → Result Room FaultName
+room_line ws = has_least 2 ws >>= λ _. room_by_row ws
+
+-- an event of the unit or the task with this number
+abbrev pub event_on : EventVerb → List Word → Result ScenarioSaid FaultName
+event_on verb ws = number_line ws >>= λ n. Ok (says_event verb n)
+
+-- a line of each kind that no script has
+unfoldable pub by_event_verb : EventVerb → List Word → Result ScenarioSaid FaultName
+by_event_verb verbs.Room ws = room_line ws >>= λ room. Ok (says_room room)
+by_event_verb verbs.Take ws = event_on verbs.Take ws
+by_event_verb verbs.Start ws = event_on verbs.Start ws
+by_event_verb verbs.Run ws = run_line ws
+by_event_verb verbs.Interrupt ws = event_on verbs.Interrupt ws
+by_event_verb verbs.Deliver ws = event_on verbs.Deliver ws
+by_event_verb verbs.Collect ws = event_on verbs.Collect ws
+by_event_verb verbs.Settle ws = event_on verbs.Settle ws
+by_event_verb verbs.Serve ws = event_on verbs.Serve ws
+by_event_verb verbs.Finish ws = has 1 ws >>= λ _. Ok says_finish
+by_event_verb verbs.Expect ws = Ok says_expected
+
+-- the kind of a line, if no script has it; each of its bytes is printable
+unfoldable pub event_kind : List ℕ → Option EventVerb
+event_kind text = if is_printable text then event_verb_of (word 0 (words text)) else None
+
+-- a scenario has no wait
+abbrev pub not_wait : ActionSaid → LineSaid → Result ScenarioSaid FaultName
+not_wait wait line = Err names.Words
+not_wait (excp e) line = Ok (says_line line)
+not_wait (purge dcb mode) line = Ok (says_line line)
+not_wait (purge_task task mode) line = Ok (says_line line)
+not_wait (close dcb) line = Ok (says_line line)
+not_wait (reset dcb) line = Ok (says_line line)
+
+abbrev pub no_wait : LineSaid → Result ScenarioSaid FaultName
+no_wait (says_command c) = not_wait c.action (says_command c)
+no_wait says_nothing = Ok (says_line says_nothing)
+no_wait (says_set_up s) = Ok (says_line (says_set_up s))
+no_wait (says_excp e) = Ok (says_line (says_excp e))
+
+abbrev pub with_no_wait : Result LineSaid FaultName → Result ScenarioSaid FaultName
+with_no_wait read = read >>= no_wait
+
+-- what a line says that no script has, or a script
+abbrev pub by_event_kind : Option EventVerb → ℕ → List ℕ → Result ScenarioSaid FaultName
+by_event_kind None line text = with_no_wait (line_of line text)
+by_event_kind (Some verb) line text = by_event_verb verb (words text)
+
+-- the line with this number
+abbrev pub scenario_line : ℕ → List ℕ → Result ScenarioSaid FaultName
+scenario_line line text = by_event_kind (event_kind text) line text
+
+-- a refusal has the same name as another, or both are for want of memory
+abbrev pub IsNamedAs : Refusal → Refusal → Type 0
+IsNamedAs (Caused cause) (Caused other) = other.name ≡ cause.name
+IsNamedAs NoMemory NoMemory = Unit {0}
+IsNamedAs (Caused cause) NoMemory = ⊥
+IsNamedAs NoMemory (Caused other) = ⊥

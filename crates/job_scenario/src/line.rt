@@ -1,0 +1,171 @@
+//! A line of a scenario as its words say: a line of a script, a room, an event, or what is expected of the event before it.
+
+ghost use Rattle.std.specs.Prelude.{◌≡◌};
+ghost use Rattle.job_script.specs.Said.{says_command};
+ghost use Rattle.job_script.specs.Views.{command_said};
+ghost use Rattle.job_script.specs.Lines.{line_of};
+ghost use Rattle.job_script.specs.Outcomes.{Reads, ReadsAs, Returns, words_in};
+ghost use Rattle.job_scenario.specs.ScenarioLines.{IsNamedAs, by_event_verb, event_kind, no_wait, number_line, room_line, run_line, scenario_line, with_no_wait};
+ghost use Rattle.job_scenario.specs.ScenarioSaid.{says_run, scenario_said};
+
+use crate::event::{Event, Room, Turn};
+use crate::verb::EventVerb;
+use job_script::forms::{has, has_least, index, number_in};
+use job_script::{Action, Cause, Command, FaultName, Line, Refusal, Verb};
+use script_words::{Words, is_word};
+use std::alloc::Global;
+
+/// That no line begins with its first word.
+const UNKNOWN: &str =
+    "no line begins with '{w}'; a set-up line, room, excp, purge, purgetask, close, reset, take, start, run, interrupt, \
+    deliver, collect, settle, serve, finish or expect is wanted";
+
+/// That a scenario has no `wait`.
+const NO_WAIT: &str =
+    "a scenario has no wait, since its events happen in the order of its lines: collect {n} collects a post";
+
+/// What a line says.
+#[derive(Drop)]
+pub enum ScenarioLine {
+    /// A line that a script has too, `wait` apart.
+    Script(Line),
+    Room(Room),
+    Event(Event),
+    /// The text after its first word is the answer of the event before it.
+    Expect,
+}
+
+impl ScenarioLine {
+    /// Reads the line with this number.
+    pub fn read(alloc: Global, number: usize, line: &Words<'_>) -> Result<ScenarioLine, Refusal>
+        ensures { Returns scenario_said result (scenario_line number line.now.line.now) }
+    {
+        match event_verb(line) {
+            Some(verb) => Ok(ScenarioLine::by_verb(verb, line)?),
+            None => of_script(alloc, number, line),
+        }
+    }
+
+    /// Reads a line that no script has.
+    #[tactic(auto, unfolding(crate::specs::ScenarioLines::by_event_verb))]
+    fn by_verb(verb: EventVerb, line: &Words<'_>) -> Result<ScenarioLine, Cause>
+        ensures { ReadsAs scenario_said result (by_event_verb verb (words_in line.now)) }
+    {
+        match verb {
+            EventVerb::Room => Ok(ScenarioLine::Room(room_on(line)?)),
+            EventVerb::Take => Ok(ScenarioLine::Event(Event::Take(number_on(line)?))),
+            EventVerb::Start => Ok(ScenarioLine::Event(Event::Start(number_on(line)?))),
+            EventVerb::Run => Ok(ScenarioLine::Event(Event::Run(turn_on(line)?))),
+            EventVerb::Interrupt => Ok(ScenarioLine::Event(Event::Interrupt(number_on(line)?))),
+            EventVerb::Deliver => Ok(ScenarioLine::Event(Event::Deliver(number_on(line)?))),
+            EventVerb::Collect => Ok(ScenarioLine::Event(Event::Collect(number_on(line)?))),
+            EventVerb::Settle => Ok(ScenarioLine::Event(Event::Settle(number_on(line)?))),
+            EventVerb::Serve => Ok(ScenarioLine::Event(Event::Serve(number_on(line)?))),
+            EventVerb::Finish => {
+                has(line, 1)?;
+                Ok(ScenarioLine::Event(Event::Finish))
+            }
+            EventVerb::Expect => Ok(ScenarioLine::Expect),
+        }
+    }
+}
+
+/// What kind of line it is, if no script has it.
+#[tactic(auto, unfolding(crate::specs::ScenarioLines::event_kind))]
+fn event_verb(line: &Words<'_>) -> Option<EventVerb>
+    ensures { result ≡ event_kind line.now.line.now }
+{
+    if line.is_printable() {
+        EventVerb::of(line.word(0))
+    } else {
+        None
+    }
+}
+
+/// Reads a line that a script has too.
+fn of_script(alloc: Global, number: usize, line: &Words<'_>) -> Result<ScenarioLine, Refusal>
+    ensures { Returns scenario_said result (with_no_wait (line_of number line.now.line.now)) }
+{
+    match Line::read(alloc, number, line) {
+        Ok(Line::Command(command)) => of_command(command),
+        Ok(read) => Ok(ScenarioLine::Script(read)),
+        Err(refusal) => Err(retold(refusal, line)),
+    }
+}
+
+/// A command of a script, if it is no `wait`.
+fn of_command(command: Command) -> Result<ScenarioLine, Refusal>
+    ensures { Returns scenario_said result (no_wait (says_command (command_said command))) }
+{
+    match command.action {
+        Action::Wait => {
+            let task = u64::from(command.task);
+            Err(Refusal::Caused(Cause::new(FaultName::Words, NO_WAIT, &[task])))
+        }
+        _ => Ok(ScenarioLine::Script(Line::Command(command))),
+    }
+}
+
+/// The number of a unit or a task, on a line that has no other word behind its first.
+#[tactic(auto, unfolding(crate::specs::ScenarioLines::number_line))]
+fn number_on(line: &Words<'_>) -> Result<u16, Cause>
+    ensures { Reads result (number_line (words_in line.now)) }
+{
+    has(line, 2)?;
+    index(line, 1)
+}
+
+/// `run U N`
+#[tactic(auto, unfolding(crate::specs::ScenarioLines::run_line))]
+fn turn_on(line: &Words<'_>) -> Result<Turn, Cause>
+    ensures { ReadsAs (λ turn. says_run turn.unit turn.most) result (run_line (words_in line.now)) }
+{
+    has(line, 3)?;
+    let unit = index(line, 1)?;
+    let most = number_in(line, 2, 1, 65535)?;
+    Ok(Turn { unit, most })
+}
+
+/// `room intake N`, `room post N` or `room book U N`
+#[tactic(auto, unfolding(crate::specs::ScenarioLines::room_line))]
+fn room_on(line: &Words<'_>) -> Result<Room, Cause>
+    ensures { Reads result (room_line (words_in line.now)) }
+{
+    has_least(line, 2)?;
+    let row = line.word(1);
+    if is_word(row, b"intake") {
+        has(line, 3)?;
+        return Ok(Room::Intake(number_in(line, 2, 1, 65535)?));
+    }
+    if is_word(row, b"post") {
+        has(line, 3)?;
+        return Ok(Room::Post(number_in(line, 2, 1, 65535)?));
+    }
+    if is_word(row, b"book") {
+        has(line, 4)?;
+        let unit = index(line, 2)?;
+        return Ok(Room::Book(unit, number_in(line, 3, 1, 65535)?));
+    }
+    Err(Cause::new(
+        FaultName::Number,
+        "word 2, '{w}': intake, post or book is wanted",
+        &[2],
+    ))
+}
+
+/// Why a line is refused. If its first word is unknown, the words are told that begin a line of a scenario.
+fn retold(refusal: Refusal, line: &Words<'_>) -> Refusal
+    ensures { IsNamedAs refusal result }
+{
+    match refusal {
+        Refusal::Caused(cause) if cause.name == FaultName::Words && is_unknown(line) => {
+            Refusal::Caused(Cause::new(FaultName::Words, UNKNOWN, &[1]))
+        }
+        _ => refusal,
+    }
+}
+
+/// Whether no line of a script begins with its first word.
+fn is_unknown(line: &Words<'_>) -> bool {
+    line.is_printable() && Verb::of(line.word(0)).is_none()
+}

@@ -1,0 +1,2 @@
+-- The tasks of a system stay at their places.
+pub mod Placed

@@ -1,0 +1,19 @@
+//! A scenario carried out step by step: each event is one step of the units, and its answer is printed at once (profile).
+//!
+//! Tests: tests/cases/scenarios, `tests/run scenarios`.
+#![tactic(auto)]
+
+mod answer;
+mod carrier;
+mod fault;
+mod lines;
+mod locked;
+mod printer;
+mod report;
+mod rooms;
+mod set_up;
+mod shown;
+mod stepper;
+
+pub use fault::StepError;
+pub use report::step_scenario;

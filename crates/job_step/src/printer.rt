@@ -1,0 +1,175 @@
+//! What is printed of a scenario: the answer of each event at once, and each expectation that fails.
+
+use crate::fault::StepError;
+use job_check::{Finding, FindingKind, Found, SCRIPT, Source, write_findings};
+use job_script::{Cause, JobError};
+use script_words::{after_words, next_word};
+use std::alloc::Global;
+use std::io::Write;
+use std::{fmt, io};
+
+/// An expectation that failed: the number of its line, what was expected, and what was answered.
+#[derive(Drop)]
+struct Unmet<'a> {
+    line: usize,
+    expected: &'a [u8],
+    answered: Option<&'a [u8]>,
+}
+
+impl<'a> Found for Unmet<'a> {
+    fn line(&self) -> Option<usize> {
+        Some(self.line)
+    }
+
+    fn is_fault(&self) -> bool {
+        true
+    }
+}
+
+impl<'a> fmt::Display for Unmet<'a> {
+    fn fmt<W: fmt::Write>(&self, f: &mut fmt::Formatter<W>) -> fmt::Result {
+        f.write_str("expected: ")?;
+        write_text(f, self.expected)?;
+        match self.answered {
+            Some(answered) => {
+                f.write_str("; answered: ")?;
+                write_text(f, answered)
+            }
+            None => f.write_str("; answered: nothing"),
+        }
+    }
+}
+
+/// Writes a text of printable ASCII characters.
+fn write_text<W: fmt::Write>(f: &mut fmt::Formatter<W>, text: &[u8]) -> fmt::Result {
+    for byte in text {
+        f.write_char(char::from(*byte))?;
+    }
+    Ok(())
+}
+
+/// Where answers and failed expectations are printed.
+#[derive(Drop)]
+pub struct Printer<'a, W: Write, E: Write> {
+    alloc: Global,
+    out: &'a mut W,
+    errors: &'a mut E,
+    source: Source<'a>,
+    /// How many bytes of the last answer were compared with what was expected.
+    compared: usize,
+    /// Whether all expectations were met.
+    is_met: bool,
+}
+
+impl<'a, W: Write, E: Write> Printer<'a, W, E> {
+    /// Nothing was printed yet.
+    pub fn new(alloc: Global, out: &'a mut W, errors: &'a mut E, source: Source<'a>) -> Self {
+        Printer {
+            alloc,
+            out,
+            errors,
+            source,
+            compared: 0,
+            is_met: true,
+        }
+    }
+
+    /// Whether all expectations were met.
+    pub fn is_met(&self) -> bool {
+        self.is_met
+    }
+
+    /// Prints the lines of an answer, each behind the words of its event, and passes them on at once.
+    pub fn answer(&mut self, event: &[u8], answer: &[u8]) -> Result<(), JobError> {
+        self.compared = 0;
+        for line in answer.split(|byte| *byte == b'\n') {
+            if self.write_line(event, line).is_err() {
+                return Err(JobError::NotWritten);
+            }
+        }
+        self.out.flush().or(Err(JobError::NotWritten))
+    }
+
+    fn write_line(&mut self, event: &[u8], line: &[u8]) -> io::Result<()> {
+        let mut rest = event;
+        let mut gap: &[u8] = b"";
+        for _ in 0..event.len() {
+            let Some((word, after)) = next_word(rest) else {
+                break;
+            };
+            self.out.write_all(gap)?;
+            self.out.write_all(word)?;
+            gap = b" ";
+            rest = after;
+        }
+        self.out.write_all(b": ")?;
+        self.out.write_all(line)?;
+        self.out.write_all(b"\n")
+    }
+
+    /// What an event or a line gave; none if its line has a fault, which is printed.
+    pub fn told<T: Drop>(
+        &mut self,
+        outcome: Result<T, StepError>,
+        bytes: &[u8],
+    ) -> Result<Option<T>, JobError> {
+        match outcome {
+            Ok(given) => Ok(Some(given)),
+            Err(StepError::Job(error)) => Err(error),
+            Err(StepError::Line(number, cause)) => {
+                self.fault(number, bytes, cause)?;
+                Ok(None)
+            }
+        }
+    }
+
+    /// Prints the fault of the line with this number and these bytes; 0 is the number of the scenario as a whole.
+    fn fault(&mut self, number: usize, bytes: &[u8], cause: Cause) -> Result<(), JobError> {
+        let kind = FindingKind::Fault(cause.name, cause.message);
+        let line = if number == 0 { SCRIPT } else { number };
+        self.faults(&[Finding { line, bytes, kind }])
+    }
+
+    /// Prints faults, with which no scenario meets what it expects.
+    pub fn faults(&mut self, faults: &[Finding<'_>]) -> Result<(), JobError> {
+        self.is_met = false;
+        write_findings(self.alloc, self.source, faults, &mut *self.errors)
+    }
+
+    /// Compares the next line of the last answer with what the line with this number expects.
+    pub fn expect(&mut self, number: usize, line: &[u8], answer: &[u8]) -> Result<(), JobError> {
+        let expected = trimmed(after_words(line, 1));
+        let answered = self.next_of(answer);
+        if answered == Some(expected) {
+            return Ok(());
+        }
+        self.is_met = false;
+        let unmet = Unmet {
+            line: number,
+            expected,
+            answered,
+        };
+        write_findings(self.alloc, self.source, &[unmet], &mut *self.errors)
+    }
+
+    /// The next line of an answer, if one is left.
+    fn next_of<'b>(&mut self, answer: &'b [u8]) -> Option<&'b [u8]> {
+        if answer.is_empty() {
+            return None;
+        }
+        let rest = answer.get(self.compared..)?;
+        let line = rest.split(|byte| *byte == b'\n').next()?;
+        self.compared = self.compared.saturating_add(line.len()).saturating_add(1);
+        Some(line)
+    }
+}
+
+/// A text without the blanks at its ends.
+fn trimmed(text: &[u8]) -> &[u8] {
+    let begin = text.iter().position(|byte| *byte != b' ');
+    let end = text.iter().rposition(|byte| *byte != b' ');
+    match (begin, end) {
+        (Some(begin), Some(end)) => text.get(begin..=end).unwrap_or(&[]),
+        _ => &[],
+    }
+}

@@ -1,0 +1,179 @@
+//! A scenario from its first line to its last.
+
+ghost use Rattle.std.specs.Prelude.{◌≡◌, ◌≤◌, vec_len};
+ghost use Rattle.excp_system.specs.Opening.{AreBooks, AreFresh, site_of};
+
+use crate::carrier::Carrier;
+use crate::fault::StepError;
+use crate::lines::Lines;
+use crate::locked::Locked;
+use crate::printer::Printer;
+use crate::set_up::{Plan, read_line};
+use crate::shown::Shown;
+use crate::stepper::Stepper;
+use any_device::AnyDevice;
+use excp_system::{Rows, Site, System};
+use job_check::{Source, mount_faults};
+use job_scenario::{Event, ScenarioLine};
+use job_script::{Cause, FaultName, JobError, LIMIT, Line};
+use std::alloc::Global;
+use std::io::{Read, Write};
+use std::marker::Brand;
+use std::sync::Wait;
+use unit_book::UnitBook;
+
+/// Reads a scenario, at most 1,048,576 bytes and one more, line by line, and carries out each event before it reads the
+/// next line. Prints each answer, and each expectation that fails; a fault ends it. Returns whether no line has a fault and
+/// all expectations were met.
+pub fn step_scenario<R: Wait, I: Read + Drop, W: Write, E: Write>(
+    rt: &R,
+    alloc: Global,
+    input: I,
+    out: &mut W,
+    errors: &mut E,
+    source: Source<'_>,
+) -> Result<bool, JobError> {
+    let mut lines = Lines::new(alloc, input)?;
+    let mut printer = Printer::new(alloc, out, errors, source);
+    carry_out(rt, alloc, &mut lines, &mut printer)?;
+    Ok(printer.is_met())
+}
+
+/// Reads what is declared, and then carries the events out.
+fn carry_out<R: Wait, I: Read + Drop, W: Write, E: Write>(
+    rt: &R,
+    alloc: Global,
+    lines: &mut Lines<I>,
+    printer: &mut Printer<'_, W, E>,
+) -> Result<(), JobError> {
+    let read = Plan::read(alloc, lines);
+    let Some((plan, first)) = printer.told(read, lines.current())? else {
+        return Ok(());
+    };
+    let Some(books) = plan.books(alloc)? else {
+        return printer.faults(&mount_faults(alloc, &plan.set_up.units)?);
+    };
+    let units = plan.set_up.units.len() as u16;
+    let (intake, post) = (plan.rooms.intake(), plan.rooms.post());
+    let mut rows = Rows::new(alloc, plan.set_up.tasks, units, intake, post)?;
+    on_site::<Brand, R, I, W, E>(rt, alloc, &mut rows, books, &plan, first, lines, printer)
+}
+
+/// Carries the events out on the units and rows of a site.
+fn on_site<S: Site, R: Wait, I: Read + Drop, W: Write, E: Write>(
+    rt: &R,
+    alloc: Global,
+    rows: &mut Rows,
+    books: Vec<UnitBook<AnyDevice>>,
+    plan: &Plan,
+    first: Option<ScenarioLine>,
+    lines: &mut Lines<I>,
+    printer: &mut Printer<'_, W, E>,
+) -> Result<(), JobError>
+    requires site { S.rows ≡ site_of rows.old }
+    requires fresh { AreFresh rows.old }
+    requires books { AreBooks S.rows.units books.items }
+    requires units { S.rows.units ≡ vec_len plan.now.set_up.units }
+    requires tasks { S.rows.tasks ≡ plan.now.set_up.tasks }
+    requires few { (S.rows.units ≤ 64) × (S.rows.tasks ≤ 64) }
+{
+    let (system, tasks, _) = System::<S, AnyDevice>::new(alloc, rows, books)?;
+    let carrier = Locked { rt, system, tasks };
+    let set_up = &plan.set_up;
+    let shown = Shown::new(alloc, usize::from(set_up.tasks), set_up.units.len())?;
+    let mut stepper = Stepper::new(alloc, carrier, set_up, shown, lines.number);
+    if !events(alloc, &mut stepper, first, lines, printer)? {
+        return Ok(());
+    }
+    let (carrier, shown) = stepper.into_parts();
+    let finished = lines.number;
+    let answer = carrier.finish(alloc, &shown)?;
+    printer.answer(lines.current(), &answer)?;
+    rest(alloc, finished, lines, &answer, printer)
+}
+
+/// Carries events out up to the end of the scenario, or to a line with a fault. Returns whether the last is `finish`, which
+/// is left to be done.
+fn events<C: Carrier, I: Read + Drop, W: Write, E: Write>(
+    alloc: Global,
+    stepper: &mut Stepper<'_, C>,
+    first: Option<ScenarioLine>,
+    lines: &mut Lines<I>,
+    printer: &mut Printer<'_, W, E>,
+) -> Result<bool, JobError> {
+    let mut next = first;
+    for _ in 0..=LIMIT {
+        let Some(line) = next else {
+            return Ok(false);
+        };
+        if let ScenarioLine::Event(Event::Finish) = &line {
+            return Ok(true);
+        }
+        let done = one_line(stepper, line, lines, printer);
+        if printer.told(done, lines.current())?.is_none() {
+            return Ok(false);
+        }
+        let read = read_line(alloc, lines);
+        match printer.told(read, lines.current())? {
+            Some(line) => next = line,
+            None => return Ok(false),
+        }
+    }
+    Ok(false)
+}
+
+/// Carries the event of a line out and prints its answer, or compares what it expects; an empty line does neither.
+fn one_line<C: Carrier, I: Read + Drop, W: Write, E: Write>(
+    stepper: &mut Stepper<'_, C>,
+    line: ScenarioLine,
+    lines: &Lines<I>,
+    printer: &mut Printer<'_, W, E>,
+) -> Result<(), StepError> {
+    if let ScenarioLine::Script(Line::Nothing) = &line {
+        return Ok(());
+    }
+    if let ScenarioLine::Expect = &line {
+        return Ok(printer.expect(lines.number, lines.current(), &stepper.answer)?);
+    }
+    stepper.line(lines.number, line)?;
+    Ok(printer.answer(lines.current(), &stepper.answer)?)
+}
+
+/// After `finish`, on this line, nothing happens any more; what it answered may be expected.
+fn rest<I: Read + Drop, W: Write, E: Write>(
+    alloc: Global,
+    finished: usize,
+    lines: &mut Lines<I>,
+    answer: &[u8],
+    printer: &mut Printer<'_, W, E>,
+) -> Result<(), JobError> {
+    for _ in 0..=LIMIT {
+        let read = after_finish(alloc, finished, lines);
+        match printer.told(read, lines.current())? {
+            Some(Some(true)) => printer.expect(lines.number, lines.current(), answer)?,
+            Some(Some(false)) => {}
+            _ => return Ok(()),
+        }
+    }
+    Ok(())
+}
+
+/// Whether the next line after `finish` expects something, and none after the last; any other line has a fault.
+fn after_finish<I: Read + Drop>(
+    alloc: Global,
+    finished: usize,
+    lines: &mut Lines<I>,
+) -> Result<Option<bool>, StepError> {
+    let Some(line) = read_line(alloc, lines)? else {
+        return Ok(None);
+    };
+    if let ScenarioLine::Expect = &line {
+        return Ok(Some(true));
+    }
+    if let ScenarioLine::Script(Line::Nothing) = &line {
+        return Ok(Some(false));
+    }
+    let text = "nothing happens behind finish, which is line {n}";
+    let cause = Cause::new(FaultName::Order, text, &[finished as u64]);
+    Err(StepError::Line(lines.number, cause))
+}

@@ -1,0 +1,328 @@
+//! One event of a scenario after the other, each with the text of its answer.
+
+ghost use Rattle.std.specs.Prelude.{◌≡◌, ◌<◌, OnOk, vec_len};
+
+use crate::answer::{
+    Issuing, write_closing, write_delivery, write_intake, write_interruption, write_issuing,
+    write_posted, write_purging, write_running, write_starting,
+};
+use crate::carrier::Carrier;
+use crate::fault::StepError;
+use crate::set_up::refused;
+use crate::shown::Shown;
+use excp_system::{Delivery, Intake};
+use job_check::why_refused;
+use job_scenario::{Event, ScenarioLine};
+use job_script::{
+    Action, Cause, Command, DcbName, ExcpLine, FaultName, JobError, Line, Opening, SetUp,
+    SetUpLine, late,
+};
+use std::alloc::{AllocError, Global};
+use std::io::Write;
+use unit_book::{DcbError, Interruption, Mode, OpenError, Running, Starting};
+
+/// The most commands of a turn in which a program runs to its end. A program fetches at most 4,096 CCWs.
+const TO_THE_END: u32 = 65_535;
+
+/// What carries the events out, what is declared, and the text of the last answer.
+#[derive(Drop)]
+pub struct Stepper<'a, C: Carrier> {
+    alloc: Global,
+    carrier: C,
+    set_up: &'a SetUp,
+    shown: Shown,
+    /// The line of the first event.
+    first: usize,
+    /// What the last event answered.
+    pub answer: Vec<u8>,
+    ghost units_are: { C.units carrier ≡ vec_len set_up.now.units },
+    ghost tasks_are: { C.tasks carrier ≡ set_up.now.tasks },
+}
+
+impl<'a, C: Carrier> Stepper<'a, C> {
+    /// Before the first event, which stands on this line; nothing is shown of a request yet.
+    pub fn new(alloc: Global, carrier: C, set_up: &'a SetUp, shown: Shown, first: usize) -> Self
+        requires units { C.units carrier ≡ vec_len set_up.now.units }
+        requires tasks { C.tasks carrier ≡ set_up.now.tasks }
+    {
+        Stepper {
+            alloc,
+            carrier,
+            set_up,
+            shown,
+            first,
+            answer: Vec::new(alloc),
+        }
+    }
+
+    /// What carried the events out, and what is shown of the requests.
+    pub fn into_parts(self) -> (C, Shown) {
+        let Stepper {
+            alloc: _,
+            carrier,
+            set_up: _,
+            shown,
+            first: _,
+            answer: _,
+        } = self;
+        (carrier, shown)
+    }
+
+    /// Carries out the event of the line with this number, and leaves its answer.
+    pub fn line(&mut self, number: usize, line: ScenarioLine) -> Result<(), StepError> {
+        self.answer.clear();
+        match line {
+            ScenarioLine::Script(Line::Excp(excp)) => self.excp(number, excp),
+            ScenarioLine::Script(Line::Command(command)) => self.command(number, command),
+            ScenarioLine::Script(Line::SetUp(SetUpLine::Opening(unit, opening))) => {
+                self.open(number, unit, opening)
+            }
+            ScenarioLine::Script(Line::SetUp(_)) | ScenarioLine::Room(_) => {
+                Err(refused(number, late(self.first)))
+            }
+            ScenarioLine::Event(event) => self.event(number, event),
+            ScenarioLine::Script(Line::Nothing) | ScenarioLine::Expect => Ok(()),
+        }
+    }
+
+    fn excp(&mut self, number: usize, line: ExcpLine) -> Result<(), StepError> {
+        let unit = line.dcb.unit;
+        let task = line.task;
+        self.names_task(number, task)?;
+        self.names_unit(number, unit)?;
+        let excp = match self.set_up.over_area(line) {
+            Ok(excp) => excp,
+            Err(refusal) => return Err(refused(number, refusal)),
+        };
+        if let Some(cause) = why_refused(&excp) {
+            return Err(StepError::Line(number, cause));
+        }
+        self.shown.reserve(task, unit)?;
+        let answer = self.carrier.excp(self.alloc, task, &excp)?;
+        if let Issuing::Accepted(_) = answer {
+            self.shown.push(task, &excp)?;
+        }
+        written(write_issuing(&mut self.answer, unit, answer))
+    }
+
+    /// Carries out a command of a task that is no EXCP.
+    fn command(&mut self, number: usize, command: Command) -> Result<(), StepError> {
+        self.names_task(number, command.task)?;
+        match command.action {
+            Action::Purge(dcb, mode) => {
+                self.names_unit(number, dcb.unit)?;
+                match self.carrier.purge(dcb, mode) {
+                    Ok(answer) => written(write_purging(&mut self.answer, dcb.unit, answer)),
+                    Err(error) => self.no_dcb(error),
+                }
+            }
+            Action::PurgeTask(task, mode) => {
+                self.names_task(number, task)?;
+                self.purge_task(task, mode)
+            }
+            Action::Close(dcb) => {
+                self.names_unit(number, dcb.unit)?;
+                match self.carrier.close(dcb) {
+                    Ok(answer) => written(write_closing(&mut self.answer, dcb.unit, answer)),
+                    Err(error) => self.no_dcb(error),
+                }
+            }
+            Action::Reset(dcb) => {
+                self.names_unit(number, dcb.unit)?;
+                match self.carrier.reset(dcb) {
+                    Ok(()) => written(write!(self.answer, "Reset")),
+                    Err(error) => self.no_dcb(error),
+                }
+            }
+            Action::Excp(_) | Action::Wait => Ok(()),
+        }
+    }
+
+    /// Purges the requests of a task at each unit, in the order of their numbers.
+    fn purge_task(&mut self, task: u16, mode: Mode) -> Result<(), StepError> {
+        for unit in 0..self.set_up.units.len() {
+            self.purge_at(unit as u16, task, mode)?;
+        }
+        Ok(())
+    }
+
+    /// Purges the requests of a task at one unit.
+    fn purge_at(&mut self, unit: u16, task: u16, mode: Mode) -> Result<(), StepError>
+        requires { unit < vec_len self.old.set_up.now.units }
+        ensures { self.new.set_up.now ≡ self.old.set_up.now }
+    {
+        let answer = self.carrier.purge_task(unit, task, mode)?;
+        if unit > 0 {
+            written(write!(self.answer, ", "))?;
+        }
+        written(write_purging(&mut self.answer, unit, answer))
+    }
+
+    fn open(&mut self, number: usize, unit: u16, opening: Opening) -> Result<(), StepError> {
+        self.names_unit(number, unit)?;
+        match self.carrier.open(unit, opening.input, &opening.extents) {
+            Ok(dcb) => written(write!(self.answer, "Opened {dcb}")),
+            Err(OpenError::TooManyDcbs) => written(write!(self.answer, "TooManyDcbs")),
+            Err(OpenError::BadExtent) => written(write!(self.answer, "BadExtent")),
+            Err(OpenError::NoMemory) => Err(StepError::Job(JobError::NoMemory)),
+        }
+    }
+
+    /// Carries out an event that no script has.
+    fn event(&mut self, number: usize, event: Event) -> Result<(), StepError> {
+        match event {
+            Event::Collect(task) => {
+                self.names_task(number, task)?;
+                self.collect(task)
+            }
+            Event::Take(unit) => {
+                self.names_unit(number, unit)?;
+                let answer = self.carrier.take(unit)?;
+                written(write_intake(&mut self.answer, unit, answer))
+            }
+            Event::Start(unit) => {
+                self.names_unit(number, unit)?;
+                let answer = self.carrier.start(unit)?;
+                written(write_starting(&mut self.answer, unit, answer))
+            }
+            Event::Run(turn) => {
+                self.names_unit(number, turn.unit)?;
+                let answer = self.carrier.run(turn.unit, u32::from(turn.most))?;
+                written(write_running(&mut self.answer, answer))
+            }
+            Event::Interrupt(unit) => {
+                self.names_unit(number, unit)?;
+                let answer = self.carrier.interrupt(unit)?;
+                written(write_interruption(&mut self.answer, unit, answer))
+            }
+            Event::Deliver(unit) => {
+                self.names_unit(number, unit)?;
+                let answer = self.carrier.deliver(unit);
+                written(write_delivery(&mut self.answer, unit, answer))
+            }
+            Event::Settle(unit) => {
+                self.names_unit(number, unit)?;
+                self.carrier.settle(unit)?;
+                written(write!(self.answer, "Settled"))
+            }
+            Event::Serve(unit) => {
+                self.names_unit(number, unit)?;
+                self.serve(unit)
+            }
+            // the caller brings the scenario to its end
+            Event::Finish => Ok(()),
+        }
+    }
+
+    /// A task collects its next post.
+    fn collect(&mut self, task: u16) -> Result<(), StepError>
+        requires { task < self.old.set_up.now.tasks }
+    {
+        match self.carrier.collect(task) {
+            None => written(write!(self.answer, "Quiet")),
+            Some(posted) => {
+                let shown = self.shown.of(&posted);
+                written(write_posted(&mut self.answer, &posted, shown))
+            }
+        }
+    }
+
+    /// Takes, starts, runs to the end, interrupts and delivers, until nothing of that changes the unit. The answer has what
+    /// was delivered.
+    fn serve(&mut self, unit: u16) -> Result<(), StepError>
+        requires { unit < vec_len self.old.set_up.now.units }
+    {
+        for _ in 0..u64::MAX {
+            if !self.serve_once(unit)? {
+                break;
+            }
+        }
+        Ok(())
+    }
+
+    /// Does each of these once. Returns whether that changed the unit.
+    fn serve_once(&mut self, unit: u16) -> Result<bool, StepError>
+        requires { unit < vec_len self.old.set_up.now.units }
+        ensures { self.new.set_up.now ≡ self.old.set_up.now }
+    {
+        let is_idle = !self.turn(unit)?;
+        let answer = self.carrier.deliver(unit);
+        if let Delivery::Delivered(_) = answer {
+            self.tell_delivery(unit, answer)?;
+            return Ok(true);
+        }
+        if is_idle {
+            self.end_serving(unit, answer)?;
+        }
+        Ok(!is_idle)
+    }
+
+    /// Takes, starts, runs and interrupts once. Returns whether that changed the unit.
+    fn turn(&mut self, unit: u16) -> Result<bool, AllocError>
+        requires { unit < vec_len self.old.set_up.now.units }
+        ensures { self.new.set_up.now ≡ self.old.set_up.now }
+    {
+        let is_taken = matches!(self.carrier.take(unit)?, Intake::Took(_));
+        let started = self.carrier.start(unit)?;
+        let is_started = matches!(started, Starting::Started(_) | Starting::Violated(_));
+        let is_run = matches!(self.carrier.run(unit, TO_THE_END)?, Running::Ran { .. });
+        let interrupted = self.carrier.interrupt(unit)?;
+        Ok(is_taken || is_started || is_run || interrupted != Interruption::Quiet)
+    }
+
+    /// Tells of one more delivery.
+    fn tell_delivery(&mut self, unit: u16, answer: Delivery) -> Result<(), StepError>
+        ensures { self.new.set_up.now ≡ self.old.set_up.now }
+    {
+        if !self.answer.is_empty() {
+            written(write!(self.answer, ", "))?;
+        }
+        written(write_delivery(&mut self.answer, unit, answer))
+    }
+
+    /// Tells of a post row that is full, or that nothing was delivered.
+    fn end_serving(&mut self, unit: u16, answer: Delivery) -> Result<(), StepError>
+        ensures { self.new.set_up.now ≡ self.old.set_up.now }
+    {
+        if answer == Delivery::Quiet && !self.answer.is_empty() {
+            return Ok(());
+        }
+        self.tell_delivery(unit, answer)
+    }
+
+    /// No such DCB is an answer; want of memory ends the scenario.
+    fn no_dcb(&mut self, error: DcbError) -> Result<(), StepError> {
+        match error {
+            DcbError::NoSuchDcb => written(write!(self.answer, "NoSuchDcb")),
+            DcbError::NoMemory => Err(StepError::Job(JobError::NoMemory)),
+        }
+    }
+
+    /// The unit is declared.
+    fn names_unit(&self, number: usize, unit: u16) -> Result<(), StepError>
+        ensures { OnOk result (unit < vec_len self.now.set_up.now.units) }
+    {
+        match self.set_up.names_unit(unit) {
+            Ok(()) => Ok(()),
+            Err(cause) => Err(StepError::Line(number, cause)),
+        }
+    }
+
+    /// The task is declared.
+    fn names_task(&self, number: usize, task: u16) -> Result<(), StepError>
+        ensures { OnOk result (task < self.now.set_up.now.tasks) }
+    {
+        match self.set_up.names_task(task) {
+            Ok(()) => Ok(()),
+            Err(cause) => Err(StepError::Line(number, cause)),
+        }
+    }
+}
+
+/// A text that was written to memory, which may run out.
+fn written(outcome: std::io::Result<()>) -> Result<(), StepError> {
+    match outcome {
+        Ok(()) => Ok(()),
+        Err(_) => Err(StepError::Job(JobError::NoMemory)),
+    }
+}
