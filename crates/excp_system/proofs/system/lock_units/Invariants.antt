@@ -7,6 +7,7 @@ use Rattle.excp_system.proofs.system.lock_units.Given as goal
 abbrev pub invariant-loop-book : goal.invariant-loop-book
 invariant-loop-book g l = record {
   here : vec_len l.locks ≡ length l.yielded;
+  few : length l.yielded ≤ g.S.Site.rows.units;
   room : g.S.Site.rows.units ≤ vec_capacity l.locks;
   books : into_iter_items (zip_first l.book-iterator) ≡ drop (length l.yielded) l.fn.books.items;
   intakes : into_iter_items (zip_first (zip_first (zip_second l.book-iterator))) ≡ drop (length l.yielded) l.fn.ends.intake.items;

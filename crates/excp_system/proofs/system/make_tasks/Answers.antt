@@ -14,8 +14,8 @@ new-requires g c =
     let fan = c.in-Some.fan in
     let end = c.in-Some.taker in
     let t = length c.loop-fan.yielded in
-    let there = drop_get t c.args.out.items (into_iter_items (zip_first c.next.new.self)) fan (sym i.fans ∙ c.in-Some.ensures.steps.0) in
-    let there' = drop_get t c.args.collected.items (into_iter_items (zip_second c.next.new.self)) end (sym i.takers ∙ c.in-Some.ensures.steps.1) in
+    let there = drop_get t c.args.out.items (into_iter_items (zip_first c.next.new.self)) fan (sym i.fans ∙ c.in-Some.ensures.steps.0.0) in
+    let there' = drop_get t c.args.collected.items (into_iter_items (zip_second c.next.new.self)) end (sym i.takers ∙ c.in-Some.ensures.steps.1.0) in
     is_task g.S.Site.rows t c.number.result fan end c.number.ensures (c.requires.out.each t fan there) (c.requires.collected.each t end there')
 
 pub loop-fan-preserved : goal.loop-fan-preserved
@@ -27,8 +27,8 @@ loop-fan-preserved g c =
     let yielded = c.loop-fan.yielded in
     let t = length yielded in
     let old = c.loop-fan.tasks.items in
-    let came = sym i.fans ∙ c.in-Some.ensures.steps.0 in
-    let came' = sym i.takers ∙ c.in-Some.ensures.steps.1 in
+    let came = sym i.fans ∙ c.in-Some.ensures.steps.0.0 in
+    let came' = sym i.takers ∙ c.in-Some.ensures.steps.1.0 in
     let there = drop_get t c.args.out.items (into_iter_items (zip_first c.next.new.self)) fan came in
     let there' = drop_get t c.args.collected.items (into_iter_items (zip_second c.next.new.self)) end came' in
     let one : length (yielded ++ (fan, end) ∷ []) ≡ t + 1 = length-append yielded ((fan, end) ∷ []) in
