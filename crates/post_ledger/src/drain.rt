@@ -115,8 +115,9 @@ pub(crate) fn drain<S: Site, D: Device, R: Wait>(
         work_all(rt, units)?;
         gather_all(rt, tasks, posts)?;
         if drained(units.as_slice(), tasks.as_slice()) {
-            break;
+            // a break would lose what this round did
+            return Ok(());
         }
     }
-    Ok(())
+    unreachable!()
 }
