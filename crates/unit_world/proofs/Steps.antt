@@ -16,6 +16,7 @@ use Rattle.unit_book.specs.declared.answer.Interruption.{Interruption}
 use Rattle.unit_book.specs.declared.answer.Purging.{Purging}
 use Rattle.unit_book.specs.declared.answer.Running.{Running}
 use Rattle.unit_book.specs.declared.answer.Starting.{Starting}
+use Rattle.unit_book.specs.declared.dcb.ProcessingMethod.{ProcessingMethod}
 use Rattle.unit_book.specs.declared.entry.Mode.{Mode}
 use Rattle.unit_book.specs.declared.entry.Entry.TheVariants.{Reset as ResetOf}
 use Rattle.unit_book.specs.Answers.{Adds, InterruptsBook, OpensBook, RunsBook, StartsBook}
@@ -120,10 +121,10 @@ module _ {D : Type 0} (meaning : Meaning D) where
         (record { unit = refl; intake_room = refl; post_room = refl; flight = refl; book = refl; back = b; sent = l });
   })
 
-  pub opens : (old new : WorldState D) (dcb : ℕ) (input : Bool) (extents : List Extent) → InBook old new →
-      OpensBook meaning old.book dcb input extents new.book → MakesStep meaning old new
-  opens old new dcb input extents same h = in-book old new same (λ s sent back got.
-      Open dcb input extents (spare.opens meaning s old.book new.book dcb input extents h) refl)
+  pub opens : (old new : WorldState D) (dcb : ℕ) (method : ProcessingMethod) (extents : List Extent) → InBook old new →
+      OpensBook meaning old.book dcb method extents new.book → MakesStep meaning old new
+  opens old new dcb method extents same h = in-book old new same (λ s sent back got.
+      Open dcb method extents (spare.opens meaning s old.book new.book dcb method extents h) refl)
 
   pub starts : (old new : WorldState D) (answer : Starting) → InBook old new → StartsBook meaning old.book answer new.book → MakesStep meaning old new
   starts old new answer same h = in-book old new same (λ s sent back got. Start answer (spare.starts meaning s old.book new.book answer h) refl)

@@ -16,20 +16,21 @@ use io_images::Extent;
 use request_piece::Scope;
 use std::alloc::AllocError;
 use unit_book::{
-    Closing, DcbError, Entry, Interruption, Mode, OpenError, Purging, Running, Starting,
+    Closing, DcbError, Entry, Interruption, Mode, OpenError, ProcessingMethod, Purging, Running,
+    Starting,
 };
 
 impl<D: Device> UnitWorld<D> {
     /// Opens a DCB, as [`unit_book::UnitBook::open`]. If it is refused, only the room for entries may have grown.
-    pub fn open(&mut self, input: bool, extents: &[Extent]) -> Result<u16, OpenError>
-        ensures ok { IfOk result (λ dcb. OpensBook D.meaning self.old.book dcb input extents.now self.new.book) }
+    pub fn open(&mut self, method: ProcessingMethod, extents: &[Extent]) -> Result<u16, OpenError>
+        ensures ok { IfOk result (λ dcb. OpensBook D.meaning self.old.book dcb method extents.now self.new.book) }
         ensures step { OnOk result (MakesStep D.meaning self.old self.new) }
         ensures refused { IfErr result (OpenRefused D.meaning self.old.book extents.now) }
         ensures err { OnErr result (self.new.book ≡ record self.old.book { spare = self.new.book.spare }) }
         ensures kept { OnErr result (self.old.book.spare ≤ self.new.book.spare) }
         ensures rest { InBook self.old self.new }
     {
-        self.book.open(input, extents)
+        self.book.open(method, extents)
     }
 
     /// Makes room for the entries of one arrival, as [`unit_book::UnitBook::reserve`].

@@ -13,7 +13,7 @@ invariant_of-self g c =
     let book = c.open.new.self in
     let new = record old { book = book } in
     either c.open.result c.open.ensures.ok c.open.ensures.err
-    (λ dcb h. state-step meaning old new c.self.invariant c.self.invariant.tasks (opens meaning old new dcb c.args.input c.args.extents.now refl h))
+    (λ dcb h. state-step meaning old new c.self.invariant c.self.invariant.tasks (opens meaning old new dcb c.args.method c.args.extents.now refl h))
     (λ same. state-spare meaning old book c.self.invariant same)
 
 pub returns-clause-step : goal.returns-clause-step
@@ -24,4 +24,4 @@ returns-clause-step g c =
     let book = c.open.new.self in
     let new = record old { book = book } in
     subst (λ (v : WorldState _). OnOk c.open.result (MakesStep meaning v new)) c.self.view_is
-    (on-done c.open.result c.open.ensures.ok (λ dcb h. opens meaning old new dcb c.args.input c.args.extents.now refl h))
+    (on-done c.open.result c.open.ensures.ok (λ dcb h. opens meaning old new dcb c.args.method c.args.extents.now refl h))
