@@ -1,5 +1,5 @@
 -- What a call does to a book it does to the book with other room for entries.
-use Rattle.std.proofs.Common.{◌≡◌, ℕ, Bool, true, false, List, refl, ap}
+use Rattle.std.proofs.Common.{ℕ, Bool, true, false, List, ap}
 use Rattle.io_images.specs.declared.extent.Extent.{Extent}
 use Rattle.device_port.specs.Meaning.{Meaning}
 use Rattle.request_piece.specs.declared.scope.Scope.{Scope}

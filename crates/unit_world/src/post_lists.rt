@@ -1,14 +1,15 @@
-//! The posted values on the way back to the tasks of a unit.
+//! The post rows of a site.
 
-ghost use Rattle.std.specs.Prelude.{◌≡◌, ◌<◌, ◌≤◌, [], length, option_map, replicate, slice_get, IfErr, IfOk, OnErr, OnOk};
+ghost use Rattle.std.specs.Prelude.{◌≡◌, ◌<◌, ◌≤◌, [], length, replicate, slice_get, IfErr, IfOk, OnErr, OnOk};
+ghost use Rattle.std.specs.Option.{option_copied};
 ghost use Rattle.unit_world.specs.PostLists.{list_of, with_value, without_value};
 
 use circular_buffer::HeapCircularBuffer;
-use request_piece::{Name, Posted};
+use request_piece::Posted;
 use std::alloc::{AllocError, Global};
 use std::marker::Model;
 
-/// A ring of posted values for each task, whose room is made once.
+/// A row of posts for each task, as a ring whose room is made once.
 #[derive(Drop)]
 pub(crate) struct PostLists {
     rings: Vec<HeapCircularBuffer<Posted>>,
@@ -63,13 +64,12 @@ impl PostLists {
         }
     }
 
-    /// The name of the value on the way back to a task at a place.
-    pub fn name(&self, task: u16, at: usize) -> Option<Name>
-        ensures { result ≡ option_map (λ v. v.name) (slice_get (list_of self.now.lists task) at) }
+    /// The value on the way back to a task at a place.
+    pub fn get(&self, task: u16, at: usize) -> Option<&Posted>
+        ensures { option_copied result ≡ slice_get (list_of self.now.lists task) at }
     {
         let ring = self.rings.get(usize::from(task))?;
-        let value = ring.get(at)?;
-        Some(value.name())
+        ring.get(at)
     }
 
     /// Puts a value behind the others of its task. It comes back if the task has no room.
