@@ -78,7 +78,7 @@ pub record IsFirstOut {D : Type 0} (s : SiteState D) (unit : ℕ) (name : Name) 
   pub of_unit : value.unit ≡ unit
   pub of_task : name.task < length s.rows
 
--- it goes into the row of its task, behind all others
+-- it goes into the row of its task, after all others
 pub record DeliversPost {D : Type 0} (old : SiteState D) (unit : ℕ) (name : Name) (new : SiteState D) : Type 0 where
   pub out : IsFirstOut old unit name
   pub room : length (list_of old.rows name.task) < old.post_room

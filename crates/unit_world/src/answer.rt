@@ -15,15 +15,15 @@ pub enum AcceptError {
     /// The number of the request is not the next of its task at this unit.
     #[error("the number is not the next of the task")]
     OtherNumber,
-    /// As many requests are in flight to the unit as may be.
-    #[error("as many requests are in flight as may be")]
+    /// The unit has no room for another request in flight.
+    #[error("no room for another request in flight")]
     Full,
 }
 
 /// What `take` did.
 #[derive(Clone, Copy, PartialEq, Eq, Debug)]
 pub enum Arriving {
-    /// The book holds as many requests as it may.
+    /// The book has no room.
     Held,
     /// Nothing is in flight.
     Quiet,

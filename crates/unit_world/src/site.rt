@@ -40,7 +40,7 @@ impl<D: Device> Model for PlainSite<D> {
 }
 
 impl<D: Device> PlainSite<D> {
-    /// A site with so many tasks, numbered from 0, with room for so many posts in the row of each, and with no units yet.
+    /// A site with no units yet, and with `tasks` tasks, numbered from 0. The row of each has room for `post` posts.
     pub fn new(alloc: Global, tasks: u16, post: usize) -> Result<Self, AllocError>
         ensures { IfOk result (λ s. s ≡ record { units = []; post_room = post; rows = replicate tasks [] }) }
     {
@@ -51,8 +51,8 @@ impl<D: Device> PlainSite<D> {
         })
     }
 
-    /// Adds a unit with this book, in which nothing happened but openings of DCBs, and with room for so many requests in
-    /// flight to it. Returns its number, which counts from 0. If memory runs out, the book is handed back.
+    /// Adds a unit with this book, whose trace has only openings of DCBs, and with room for `intake` requests in flight.
+    /// Returns the number of the unit, counted from 0. If memory runs out, the book is handed back.
     pub fn add_unit(
         &mut self,
         book: UnitBook<D>,
@@ -76,7 +76,7 @@ impl<D: Device> PlainSite<D> {
         Ok(unit)
     }
 
-    /// What holds of every site: a list of steps led to the world of each unit, so it keeps its requests.
+    /// What holds of every site: a list of steps led to the world of each unit, so that unit keeps its requests.
     pub fn holds(&self)
         ensures site { IsSite D.meaning self.now }
         ensures laws { KeepsSiteLaws D.meaning self.now }
@@ -84,10 +84,9 @@ impl<D: Device> PlainSite<D> {
         let _rows = &self.rows;
     }
 
-    /// Accepts a request, which is then in flight to its unit (DFSMSdfp Advanced Services, EXCP). It is handed back for
-    /// the first reason that applies: there is no such unit; there is no such task; its number is not the next of its
-    /// task at this unit, which counts from 1; as many requests are in flight to the unit as may be (profile). Never
-    /// allocates.
+    /// Accepts a request, which is then in flight to its unit (DFSMSdfp Advanced Services, EXCP). The request is handed
+    /// back for the first reason that applies (profile): no such unit; no such task; a number other than the next of its
+    /// task at this unit, counted from 1; no room for another request in flight to the unit. Never allocates.
     pub fn accept(&mut self, request: Request) -> Result<(), (AcceptError, Request)>
         ensures ok { OnOk result (OnUnit self.old request.unit (λ p q. PartAccepts p request q) self.new) }
         ensures step { OnOk result (StepsUnit D.meaning self.old request.unit self.new) }
@@ -103,8 +102,9 @@ impl<D: Device> PlainSite<D> {
         side.accept(request)
     }
 
-    /// Lets the first request in flight to a unit arrive at its book, if the book has room. If memory runs out, nothing
-    /// changes.
+    /// Lets the first request in flight to a unit arrive at its book. Returns the first answer that applies: the book has
+    /// no room; memory runs out; nothing is in flight; the request arrived. Only room for entries may change without an
+    /// arrival.
     pub fn take(&mut self, unit: u16) -> Result<Arriving, AllocError>
         requires unit { unit < length self.old.units }
         ensures ok { IfOk result (λ answer. OnUnit self.old unit (λ p q. PartTakes D.meaning p answer q) self.new) }
@@ -117,8 +117,8 @@ impl<D: Device> PlainSite<D> {
         side.take()
     }
 
-    /// Sends the first posted value that is out at a unit into the row of its task, behind all posts that are there.
-    /// Never allocates.
+    /// Puts the first posted value that is out at a unit into the row of its task, after all posts there. If the row is
+    /// full, nothing changes. Never allocates.
     pub fn deliver(&mut self, unit: u16) -> Delivering
         requires unit { unit < length self.old.units }
         ensures answer { DeliversAs self.old unit result self.new }

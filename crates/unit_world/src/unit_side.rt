@@ -31,7 +31,7 @@ struct Lists {
 }
 
 impl Lists {
-    /// Empty lists for so many tasks, with room for so many requests in flight.
+    /// Empty lists for `tasks` tasks, with room for `intake` requests in flight.
     fn new(alloc: Global, tasks: usize, intake: usize) -> Result<Lists, AllocError>
         ensures flight { IfOk result (λ l. l.flight ≡ buffer [] intake) }
         ensures issued { IfOk result (λ l. l.issued.items ≡ replicate tasks 0) }
@@ -44,8 +44,8 @@ impl Lists {
 }
 
 impl<D: Device> UnitSide<D> {
-    /// The unit with this book, to which nothing was sent, for so many tasks, with room for so many requests in flight.
-    /// If memory runs out, the book is handed back.
+    /// The unit with this book, to which nothing was sent, for `tasks` tasks, with room for `intake` requests in flight. If
+    /// memory runs out, the book is handed back.
     pub fn new(
         alloc: Global,
         book: UnitBook<D>,
@@ -160,7 +160,7 @@ impl<D: Device> UnitSide<D> {
     }
 }
 
-/// Sends the first posted value that is out at a book into the row of its task.
+/// Puts the first posted value that is out at a book into the row of its task.
 pub(crate) fn send_back<D: Device>(book: &mut UnitBook<D>, rows: &mut PostLists) -> Delivering
     requires { IsForRows book.old.out rows.old }
     ensures { SendsBack book.old rows.old result book.new rows.new }
