@@ -1,6 +1,11 @@
 -- The lemmas of unit_world.
 pub mod Rings
 pub mod Spares
+pub mod Moves
 pub mod Steps
 pub mod States
-pub mod Places
+pub mod Sites
+pub mod Sides
+pub mod Deliveries
+pub mod Sends
+pub mod PurgedUnits

@@ -1,5 +1,5 @@
 -- What a call does to a book it does to the book with other room for entries.
-use Rattle.std.proofs.Common.{◌≡◌, ℕ, Bool, true, false, List, refl, ap}
+use Rattle.std.proofs.Common.{ℕ, Bool, true, false, List, ap}
 use Rattle.io_images.specs.declared.extent.Extent.{Extent}
 use Rattle.device_port.specs.Meaning.{Meaning}
 use Rattle.request_piece.specs.declared.scope.Scope.{Scope}
@@ -12,6 +12,7 @@ use Rattle.unit_book.specs.declared.answer.Running.TheVariants as running
 use Rattle.unit_book.specs.declared.answer.Starting.{Starting}
 use Rattle.unit_book.specs.declared.answer.Starting.TheVariants as starting
 use Rattle.unit_book.specs.declared.entry.Entry.{Entry}
+use Rattle.unit_book.specs.declared.dcb.ProcessingMethod.{ProcessingMethod}
 use Rattle.unit_book.specs.declared.entry.Mode.{Mode}
 use Rattle.unit_book.specs.Answers.{Adds, Extends, InterruptsBook, MayStart, MayFirst, MayAgain, OpensBook, RunsBook, StartsBook}
 use Rattle.unit_book.specs.Book.{Book}
@@ -27,9 +28,9 @@ module _ {D : Type 0} (meaning : Meaning D) (s : ℕ) where
       Extends meaning (with_spare s old) H awaits (with_spare s new)
   extends old new H awaits h = ap (with_spare s) h
 
-  pub opens : (old new : Book D) (dcb : ℕ) (input : Bool) (extents : List Extent) → OpensBook meaning old dcb input extents new →
-      OpensBook meaning (with_spare s old) dcb input extents (with_spare s new)
-  opens old new dcb input extents h = record { fits = h.fits; adds = ap (with_spare s) h.adds }
+  pub opens : (old new : Book D) (dcb : ℕ) (method : ProcessingMethod) (extents : List Extent) → OpensBook meaning old dcb method extents new →
+      OpensBook meaning (with_spare s old) dcb method extents (with_spare s new)
+  opens old new dcb method extents h = record { fits = h.fits; adds = ap (with_spare s) h.adds }
 
   pub starts : (old new : Book D) (answer : Starting) → StartsBook meaning old answer new →
       StartsBook meaning (with_spare s old) answer (with_spare s new)

@@ -1,15 +1,13 @@
 -- Which states are reached, and what holds of them.
-use Rattle.std.proofs.Common.{◌≡◌, ◌≤◌, ◌<◌, ℕ, ◌+◌, ◌==◌, eqb, true, Option, Some, None, List, [], ◌∷◌, ◌++◌, length, drop, replicate, refl, sym, ap, ◌∙◌, subst, inl, inr, arith}
-use Rattle.std.specs.Prelude.{slice_get, slice_index_or, slice_set, IfSome, IfOk, OnErr, OnOk}
+use Rattle.std.proofs.Common.{◌≡◌, ◌≤◌, ◌<◌, ℕ, ◌+◌, eqb, true, Option, Some, None, List, [], ◌∷◌, ◌++◌, length, drop, replicate, refl, sym, ap, ◌∙◌, subst, inl, inr, arith}
+use Rattle.std.specs.Prelude.{slice_get, slice_index_or, IfNone, IfSome, IfOk, OnErr, OnOk}
 use Rattle.std.specs.List.{list_all}
 use Rattle.std.specs.declared.result.Result.{Result}
 use Rattle.std.specs.declared.result.Result.TheVariants.{Ok, Err}
 use Rattle.std.proofs.lemmas.Bool.{cases_Bool, eq-eqb}
-use Rattle.std.proofs.lemmas.List.{get_or_past, get_or-replicate, length-replicate, set-get_or}
-use Rattle.std.proofs.Math.ListN.{length-set}
+use Rattle.std.proofs.lemmas.List.{get_or_past, get_or-replicate, length-replicate}
 use mathlib.Core.Logic.{dite}
 use native.Mathlib.Decide.{dec_lt}
-use Rattle.circular_buffer.specs.Buffer.{Buffer}
 use Rattle.circular_buffer.proofs.Places.{slice_get-append_right}
 use Rattle.device_port.specs.Meaning.{Meaning}
 use Rattle.request_piece.specs.PostedState.{PostedState}
@@ -20,20 +18,24 @@ use Rattle.unit_book.specs.Legal.{Legal}
 use Rattle.unit_book.specs.Lists.{Each}
 use Rattle.unit_book.specs.Posts.{posted, posted_value}
 use Rattle.unit_book.specs.Trace.{arrivals, arrived_of, is_opening}
-use Rattle.unit_book.specs.World.{World, IsOpening, Reaches, Stay, Go, requests_of}
-use Rattle.unit_book.specs.WorldLaws.{KeepsRequests}
+use Rattle.unit_book.specs.World.{World, Reaches, Stay, Go, requests_of}
 use Rattle.unit_book.proofs.Kept.{out-of}
 use Rattle.unit_book.proofs.WorldTraces.{opened-only}
 use Rattle.unit_book.proofs.Worlds.{world-laws}
-use Rattle.unit_world.specs.PostLists.{PostLists, list_of, without_value}
-use Rattle.unit_world.specs.States.{WorldState, Shows, MakesStep, MakesSteps, IsReached, IsWorldState, KeepsLaws, issued_by, opening_state, with_spare}
-use Rattle.unit_world.proofs.Steps.{collects, world_of}
+use Rattle.unit_world.specs.Parts.{issued_by}
+use Rattle.unit_world.specs.PostLists.{list_of}
+use Rattle.unit_world.specs.States.{WorldState, MakesStep, MakesSteps, IsReached, IsWorldState, KeepsLaws, with_spare}
+use Rattle.unit_world.proofs.Steps.{world_of}
 
 -- what follows of a call that was done, and of one that was refused
 pub either : {A E Refused Then : Type 0} (r : Result A E) {Done : A → Type 0} → IfOk r Done → OnErr r Refused →
     ((a : A) → Done a → Then) → (Refused → Then) → Then
 either (Ok a) done refused f g = f a done
 either (Err e) done refused f g = g refused
+
+pub either-on : {A E Done Refused Then : Type 0} (r : Result A E) → OnOk r Done → OnErr r Refused → (Done → Then) → (Refused → Then) → Then
+either-on (Ok a) done refused f g = f done
+either-on (Err e) done refused f g = g refused
 
 pub on-done : {A E Then : Type 0} (r : Result A E) {Done : A → Type 0} → IfOk r Done → ((a : A) → Done a → Then) → OnOk r Then
 on-done (Ok a) done f = f a done
@@ -48,26 +50,19 @@ pub both : {A E : Type 0} (Done : A → Type 0) (Also : Type 0) (r : Result A E)
 both Done Also (Ok a) done also = (done, also)
 both Done Also (Err e) done also = tt
 
-pub on-some : {X T : Type 0} (r : Option X) (xs : List X) → r ≡ slice_get xs 0 → ((x : X) → slice_get xs 0 ≡ Some x → T) → IfSome r (λ x. T)
-on-some None xs e f = tt
-on-some (Some x) xs e f = f x (sym e)
+-- what follows of the first item, and of that there is none
+pub on-some-value : {X : Type 0} {T : X → Type 0} (r : Option X) (xs : List X) → r ≡ slice_get xs 0 → ((x : X) → slice_get xs 0 ≡ Some x → T x) → IfSome r T
+on-some-value None xs e f = tt
+on-some-value (Some x) xs e f = f x (sym e)
+
+pub on-none : {X T : Type 0} (r : Option X) (xs : List X) → r ≡ slice_get xs 0 → (slice_get xs 0 ≡ None → T) → IfNone r T
+on-none None xs e f = f (sym e)
+on-none (Some x) xs e f = tt
 
 -- a list without a first item has no rest
 pub no-rest : {X : Type 0} (xs : List X) → slice_get xs 0 ≡ None → drop 1 xs ≡ xs
 no-rest [] h = refl
 no-rest (x ∷ xs) h = absurd cc
-
--- the state of these fields
-abbrev pub fields : {D : Type 0} → ℕ → Book D → Buffer Piece → PostLists → List ℕ → WorldState D
-fields unit book flight back issued = record {
-  unit = unit;
-  book = book;
-  intake_room = flight.capacity;
-  post_room = back.room;
-  flight = flight.items;
-  back = back.lists;
-  issued = issued;
-}
 
 then-all : {D : Type 0} (meaning : Meaning D) {first mid last : World D} → Reaches meaning first mid → Reaches meaning mid last → Reaches meaning first last
 then-all meaning before Stay = before
@@ -101,11 +96,31 @@ of-tasks n (r ∷ rs) h = (head, of-tasks n rs (λ t le. rest t (h t le))) where
     | inr e ↦ rw e at f
   ]
 
+-- what holds of the requests of each task
+of-each-task : (P : Piece → Type 0) (rs : List Piece) → ((t : ℕ) → Each P (requests_of t rs)) → Each P rs
+of-each-task P [] h = tt
+of-each-task P (r ∷ rs) h = (head, of-each-task P rs (λ t. rest t (h t))) where
+  head : P r
+  head =
+      let e = eq-eqb r.name.task r.name.task refl in
+      let f = h r.name.task in
+      let g : Each P (r ∷ requests_of r.name.task rs) = rw e at f in g.0
+
+  rest : (t : ℕ) → Each P (requests_of t (r ∷ rs)) → Each P (requests_of t rs)
+  rest t f = elim (cases_Bool (eqb r.name.task t)) [
+    | inl e ↦ let g : Each P (r ∷ requests_of t rs) = rw e at f in g.1
+    | inr e ↦ rw e at f
+  ]
+
+Each-left : {X : Type 0} (P : X → Type 0) (xs ys : List X) → Each P (xs ++ ys) → Each P xs
+Each-left P [] ys h = tt
+Each-left P (x ∷ xs) ys h = (h.0, Each-left P xs ys h.1)
+
 -- each item of a list of one item is that item, and so is what is past its end
-all-same : {X : Type 0} (n i : ℕ) (x : X) → slice_index_or (replicate n x) i x ≡ x
+pub all-same : {X : Type 0} (n i : ℕ) (x : X) → slice_index_or (replicate n x) i x ≡ x
 all-same n i x = dite (dec_lt i n) (get_or-replicate n i x x) (λ no. get_or_past (replicate n x) i x (omega (arith, length-replicate n x, no)))
 
-Each-first : {X : Type 0} (P : X → Type 0) (xs : List X) (x : X) → Each P xs → slice_get xs 0 ≡ Some x → P x
+pub Each-first : {X : Type 0} (P : X → Type 0) (xs : List X) (x : X) → Each P xs → slice_get xs 0 ≡ Some x → P x
 Each-first P [] x h e = absurd cc
 Each-first P (y ∷ xs) x h e = let i : y ≡ x = cc in subst P i h.0
 
@@ -142,13 +157,6 @@ module _ {D : Type 0} (meaning : Meaning D) where
         tasks = tasks;
       }
 
-  -- a call of the book that changes nothing where it is refused
-  pub state-call : {A E : Type 0} (r : Result A E) {Done : A → Type 0} (v : WorldState D) (book : Book D) → IsWorldState meaning v → IfOk r Done →
-      OnErr r (book ≡ v.book) → ((a : A) → Done a → MakesStep meaning v (record v { book = book })) → IsWorldState meaning (record v { book = book })
-  state-call r v book is done refused f = either r done refused
-      (λ a h. state-step v (record v { book = book }) is is.tasks (f a h))
-      (λ same. subst (λ b. IsWorldState meaning (record v { book = b })) (sym same) is)
-
   -- with other room for entries
   pub state-spare : (v : WorldState D) (book : Book D) → IsWorldState meaning v → book ≡ record v.book { spare = book.spare } →
       IsWorldState meaning (record v { book = book })
@@ -174,38 +182,25 @@ module _ {D : Type 0} (meaning : Meaning D) where
         tasks = is.tasks;
       }
 
-  -- a task collects the first value on its way back, if there is one
-  pub state-collect : (v : WorldState D) (task : ℕ) → IsWorldState meaning v → IsWorldState meaning (record v { back = without_value v.back task })
-  state-collect v task is = by_first (slice_get (list_of v.back task) 0) refl where
-    less : List PostedState
-    less = drop 1 (list_of v.back task)
-
-    by_first : (r : Option PostedState) → slice_get (list_of v.back task) 0 ≡ r → IsWorldState meaning (record v { back = without_value v.back task })
-    by_first (Some value) e =
-        state-step v (record v { back = without_value v.back task }) is (length-set v.back task less ∙ is.tasks)
-        (collects meaning v (record v { back = without_value v.back task }) task value e refl)
-    by_first None e =
-        let same : without_value v.back task ≡ v.back = ap (slice_set v.back task) (no-rest (list_of v.back task) e) ∙ set-get_or v.back task [] in
-        subst (λ (l : List (List PostedState)). IsWorldState meaning (record v { back = l })) (sym same) is
-
   -- of a book that has only opened DCBs, nothing is out
   pub opened-out : (b : Book D) → list_all is_opening b.trace ≡ true → given meaning b ++ b.out ≡ posted meaning b.mounted b.trace → b.out ≡ []
   opened-out b opened all = none-after (given meaning b) b.out (all ∙ (opened-only meaning b.mounted b.trace opened).1)
 
   -- the state in which nothing was sent
-  pub state-opening : (unit : ℕ) (book : Book D) (tasks intake post : ℕ) → Legal meaning book.mounted book.trace →
-      list_all is_opening book.trace ≡ true → book.out ≡ [] → IsWorldState meaning (opening_state unit book tasks intake post)
-  state-opening unit book tasks intake post legal opened out =
-      let w = world_of (opening_state unit book tasks intake post) book.spare (λ task. []) (λ task. []) (λ task. []) in
+  pub state-opening : (v : WorldState D) → Legal meaning v.book.mounted v.book.trace → list_all is_opening v.book.trace ≡ true →
+      v.book.out ≡ [] → v.flight ≡ [] → ((task : ℕ) → list_of v.back task ≡ []) → ((task : ℕ) → issued_by v.issued task ≡ 0) →
+      length v.back ≡ length v.issued → IsWorldState meaning v
+  state-opening v legal opened out flight back issued tasks =
+      let w = world_of v v.book.spare (λ task. []) (λ task. []) (λ task. []) in
       record {
         reached = record {
           opening = w;
           world = w;
-          opens = record { legal = legal; opened = opened; out = out; sent = λ task. refl; flight = refl; back = λ task. refl; got = λ task. refl };
+          opens = record { legal = legal; opened = opened; out = out; sent = λ task. refl; flight = flight; back = λ task. refl; got = λ task. refl };
           reaches = Stay;
-          shows = record { unit = refl; intake_room = refl; post_room = refl; flight = refl; book = refl; back = λ task. sym (all-same tasks task []); sent = λ task. sym (all-same tasks task 0) };
+          shows = record { unit = refl; intake_room = refl; post_room = refl; flight = refl; book = refl; back = λ task. sym (back task); sent = λ task. sym (issued task) };
         };
-        tasks = length-replicate tasks [] ∙ sym (length-replicate tasks 0);
+        tasks = tasks;
       }
 
   -- THE NEXT NUMBER: the first request in flight has it
@@ -241,3 +236,20 @@ module _ {D : Type 0} (meaning : Meaning D) where
       let outs = out-of meaning v.book.mounted (λ r. r.name.task < n) (λ x. x.name.task < n) (λ r csw sense code m h. h) v.book legal all arrived in
       let lt : value.name.task < n = Each-first (λ x. x.name.task < n) v.book.out value outs first in
       omega (arith, lt, is.tasks)
+
+  -- and of this unit
+  pub first-of-unit : (v : WorldState D) (value : PostedState) → IsWorldState meaning v → Legal meaning v.book.mounted v.book.trace →
+      given meaning v.book ++ v.book.out ≡ posted meaning v.book.mounted v.book.trace → slice_get v.book.out 0 ≡ Some value →
+      value.unit ≡ v.unit
+  unfolding posted_value
+  first-of-unit v value is legal all first =
+      let k = keeps-laws v is.reached in
+      let w = k.world in
+      let of_task : (t : ℕ) → Each (λ (r : Piece). r.unit ≡ w.unit) (requests_of t (arrivals v.book.trace)) = λ t.
+      Each-left (λ (r : Piece). r.unit ≡ w.unit) (requests_of t (arrivals v.book.trace)) (requests_of t w.flight)
+      (subst (Each (λ (r : Piece). r.unit ≡ w.unit))
+      (sym (ap (λ (b : Book D). requests_of t (arrivals b.trace) ++ requests_of t w.flight) (sym k.shows.book) ∙ k.keeps.received t)) (k.keeps.for_unit t)) in
+      let arrived = of-each-task (λ (r : Piece). r.unit ≡ w.unit) (arrivals v.book.trace) of_task in
+      let outs = out-of meaning v.book.mounted (λ r. r.unit ≡ w.unit) (λ x. x.unit ≡ w.unit) (λ r csw sense code m h. h) v.book legal all arrived in
+      let e : value.unit ≡ w.unit = Each-first (λ x. x.unit ≡ w.unit) v.book.out value outs first in
+      e ∙ k.shows.unit

@@ -1,5 +1,5 @@
 -- The steps that calls make of every world that looks as the state did.
-use Rattle.std.proofs.Common.{◌≡◌, ◌≤◌, ◌<◌, ℕ, ◌+◌, ◌==◌, eqb, Bool, true, false, Some, None, Option, List, [], ◌∷◌, ◌++◌, length, drop, refl, sym, ap, ◌∙◌, subst, inl, inr, arith, length-append}
+use Rattle.std.proofs.Common.{◌≡◌, ◌≤◌, ◌<◌, ℕ, ◌+◌, eqb, true, Some, List, [], ◌∷◌, ◌++◌, length, drop, refl, sym, ap, ◌∙◌, subst, inl, inr, arith, length-append}
 use Rattle.std.specs.Prelude.{slice_get, slice_set, slice_index_or}
 use mathlib.Core.Logic.{dite}
 use native.Mathlib.Decide.{dec_lt}
@@ -8,7 +8,6 @@ use Rattle.std.proofs.lemmas.List.{get_or-set_same, get_or-set_other, get_or_pas
 use Rattle.device_port.specs.Meaning.{Meaning}
 use Rattle.io_images.specs.declared.extent.Extent.{Extent}
 use Rattle.request_piece.specs.PostedState.{PostedState}
-use Rattle.request_piece.specs.declared.piece.Name.{Name}
 use Rattle.request_piece.specs.declared.piece.Piece.{Piece}
 use Rattle.request_piece.specs.declared.scope.Scope.{Scope}
 use Rattle.unit_book.specs.declared.answer.Closing.{Closing}
@@ -16,6 +15,7 @@ use Rattle.unit_book.specs.declared.answer.Interruption.{Interruption}
 use Rattle.unit_book.specs.declared.answer.Purging.{Purging}
 use Rattle.unit_book.specs.declared.answer.Running.{Running}
 use Rattle.unit_book.specs.declared.answer.Starting.{Starting}
+use Rattle.unit_book.specs.declared.dcb.ProcessingMethod.{ProcessingMethod}
 use Rattle.unit_book.specs.declared.entry.Mode.{Mode}
 use Rattle.unit_book.specs.declared.entry.Entry.TheVariants.{Reset as ResetOf}
 use Rattle.unit_book.specs.Answers.{Adds, InterruptsBook, OpensBook, RunsBook, StartsBook}
@@ -25,10 +25,11 @@ use Rattle.unit_book.specs.Dcbs.{is_open}
 use Rattle.unit_book.specs.Legal.{CanPurge}
 use Rattle.unit_book.specs.Settle.{Settles, Stays, Then, Steps, ByStart, ByRun, ByInterrupt}
 use Rattle.unit_book.specs.World.{World, Step, Accept, Take, Open, Start, Run, Interrupt, Purge, Close, Reset, Deliver, Collect}
-use Rattle.unit_book.specs.World.{Reaches, Stay, Go, one_more_of_task, without_first}
-use Rattle.unit_world.specs.Outcomes.{AcceptsRequest, InBook, CollectsValue, DeliversValue, TakesRequest}
-use Rattle.unit_world.specs.PostLists.{list_of, with_value, without_value}
-use Rattle.unit_world.specs.States.{WorldState, Shows, StepFrom, StepsFrom, MakesStep, MakesSteps, issued_by, with_spare}
+use Rattle.unit_book.specs.World.{Stay, Go, one_more_of_task, without_first}
+use Rattle.unit_world.specs.PostLists.{list_of}
+use Rattle.unit_world.specs.Parts.{issued_by}
+use Rattle.unit_world.specs.States.{WorldState, Shows, StepFrom, StepsFrom, MakesStep, MakesSteps, with_spare}
+use Rattle.unit_world.proofs.Moves.{AcceptsRequest, InBook, CollectsValue, DeliversValue, TakesRequest}
 use Rattle.unit_world.proofs.Spares as spare
 
 -- the world that looks so, with this room for entries, these lists and these counts
@@ -71,7 +72,7 @@ less-is lists xs task h lt t =
     ]
 
 -- a task whose list has a first item is one of the tasks
-has-list : {X : Type 0} (xs : List (List X)) (task : ℕ) (x : X) → slice_get (slice_index_or xs task []) 0 ≡ Some x → task < length xs
+pub has-list : {X : Type 0} (xs : List (List X)) (task : ℕ) (x : X) → slice_get (slice_index_or xs task []) 0 ≡ Some x → task < length xs
 has-list xs task x first = dite (dec_lt task (length xs)) (λ lt. lt) (λ no. absurd (none (get_or_past xs task [] (omega (arith, no))) first)) where
   none : {X : Type 0} {l : List X} {x : X} → l ≡ [] → slice_get l 0 ≡ Some x → ⊥
   none {X} {l} {x} e f = let g = subst (λ (k : List X). slice_get k 0 ≡ Some x) e f in absurd cc
@@ -120,10 +121,10 @@ module _ {D : Type 0} (meaning : Meaning D) where
         (record { unit = refl; intake_room = refl; post_room = refl; flight = refl; book = refl; back = b; sent = l });
   })
 
-  pub opens : (old new : WorldState D) (dcb : ℕ) (input : Bool) (extents : List Extent) → InBook old new →
-      OpensBook meaning old.book dcb input extents new.book → MakesStep meaning old new
-  opens old new dcb input extents same h = in-book old new same (λ s sent back got.
-      Open dcb input extents (spare.opens meaning s old.book new.book dcb input extents h) refl)
+  pub opens : (old new : WorldState D) (dcb : ℕ) (method : ProcessingMethod) (extents : List Extent) → InBook old new →
+      OpensBook meaning old.book dcb method extents new.book → MakesStep meaning old new
+  opens old new dcb method extents same h = in-book old new same (λ s sent back got.
+      Open dcb method extents (spare.opens meaning s old.book new.book dcb method extents h) refl)
 
   pub starts : (old new : WorldState D) (answer : Starting) → InBook old new → StartsBook meaning old.book answer new.book → MakesStep meaning old new
   starts old new answer same h = in-book old new same (λ s sent back got. Start answer (spare.starts meaning s old.book new.book answer h) refl)
@@ -172,43 +173,38 @@ module _ {D : Type 0} (meaning : Meaning D) where
         });
       })
 
-  pub takes : (old new : WorldState D) (name : Name) → TakesRequest meaning old name new → MakesStep meaning old new
-  takes old new name h = from-lists old new (λ s sent back got b l.
+  pub takes : (old new : WorldState D) (request : Piece) → TakesRequest meaning old request new → MakesStep meaning old new
+  takes old new request h = from-lists old new (λ s sent back got b l.
       let after = record (world_of old s sent back got) { flight = drop 1 old.flight; book = with_spare s new.book } in
       record {
         after = after;
-        step = Take (record { request = h.request; first = h.first; room = h.room; arrives = ap (with_spare s) h.arrives; is = refl });
+        step = Take (record { request = request; first = h.first; room = h.room; arrives = ap (with_spare s) h.arrives; is = refl });
         shows = subst (Shows after) (sym h.is)
             (record { unit = refl; intake_room = refl; post_room = refl; flight = refl; book = refl; back = b; sent = l });
       })
 
-  pub delivers : (old new : WorldState D) (name : Name) → DeliversValue old name new → MakesStep meaning old new
-  delivers old new name h = from-lists old new (λ s sent back got b l.
-      let value = h.value in
+  pub delivers : (old new : WorldState D) (value : PostedState) → DeliversValue old value new → MakesStep meaning old new
+  delivers old new value h = from-lists old new (λ s sent back got b l.
       let task = value.name.task in
-      let t : task ≡ name.task = ap (λ (n : Name). n.task) h.named in
-      let lt = subst (λ k. k < length old.back) (sym t) h.of_task in
-      let some = subst (λ k. length (list_of old.back k) < old.post_room) (sym t) h.room in
       let after = record (world_of old s sent back got) {
         book = record old.book { out = drop 1 old.book.out; spare = s };
         back = one_more_of_task back task value;
       } in
-      let is = h.is ∙ ap (λ k. record old { book = record old.book { out = drop 1 old.book.out }; back = with_value old.back k value }) (sym t) in
       record {
         after = after;
         step = Deliver (record {
           value = value;
           first = h.first;
-          room = subst (λ x. length x < old.post_room) (sym (b task)) some;
+          room = subst (λ x. length x < old.post_room) (sym (b task)) h.room;
           is = refl;
         });
-        shows = subst (Shows after) (sym is) (record {
+        shows = subst (Shows after) (sym h.is) (record {
           unit = refl;
           intake_room = refl;
           post_room = refl;
           flight = refl;
           book = refl;
-          back = more-is back old.back task value b lt;
+          back = more-is back old.back task value b h.of_task;
           sent = l;
         });
       })

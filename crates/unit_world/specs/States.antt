@@ -1,11 +1,12 @@
 -- THE STATE OF A UNIT'S WORLD as contracts see it, and the steps that a call makes (profile).
-use Rattle.std.specs.Prelude.{◌≡◌, ℕ, List, [], length, replicate, slice_index_or}
+use Rattle.std.specs.Prelude.{◌≡◌, ℕ, List, length}
 use Rattle.device_port.specs.Meaning.{Meaning}
 use Rattle.request_piece.specs.PostedState.{PostedState}
 use Rattle.request_piece.specs.declared.piece.Piece.{Piece}
 use Rattle.unit_book.specs.Book.{Book}
 use Rattle.unit_book.specs.World.{World, IsOpening, Reaches, Step}
 use Rattle.unit_book.specs.WorldLaws.{KeepsRequests}
+use Rattle.unit_world.specs.Parts.{issued_by}
 use Rattle.unit_world.specs.PostLists.{list_of}
 
 -- the number of the unit; its book; how many requests may be in flight to it, and how many posted values on the way back
@@ -19,22 +20,6 @@ pub record WorldState (D : Type 0) : Type 0 where
   pub flight : List Piece
   pub back : List (List PostedState)
   pub issued : List ℕ
-
--- how many requests a task sent
-abbrev pub issued_by : List ℕ → ℕ → ℕ
-issued_by issued task = slice_index_or issued task 0
-
--- the state in which nothing was sent
-abbrev pub opening_state : {D : Type 0} → ℕ → Book D → ℕ → ℕ → ℕ → WorldState D
-opening_state unit book tasks intake_room post_room = record {
-  unit = unit;
-  book = book;
-  intake_room = intake_room;
-  post_room = post_room;
-  flight = [];
-  back = replicate tasks [];
-  issued = replicate tasks 0;
-}
 
 -- the book with room for this many entries
 abbrev pub with_spare : {D : Type 0} → ℕ → Book D → Book D

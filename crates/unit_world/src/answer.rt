@@ -1,4 +1,4 @@
-//! What the calls of a unit's world answer.
+//! What the calls of a site answer.
 
 use request_piece::Name;
 use thiserror::Error;
@@ -6,24 +6,24 @@ use thiserror::Error;
 /// Why a request is not accepted, the first reason in this order (profile).
 #[derive(Clone, Copy, PartialEq, Eq, Debug, Error)]
 pub enum AcceptError {
-    /// The request is for another unit.
-    #[error("the request is for another unit")]
-    OtherUnit,
-    /// The request is of a task that the unit does not have.
+    /// The request is for a unit that the site does not have.
+    #[error("no such unit")]
+    NoSuchUnit,
+    /// The request is of a task that the site does not have.
     #[error("no such task")]
     NoSuchTask,
-    /// The number of the request is not the next of its task.
+    /// The number of the request is not the next of its task at this unit.
     #[error("the number is not the next of the task")]
     OtherNumber,
-    /// As many requests are in flight as may be.
-    #[error("as many requests are in flight as may be")]
+    /// The unit has no room for another request in flight.
+    #[error("no room for another request in flight")]
     Full,
 }
 
 /// What `take` did.
 #[derive(Clone, Copy, PartialEq, Eq, Debug)]
 pub enum Arriving {
-    /// The book holds as many requests as it may.
+    /// The book has no room.
     Held,
     /// Nothing is in flight.
     Quiet,
@@ -38,7 +38,7 @@ pub enum Delivering {
     Quiet,
     /// The posted value of this request is on its way back.
     Delivered(Name),
-    /// As many posted values are on the way back to this request's task as may be.
+    /// The post row of this request's task is full.
     Full(Name),
 }
 

@@ -1,4 +1,4 @@
-//! What holds after every list of calls of a unit's world.
+//! What holds after every list of steps of a unit's world. Each unit of a site has such a world.
 
 ghost use Rattle.unit_world.specs.States.{IsReached, KeepsLaws, WorldState};
 

@@ -1,8 +1,9 @@
-//! The world of one unit, without locks, threads and waiting: its book, the requests that are in flight to it and the
-//! posted values that are on the way back to its tasks, as bounded lists.
+//! A site without locks, threads and waiting: units, each with its book and the requests in flight to it, and for each
+//! task a row of the posts that are on the way back to it, as bounded lists.
 //!
-//! Each call makes one step of `unit_book`'s `World`, or changes nothing. So the laws of worlds hold after every list
-//! of calls (`laws`).
+//! Each call makes one step of `unit_book`'s `World` of one unit, or changes nothing. On the way back to a task from a
+//! unit are the unit's posts in the task's row. So the laws of worlds hold of each unit after every list of calls
+//! (`laws`).
 //!
 //! Tests: tests/mutants/unit_world.
 #![tactic(auto)]
@@ -10,9 +11,9 @@
 mod answer;
 pub mod laws;
 mod post_lists;
-mod units;
-mod world;
+mod purges;
+mod site;
+mod unit_side;
 
 pub use answer::{AcceptError, ActivePhase, Arriving, Delivering};
-pub use units::purge_task_on_units;
-pub use world::UnitWorld;
+pub use site::PlainSite;

@@ -1,14 +1,15 @@
-//! The posted values on the way back to the tasks of a unit.
+//! The post rows of a site.
 
-ghost use Rattle.std.specs.Prelude.{◌≡◌, ◌<◌, ◌≤◌, [], length, option_map, replicate, slice_get, IfErr, IfOk, OnErr, OnOk};
+ghost use Rattle.std.specs.Prelude.{◌≡◌, ◌<◌, ◌≤◌, [], length, replicate, slice_get, IfErr, IfOk, OnErr, OnOk};
+ghost use Rattle.std.specs.Option.{option_copied};
 ghost use Rattle.unit_world.specs.PostLists.{list_of, with_value, without_value};
 
 use circular_buffer::HeapCircularBuffer;
-use request_piece::{Name, Posted};
+use request_piece::Posted;
 use std::alloc::{AllocError, Global};
 use std::marker::Model;
 
-/// A ring of posted values for each task, whose room is made once.
+/// A row of posts for each task, as a ring whose room is made once.
 #[derive(Drop)]
 pub(crate) struct PostLists {
     rings: Vec<HeapCircularBuffer<Posted>>,
@@ -28,7 +29,7 @@ impl Model for PostLists {
 }
 
 impl PostLists {
-    /// Empty lists for so many tasks, with room for so many values each.
+    /// Empty rows for `tasks` tasks, with room for `room` posts each.
     pub fn new(alloc: Global, tasks: u16, room: usize) -> Result<PostLists, AllocError>
         ensures { IfOk result (λ p. p ≡ record { lists = replicate tasks []; room = room }) }
     {
@@ -39,21 +40,21 @@ impl PostLists {
         Ok(PostLists { rings, room })
     }
 
-    /// For how many tasks there are lists.
+    /// How many tasks have a row.
     pub fn tasks(&self) -> usize
         ensures { result ≡ length self.now.lists }
     {
         self.rings.len()
     }
 
-    /// How many values there may be for a task.
+    /// How many posts may be in a row.
     pub fn room(&self) -> usize
         ensures { result ≡ self.now.room }
     {
         self.room
     }
 
-    /// How many values are on the way back to a task.
+    /// How many posts are in the row of a task.
     pub fn len(&self, task: u16) -> usize
         ensures { result ≡ length (list_of self.now.lists task) }
     {
@@ -63,16 +64,15 @@ impl PostLists {
         }
     }
 
-    /// The name of the value on the way back to a task at a place.
-    pub fn name(&self, task: u16, at: usize) -> Option<Name>
-        ensures { result ≡ option_map (λ v. v.name) (slice_get (list_of self.now.lists task) at) }
+    /// The post in the row of a task at a place.
+    pub fn get(&self, task: u16, at: usize) -> Option<&Posted>
+        ensures { option_copied result ≡ slice_get (list_of self.now.lists task) at }
     {
         let ring = self.rings.get(usize::from(task))?;
-        let value = ring.get(at)?;
-        Some(value.name())
+        ring.get(at)
     }
 
-    /// Puts a value behind the others of its task. It comes back if the task has no room.
+    /// Puts a post into the row of its task, after all others. It is handed back if the row is full.
     pub fn push(&mut self, value: Posted) -> Result<(), Posted>
         requires { value.name.task < length self.old.lists }
         ensures ok { OnOk result (self.new ≡ record self.old { lists = with_value self.old.lists value.name.task value }) }
@@ -86,7 +86,7 @@ impl PostLists {
         ring.try_push_back(value)
     }
 
-    /// Takes out the first value of a task.
+    /// Takes the first post out of the row of a task.
     pub fn pop(&mut self, task: u16) -> Option<Posted>
         ensures first { result ≡ slice_get (list_of self.old.lists task) 0 }
         ensures rest { self.new ≡ record self.old { lists = without_value self.old.lists task } }

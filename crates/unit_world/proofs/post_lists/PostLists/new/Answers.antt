@@ -1,5 +1,4 @@
 use Rattle.std.proofs.Common.{◌≡◌, [], ap, ◌∙◌, arith, replicate}
-use Rattle.circular_buffer.specs.Buffer.{buffer}
 use Rattle.unit_world.proofs.Rings.{lists_of, lists-replicate}
 use Rattle.unit_world.proofs.post_lists.PostLists.new.Goals as goal
 

@@ -1,0 +1,100 @@
+use Rattle.std.proofs.Common.{◌<◌, length, map, refl, set, ap, subst, arith}
+use Rattle.std.specs.Prelude.{IfErr, IfOk, OnErr, OnOk}
+use Rattle.unit_book.specs.Answers.{OpensBook, OpenRefused}
+use Rattle.unit_world.specs.Parts.{part_of}
+use Rattle.unit_world.specs.Sites.{SiteState, GrowsSpare, OnBook, OnPart, StepsUnit, world_at}
+use Rattle.unit_world.proofs.Sites.{call-given, call-grows, call-ok, call-refused, call-steps, side_with, two-refused, view_of}
+use Rattle.unit_world.proofs.Steps.{opens}
+use Rattle.unit_world.proofs.site.PlainSite.open.Goals as goal
+
+pub invariant_of-self : goal.invariant_of-self
+invariant_of-self g c =
+    let meaning = g.D.Device.meaning in
+    let i = c.self.inside in
+    let items = i.units.items in
+    let place = c.from.result in
+    let unit = c.args.unit in
+    let side = c.index_mut-side.result.now in
+    let call = c.open in
+    let book = call.new.self in
+    let lt : unit < length (map part_of items) = omega (arith, c.requires, ap (λ (s : SiteState _). length s.units) c.self.view_is) in
+    let here = c.from.ensures in
+    let is = c.index_mut-side.ensures.value in
+    let old = view_of items i.rows in
+    let new = view_of (set items place (side_with side book)) i.rows in
+    call-grows meaning items i.rows place unit here lt side is book call.result c.self.invariant call.ensures.ok call.ensures.err
+    (λ a h. opens meaning (world_at old unit (part_of side)) (world_at old unit (part_of (side_with side book))) a c.args.method c.args.extents.now refl h)
+
+pub returns-clause-step : goal.returns-clause-step
+returns-clause-step g c =
+    let meaning = g.D.Device.meaning in
+    let i = c.self.inside in
+    let items = i.units.items in
+    let place = c.from.result in
+    let unit = c.args.unit in
+    let side = c.index_mut-side.result.now in
+    let call = c.open in
+    let book = call.new.self in
+    let lt : unit < length (map part_of items) = omega (arith, c.requires, ap (λ (s : SiteState _). length s.units) c.self.view_is) in
+    let here = c.from.ensures in
+    let is = c.index_mut-side.ensures.value in
+    let old = view_of items i.rows in
+    let new = view_of (set items place (side_with side book)) i.rows in
+    subst (λ (s : SiteState _). OnOk call.result (StepsUnit meaning s unit new)) c.self.view_is
+    (call-steps meaning items i.rows place unit here lt side is book call.result (call.ensures.ok)
+    (λ a h. opens meaning (world_at old unit (part_of side)) (world_at old unit (part_of (side_with side book))) a c.args.method c.args.extents.now refl h))
+
+pub returns-clause-ok : goal.returns-clause-ok
+returns-clause-ok g c =
+    let meaning = g.D.Device.meaning in
+    let i = c.self.inside in
+    let items = i.units.items in
+    let place = c.from.result in
+    let unit = c.args.unit in
+    let side = c.index_mut-side.result.now in
+    let call = c.open in
+    let book = call.new.self in
+    let lt : unit < length (map part_of items) = omega (arith, c.requires, ap (λ (s : SiteState _). length s.units) c.self.view_is) in
+    let here = c.from.ensures in
+    let is = c.index_mut-side.ensures.value in
+    let old = view_of items i.rows in
+    let new = view_of (set items place (side_with side book)) i.rows in
+    subst (λ (s : SiteState _). IfOk call.result (λ a. OnBook s unit (λ b d. OpensBook meaning b a c.args.method c.args.extents.now d) new)) c.self.view_is
+    (call-ok meaning items i.rows place unit here lt side is book call.result (λ a b d. OpensBook meaning b a c.args.method c.args.extents.now d) call.ensures.ok)
+
+pub returns-clause-err : goal.returns-clause-err
+returns-clause-err g c =
+    let meaning = g.D.Device.meaning in
+    let i = c.self.inside in
+    let items = i.units.items in
+    let place = c.from.result in
+    let unit = c.args.unit in
+    let side = c.index_mut-side.result.now in
+    let call = c.open in
+    let book = call.new.self in
+    let lt : unit < length (map part_of items) = omega (arith, c.requires, ap (λ (s : SiteState _). length s.units) c.self.view_is) in
+    let here = c.from.ensures in
+    let is = c.index_mut-side.ensures.value in
+    let old = view_of items i.rows in
+    let new = view_of (set items place (side_with side book)) i.rows in
+    subst (λ (s : SiteState _). OnErr call.result (OnBook s unit (λ b d. GrowsSpare b d) new)) c.self.view_is
+    (call-refused meaning items i.rows place unit here lt side is book call.result (λ b d. GrowsSpare b d)
+    (two-refused call.result (λ same more. record { is = same; more = more }) call.ensures.err call.ensures.kept))
+
+pub returns-clause-refused : goal.returns-clause-refused
+returns-clause-refused g c =
+    let meaning = g.D.Device.meaning in
+    let i = c.self.inside in
+    let items = i.units.items in
+    let place = c.from.result in
+    let unit = c.args.unit in
+    let side = c.index_mut-side.result.now in
+    let call = c.open in
+    let book = call.new.self in
+    let lt : unit < length (map part_of items) = omega (arith, c.requires, ap (λ (s : SiteState _). length s.units) c.self.view_is) in
+    let here = c.from.ensures in
+    let is = c.index_mut-side.ensures.value in
+    let old = view_of items i.rows in
+    let new = view_of (set items place (side_with side book)) i.rows in
+    subst (λ (s : SiteState _). IfErr call.result (λ e. OnPart s unit (λ p. OpenRefused meaning p.book c.args.extents.now e))) c.self.view_is
+    (call-given meaning items i.rows place unit here lt side is book call.result (λ e b. OpenRefused meaning b c.args.extents.now e) call.ensures.refused)
