@@ -1,18 +1,50 @@
-"""Scenarios, event by event: what each event answers, and each expectation changed in turn, which must fail.
+"""Scenarios, event by event: what each event answers, each expectation changed in turn, and each allocation made to fail.
 
 The files are tests/cases/scenarios/*.scenario and samples/scenarios/*.scenario, whose `expect` lines follow from
 docs/SPECIFICATION.md, and tests/cases/scenarios/*.findings, with scenarios that have faults and what is printed of them.
+Scenarios that are made here are too long for a file, or too many.
 """
 
 import os
+import re
 import subprocess
 
-from harness import SAMPLES, TOP, Case, Failed, expect, files, multiple, read, require
+from harness import SAMPLES, TOP, Case, Failed, Skipped, expect, files, multiple, read, require
 
 FOLDER = f"{SAMPLES}/scenarios"
 
 # What begins a line that is not answered, in the scenario that is driven through a pipe.
 DECLARES = ("#", "tasks", "disk", "rec", "fault", "open", "area", "room", "expect")
+
+# A disk with R1, an unrelated IOB with its ECB, and a program that reads R1: the seek address is that of the first track.
+DISK = """disk 0 0 1 1 40
+rec 0 0 0 1 - C1C2C3C4
+open 0 out 18000000000000000000000000000001
+"""
+IOB = "4200000000001028 0000000000000000 0000103000000001 0000000000000000 0000000000000001 0000000000000000"
+READ = f"area 0 001000 {IOB} 3100105040000005 0800103000000000 0600106000000004 0000000000000000 0000000001000000 0000000000000000 0000000000000000\n"
+EXCP = "excp {} 0 1 001000 0 001000 0"
+
+# How a request is posted that read R1, that waited or came too late, and that was halted so many commands after its start.
+ENDED = "7F 001048 0C00 0000 0000"
+WAITED = "48 000000 0000 0000 0000"
+HALTED = "48 001030 0C00 0000 0000", "48 001038 0C00 0000 0000", "48 001038 0C00 0000 0000"
+
+# The requests of two tasks, in the order of their arrival, and how each is served.
+REQUESTS = (0, 1), (1, 1), (0, 2), (1, 2)
+AT_ONCE = "start 0", "run 0 16", "interrupt 0"
+BY_COMMANDS = "start 0", "run 0 1", "run 0 1", "run 0 1", "interrupt 0"
+
+# What meets them.
+OTHERS = "purge 0 0 1 quiesce", "purge 0 0 1 halt", "close 0 0 1"
+
+# The commands of each kind of device: all other codes are rejected, but those with low bits 0000 and 1000, which are no
+# commands.
+COMMANDS = {
+    "disk 0 0 1 1 40\nopen 0 out 18000000000000000000000000000001": "03 04 05 06 07 0D 0E 12 1D 1E 1F 29 31",
+    "tape 0 0 40\nopen 0 out": "01 02 03 04 07 0C 1F 27 2F 37 3F",
+    "printer 0 0 10 2\nopen 0 out": "01 03 04 09 0B 11 13 19 1B 89 8B",
+}
 
 
 def scenarios():
@@ -26,12 +58,13 @@ def expectations(text):
     return [(at, line) for at, line in enumerate(text.split("\n"), 1) if line.startswith("expect ")]
 
 
-def is_met(setup, file):
+def is_met(setup, text, place=""):
     """Each expectation of a scenario is met."""
-    require(expectations(read(file)), f"{os.path.relpath(file, TOP)} expects nothing")
-    ran = setup.run("step", file)
+    require(expectations(text), f"{place or 'the scenario'} expects nothing")
+    ran = setup.run("step", script=text)
+    ran.file = place
     if (ran.status, ran.err) != (0, ""):
-        raise Failed("an expectation is not met", ran, None, ran.text())
+        raise Failed("an expectation is not met", ran, None, ran.err or ran.text())
 
 
 def is_missed(setup, file):
@@ -59,11 +92,110 @@ def answers_at_once(setup, file):
     require(it.returncode == 0, f"status {it.returncode}")
 
 
+def runs_out_of_memory(setup, file, lacks, refusals):
+    """With each allocation made to fail in turn, a scenario prints all, or a part and that memory ran out."""
+    setup.skip_unproved()
+    if lacks:
+        raise Skipped(lacks)
+    # the `expect` lines of the scenario judge this text
+    plan = refusals.Plan([setup.program, "step"], refusals.prints_a_part, file, setup.run("step", file=file).out)
+    plan.judged("step", 1)
+
+
+# --- scenarios that are made
+
+
+def disturbed(service, other, place):
+    """Two tasks have two requests each: the events of their service, with a purge or a close before the one at a place."""
+    events = [it for task, _ in REQUESTS for it in (EXCP.format(task), "take 0")] + [*service] * len(REQUESTS)
+    arrived, served, into = min(place, 8) // 2, *divmod(max(0, place - 8), len(service))
+    active = into > 0
+    name = "{} 0 {}".format(*REQUESTS[served]) if active else ""
+    word = ("Closing", "Closed") if other.startswith("close") else ("Active", "Quiet")
+    answer = f"expect {word[0]} {name}" if active else f"expect {word[1]}"
+    text = ["tasks 2", DISK + READ + "room intake 4\nroom post 4\nroom book 0 4", *events[:place], other, answer, *events[place:], "settle 0", "expect Settled"]
+    ends = [ENDED] * served + [WAITED] * (4 - served)
+    if active:
+        # before the interruption the program has ended, and a halt comes too late
+        ends[served] = HALTED[into - 1] if "halt" in other and into < len(service) - 1 else ENDED
+    if not other.startswith("close"):
+        ends[arrived:] = [ENDED] * (4 - arrived)
+    # in the order of their posts: what had ended, what waited, what was active, and what came later
+    waiting, came_later = range(served + active, arrived), range(arrived, 4)
+    order = [*range(served), *waiting, *([served] if active else []), *came_later]
+    left = sorted(((*REQUESTS[it], ends[it]) for it in order), key=lambda it: it[0])
+    posts = [f"expect post {task} 0 {number} {end} -" for task, number, end in left]
+    return "\n".join([*text, "finish", "expect Finished 4", *posts, ""])
+
+
+def most_dcbs():
+    """A unit opens 65,535 DCBs, and no further one."""
+    return "tasks 1\ntape 0 0 4\nstart 0\n" + "open 0 in\n" * 65535 + "expect Opened 65535\nopen 0 in\nexpect TooManyDcbs\n"
+
+
+def room_for(count):
+    """Rows and a book take as many requests as they have room for, and no more; what was handed back or held, or is out, goes
+    on once there is room."""
+    rooms = f"room intake {count}\nroom post {count}\nroom book 0 {count}\n"
+    issued = f"{EXCP.format(0)}\n" * count + f"expect Accepted 0 0 {count}\n{EXCP.format(0)}\nexpect Full\n"
+    taken = "take 0\n" * count + f"expect Took 0 0 {count}\n{EXCP.format(0)}\nexpect Accepted 0 0 {count + 1}\ntake 0\nexpect Held\n"
+    served = "start 0\nexpect Started 0 0 1\nrun 0 16\ninterrupt 0\nexpect Ended 0 0 1 7F\ntake 0\nexpect Held\ndeliver 0\n"
+    purged = f"take 0\nexpect Took 0 0 {count + 1}\npurge 0 0 1 quiesce\nexpect Quiet\n"
+    out = "deliver 0\n" * (count - 1) + f"expect Delivered 0 0 {count}\ndeliver 0\nexpect Full 0 0 {count + 1}\n"
+    back = f"collect 0\nexpect post 0 0 1 {ENDED} -\ndeliver 0\nexpect Delivered 0 0 {count + 1}\n"
+    return "".join(["tasks 1\n", DISK, READ, rooms, issued, taken, served, purged, out, back])
+
+
+def every_command(unit, commands):
+    """Each code that is no command of a device is rejected, and moves no byte."""
+    others = [it for it in range(256) if f"{it:02X}" not in commands.split()]
+    areas = [f"area {at} 001000 {IOB} {it:02X}00100000000008" for at, it in enumerate(others)]
+    text = ["tasks 1", unit, *areas]
+    for at, it in enumerate(others):
+        end = "41 001038 0020 0000 0000" if it % 8 == 0 and it % 16 in (0, 8) else "41 001038 0E00 0008 8000"
+        text += [f"excp 0 0 1 001000 {at} 001000 0", "serve 0", "collect 0", f"expect post 0 0 {at + 1} {end} -"]
+    return "\n".join([*text, ""])
+
+
+def has_turns(setup):
+    """A program of 256 commands is run in turns of 64 commands."""
+    program = "0300000040000001 " * 255 + "0300000000000001"
+    ran = setup.run("report", script=f"tasks 1\n{DISK}area 0 001000 {IOB} {program}\n{EXCP.format(0)}\n")
+    runs = re.findall(r" ran \d+ commands.*$", ran.out, re.M)
+    require((ran.status, ran.err, runs) == (0, "", [" ran 256 commands in 4 turns"]), "other turns", ran)
+
+
+def made():
+    """The names of the scenarios that are made, and a call that gives their texts."""
+    for name, service in (("purge_or_close_before_each_call", AT_ONCE), ("purge_or_close_between_two_commands", BY_COMMANDS)):
+        for other in OTHERS:
+            yield f"{name}: {other}", lambda s=service, o=other: [disturbed(s, o, at) for at in range(8 + 4 * len(s))]
+    yield "most_dcbs", lambda: [most_dcbs()]
+    yield "rows_and_books_with_most_room", lambda: [room_for(it) for it in (2, 16000)]
+    for unit, commands in COMMANDS.items():
+        yield f"every_command: {unit.split()[0]}", lambda u=unit, c=commands: [every_command(u, c)]
+
+
+def are_met(setup, give):
+    """The expectations of each of some scenarios are met."""
+    for text in give():
+        is_met(setup, text)
+
+
 def cases(setup):
+    from groups import refusals  # which needs the harness alone, and is imported late since it compiles a library
+
+    lacks = refusals.compiled()
     for file in scenarios():
         place, name = os.path.relpath(file, TOP), os.path.basename(file).removesuffix(".scenario")
-        yield Case(name, lambda f=file: is_met(setup, f), f"{place}, by docs/SPECIFICATION.md")
+        yield Case(name, lambda f=file, p=place: is_met(setup, read(f), p), f"{place}, by docs/SPECIFICATION.md")
         yield Case(f"{name}: each expectation changed", lambda f=file: is_missed(setup, f), f"{place}, by docs/MANUAL.md")
+        judge = lambda f=file: runs_out_of_memory(setup, f, lacks, refusals)
+        yield Case(f"{name}: each allocation", judge, f"{place}, by docs/MANUAL.md")
+    origin = "tests/groups/scenarios.py, by docs/SPECIFICATION.md"
+    for name, give in made():
+        yield Case(name, lambda g=give: are_met(setup, g), origin)
+    yield Case("turns_of_sixty_four_commands", lambda: has_turns(setup), origin)
     for file in files("scenarios", ".findings"):
         for name, script, wanted, place in multiple(file):
             judge = lambda s=script, w=wanted: expect(setup.run("step", script=s), (1, "", w))

@@ -1,15 +1,10 @@
-//! What the tests of all devices share: storage, commands and faults.
+//! What the tests of devices share: storage, a command and faults.
 
-use device_port::{Acted, Chain, Device, Fault, FaultScript, Flow, Kind, Segment, is_script};
+use device_port::{Acted, Chain, Device, Fault, FaultScript, Flow, Segment, is_script};
 use io_area::Area;
-use io_images::{Seek, SubStatus, UnitStatus};
-use std::alloc::AllocError;
+use io_images::{SubStatus, UnitStatus};
 use std::process::Abort;
 use std::test::Fail;
-
-/// A command on so many bytes at an address, and how it is to end: unit status, sense bytes, and how many bytes it
-/// wants.
-pub type Step = (u8, u32, u16, u8, u16, u32);
 
 /// Whether storage has these bytes at an address.
 pub fn holds(area: &Area, address: u32, bytes: &[u8]) -> bool {
@@ -39,56 +34,6 @@ pub fn act<D: Device>(
     }];
     let chain = Chain::of(&parts);
     device.act(command, &chain, area)
-}
-
-/// Does the commands of a table, one after another.
-pub fn expect_steps<D: Device>(rt: &impl Abort, device: &mut D, area: &mut Area, steps: &[Step]) {
-    for (command, address, count, unit, sense, want) in steps {
-        let expected = Acted {
-            unit: UnitStatus::new(*unit),
-            sub: SubStatus::new(0),
-            sense: *sense,
-            want: *want,
-        };
-        let acted = act(rt, device, area, *command, *address, *count);
-        assert_eq!(rt; acted, expected, "{command}");
-    }
-}
-
-/// Each command that is not one of these is rejected and moves no byte, and a copy answers as the device does.
-pub fn expect_every_command<D: Device>(
-    rt: &impl Abort,
-    device: &mut D,
-    area: &mut Area,
-    address: u32,
-    count: u16,
-    listed: &[u8],
-) -> Result<(), AllocError> {
-    let mut copy = device.copy()?;
-    for command in 0..=255 {
-        let acted = act(rt, device, area, command, address, count);
-        let again = act(rt, &mut copy, area, command, address, count);
-        assert_eq!(rt; acted, again, "{command}");
-        let rejected = acted == Acted::rejected() && device.flow(command) == Flow::None;
-        assert!(rt; rejected || listed.contains(&command), "{command}");
-    }
-    Ok(())
-}
-
-/// A device without tracks takes every Seek in front of a program, and its bytes move these ways.
-pub fn expect_no_tracks<D: Device>(
-    rt: &impl Abort,
-    device: &mut D,
-    kind: Kind,
-    flows: &[(u8, Flow)],
-) {
-    let seek = Seek::default();
-    assert!(rt; device.kind() == kind && device.cylinders() == 0 && device.heads() == 0);
-    assert!(rt; device.fits(&seek));
-    device.prefix(&seek, 0x58);
-    for (command, flow) in flows {
-        assert_eq!(rt; device.flow(*command), *flow);
-    }
 }
 
 /// A unit check at the command with this number.

@@ -30,5 +30,3 @@ mod subchannels;
 mod tapes;
 #[cfg(test)]
 mod verdicts;
-#[cfg(test)]
-mod words;

@@ -1,9 +1,9 @@
-//! What a request says, and requests without memory. Where its control blocks may be is in tests/cases/mistakes, what a
-//! post writes in tests/cases/scripts/posted_areas.posts.
+//! Requests where memory may run out, and over storage that is shared. Where control blocks may be is in
+//! tests/cases/mistakes, what a post writes in tests/cases/scripts/posted_areas.posts.
 
 use crate::memory::TWICE;
 use io_area::Area;
-use request_piece::{Name, Request, RequestError, Scope};
+use request_piece::{Name, Request, RequestError};
 use std::process::Abort;
 use std::sync::Arc;
 use std::test::Fail;
@@ -48,41 +48,6 @@ fn requests_without_memory(rt: HostRuntime) -> Result<(), Fail> {
         made => made?,
     };
     assert_eq!(rt; request.area().get(0x1000, 104), Some(fixture().as_slice()));
-    Ok(())
-}
-
-/// Whether a request has the names and places of the fixture's IOB, and its storage.
-fn says_its_iob(request: &Request) -> bool {
-    request.name() == NAME
-        && request.unit() == 7
-        && request.dcb() == 1
-        && !request.is_related()
-        && request.start().get() == 0x1030
-        && request.area().get(0x1000, 104) == Some(fixture().as_slice())
-}
-
-/// Whether a request has the seek address of the fixture's IOB.
-fn says_its_seek(request: &Request) -> bool {
-    let seek = request.seek();
-    (seek.extent, seek.bin, seek.cylinder) == (1, 0, 2) && (seek.head, seek.record) == (3, 4)
-}
-
-/// Whether a request is of its DCB and of its task, and of no other.
-fn is_covered(request: &Request) -> bool {
-    Scope::Dcb(1).covers(request)
-        && Scope::Task(3).covers(request)
-        && !Scope::Dcb(3).covers(request)
-        && !Scope::Task(1).covers(request)
-}
-
-#[test]
-fn request_says_what_its_iob_says(rt: HostRuntime) -> Result<(), Fail> {
-    let request = issued(&rt, rt.alloc(), &fixture(), 0x1000)?;
-    assert!(rt; says_its_iob(&request) && says_its_seek(&request));
-    assert!(rt; is_covered(&request));
-    let (issued, work) = request.into_parts();
-    assert!(rt; issued.name() == NAME && work.iob == 0x1000 && work.ecb == 0x1028);
-    assert!(rt; Scope::Dcb(1).covers_piece(&work) && !Scope::Task(1).covers_piece(&work));
     Ok(())
 }
 

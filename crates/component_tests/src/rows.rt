@@ -256,7 +256,7 @@ fn expect_room_for_one<R: Wait + Abort>(
     assert!(rt; sender.sent_len() == 2 && taker.taken_len(0) == 1);
 }
 
-/// It refuses a row that is always full, or always empty: the wrong bodies of rows_accept_and_give.
+/// It rejects a row that is always full, or always empty: the mutants of rows_accept_and_give.
 #[test]
 fn row_of_one(rt: HostRuntime) -> Result<(), Fail> {
     let mut row = Row::<Parcel>::new(rt.alloc(), 1, 1, TAG)?;

@@ -1,4 +1,5 @@
-//! The conditions under which each instruction answers each code, and a status after a halt.
+//! The conditions under which each instruction answers each code. What a halt leaves of a program is in
+//! tests/cases/scenarios/halt_before_during_and_after.scenario.
 
 use crate::devices::holds;
 use device_port::toy::ToyBlock;
@@ -119,6 +120,9 @@ fn condition_codes(rt: HostRuntime) -> Result<(), Fail> {
     expect_codes(&rt, &mut channel, &mut area, &PENDING);
     expect_status(&rt, &mut channel, 0x1010, 0x0C, 0);
     assert!(rt; channel.tsch().0 == 1);
+    // a halt with nothing in progress leaves zeros
+    assert!(rt; channel.hsch() == 0);
+    expect_status(&rt, &mut channel, 0, 0, 0);
     assert!(rt; holds(&area, 0x1010, &[0xC1, 0xC2, 0xC3, 0xC4]));
     Ok(())
 }
@@ -129,31 +133,5 @@ fn absent_is_not_operational(rt: HostRuntime) -> Result<(), Fail> {
     let mut area = Area::new(rt.alloc(), 0x1000, &[])?;
     expect_codes(&rt, &mut channel, &mut area, &ABSENT);
     assert!(rt; !channel.pending() && channel.status().is_none() && channel.device().is_none());
-    Ok(())
-}
-
-/// After no command: the start of the program and 0; after one: its address plus 8 and its residual count; with nothing
-/// in progress: zeros.
-#[test]
-fn halted_between_two_commands(rt: HostRuntime) -> Result<(), Fail> {
-    // no-operation with command chaining and a count of 5, then a read
-    let image = [
-        0x03, 0, 0, 0, 0x60, 0, 0, 5, 0x02, 0, 0x10, 0x08, 0, 0, 0, 4,
-    ];
-    let mut area = Area::new(rt.alloc(), 0x1000, &image)?;
-    let mut channel = Subchannel::new(tape(&rt)?, 0);
-    let halt = (Instruction::Hsch, 0);
-    let start = (Instruction::Ssch, 0);
-    expect_codes(&rt, &mut channel, &mut area, &[start, halt]);
-    expect_status(&rt, &mut channel, 0x1000, 0x0C, 0);
-    expect_codes(
-        &rt,
-        &mut channel,
-        &mut area,
-        &[start, (Instruction::Run, 0), halt],
-    );
-    expect_status(&rt, &mut channel, 0x1008, 0x0C, 5);
-    expect_codes(&rt, &mut channel, &mut area, &[halt]);
-    expect_status(&rt, &mut channel, 0, 0, 0);
     Ok(())
 }

@@ -1,25 +1,12 @@
-//! A tape as a device: its flows, every command, and mounting without memory. What its commands do is in
-//! tests/cases/histories/tapes.steps.
+//! A tape as a device: mounting without memory. What its commands do is in tests/cases/histories/tapes.steps.
 
-use crate::devices::{expect_every_command, expect_no_tracks, expect_steps, late_fault};
+use crate::devices::late_fault;
 use crate::memory::TWICE;
-use device_port::{Device, Flow, Kind, MountError};
-use io_area::Area;
+use device_port::{Device, MountError};
 use std::alloc::{AllocError, Global};
 use std::process::Abort;
 use std::test::Fail;
 use tape_unit::{InitialItem, Tape};
-
-/// The commands that a tape has.
-const COMMANDS: [u8; 11] = [1, 2, 3, 4, 7, 0x0C, 0x1F, 0x27, 0x2F, 0x37, 0x3F];
-
-const FLOWS: [(u8, Flow); 5] = [
-    (0x01, Flow::Out),
-    (0x02, Flow::Input),
-    (0x04, Flow::Input),
-    (0x0C, Flow::Back),
-    (0x27, Flow::None),
-];
 
 /// Items, the empty one being a tape mark.
 fn items(alloc: Global, contents: &[&[u8]]) -> Result<Vec<InitialItem>, AllocError> {
@@ -56,30 +43,6 @@ fn longest(alloc: Global, items: &[InitialItem]) -> Result<Tape, MountError> {
 
 /// A block and a tape mark.
 const TWO_ITEMS: [&[u8]; 2] = [&[5], &[]];
-
-/// What comes before a program leaves the tape at its place, which is after the mark.
-#[test]
-fn is_a_device(rt: HostRuntime) -> Result<(), Fail> {
-    let items = items(rt.alloc(), &TWO_ITEMS)?;
-    let mut tape = longest(rt.alloc(), &items)?;
-    let mut area = Area::new(rt.alloc(), 0x1050, &[0; 32])?;
-    expect_steps(&rt, &mut tape, &mut area, &[(0x3F, 0x1060, 1, 0x0C, 0, 0)]);
-    expect_no_tracks(&rt, &mut tape, Kind::Tape, &FLOWS);
-    expect_steps(&rt, &mut tape, &mut area, &[(0x27, 0x1060, 1, 0x0D, 0, 0)]);
-    Ok(())
-}
-
-/// The second time with a copy of a tape that was written.
-#[test]
-fn every_command(rt: HostRuntime) -> Result<(), Fail> {
-    let mut area = Area::new(rt.alloc(), 0x1050, &[0; 32])?;
-    let items = items(rt.alloc(), &TWO_ITEMS)?;
-    let mut tape = longest(rt.alloc(), &items)?;
-    for _ in 0..2 {
-        expect_every_command(&rt, &mut tape, &mut area, 0x1060, 1, &COMMANDS)?;
-    }
-    Ok(())
-}
 
 /// Asserts that the items that a mounting was refused with are as they were made.
 fn expect_as_made(rt: &impl Abort, items: &[InitialItem]) {

@@ -16,9 +16,7 @@ use std::sync::Wait;
 use std::test::Fail;
 use unit_book::UnitBook;
 
-mod full;
 mod mixed;
-mod restarts;
 mod under_way;
 
 /// What a report lists for task 0 of a unit: each request's number, how it ended, and the first of the data that it

@@ -38,19 +38,6 @@ pub const READ_RECORD: [u8; 104] = [
     0, 0, 0, 1, 0, 0, 0, 0, 0, 0, 0, 0, 0, 0, 0, 0, 0, 0, 0, 0, 0, 0, 0,
 ];
 
-/// A no-operation to which another command is chained.
-const NO_OPERATION: [u8; 8] = [0x03, 0, 0, 0, 0x40, 0, 0, 1];
-
-/// An image with this IOB and ECB whose program is so many no-operations, one behind another.
-pub fn no_operations(alloc: Global, image: &[u8; 104], count: u32) -> Result<Vec<u8>, AllocError> {
-    let mut bytes = Vec::from_slice(alloc, &image[..48])?;
-    for _ in 1..count {
-        bytes.extend_from_slice(&NO_OPERATION)?;
-    }
-    bytes.extend_from_slice(&[0x03, 0, 0, 0, 0, 0, 0, 1])?;
-    Ok(bytes)
-}
-
 /// What is read of a tape, and of the disk of unit 0.
 pub const BLOCK: [u8; 4] = [0xC1, 0xC2, 0xC3, 0xC4];
 

@@ -2,7 +2,7 @@
 
 ghost use Rattle.std.specs.Prelude.{◌≡◌};
 
-use crate::fixtures::{BLOCK, OTHER_BLOCK, disks, issue, tapes};
+use crate::fixtures::{BLOCK, disks, issue, tapes};
 use ckd_disk::Disk;
 use device_port::Device;
 use device_port::toy::ToyBlock;
@@ -18,15 +18,10 @@ use std::thread;
 use unit_book::UnitBook;
 
 mod arrivals;
-pub mod calls;
-mod interleavings;
 mod new_system;
 mod notices;
-mod openings;
 mod side_by_side;
 mod task_purges;
-mod told;
-mod turns;
 mod without_memory;
 
 /// How often a thread looks before it gives up.

@@ -14,7 +14,6 @@ use job_mount::books;
 use job_run::{Lines, Output, ScriptTasks, TaskError, ended, run_on, write};
 use job_script::{FaultName, JobError, Script};
 use not_awaited::NotAwaited;
-use post_ledger::finish;
 use request_piece::Name;
 use std::alloc::{AllocError, Global};
 use std::marker::Brand;
@@ -112,8 +111,6 @@ enum Way {
     Whole,
     /// To its end, and its tasks do not wait for their posts.
     Unawaited,
-    /// The same, and there is no worker: all is left to its end.
-    Left,
     /// Until its tasks have ended.
     Tasks,
     /// And no handler takes a status, so that nothing is posted, and a worker meets want of memory before such a call.
@@ -200,40 +197,6 @@ fn unawaited<R: Threads + Wait + Sync + AllocGlobal>(
     let program = NotAwaited::new(script);
     let done = run_program(rt, alloc, rows, books, two_of_each(), &program);
     let Ok((report, outcomes)) = done else {
-        return Err(JobError::NoMemory);
-    };
-    let run = ended(alloc, report, outcomes)?;
-    printed(alloc, &run.lines)
-}
-
-/// What comes of the same without workers.
-fn left<S: Site + Send + Sync, R: Threads + Wait + Sync + AllocGlobal>(
-    rt: &R,
-    rows: &mut Rows,
-    books: Vec<UnitBook<AnyDevice>>,
-    script: &Script,
-) -> Result<Outcome, JobError>
-    requires site { S.rows ≡ site_of rows.old }
-    requires fresh { AreFresh rows.old }
-    requires books { AreBooks S.rows.units books.items }
-    requires units { vec_len script.now.set_up.units ≡ S.rows.units }
-    requires few { (S.rows.units ≤ 64) × (S.rows.tasks ≤ 64) }
-    requires requests { All CanBeDone script.now.commands.items }
-{
-    let alloc = rt.alloc();
-    let (system, tasks, _) = System::<S, AnyDevice>::new(alloc, rows, books)?;
-    let runners = runners(alloc, tasks)?;
-    let alarm = Alarm::of(alloc, runners.as_slice())?;
-    let crew = Crew {
-        channels: Vec::new(alloc),
-        handlers: Vec::new(alloc),
-    };
-    let program = NotAwaited::new(script);
-    let runners = run_beside(rt, alloc, &system, &alarm, &alarm, crew, runners, &program).or(Err(
-        JobError::NoMemory,
-    ))?;
-    let (tasks, outcomes) = parted(alloc, runners)?;
-    let Ok(report) = finish(rt, alloc, system, tasks) else {
         return Err(JobError::NoMemory);
     };
     let run = ended(alloc, report, outcomes)?;
@@ -402,7 +365,6 @@ fn run<R: Threads + Wait + Sync + AllocGlobal>(
             printed(alloc, &run.lines)
         }
         Way::Unawaited => unawaited(rt, rows, books, &script),
-        Way::Left => left::<Brand, R>(rt, &mut rows, books, &script),
         _ => tasks_alone::<Brand, R>(rt, &mut rows, books, &script, way),
     }
 }
@@ -421,11 +383,9 @@ fn tasks_wait_for_their_posts(rt: HostRuntime) -> Result<(), Fail> {
     let set_up = [TWO_TASKS, UNITS];
     let outcome = run(&rt, set_up, &[AREAS, EXCPS], 8, Way::Tasks)?;
     assert_eq!(rt; outcome, Outcome::Ended(0, 12));
-    for way in [Way::Unawaited, Way::Left] {
-        let outcome = run(&rt, set_up, &[AREAS, EXCPS], 8, way)?;
-        let posts = Vec::from_slice(rt.alloc(), POSTS.as_bytes())?;
-        assert_eq!(rt; outcome, Outcome::Printed(posts));
-    }
+    let outcome = run(&rt, set_up, &[AREAS, EXCPS], 8, Way::Unawaited)?;
+    let posts = Vec::from_slice(rt.alloc(), POSTS.as_bytes())?;
+    assert_eq!(rt; outcome, Outcome::Printed(posts));
     Ok(())
 }
 

@@ -1,4 +1,4 @@
-//! Runs that end with nothing under way, with requests on their way, and with one that was started.
+//! Runs that end with requests on their way, and with one that awaits its restart, where memory may run out.
 
 ghost use Rattle.std.specs.Prelude.{◌≡◌, ◌<◌, IfOk};
 ghost use Rattle.excp_system.specs.Drained.{ArePlaced};
@@ -6,143 +6,66 @@ ghost use Rattle.excp_system.specs.Opening.{AreBooks, AreFresh, site_of};
 ghost use Rattle.post_ledger.specs.Report.{IsFor};
 
 use super::*;
-use crate::fixtures::is_undisturbed;
-use crate::units::calls::{Hold, held};
+use crate::fixtures::{fault, faulty_disks, is_undisturbed};
 
-/// What a run comes to before its end: so many requests issued to unit 0, and what is done there with them.
-#[derive(Clone, Copy)]
-struct Run {
-    issued: u32,
-    holds: &'static [Hold],
-}
+/// How many requests of task 0 are issued to unit 0.
+const ISSUED: u32 = 3;
 
 /// What the report lists for the task at unit 0: a run that purged what is left would list code 48.
-type Listed = &'static [(u32, Code, u8)];
-
-const NONE: Listed = &[];
-
-const THREE: Listed = &[
+const LISTED: [(u32, Code, u8); 3] = [
     (1, Code::Ended, 0xC1),
     (2, Code::Ended, 0xC1),
     (3, Code::Ended, 0xC1),
 ];
 
-/// Nothing was served, or two of the requests were taken and the first has done one of its commands.
-const RUNS: [(Run, Listed); 3] = [
-    (
-        Run {
-            issued: 0,
-            holds: &[],
-        },
-        NONE,
-    ),
-    (
-        Run {
-            issued: 3,
-            holds: &[],
-        },
-        THREE,
-    ),
-    (
-        Run {
-            issued: 3,
-            holds: &[Hold::Take, Hold::Take, Hold::Start, Hold::Step],
-        },
-        THREE,
-    ),
-];
-
-/// The first data byte of the last record of a disk.
-fn last_data(disk: &Disk) -> u8 {
-    let mut last = 0;
-    for record in disk.records(0, 0) {
-        last = record.content().first().copied().unwrap_or(0);
-    }
-    last
-}
-
-/// The data of the disk of each unit, as it was mounted, and whether nobody purged, closed or reset it.
-fn media(alloc: Global, report: &Report<Disk>) -> Result<Vec<(u8, bool)>, AllocError> {
-    let mut media = Vec::new(alloc);
-    for book in report.units() {
-        media.push((last_data(book.mounted()), is_undisturbed(book.trace())))?;
-    }
-    Ok(media)
-}
-
-/// The task issues so many requests to a unit.
-pub fn issue_some<S: Site, R: Wait>(
+/// The task issues its requests to unit 0.
+fn issue_all<S: Site, R: Wait>(
     rt: &R,
     alloc: Global,
     tasks: &mut Vec<Task<'_, S>>,
-    unit: u16,
-    kind: Kind,
-    count: u32,
 ) -> Result<(), AllocError>
     requires tasks { ArePlaced (λ task. task.number) S.rows.tasks tasks.old.items }
     requires one { S.rows.tasks ≡ 1 }
-    requires units { unit < S.rows.units }
+    requires units { 0 < S.rows.units }
     ensures { ArePlaced (λ task. task.number) S.rows.tasks tasks.new.items }
 {
-    for _ in 0..count {
+    for _ in 0..ISSUED {
         let task = &mut tasks[0];
-        issue(rt, alloc, task, unit, kind)?.map_err(|_| AllocError)?;
+        issue(rt, alloc, task, 0, Kind::Disk)?.map_err(|_| AllocError)?;
     }
     Ok(())
 }
 
-/// Does these holds of a unit.
-pub fn serve<S: Site, D: Device, R: Wait>(
-    rt: &R,
-    system: &System<'_, S, D>,
-    unit: u16,
-    holds: &[Hold],
-) -> Result<(), AllocError>
-    requires { unit < S.rows.units }
+/// Two requests arrive at unit 0, and the first one, which meets a fault, comes to await its restart.
+fn serve<S: Site, R: Wait>(rt: &R, system: &System<'_, S, Disk>) -> Result<(), AllocError>
+    requires { 0 < S.rows.units }
 {
-    let mut unit = system.lock_of(unit).lock(rt);
-    for hold in holds {
-        held(rt, &mut unit, *hold)?;
-    }
+    let mut unit = system.lock_of(0).lock(rt);
+    unit.take(rt)?;
+    unit.take(rt)?;
+    unit.start()?;
+    unit.run(rt, 16)?;
+    unit.interrupt()?;
     Ok(())
 }
 
-/// A run that is about to end: its system and its one task.
-fn begun<'r, S: Site, R: Wait>(
+/// The report of a run, resumed where there is no memory for its end, at most three times; and how often it was.
+fn resumed<'r, S: Site, R: Wait + Abort>(
     rt: &R,
     alloc: Global,
-    rows: &'r mut Rows,
-    books: Vec<UnitBook<Disk>>,
-    run: Run,
-) -> Result<(System<'r, S, Disk>, Vec<Task<'r, S>>), AllocError>
-    requires site { S.rows ≡ site_of rows.old }
-    requires fresh { AreFresh rows.old }
-    requires books { AreBooks S.rows.units books.items }
-    requires tasks { S.rows.tasks ≡ 1 }
-    requires units { S.rows.units ≡ 2 }
-    ensures { IfOk result (λ run. ArePlaced (λ task. task.number) S.rows.tasks run.1.items) }
-{
-    let (system, mut tasks, _) = System::<S, Disk>::new(alloc, rows, books)?;
-    issue_some(rt, alloc, &mut tasks, 0, Kind::Disk, run.issued)?;
-    serve(rt, &system, 0, run.holds)?;
-    Ok((system, tasks))
-}
-
-/// The report of a run that is resumed where there is no memory for its end, at most three times; and how often it was.
-pub fn resumed<'r, S: Site, D: Device, R: Wait + Abort>(
-    rt: &R,
-    alloc: Global,
-    system: System<'r, S, D>,
+    system: System<'r, S, Disk>,
     tasks: Vec<Task<'r, S>>,
-) -> Result<(Report<D>, u32), AllocError>
-    requires { ArePlaced (λ task. task.number) S.rows.tasks tasks.items }
-    ensures { IfOk result (λ ended. IsFor S.rows.units S.rows.tasks ended.0) }
+) -> Result<(Report<Disk>, u32), AllocError>
+    requires tasks { ArePlaced (λ task. task.number) S.rows.tasks tasks.items }
+    requires one { S.rows.tasks ≡ 1 }
+    requires units { S.rows.units ≡ 2 }
+    ensures { IfOk result (λ ended. IsFor 2 1 ended.0) }
 {
     let mut left = match finish(rt, alloc, system, tasks) {
         Ok(report) => return Ok((report, 0)),
         Err(left) => left,
     };
-    // at most two growths are refused
+    // at most two growths fail
     for times in 1..4 {
         assert_eq!(rt; left.cause(), Cause::NoMemory);
         left = match left.resume(rt) {
@@ -154,13 +77,14 @@ pub fn resumed<'r, S: Site, D: Device, R: Wait + Abort>(
     Err(AllocError)
 }
 
-/// The report of a run that ends, and how often it was resumed.
+/// The report of a run that ends behind the calls of its task, or after its unit has begun to serve them; and how often
+/// it was resumed.
 fn ended<S: Site, R: Wait + Abort>(
     rt: &R,
     alloc: Global,
     rows: &mut Rows,
     books: Vec<UnitBook<Disk>>,
-    run: Run,
+    is_served: bool,
 ) -> Result<(Report<Disk>, u32), AllocError>
     requires site { S.rows ≡ site_of rows.old }
     requires fresh { AreFresh rows.old }
@@ -169,41 +93,28 @@ fn ended<S: Site, R: Wait + Abort>(
     requires units { S.rows.units ≡ 2 }
     ensures { IfOk result (λ ended. IsFor 2 1 ended.0) }
 {
-    let (system, tasks) = begun::<S, _>(rt, alloc, rows, books, run)?;
+    let (system, mut tasks, _) = System::<S, Disk>::new(alloc, rows, books)?;
+    issue_all(rt, alloc, &mut tasks)?;
+    if is_served {
+        serve(rt, &system)?;
+    }
     resumed(rt, alloc, system, tasks)
 }
 
-/// Asserts that a report lists these values for the task at unit 0 and none at unit 1, that the disks are those that
-/// were mounted, and that nobody purged, closed or reset a unit.
-fn expect_report<R: Abort>(
-    rt: &R,
-    alloc: Global,
-    report: &Report<Disk>,
-    wanted: Listed,
-) -> Result<(), AllocError>
-    requires { IsFor 2 1 report.now }
-{
-    let (first, second) = (listed(alloc, report, 0)?, listed(alloc, report, 1)?);
-    assert!(rt; first.as_slice() == wanted && second.as_slice() == NONE);
-    let media = media(alloc, report)?;
-    assert!(rt; media.as_slice() == [(0xC1, true), (0xD1, true)].as_slice());
-    Ok(())
-}
-
-/// Brings a run to its end, and answers how often it was resumed. Its report is asserted to list these values.
-fn expect_ended<R: Wait + Abort + AllocGlobal>(
-    rt: &R,
-    run: Run,
-    wanted: Listed,
-) -> Result<u32, AllocError> {
-    let mut rows = Rows::new(rt.alloc(), 1, 2, 4, 4)?;
-    let books = disks(rt.alloc(), 4)?;
-    let (report, times) = ended::<Brand, _>(rt, rt.alloc(), &mut rows, books, run)?;
-    expect_report(rt, rt.alloc(), &report, wanted)?;
+/// Brings a run to its end, and answers how often it was resumed. Its report lists all requests as read, none at unit 1,
+/// and no purge, close or reset.
+fn expect_ended<R: Wait + Abort + AllocGlobal>(rt: &R, is_served: bool) -> Result<u32, AllocError> {
+    let alloc = rt.alloc();
+    let mut rows = Rows::new(alloc, 1, 2, 4, 4)?;
+    let books = faulty_disks(alloc, &[fault(1, 0x1000)], 4)?;
+    let (report, times) = ended::<Brand, _>(rt, alloc, &mut rows, books, is_served)?;
+    let (first, second) = (listed(alloc, &report, 0)?, listed(alloc, &report, 1)?);
+    assert!(rt; first.as_slice() == LISTED.as_slice() && second.is_empty());
+    assert!(rt; report.units().iter().all(|book| is_undisturbed(book.trace())));
     Ok(times)
 }
 
-/// Tells how often a run was resumed, where it was.
+/// Prints how often a run was resumed, if it was.
 fn tell(rt: &HostRuntime, times: u32) -> Result<(), Fail> {
     if times > 0 {
         println!(rt; "resumed {times}")?;
@@ -211,28 +122,16 @@ fn tell(rt: &HostRuntime, times: u32) -> Result<(), Fail> {
     Ok(())
 }
 
-/// What is left at the end of a run is served and not purged, and each unit has the disk that was mounted on it: it
-/// refuses the wrong bodies of finish_does_not_purge and of books_keep_their_units.
-#[test]
-fn finish_after_excp(rt: HostRuntime) -> Result<(), Fail> {
-    for (run, wanted) in RUNS {
-        let times = expect_ended(&rt, run, wanted)?;
-        assert_eq!(rt; times, 0);
-    }
-    Ok(())
-}
-
-/// A run that ends behind the calls of a task alone: run it with each growth of memory refused in turn, and with each
-/// two. Where it passes with some refused it is to tell that it was resumed, once for each at most.
+/// A run that ends behind the calls of a task alone: run it with each allocation made to fail in turn, and with each
+/// two. If it passes with some that fail it is to print that it was resumed, once for each at most.
 #[test]
 fn finish_after_excp_without_memory(rt: HostRuntime) -> Result<(), Fail> {
-    let (run, wanted) = RUNS[1];
-    tell(&rt, expect_ended(&rt, run, wanted)?)
+    tell(&rt, expect_ended(&rt, false)?)
 }
 
-/// The same of a run that ends with a request under way.
+/// The same of a run that ends while a request awaits its restart, one waits, and one is on its way. It rejects the
+/// mutants of finish_does_not_purge.
 #[test]
 fn finish_without_memory(rt: HostRuntime) -> Result<(), Fail> {
-    let (run, wanted) = RUNS[2];
-    tell(&rt, expect_ended(&rt, run, wanted)?)
+    tell(&rt, expect_ended(&rt, true)?)
 }

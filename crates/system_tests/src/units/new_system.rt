@@ -1,72 +1,36 @@
-//! A system over rows that were just made: how many tasks, handlers and units it has, and what it is made from where
+//! A system over rows that were just made: how many tasks, handlers and units it has, and what it is made from if
 //! there is no memory.
 
-ghost use Rattle.std.specs.Prelude.{◌≡◌, ◌≤◌, [], true, IfOk, IfSome};
+ghost use Rattle.std.specs.Prelude.{◌≡◌, ◌≤◌, true, IfOk, IfSome};
 ghost use Rattle.std.specs.List.{list_all};
 ghost use Rattle.unit_book.specs.Trace.{is_opening};
 ghost use Rattle.excp_system.specs.Opening.{AreBooks, AreFresh, site_of};
 
-use super::calls::{Answer, Call, Hold, R1, expect_answers};
 use super::*;
 use crate::fixtures::TWICE;
 use device_port::Kind;
 use std::alloc::Global;
 use unit_book::ProcessingMethod;
 
-/// The book of a unit on this subclass, in which nothing happened.
-fn book(alloc: Global, isc: u8) -> Result<UnitBook<ToyBlock>, AllocError>
-    requires { isc ≤ 7 }
-    ensures { IfOk result (λ book. book.trace ≡ []) }
+/// A request of task 0 to each unit: that of unit 0 comes to its end, that of unit 1 arrives.
+fn serve_both<S: Site, R: Wait + Abort + AllocGlobal>(
+    rt: &R,
+    system: &System<'_, S, ToyBlock>,
+    task: &mut Task<'_, S>,
+) -> Result<(), Fail>
+    requires { S.rows.units ≡ 2 }
 {
-    let device = ToyBlock::mount(alloc, Kind::Tape, [0; 4], &[])?;
-    Ok(UnitBook::new(alloc, device, isc, 4)?)
-}
-
-/// The books of two units.
-fn two_books(alloc: Global) -> Result<Vec<UnitBook<ToyBlock>>, AllocError>
-    ensures { IfOk result (λ books. AreBooks 2 books.items) }
-{
-    let mut books = Vec::with_capacity(alloc, 2)?;
-    books.push_reserved(book(alloc, 2)?);
-    books.push_reserved(book(alloc, 7)?);
-    Ok(books)
-}
-
-/// How many tasks, takers of notices and units a system over these rows has.
-fn counts<S: Site, D: Device>(
-    alloc: Global,
-    rows: &mut Rows,
-    books: Vec<UnitBook<D>>,
-) -> Result<(usize, usize, usize), AllocError>
-    requires site { S.rows ≡ site_of rows.old }
-    requires fresh { AreFresh rows.old }
-    requires books { AreBooks S.rows.units books.items }
-{
-    let (system, tasks, handlers) = System::<S, D>::new(alloc, rows, books)?;
-    let units = system.into_units()?;
-    Ok((tasks.len(), handlers.len(), units.len()))
-}
-
-#[test]
-fn system_over_its_rows(rt: HostRuntime) -> Result<(), Fail> {
-    let mut rows = Rows::new(rt.alloc(), 3, 2, 4, 4)?;
-    let books = two_books(rt.alloc())?;
-    let counts = counts::<Brand, ToyBlock>(rt.alloc(), &mut rows, books)?;
-    assert_eq!(rt; counts, (3, 8, 2));
+    issue(rt, rt.alloc(), task, 0, Kind::Tape)?.map_err(|_| AllocError)?;
+    issue(rt, rt.alloc(), task, 1, Kind::Tape)?.map_err(|_| AllocError)?;
+    system.lock_of(1).lock(rt).take(rt)?;
+    let mut unit = system.lock_of(0).lock(rt);
+    unit.take(rt)?;
+    unit.settle()?;
+    unit.deliver(rt);
+    let value = task.take_post(rt).ok_or("no posted value")?;
+    assert!(rt; value.unit() == 0 && value.code() == Code::Ended);
     Ok(())
 }
-
-/// A request of each task on the unit with its number, to its end.
-const TO_THEIR_ENDS: [(Call, Answer); 8] = [
-    (Call::Issue(0, 0), ("accepted", R1)),
-    (Call::Hold(0, Hold::Take), ("took", R1)),
-    (Call::Hold(0, Hold::Settle), ("settled", None)),
-    (Call::Hold(0, Hold::Deliver), ("delivered", R1)),
-    (Call::Collect(0), ("read the block", R1)),
-    (Call::Issue(0, 1), ("accepted", R1)),
-    (Call::Hold(1, Hold::Take), ("took", R1)),
-    (Call::Collect(0), ("none", None)),
-];
 
 /// The rows for two tasks and two units; once more where there is no memory for them.
 fn rows_again(alloc: Global) -> Result<Rows, Fail>
@@ -138,7 +102,8 @@ fn run_on<S: Site, R: Wait + Abort + AllocGlobal>(
         Err(failed) => return Ok(Some(failed.value)),
     };
     assert!(rt; tasks.len() == 2 && handlers.len() == 8);
-    expect_answers(rt, &system, tasks.as_mut_slice(), &TO_THEIR_ENDS)?;
+    let task = tasks.first_mut().ok_or("no task")?;
+    serve_both(rt, &system, task)?;
     expect_units(rt, system)?;
     Ok(None)
 }

@@ -3,29 +3,39 @@
 ghost use Rattle.std.specs.Prelude.{◌≡◌};
 ghost use Rattle.excp_system.specs.Opening.{AreBooks, AreFresh, site_of};
 
-use super::calls::{Answer, Call, Hold, R1, ended, expect_answers};
 use super::*;
+use device_port::Kind;
 use excp_system::{IscTaker, Stop};
 use std::thread::Threads;
+use unit_book::{Mode, Purging};
 
-/// A request is started, and halted before its first command.
-const HALTED: [(Call, Answer); 4] = [
-    (Call::Issue(0, 0), ("accepted", R1)),
-    (Call::Hold(0, Hold::Take), ("took", R1)),
-    (Call::Hold(0, Hold::Start), ("started", R1)),
-    (Call::Hold(0, Hold::Halt), ("active", R1)),
-];
+/// The task issues a request to unit 0, which starts it, and halts it before its first command.
+fn halt_first<S: Site, R: Wait + Abort + AllocGlobal>(
+    rt: &R,
+    system: &System<'_, S, Disk>,
+    task: &mut Task<'_, S>,
+) -> Result<(), Fail>
+    requires { S.rows.units ≡ 2 }
+{
+    let name = issue(rt, rt.alloc(), task, 0, Kind::Disk)?.map_err(|_| AllocError)?;
+    let mut unit = system.lock_of(0).lock(rt);
+    unit.take(rt)?;
+    unit.start()?;
+    let halted = unit.purge(rt, 1, Mode::Halt).map_err(|_| AllocError)?;
+    assert!(rt; halted == Purging::Active(name));
+    Ok(())
+}
 
 /// The halted request comes back when the handlers alone are served.
 fn expect_halted<'r, S: Site + Send + Sync, R: Threads + Wait + Sync + Abort>(
     rt: &R,
     system: &System<'r, S, Disk>,
     handlers: Vec<IscTaker<'r, S>>,
-    tasks: &mut [Task<'r, S>],
+    task: &mut Task<'r, S>,
 ) -> Result<(), Fail> {
-    let task = tasks.first_mut().ok_or("no task")?;
     let posted = halted(rt, system, handlers, task)?.ok_or("no posted value")?;
-    assert!(rt; ended(&posted) == ("halted before its first command", R1));
+    let place = posted.csw().address.get();
+    assert!(rt; posted.code() == Code::Purged && place == 0x1030);
     Ok(())
 }
 
@@ -41,8 +51,9 @@ fn steps<S: Site + Send + Sync, R: Threads + Wait + Sync + Abort + AllocGlobal>(
     requires two { S.rows.units ≡ 2 }
 {
     let (system, mut tasks, handlers) = System::<S, Disk>::new(rt.alloc(), rows, books)?;
-    expect_answers(rt, &system, tasks.as_mut_slice(), &HALTED)?;
-    expect_halted(rt, &system, handlers, tasks.as_mut_slice())
+    let task = tasks.first_mut().ok_or("no task")?;
+    halt_first(rt, &system, task)?;
+    expect_halted(rt, &system, handlers, task)
 }
 
 /// Serves the handlers in a thread of their own until the task has collected.
@@ -66,7 +77,7 @@ fn halted<'r, S: Site + Send + Sync, R: Threads + Wait + Sync>(
     )
 }
 
-/// It refuses a halt that sends no notice.
+/// It rejects a halt that sends no notice.
 #[test]
 fn halt_sends_notice(rt: HostRuntime) -> Result<(), Fail> {
     let mut rows = Rows::new(rt.alloc(), 1, 2, 1, 1)?;

@@ -1,222 +1,118 @@
-//! A purge of a task that has requests on two units: what it answers, and what comes of each request.
+//! A purge of a task that has a request on each of two units: what it answers, what the traces tell of it, and how the
+//! requests end. Scenarios have all that a purge meets (tests/cases/scenarios).
 
 ghost use Rattle.std.specs.Prelude.{◌≡◌, ◌<◌};
 ghost use Rattle.excp_system.specs.Opening.{AreBooks, AreFresh, site_of};
 
-use super::calls::{Answer, Call, Hold, R1, R2, answer, expect_answers};
 use super::*;
-use crate::fixtures::is_undisturbed;
-use unit_book::Mode;
+use device_port::Kind;
+use excp_system::UnitPurging;
+use request_piece::Scope;
+use unit_book::{Entry, Mode};
 
-/// Calls and their answers.
-type Table = &'static [(Call, Answer)];
-
-/// The first request of task 1.
-const OTHER: Option<Name> = Some(Name { task: 1, seq: 1 });
-
-/// On unit 0 request 1 of task 0 is active, and its request 2 and one of task 1 wait; on unit 1 one of task 0 waits.
-const TWO_UNITS: [(Call, Answer); 9] = [
-    (Call::Issue(0, 0), ("accepted", R1)),
-    (Call::Issue(0, 0), ("accepted", R2)),
-    (Call::Issue(1, 0), ("accepted", OTHER)),
-    (Call::Issue(0, 1), ("accepted", R1)),
-    (Call::Hold(0, Hold::Take), ("took", R1)),
-    (Call::Hold(0, Hold::Take), ("took", R2)),
-    (Call::Hold(0, Hold::Take), ("took", OTHER)),
-    (Call::Hold(1, Hold::Take), ("took", R1)),
-    (Call::Hold(0, Hold::Start), ("started", R1)),
-];
-
-/// Behind a purge of task 0 its request that waited on unit 0 comes back without a start.
-const FIRST_PURGED: [(Call, Answer); 3] = [
-    (Call::Hold(0, Hold::Deliver), ("delivered", R2)),
-    (Call::Collect(0), ("purged before its start", R2)),
-    (Call::Hold(0, Hold::Deliver), ("quiet", None)),
-];
-
-/// And so does the one that waited on unit 1.
-const SECOND_PURGED: [(Call, Answer); 3] = [
-    (Call::Hold(1, Hold::Deliver), ("delivered", R1)),
-    (Call::Collect(0), ("purged before its start", R1)),
-    (Call::Hold(1, Hold::Deliver), ("quiet", None)),
-];
-
-/// The active request is halted, and task 1's is served.
-const HALTED: [(Call, Answer); 9] = [
-    (Call::Hold(0, Hold::Run), ("quiet", None)),
-    (Call::Hold(0, Hold::Interrupt), ("purged", R1)),
-    (Call::Hold(0, Hold::Start), ("started", OTHER)),
-    (Call::Hold(0, Hold::Run), ("pending", None)),
-    (Call::Hold(0, Hold::Interrupt), ("ended", OTHER)),
-    (Call::Hold(0, Hold::Deliver), ("delivered", R1)),
-    (Call::Hold(0, Hold::Deliver), ("delivered", OTHER)),
-    (Call::Collect(0), ("halted before its first command", R1)),
-    (Call::Collect(1), ("read the record", OTHER)),
-];
-
-/// The active request comes to its end, and task 1's is served.
-const LET_END: [(Call, Answer); 9] = [
-    (Call::Hold(0, Hold::Run), ("pending", None)),
-    (Call::Hold(0, Hold::Interrupt), ("ended", R1)),
-    (Call::Hold(0, Hold::Start), ("started", OTHER)),
-    (Call::Hold(0, Hold::Run), ("pending", None)),
-    (Call::Hold(0, Hold::Interrupt), ("ended", OTHER)),
-    (Call::Hold(0, Hold::Deliver), ("delivered", R1)),
-    (Call::Hold(0, Hold::Deliver), ("delivered", OTHER)),
-    (Call::Collect(0), ("read the record", R1)),
-    (Call::Collect(1), ("read the record", OTHER)),
-];
-
-/// What comes of the active request and of task 1's behind a purge with each mode.
-const MODES: [(Mode, Table); 2] = [(Mode::Halt, &HALTED), (Mode::Quiesce, &LET_END)];
-
-/// Where nothing was purged on unit 0 its three requests are served in order.
-const FIRST_SERVED: [(Call, Answer); 14] = [
-    (Call::Hold(0, Hold::Run), ("pending", None)),
-    (Call::Hold(0, Hold::Interrupt), ("ended", R1)),
-    (Call::Hold(0, Hold::Start), ("started", R2)),
-    (Call::Hold(0, Hold::Run), ("pending", None)),
-    (Call::Hold(0, Hold::Interrupt), ("ended", R2)),
-    (Call::Hold(0, Hold::Start), ("started", OTHER)),
-    (Call::Hold(0, Hold::Run), ("pending", None)),
-    (Call::Hold(0, Hold::Interrupt), ("ended", OTHER)),
-    (Call::Hold(0, Hold::Deliver), ("delivered", R1)),
-    (Call::Hold(0, Hold::Deliver), ("delivered", R2)),
-    (Call::Hold(0, Hold::Deliver), ("delivered", OTHER)),
-    (Call::Collect(0), ("read the record", R1)),
-    (Call::Collect(0), ("read the record", R2)),
-    (Call::Collect(1), ("read the record", OTHER)),
-];
-
-/// Where nothing was purged on unit 1 the request that waits there is served.
-const SECOND_SERVED: [(Call, Answer); 6] = [
-    (Call::Hold(1, Hold::Start), ("started", R1)),
-    (Call::Hold(1, Hold::Run), ("pending", None)),
-    (Call::Hold(1, Hold::Interrupt), ("ended", R1)),
-    (Call::Hold(1, Hold::Deliver), ("delivered", R1)),
-    (Call::Collect(0), ("read the other record", R1)),
-    (Call::Hold(1, Hold::Deliver), ("quiet", None)),
-];
-
-/// What may come of a purge of task 0: its answer, which unit's trace does not tell of it, and what follows. Where unit
-/// 0 was purged, what comes of its active request follows too.
-struct Outcome {
-    answer: Answer,
-    left_alone: [bool; 2],
-    then: [Table; 2],
+/// Whether an entry tells of a purge of task 0 with this mode.
+fn tells_of(entry: &Entry, mode: Mode) -> bool {
+    match entry {
+        Entry::Purge(scope, of) => *scope == Scope::Task(0) && *of == mode,
+        _ => false,
+    }
 }
 
-/// There was memory; none on unit 1, whose request still waits; none on unit 0; and none for the list of the answers.
-const OUTCOMES: [Outcome; 4] = [
-    Outcome {
-        answer: ("active on unit 0", R1),
-        left_alone: [false, false],
-        then: [&FIRST_PURGED, &SECOND_PURGED],
-    },
-    Outcome {
-        answer: ("active on unit 0, refused on unit 1", R1),
-        left_alone: [false, true],
-        then: [&FIRST_PURGED, &SECOND_SERVED],
-    },
-    Outcome {
-        answer: ("refused on unit 0", None),
-        left_alone: [true, false],
-        then: [&SECOND_PURGED, &FIRST_SERVED],
-    },
-    Outcome {
-        answer: ("no memory", None),
-        left_alone: [true, true],
-        then: [&SECOND_SERVED, &FIRST_SERVED],
-    },
-];
+/// Whether a trace tells of a purge of task 0 with this mode.
+fn is_told(trace: &[Entry], mode: Mode) -> bool {
+    trace.iter().any(|entry| tells_of(entry, mode))
+}
 
-/// Whether nobody purged, closed or reset a unit.
-fn is_left_alone<S: Site, R: Wait>(rt: &R, system: &System<'_, S, Disk>, unit: u16) -> bool
+/// The task issues a request to each unit. The one of unit 0 is started, the one of unit 1 waits.
+fn issue_both<S: Site, R: Wait + AllocGlobal>(
+    rt: &R,
+    system: &System<'_, S, Disk>,
+    task: &mut Task<'_, S>,
+) -> Result<Name, Fail>
+    requires { S.rows.units ≡ 2 }
+{
+    let name = issue(rt, rt.alloc(), task, 0, Kind::Disk)?.map_err(|_| AllocError)?;
+    issue(rt, rt.alloc(), task, 1, Kind::Disk)?.map_err(|_| AllocError)?;
+    system.lock_of(1).lock(rt).take(rt)?;
+    let mut unit = system.lock_of(0).lock(rt);
+    unit.take(rt)?;
+    unit.start()?;
+    Ok(name)
+}
+
+/// Asserts that a unit answered as its trace tells, with this answer where it was purged. Its request is posted 48 if
+/// it was purged, but for one that was active and is let end. Answers whether it was purged.
+fn expect_at<S: Site, R: Wait + Abort>(
+    rt: &R,
+    system: &System<'_, S, Disk>,
+    task: &mut Task<'_, S>,
+    unit: u16,
+    mode: Mode,
+    answers: [UnitPurging; 2],
+) -> Result<bool, Fail>
     requires { unit < S.rows.units }
 {
-    is_undisturbed(system.lock_of(unit).lock(rt).book().trace())
+    let [wanted, answer] = answers;
+    let mut state = system.lock_of(unit).lock(rt);
+    let is_told = is_told(state.book().trace(), mode);
+    assert!(rt; answer == if is_told { wanted } else { UnitPurging::Refused });
+    state.settle()?;
+    state.deliver(rt);
+    let value = task.take_post(rt).ok_or("no posted value")?;
+    let is_purged = is_told && (mode == Mode::Halt || unit == 1);
+    let code = if is_purged { Code::Purged } else { Code::Ended };
+    assert!(rt; value.unit() == unit && value.code() == code);
+    Ok(is_told)
 }
 
-/// Asserts that units were left alone, and requests end, as an outcome says, with this behind a purge of unit 0.
-fn expect_what_follows<'r, S: Site, R: Wait + Abort + AllocGlobal>(
-    rt: &R,
-    system: &System<'r, S, Disk>,
-    tasks: &mut [Task<'r, S>],
-    active: Table,
-    outcome: &Outcome,
-) -> Result<(), Fail>
-    requires { S.rows.units ≡ 2 }
-{
-    let left_alone = [is_left_alone(rt, system, 0), is_left_alone(rt, system, 1)];
-    assert!(rt; left_alone == outcome.left_alone);
-    for table in &outcome.then {
-        expect_answers(rt, system, tasks, table)?;
-    }
-    if !left_alone[0] {
-        expect_answers(rt, system, tasks, active)?;
-    }
-    Ok(())
-}
-
-/// Purges task 0 of two units, and asserts that what comes of it is one of these outcomes.
-fn expect_one_of<'r, S: Site, R: Wait + Abort + AllocGlobal>(
-    rt: &R,
-    system: &System<'r, S, Disk>,
-    tasks: &mut [Task<'r, S>],
-    mode: Mode,
-    active: Table,
-    outcomes: &[Outcome],
-) -> Result<(), Fail>
-    requires { S.rows.units ≡ 2 }
-{
-    let answered = answer(rt, system, tasks, Call::PurgeTask(0, mode))?;
-    for outcome in outcomes {
-        if outcome.answer == answered {
-            return expect_what_follows(rt, system, tasks, active, outcome);
-        }
-    }
-    Err(Fail::from("a purge of a task with another outcome"))
-}
-
-/// Purges task 0, and asserts that what comes of it is one of these outcomes, with this behind a purge of unit 0.
-fn expect_outcome<S: Site, R: Wait + Abort + AllocGlobal>(
+/// Purges task 0, which has a request on each unit. Answers how many units were purged.
+fn steps<S: Site, R: Wait + Abort + AllocGlobal>(
     rt: &R,
     rows: &mut Rows,
     books: Vec<UnitBook<Disk>>,
     mode: Mode,
-    active: Table,
-    outcomes: &[Outcome],
-) -> Result<(), Fail>
+) -> Result<u16, Fail>
     requires site { S.rows ≡ site_of rows.old }
     requires fresh { AreFresh rows.old }
     requires books { AreBooks S.rows.units books.items }
     requires two { S.rows.units ≡ 2 }
 {
     let (system, mut tasks, _) = System::<S, Disk>::new(rt.alloc(), rows, books)?;
-    expect_answers(rt, &system, tasks.as_mut_slice(), &TWO_UNITS)?;
-    expect_one_of(rt, &system, tasks.as_mut_slice(), mode, active, outcomes)
+    let task = tasks.first_mut().ok_or("no task")?;
+    let name = issue_both(rt, &system, task)?;
+    let answers = match system.purge_task(rt, 0, mode) {
+        Ok(answers) => [answers.get(0).copied(), answers.get(1).copied()],
+        Err(AllocError) => [None, None],
+    };
+    let [first, second] = answers.map(|answer| answer.unwrap_or(UnitPurging::Refused));
+    let active = [UnitPurging::Active(name), first];
+    let first = expect_at(rt, &system, task, 0, mode, active)?;
+    let second = expect_at(rt, &system, task, 1, mode, [UnitPurging::Quiet, second])?;
+    Ok(u16::from(first) + u16::from(second))
 }
 
-/// It refuses the wrong bodies of workers_act_and_add_nothing for a purge of a task, which does nothing or purges
-/// another.
+/// Purges a task of a new system. Answers how many units were purged.
+fn purged<R: Wait + Abort + AllocGlobal>(rt: &R, mode: Mode) -> Result<u16, Fail> {
+    let mut rows = Rows::new(rt.alloc(), 2, 2, 4, 4)?;
+    let books = disks(rt.alloc(), 4)?;
+    steps::<Brand, _>(rt, &mut rows, books, mode)
+}
+
+/// It rejects a purge that does nothing, purges another task, or has another mode.
 #[test]
 fn purge_of_a_task(rt: HostRuntime) -> Result<(), Fail> {
-    for (mode, active) in MODES {
-        let mut rows = Rows::new(rt.alloc(), 2, 2, 4, 4)?;
-        let books = disks(rt.alloc(), 4)?;
-        expect_outcome::<Brand, _>(&rt, &mut rows, books, mode, active, &OUTCOMES[..1])?;
+    for mode in [Mode::Halt, Mode::Quiesce] {
+        assert_eq!(rt; purged(&rt, mode)?, 2);
     }
     Ok(())
 }
 
-/// A unit that has no memory for the purge stays as it is, and the others go on; where there is none for the list no
-/// unit is touched: run it with each allocation refused in turn. Where another call is refused it ends with that error.
+/// A unit that has no memory for the purge stays as it is, and the others go on; if there is none for the list no
+/// unit is touched: run it with each allocation made to fail in turn. If another call fails it ends with that error.
 #[test]
 fn purge_of_a_task_without_memory(rt: HostRuntime) -> Result<(), Fail> {
-    for (mode, active) in MODES {
-        let mut rows = Rows::new(rt.alloc(), 2, 2, 4, 4)?;
-        let books = disks(rt.alloc(), 4)?;
-        expect_outcome::<Brand, _>(&rt, &mut rows, books, mode, active, &OUTCOMES)?;
+    for mode in [Mode::Halt, Mode::Quiesce] {
+        purged(&rt, mode)?;
     }
     Ok(())
 }

@@ -10,7 +10,7 @@ use unit_book::{
 };
 
 /// The word for a completion code.
-fn word(code: Code) -> &'static str {
+pub fn word(code: Code) -> &'static str {
     match code {
         Code::Ended => "ended",
         Code::Purged => "purged",
@@ -71,7 +71,7 @@ fn refused(error: DcbError, dcb: u16) -> Option<Answer> {
     }
 }
 
-/// An opening, a purge, a close or a reset, or a look at a flag.
+/// An opening, a purge, a close or a reset, steps that fill the trace, or a settling.
 pub fn by_control<S: Site, R: Wait>(
     rt: &R,
     unit: &mut UnitState<'_, S, AnyDevice>,
@@ -83,10 +83,6 @@ pub fn by_control<S: Site, R: Wait>(
             Err(OpenError::NoMemory) => None,
             Err(_) => Some(("not opened", 0)),
         },
-        Step::Flag(dcb) => {
-            let flag = unit.book().dcb_flag(dcb);
-            Some((if flag { "11" } else { "00" }, u32::from(dcb)))
-        }
         Step::Purge(dcb, mode) => match unit.purge(rt, dcb, mode) {
             Ok(answer) => Some(purged(answer)),
             Err(error) => refused(error, dcb),
