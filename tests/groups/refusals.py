@@ -13,7 +13,6 @@ import subprocess
 import tempfile
 from dataclasses import dataclass, field, replace
 
-from groups.scenarios import scenarios
 from harness import CASES, SAMPLES, TOP, Case, Failed, Skipped, read, require, run, side_by_side
 
 LIBRARY = f"{TOP}/out/refuse.so"
@@ -214,10 +213,6 @@ def programs(setup):
     folder = f"{CASES}/refusals"
     yield plan("check", finds_all_or_nothing, f"{folder}/check.script", f"{folder}/check.findings", status=1)
     yield plan("assemble", finds_all_or_nothing, f"{folder}/assemble.symbolic", f"{folder}/assemble.findings", status=1)
-    for scenario in scenarios():
-        # all that is wanted of the text is that its lines come in this order: the scenario's own `expect` lines judge them
-        text = setup.run("step", file=scenario).out
-        yield f"step {os.path.relpath(scenario, TOP)}", Plan([setup.program, "step"], prints_a_part, scenario, text)
     client = f"{TOP}/crates/print_tape"
     yield "print_tape", Plan([f"{client}/out/print_tape"], is_program, text=read(f"{client}/stdout"))
 
@@ -234,12 +229,12 @@ TESTS = [
         ],
         MUST_PASS,
     ),
-    ("component_tests", [*(f"{it}::every_command" for it in ("disks", "tapes", "printers")), "two_senders_and_a_taker"], {}),
+    ("component_tests", ["two_senders_and_a_taker"], {}),
     ("job_tests", ["controls_without_memory", "steps_without_memory"], MUST_PASS),
     (
         "system_tests",
         [
-            *(f"{it}_without_memory" for it in ("arrive", "open", "purge_of_a_task", "reserve", "restarts", "system")),
+            *(f"{it}_without_memory" for it in ("arrive", "purge_of_a_task", "reserve", "system")),
             "gate_is_told_of_want_of_memory",
         ],
         MUST_PASS,

@@ -6,8 +6,7 @@ ghost use Rattle.unit_book.specs.Trace.{is_opening};
 ghost use Rattle.excp_system.specs.Opening.{AreBooks};
 
 use ckd_disk::{Disk, Geometry, InitialRecord};
-use device_port::toy::ToyBlock;
-use device_port::{Device, Fault, Kind};
+use device_port::Fault;
 use excp_system::{Site, Task};
 use fifo_row::Full;
 use io_area::Area;
@@ -21,16 +20,8 @@ use unit_book::{Entry, ProcessingMethod, UnitBook};
 /// the call.
 pub const TWICE: &str = "refused twice";
 
-/// An unrelated IOB at X'1000' for DCB 1, its ECB at X'1028', and at X'1030' a read of a block to X'1060'.
-pub const READ_BLOCK: [u8; 104] = [
-    0x42, 0, 0, 0, 0, 0, 0x10, 0x28, 0, 0, 0, 0, 0, 0, 0, 0, 0, 0, 0x10, 0x30, 0, 0, 0, 1, 0, 0, 0,
-    0, 0, 0, 0, 0, 0, 0, 0, 0, 0, 0, 0, 1, 0, 0, 0, 0, 0, 0, 0, 0, 0x02, 0, 0x10, 0x60, 0, 0, 0, 4,
-    0, 0, 0, 0, 0, 0, 0, 0, 0, 0, 0, 0, 0, 0, 0, 0, 0, 0, 0, 0, 0, 0, 0, 0, 0, 0, 0, 0, 0, 0, 0, 0,
-    0, 0, 0, 0, 0, 0, 0, 0, 0, 0, 0, 0, 0, 0, 0, 0,
-];
-
-/// The same IOB and ECB, and from X'1030' on search, transfer back and read of the record whose ID stands at X'1050',
-/// to X'1060'.
+/// An unrelated IOB at X'1000' for DCB 1, its ECB at X'1028', and from X'1030' on search, transfer back and read of the
+/// record whose ID is at X'1050', to X'1060'.
 pub const READ_RECORD: [u8; 104] = [
     0x42, 0, 0, 0, 0, 0, 0x10, 0x28, 0, 0, 0, 0, 0, 0, 0, 0, 0, 0, 0x10, 0x30, 0, 0, 0, 1, 0, 0, 0,
     0, 0, 0, 0, 0, 0, 0, 0, 0, 0, 0, 0, 1, 0, 0, 0, 0, 0, 0, 0, 0, 0x31, 0, 0x10, 0x50, 0x40, 0, 0,
@@ -38,11 +29,8 @@ pub const READ_RECORD: [u8; 104] = [
     0, 0, 0, 1, 0, 0, 0, 0, 0, 0, 0, 0, 0, 0, 0, 0, 0, 0, 0, 0, 0, 0, 0,
 ];
 
-/// What is read of a tape, and of the disk of unit 0.
-pub const BLOCK: [u8; 4] = [0xC1, 0xC2, 0xC3, 0xC4];
-
-/// What is read of the disk of unit 1.
-pub const OTHER_BLOCK: [u8; 4] = [0xD1, 0xD2, 0xD3, 0xD4];
+/// What is read of a disk.
+const DATA: [u8; 4] = [0xC1, 0xC2, 0xC3, 0xC4];
 
 /// The one track of a disk, for input and output.
 pub const TRACK: [u8; 16] = [0x18, 0, 0, 0, 0, 0, 0, 0, 0, 0, 0, 0, 0, 0, 0, 1];
@@ -57,8 +45,8 @@ pub fn fault(ordinal: u32, sense: u16) -> Fault {
     }
 }
 
-/// A disk of one track with one record, of these data, that meets these faults.
-fn disk(alloc: Global, data: [u8; 4], faults: &[Fault]) -> Result<Disk, AllocError> {
+/// A disk of one track with one record that meets these faults.
+pub fn disk(alloc: Global, faults: &[Fault]) -> Result<Disk, AllocError> {
     let geometry = Geometry {
         cylinders: 1,
         heads: 1,
@@ -69,45 +57,14 @@ fn disk(alloc: Global, data: [u8; 4], faults: &[Fault]) -> Result<Disk, AllocErr
         head: 0,
         number: 1,
         key: Vec::new(alloc),
-        content: data.to_vec(alloc)?,
+        content: DATA.to_vec(alloc)?,
     }];
     Disk::mount(alloc, geometry, &records, faults).map_err(|_| AllocError)
 }
 
-/// The book of a device on a subclass, for so many requests, whose DCB 1 is open on these extents.
-fn book<D: Device>(
+/// The book of a disk that meets these faults, for so many requests, whose DCB 1 is open.
+pub fn disk_book(
     alloc: Global,
-    device: D,
-    isc: u8,
-    extents: &[Extent],
-    capacity: usize,
-) -> Result<UnitBook<D>, AllocError>
-    requires isc { isc ≤ 7 }
-    requires some { 1 ≤ capacity }
-    requires few { capacity ≤ 65536 }
-    ensures { IfOk result (λ book. list_all is_opening book.trace ≡ true) }
-{
-    let mut book = UnitBook::new(alloc, device, isc, capacity)?;
-    match book.open(ProcessingMethod::Output, extents) {
-        Ok(_) => Ok(book),
-        Err(_) => Err(AllocError),
-    }
-}
-
-/// The book of a tape of one block.
-fn tape_book(alloc: Global, capacity: usize) -> Result<UnitBook<ToyBlock>, AllocError>
-    requires some { 1 ≤ capacity }
-    requires few { capacity ≤ 65536 }
-    ensures { IfOk result (λ book. list_all is_opening book.trace ≡ true) }
-{
-    let tape = ToyBlock::mount(alloc, Kind::Tape, BLOCK, &[])?;
-    book(alloc, tape, 5, &[], capacity)
-}
-
-/// The book of a disk of one record, of these data, that meets these faults.
-fn disk_book(
-    alloc: Global,
-    data: [u8; 4],
     faults: &[Fault],
     capacity: usize,
 ) -> Result<UnitBook<Disk>, AllocError>
@@ -115,20 +72,11 @@ fn disk_book(
     requires few { capacity ≤ 65536 }
     ensures { IfOk result (λ book. list_all is_opening book.trace ≡ true) }
 {
-    let disk = disk(alloc, data, faults)?;
-    book(alloc, disk, 5, &[Extent::read(&TRACK)], capacity)
-}
-
-/// The books of two tapes of one block.
-pub fn tapes(alloc: Global, capacity: usize) -> Result<Vec<UnitBook<ToyBlock>>, AllocError>
-    requires some { 1 ≤ capacity }
-    requires few { capacity ≤ 65536 }
-    ensures { IfOk result (λ books. AreBooks 2 books.items) }
-{
-    let mut books = Vec::with_capacity(alloc, 2)?;
-    books.push_reserved(tape_book(alloc, capacity)?);
-    books.push_reserved(tape_book(alloc, capacity)?);
-    Ok(books)
+    let mut book = UnitBook::new(alloc, disk(alloc, faults)?, 5, capacity)?;
+    match book.open(ProcessingMethod::Output, &[Extent::read(&TRACK)]) {
+        Ok(_) => Ok(book),
+        Err(_) => Err(AllocError),
+    }
 }
 
 /// The books of two disks of one record.
@@ -151,58 +99,31 @@ pub fn faulty_disks(
     ensures { IfOk result (λ books. AreBooks 2 books.items) }
 {
     let mut books = Vec::with_capacity(alloc, 2)?;
-    books.push_reserved(disk_book(alloc, BLOCK, faults, capacity)?);
-    books.push_reserved(disk_book(alloc, OTHER_BLOCK, &[], capacity)?);
+    books.push_reserved(disk_book(alloc, faults, capacity)?);
+    books.push_reserved(disk_book(alloc, &[], capacity)?);
     Ok(books)
 }
 
-/// The book of a disk of one record on a subclass, that meets these faults and has two DCBs.
-pub fn faulty_book(
-    alloc: Global,
-    isc: u8,
-    faults: &[Fault],
-    capacity: usize,
-) -> Result<UnitBook<Disk>, AllocError>
-    requires isc { isc ≤ 7 }
-    requires some { 1 ≤ capacity }
-    requires few { capacity ≤ 65536 }
-    ensures { IfOk result (λ book. list_all is_opening book.trace ≡ true) }
-{
-    let extents = [Extent::read(&TRACK)];
-    let disk = disk(alloc, BLOCK, faults)?;
-    let mut book = book(alloc, disk, isc, &extents, capacity)?;
-    match book.open(ProcessingMethod::Output, &extents) {
-        Ok(_) => Ok(book),
-        Err(_) => Err(AllocError),
-    }
-}
-
-/// The task issues its next request to a unit of this kind: its name, in an error where the row is full.
+/// The task issues its next request to a unit: its name, in an error if the row is full.
 pub fn issue<S: Site, R: Wait>(
     rt: &R,
     alloc: Global,
     task: &mut Task<'_, S>,
     unit: u16,
-    kind: Kind,
 ) -> Result<Result<Name, Name>, AllocError>
     requires { unit < S.rows.units }
     ensures { task.new.number ≡ task.old.number }
 {
-    let image = match kind {
-        Kind::Disk => &READ_RECORD,
-        Kind::Tape | Kind::Printer => &READ_BLOCK,
-    };
-    issue_over(rt, alloc, task, unit, 1, image)
+    issue_over(rt, alloc, task, unit, &READ_RECORD)
 }
 
-/// The task issues its next request to a unit, for this DCB and over these bytes from X'1000' on: its name, in an error
-/// where the row is full.
+/// The task issues its next request to a unit, for DCB 1 and over these bytes from X'1000' on: its name, in an error if
+/// the row is full.
 pub fn issue_over<S: Site, R: Wait>(
     rt: &R,
     alloc: Global,
     task: &mut Task<'_, S>,
     unit: u16,
-    dcb: u16,
     image: &[u8],
 ) -> Result<Result<Name, Name>, AllocError>
     requires { unit < S.rows.units }
@@ -210,7 +131,7 @@ pub fn issue_over<S: Site, R: Wait>(
 {
     let name = task.name(unit).ok_or(AllocError)?;
     let area = Area::new(alloc, 0x1000, image).map_err(|_| AllocError)?;
-    let request = Request::new(alloc, name, unit, dcb, 0x1000, area).map_err(|_| AllocError)?;
+    let request = Request::new(alloc, name, unit, 1, 0x1000, area).map_err(|_| AllocError)?;
     match task.excp(rt, request) {
         Ok(()) => Ok(Ok(name)),
         Err(Full(request)) => Ok(Err(request.name())),

@@ -2,10 +2,9 @@
 
 ghost use Rattle.std.specs.Prelude.{◌≡◌};
 
-use crate::fixtures::{BLOCK, disks, issue, tapes};
+use crate::fixtures::{disks, issue};
 use ckd_disk::Disk;
 use device_port::Device;
-use device_port::toy::ToyBlock;
 use excp_system::{IscTaker, OpenGate, Rows, Site, Stop, System, Task, serve_isc};
 use io_images::Code;
 use request_piece::{Name, Posted};

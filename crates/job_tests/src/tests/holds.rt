@@ -5,24 +5,23 @@ ghost use Rattle.std.specs.Prelude.{◌≡◌, ◌<◌};
 ghost use Rattle.excp_system.specs.Opening.{AreBooks, AreFresh, site_of};
 ghost use Rattle.job_mount.specs.Books.{IsFresh};
 
+use Step::{
+    Close, Collect, Deliver, Excp, Fill, Interrupt, Open, Outside, Purge, PurgeTask, Related, Reset,
+    Run, Settle, Start, Take,
+};
 use any_device::AnyDevice;
-use excp_system::{Rows, Site, System, Task};
+use excp_system::{Rows, Site, System, Task, UnitState};
 use io_area::Area;
+use io_images::{Code, Extent};
 use job_mount::books;
 use job_script::Script;
-use look::Look;
 use request_piece::Request;
 use std::alloc::{AllocError, Global};
 use std::marker::Brand;
 use std::process::Abort;
 use std::sync::Wait;
 use std::test::Fail;
-use unit_book::{Mode, UnitBook};
-use unit_steps::{by_control, by_worker, word};
-
-mod look;
-mod tables;
-mod unit_steps;
+use unit_book::{Mode, ProcessingMethod, UnitBook};
 
 /// One task, and a disk of one track with R1, whose data are C1C2C3C4.
 const DISK: &str = "tasks 1\ndisk 0 0 1 1 40\nrec 0 0 0 1 - C1C2C3C4\n";
@@ -53,18 +52,120 @@ enum Step {
     Deliver,
     /// Opens the next DCB for output.
     Open,
-    Purge(u16, Mode),
-    PurgeTask(u16, Mode),
+    /// Purges with halt of a DCB and of a task.
+    Purge(u16),
+    PurgeTask(u16),
     Close(u16),
     Reset(u16),
     /// Resets DCB 2 until the trace has room for so many entries.
     Fill(u16),
-    /// Where it is refused it has made so many entries.
-    Settle(u16),
+    Settle,
 }
 
-/// What a step answers: a word, and the number of a request, of a DCB or of commands.
-type Answer = (&'static str, u32);
+/// The number of a request, and how it ended.
+type Post = (u32, Code);
+
+/// A step of each kind where the trace has room for one entry less than the step may add.
+const FULL_TRACES: &[Step] = &[
+    Open,
+    Open,
+    Excp(1),
+    Excp(1),
+    Excp(2),
+    Fill(0),
+    Take,
+    Fill(1),
+    Take,
+    Take,
+    Fill(0),
+    Start,
+    Fill(0),
+    Run(1),
+    // what waits may be posted too
+    Fill(2),
+    Close(1),
+    Fill(0),
+    Close(1),
+    Deliver,
+    Collect,
+    PurgeTask(1),
+    Fill(2),
+    Purge(1),
+    Fill(1),
+    Interrupt,
+    Deliver,
+    Collect,
+    Fill(0),
+    Open,
+    Outside(3),
+    Related(3),
+    Take,
+    Take,
+    Start,
+    Run(16),
+    Fill(2),
+    Interrupt,
+    Deliver,
+    Collect,
+    Fill(2),
+    Start,
+    Fill(0),
+    Reset(3),
+    Deliver,
+    Collect,
+    Deliver,
+    Collect,
+    Fill(0),
+    Close(2),
+    Start,
+];
+
+/// How its requests end, in the order of their posts.
+const FULL_TRACES_END: &[Post] = &[
+    (2, Code::Purged),
+    (1, Code::Purged),
+    (3, Code::Ended),
+    (4, Code::ExtentViolated),
+    (5, Code::Purged),
+];
+
+/// A unit is settled where the trace has room for no entry, for the start, and for a start and a run but not for the
+/// posts.
+const SETTLED: &[Step] = &[
+    Open,
+    Open,
+    Excp(1),
+    Take,
+    Fill(0),
+    Settle,
+    Deliver,
+    Collect,
+    Excp(1),
+    Take,
+    Fill(1),
+    Settle,
+    Deliver,
+    Collect,
+    Excp(1),
+    Excp(2),
+    Take,
+    Take,
+    Fill(3),
+    Settle,
+    Deliver,
+    Deliver,
+    Collect,
+    Collect,
+    Start,
+];
+
+/// How its requests end.
+const SETTLED_END: &[Post] = &[
+    (1, Code::Ended),
+    (2, Code::Ended),
+    (3, Code::Ended),
+    (4, Code::Ended),
+];
 
 /// The IOB, ECB and program of a request, with its data.
 fn image(step: Step) -> [u8; 104] {
@@ -85,80 +186,90 @@ fn image(step: Step) -> [u8; 104] {
     image
 }
 
-/// Issues a request to the unit.
-fn issued<S: Site, R: Wait>(
+/// The task issues a request to the unit.
+fn issue<S: Site, R: Wait>(
     rt: &R,
     alloc: Global,
     task: &mut Task<'_, S>,
     image: &[u8; 104],
-) -> Option<Answer>
+) -> Result<(), AllocError>
     requires { 0 < S.rows.units }
 {
-    let name = task.name(0)?;
-    let area = Area::new(alloc, 0x1000, image).ok()?;
+    let name = task.name(0).ok_or(AllocError)?;
+    let area = Area::new(alloc, 0x1000, image).map_err(|_| AllocError)?;
     let dcb = u16::from(image[23]);
-    let request = Request::new(alloc, name, 0, dcb, 0x1000, area).ok()?;
-    match task.excp(rt, request) {
-        Ok(()) => Some(("sent", name.seq)),
-        Err(_) => Some(("full", name.seq)),
+    let request = Request::new(alloc, name, 0, dcb, 0x1000, area).map_err(|_| AllocError)?;
+    task.excp(rt, request).map_err(|_| AllocError)
+}
+
+/// Resets DCB 2 until the trace has room for so many entries.
+fn fill<S: Site>(unit: &mut UnitState<'_, S, AnyDevice>, room: usize) -> Option<()> {
+    for _ in room..unit.book().spare() {
+        unit.reset(2).ok()?;
+    }
+    (unit.book().spare() == room).then_some(())
+}
+
+/// Does a step of the unit: nothing if there is no memory for it.
+fn tried<S: Site, R: Wait>(
+    rt: &R,
+    unit: &mut UnitState<'_, S, AnyDevice>,
+    step: Step,
+) -> Option<()> {
+    match step {
+        Take => unit.take(rt).ok().map(|_| ()),
+        Start => unit.start().ok().map(|_| ()),
+        Run(most) => unit.run(rt, u32::from(most).max(1)).ok().map(|_| ()),
+        Interrupt => unit.interrupt().ok().map(|_| ()),
+        Open => {
+            let track = [Extent::read(&EXTENT)];
+            unit.open(ProcessingMethod::Output, &track).ok().map(|_| ())
+        }
+        Purge(dcb) => unit.purge(rt, dcb, Mode::Halt).ok().map(|_| ()),
+        PurgeTask(task) => unit.purge_task(rt, task, Mode::Halt).ok().map(|_| ()),
+        Close(dcb) => unit.close(dcb).ok().map(|_| ()),
+        Reset(dcb) => unit.reset(dcb).ok(),
+        Fill(room) => fill(unit, usize::from(room)),
+        Settle => unit.settle().ok(),
+        _ => {
+            unit.deliver(rt);
+            Some(())
+        }
     }
 }
 
-/// How the next request that a task collects ended.
-fn collected<S: Site, R: Wait>(rt: &R, task: &mut Task<'_, S>) -> Answer {
-    match task.take_post(rt) {
-        Some(value) => (word(value.code()), value.name().seq),
-        None => ("none", 0),
-    }
-}
-
-/// Does a step once, and gives what it answers: nothing if there is no memory for it.
-fn done_once<'r, S: Site, R: Wait + AllocGlobal>(
+/// Does a step, and once more if there is no memory for it. Gives a post that the task collects.
+fn done<'r, S: Site, R: Wait + AllocGlobal>(
     rt: &R,
     system: &System<'r, S, AnyDevice>,
     task: &mut Task<'r, S>,
     step: Step,
-) -> Option<Answer>
+) -> Result<Option<Post>, Fail>
     requires { 0 < S.rows.units }
 {
     match step {
-        Step::Collect => Some(collected(rt, task)),
-        Step::Excp(_) | Step::Related(_) | Step::Outside(_) => {
-            issued(rt, rt.alloc(), task, &image(step))
+        Collect => Ok(task.take_post(rt).map(|value| (value.name().seq, value.code()))),
+        Excp(_) | Related(_) | Outside(_) => {
+            issue(rt, rt.alloc(), task, &image(step))?;
+            Ok(None)
         }
-        Step::Take | Step::Start | Step::Run(_) | Step::Interrupt | Step::Deliver => {
-            by_worker(rt, &mut system.lock_of(0).lock(rt), step)
+        _ => {
+            let mut unit = system.lock_of(0).lock(rt);
+            if tried(rt, &mut unit, step).is_none() {
+                tried(rt, &mut unit, step).ok_or("a step is refused twice")?;
+            }
+            Ok(None)
         }
-        _ => by_control(rt, &mut system.lock_of(0).lock(rt), step),
     }
 }
 
-/// Does a step, and once more if there is no memory for it, and gives what it answers. A step without memory leaves what
-/// stood.
-fn done<'r, S: Site, R: Wait + Abort + AllocGlobal>(
-    rt: &R,
-    system: &System<'r, S, AnyDevice>,
-    task: &mut Task<'r, S>,
-    step: Step,
-) -> Result<Answer, Fail>
-    requires { 0 < S.rows.units }
-{
-    let before = Look::of(system.lock_of(0).lock(rt).book());
-    if let Some(answer) = done_once(rt, system, task, step) {
-        return Ok(answer);
-    }
-    let after = Look::of(system.lock_of(0).lock(rt).book());
-    assert_eq!(rt; after, before.kept(step, after.spare()));
-    Ok(done_once(rt, system, task, step).ok_or("no memory")?)
-}
-
-/// Does the steps of a table on a system of one task and one unit.
-fn steps<S: Site, R: Wait + Abort + AllocGlobal>(
+/// Does steps on a system of one task and one unit, and gives the posts that the task collects.
+fn posts<S: Site, R: Wait + AllocGlobal>(
     rt: &R,
     rows: &mut Rows,
     books: Vec<UnitBook<AnyDevice>>,
-    table: &[(Step, Answer)],
-) -> Result<(), Fail>
+    steps: &[Step],
+) -> Result<Vec<Post>, Fail>
     requires site { S.rows ≡ site_of rows.old }
     requires fresh { AreFresh rows.old }
     requires books { AreBooks S.rows.units books.items }
@@ -166,17 +277,20 @@ fn steps<S: Site, R: Wait + Abort + AllocGlobal>(
 {
     let (system, mut tasks, _) = System::<S, AnyDevice>::new(rt.alloc(), rows, books)?;
     let task = tasks.first_mut().ok_or(AllocError)?;
-    for (at, (step, wanted)) in table.iter().enumerate() {
-        let answer = done(rt, &system, task, *step)?;
-        assert_eq!(rt; answer, *wanted, "step {at}");
+    let mut posts = Vec::new(rt.alloc());
+    for step in steps {
+        if let Some(post) = done(rt, &system, task, *step)? {
+            posts.push(post)?;
+        }
     }
-    Ok(())
+    Ok(posts)
 }
 
-/// Does the steps of a table on a disk, with rows for three requests and a book for four.
-fn expect_steps<R: Wait + Abort + AllocGlobal>(
+/// Does steps on a disk, with rows for three requests and a book for four. Its requests end so.
+fn expect_posts<R: Wait + Abort + AllocGlobal>(
     rt: &R,
-    table: &[(Step, Answer)],
+    steps: &[Step],
+    wanted: &[Post],
 ) -> Result<(), Fail> {
     let script = Script::parse(rt.alloc(), DISK.as_bytes())?;
     let books = books(rt.alloc(), &script, 4)?;
@@ -184,13 +298,15 @@ fn expect_steps<R: Wait + Abort + AllocGlobal>(
     if books.len() != 1 {
         return Err(Fail::from("no unit"));
     }
-    steps::<Brand, R>(rt, &mut rows, books, table)
+    let posts = posts::<Brand, R>(rt, &mut rows, books, steps)?;
+    assert!(rt; posts.as_slice() == wanted);
+    Ok(())
 }
 
-/// A step that finds no memory changes nothing: done once more, it answers as it would have. Run it with each allocation
-/// made to fail in turn. If one fails that is not a step's it ends with that error.
+/// A step that finds no memory can be done once more, and all that follows is as ever. Run it with each allocation made
+/// to fail in turn. If one fails that is not a step's it ends with that error.
 #[test]
 fn steps_without_memory(rt: HostRuntime) -> Result<(), Fail> {
-    expect_steps(&rt, tables::FULL_TRACES)?;
-    expect_steps(&rt, tables::SETTLED)
+    expect_posts(&rt, FULL_TRACES, FULL_TRACES_END)?;
+    expect_posts(&rt, SETTLED, SETTLED_END)
 }

@@ -7,21 +7,21 @@ ghost use Rattle.unit_book.specs.Trace.{is_opening};
 ghost use Rattle.excp_system.specs.Opening.{AreBooks, AreFresh, site_of};
 
 use super::*;
-use crate::fixtures::TWICE;
-use device_port::Kind;
+use crate::fixtures::{TRACK, TWICE, disk};
+use io_images::Extent;
 use std::alloc::Global;
 use unit_book::ProcessingMethod;
 
 /// A request of task 0 to each unit: that of unit 0 comes to its end, that of unit 1 arrives.
 fn serve_both<S: Site, R: Wait + Abort + AllocGlobal>(
     rt: &R,
-    system: &System<'_, S, ToyBlock>,
+    system: &System<'_, S, Disk>,
     task: &mut Task<'_, S>,
 ) -> Result<(), Fail>
     requires { S.rows.units ≡ 2 }
 {
-    issue(rt, rt.alloc(), task, 0, Kind::Tape)?.map_err(|_| AllocError)?;
-    issue(rt, rt.alloc(), task, 1, Kind::Tape)?.map_err(|_| AllocError)?;
+    issue(rt, rt.alloc(), task, 0)?.map_err(|_| AllocError)?;
+    issue(rt, rt.alloc(), task, 1)?.map_err(|_| AllocError)?;
     system.lock_of(1).lock(rt).take(rt)?;
     let mut unit = system.lock_of(0).lock(rt);
     unit.take(rt)?;
@@ -43,25 +43,25 @@ fn rows_again(alloc: Global) -> Result<Rows, Fail>
     }
 }
 
-/// The book of a tape of one block on this subclass, with a DCB; from the device that is handed back where there is no
+/// The book of a disk on this subclass, with a DCB; from the device that is handed back where there is no
 /// memory for it.
-fn book_again(alloc: Global, isc: u8) -> Result<UnitBook<ToyBlock>, Fail>
+fn book_again(alloc: Global, isc: u8) -> Result<UnitBook<Disk>, Fail>
     requires { isc ≤ 7 }
     ensures { IfOk result (λ book. list_all is_opening book.trace ≡ true) }
 {
-    let device = ToyBlock::mount(alloc, Kind::Tape, BLOCK, &[])?;
+    let device = disk(alloc, &[])?;
     let mut book = match UnitBook::new(alloc, device, isc, 1) {
         Ok(book) => book,
         Err(failed) => UnitBook::new(alloc, failed.value, isc, 1).map_err(|_| TWICE)?,
     };
-    match book.open(ProcessingMethod::Output, &[]) {
+    match book.open(ProcessingMethod::Output, &[Extent::read(&TRACK)]) {
         Ok(_) => Ok(book),
         Err(_) => Err(Fail::from(AllocError)),
     }
 }
 
 /// The books of two units.
-fn books_again(alloc: Global) -> Result<Vec<UnitBook<ToyBlock>>, Fail>
+fn books_again(alloc: Global) -> Result<Vec<UnitBook<Disk>>, Fail>
     ensures { IfOk result (λ books. AreBooks 2 books.items) }
 {
     let mut books = Vec::with_capacity(alloc, 2)?;
@@ -72,7 +72,7 @@ fn books_again(alloc: Global) -> Result<Vec<UnitBook<ToyBlock>>, Fail>
 
 /// Asserts that the list of a system's units can be had, once more where there is no memory for it, and what their
 /// traces tell of: an opening, an arrival, a start, a run and a post; and on unit 1 an opening and an arrival.
-fn expect_units<S: Site>(rt: &impl Abort, system: System<'_, S, ToyBlock>) -> Result<(), Fail> {
+fn expect_units<S: Site>(rt: &impl Abort, system: System<'_, S, Disk>) -> Result<(), Fail> {
     let units = match system.into_units() {
         Ok(units) => units,
         Err(failed) => failed.value.into_units().map_err(|_| TWICE)?,
@@ -89,15 +89,15 @@ fn expect_units<S: Site>(rt: &impl Abort, system: System<'_, S, ToyBlock>) -> Re
 fn run_on<S: Site, R: Wait + Abort + AllocGlobal>(
     rt: &R,
     rows: &mut Rows,
-    books: Vec<UnitBook<ToyBlock>>,
-) -> Result<Option<Vec<UnitBook<ToyBlock>>>, Fail>
+    books: Vec<UnitBook<Disk>>,
+) -> Result<Option<Vec<UnitBook<Disk>>>, Fail>
     requires site { S.rows ≡ site_of rows.old }
     requires fresh { AreFresh rows.old }
     requires books { AreBooks S.rows.units books.items }
     requires two { S.rows.units ≡ 2 }
     ensures { IfOk result (λ left. IfSome left (λ books. AreBooks 2 books.items)) }
 {
-    let (system, mut tasks, handlers) = match System::<S, ToyBlock>::new(rt.alloc(), rows, books) {
+    let (system, mut tasks, handlers) = match System::<S, Disk>::new(rt.alloc(), rows, books) {
         Ok(made) => made,
         Err(failed) => return Ok(Some(failed.value)),
     };

@@ -4,7 +4,6 @@ ghost use Rattle.std.specs.Prelude.{◌≡◌};
 ghost use Rattle.excp_system.specs.Opening.{AreBooks, AreFresh, site_of};
 
 use super::*;
-use device_port::Kind;
 use excp_system::{IscTaker, Stop};
 use std::thread::Threads;
 use unit_book::{Mode, Purging};
@@ -17,7 +16,7 @@ fn halt_first<S: Site, R: Wait + Abort + AllocGlobal>(
 ) -> Result<(), Fail>
     requires { S.rows.units ≡ 2 }
 {
-    let name = issue(rt, rt.alloc(), task, 0, Kind::Disk)?.map_err(|_| AllocError)?;
+    let name = issue(rt, rt.alloc(), task, 0)?.map_err(|_| AllocError)?;
     let mut unit = system.lock_of(0).lock(rt);
     unit.take(rt)?;
     unit.start()?;

@@ -9,7 +9,6 @@ ghost use Rattle.post_ledger.specs.Report.{IsFor};
 use super::*;
 use crate::endings::listed;
 use crate::fixtures::is_undisturbed;
-use device_port::Kind;
 use excp_system::{Gate, IscTaker, Point, Stop, serve_channel};
 use post_ledger::{Report, finish};
 use std::alloc::Global;
@@ -95,9 +94,9 @@ fn exchange<S: Site, R: Wait>(
     if !is_set(&barrier.reached) {
         return Ok([None, None]);
     }
-    issue(rt, alloc, task, 0, Kind::Tape)?.map_err(|_| AllocError)?;
-    issue(rt, alloc, task, 0, Kind::Tape)?.map_err(|_| AllocError)?;
-    issue(rt, alloc, task, 1, Kind::Tape)?.map_err(|_| AllocError)?;
+    issue(rt, alloc, task, 0)?.map_err(|_| AllocError)?;
+    issue(rt, alloc, task, 0)?.map_err(|_| AllocError)?;
+    issue(rt, alloc, task, 1)?.map_err(|_| AllocError)?;
     let first = collected(rt, task);
     barrier.let_go.store(true, Ordering::SeqCst);
     let second = collected(rt, task);
@@ -108,7 +107,7 @@ fn exchange<S: Site, R: Wait>(
 fn start<'s, 'r, S: Site + Send + Sync, R: Threads + Wait + Sync, E>(
     rt: &'s R,
     scope: &Scope<'s, E>,
-    system: &'s System<'r, S, ToyBlock>,
+    system: &'s System<'r, S, Disk>,
     handlers: Vec<IscTaker<'r, S>>,
     barrier: &'s Barrier,
 ) -> Result<(), AllocError>
@@ -133,7 +132,7 @@ fn serve<'s, 'r, S: Site + Send + Sync, R: Threads + Wait + Sync, E>(
     rt: &'s R,
     alloc: Global,
     scope: &Scope<'s, E>,
-    system: &'s System<'r, S, ToyBlock>,
+    system: &'s System<'r, S, Disk>,
     handlers: Vec<IscTaker<'r, S>>,
     mut tasks: Vec<Task<'r, S>>,
     barrier: &'s Barrier,
@@ -153,7 +152,7 @@ fn serve<'s, 'r, S: Site + Send + Sync, R: Threads + Wait + Sync, E>(
 fn served<'r, S: Site + Send + Sync, R: Threads + Wait + Sync>(
     rt: &R,
     alloc: Global,
-    system: &System<'r, S, ToyBlock>,
+    system: &System<'r, S, Disk>,
     handlers: Vec<IscTaker<'r, S>>,
     tasks: Vec<Task<'r, S>>,
     barrier: &Barrier,
@@ -192,8 +191,8 @@ fn expect_collected(rt: &impl Abort, barrier: &Barrier, got: [Collected; 2]) {
 fn ended<S: Site + Send + Sync, R: Threads + Wait + Sync + Abort + AllocGlobal>(
     rt: &R,
     rows: &mut Rows,
-    books: Vec<UnitBook<ToyBlock>>,
-) -> Result<Report<ToyBlock>, AllocError>
+    books: Vec<UnitBook<Disk>>,
+) -> Result<Report<Disk>, AllocError>
     requires site { S.rows ≡ site_of rows.old }
     requires fresh { AreFresh rows.old }
     requires books { AreBooks S.rows.units books.items }
@@ -201,7 +200,7 @@ fn ended<S: Site + Send + Sync, R: Threads + Wait + Sync + Abort + AllocGlobal>(
     requires two { S.rows.units ≡ 2 }
     ensures { IfOk result (λ report. IsFor 2 1 report) }
 {
-    let (system, tasks, handlers) = System::<S, ToyBlock>::new(rt.alloc(), rows, books)?;
+    let (system, tasks, handlers) = System::<S, Disk>::new(rt.alloc(), rows, books)?;
     let barrier = Barrier::new();
     let (tasks, got) = served(rt, rt.alloc(), &system, handlers, tasks, &barrier)?;
     expect_collected(rt, &barrier, got);
@@ -212,7 +211,7 @@ fn ended<S: Site + Send + Sync, R: Threads + Wait + Sync + Abort + AllocGlobal>(
 }
 
 /// Asserts that the report lists the second post of unit 0, and that nobody purged, closed or reset a unit.
-fn expect_report<R: Abort + AllocGlobal>(rt: &R, report: &Report<ToyBlock>) -> Result<(), Fail>
+fn expect_report<R: Abort + AllocGlobal>(rt: &R, report: &Report<Disk>) -> Result<(), Fail>
     requires { IsFor 2 1 report.now }
 {
     let first = listed(rt.alloc(), report, 0)?;
@@ -229,7 +228,7 @@ fn expect_report<R: Abort + AllocGlobal>(rt: &R, report: &Report<ToyBlock>) -> R
 #[test]
 fn units_run_side_by_side(rt: HostRuntime) -> Result<(), Fail> {
     let mut rows = Rows::new(rt.alloc(), 1, 2, 2, 2)?;
-    let books = tapes(rt.alloc(), 2)?;
+    let books = disks(rt.alloc(), 2)?;
     let report = ended::<Brand, _>(&rt, &mut rows, books)?;
     expect_report(&rt, &report)
 }

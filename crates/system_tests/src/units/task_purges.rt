@@ -5,7 +5,6 @@ ghost use Rattle.std.specs.Prelude.{◌≡◌, ◌<◌};
 ghost use Rattle.excp_system.specs.Opening.{AreBooks, AreFresh, site_of};
 
 use super::*;
-use device_port::Kind;
 use excp_system::UnitPurging;
 use request_piece::Scope;
 use unit_book::{Entry, Mode};
@@ -31,8 +30,8 @@ fn issue_both<S: Site, R: Wait + AllocGlobal>(
 ) -> Result<Name, Fail>
     requires { S.rows.units ≡ 2 }
 {
-    let name = issue(rt, rt.alloc(), task, 0, Kind::Disk)?.map_err(|_| AllocError)?;
-    issue(rt, rt.alloc(), task, 1, Kind::Disk)?.map_err(|_| AllocError)?;
+    let name = issue(rt, rt.alloc(), task, 0)?.map_err(|_| AllocError)?;
+    issue(rt, rt.alloc(), task, 1)?.map_err(|_| AllocError)?;
     system.lock_of(1).lock(rt).take(rt)?;
     let mut unit = system.lock_of(0).lock(rt);
     unit.take(rt)?;
