@@ -70,7 +70,10 @@ fn seeks_under_no_mask(rt: HostRuntime) -> Result<(), Fail> {
     let (seek, read) = (0x07, 0x06);
     assert_eq!(rt; act(&rt, &mut disk, &mut area, seek, 0x1050, 6), ended(6));
     assert_eq!(rt; act(&rt, &mut disk, &mut area, read, 0x1050, 1), ended(1));
-    assert_eq!(rt; act(&rt, &mut disk, &mut area, seek, 0x1050, 6), Acted::rejected());
+    assert_eq!(rt;
+        act(&rt, &mut disk, &mut area, seek, 0x1050, 6),
+        Acted::rejected()
+    );
     assert!(rt; holds(&area, 0x1050, &[0xC1, 0, 0, 1, 0, 0]));
     Ok(())
 }

@@ -6,8 +6,8 @@ ghost use Rattle.excp_system.specs.Opening.{AreBooks, AreFresh, site_of};
 ghost use Rattle.job_mount.specs.Books.{IsFresh};
 
 use Step::{
-    Close, Collect, Deliver, Excp, Fill, Interrupt, Open, Outside, Purge, PurgeTask, Related, Reset,
-    Run, Settle, Start, Take,
+    Close, Collect, Deliver, Excp, Fill, Interrupt, Open, Outside, Purge, PurgeTask, Related,
+    Reset, Run, Settle, Start, Take,
 };
 use any_device::AnyDevice;
 use excp_system::{Rows, Site, System, Task, UnitState};
@@ -248,7 +248,10 @@ fn done<'r, S: Site, R: Wait + AllocGlobal>(
     requires { 0 < S.rows.units }
 {
     match step {
-        Collect => Ok(task.take_post(rt).map(|value| (value.name().seq, value.code()))),
+        Collect => Ok(
+            task.take_post(rt)
+                .map(|value| (value.name().seq, value.code())),
+        ),
         Excp(_) | Related(_) | Outside(_) => {
             issue(rt, rt.alloc(), task, &image(step))?;
             Ok(None)

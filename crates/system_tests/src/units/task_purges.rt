@@ -54,7 +54,14 @@ fn expect_at<S: Site, R: Wait + Abort>(
     let [wanted, answer] = answers;
     let mut state = system.lock_of(unit).lock(rt);
     let is_told = is_told(state.book().trace(), mode);
-    assert!(rt; answer == if is_told { wanted } else { UnitPurging::Refused });
+    assert!(rt;
+        answer
+            == if is_told {
+                wanted
+            } else {
+                UnitPurging::Refused
+            }
+    );
     state.settle()?;
     state.deliver(rt);
     let value = task.take_post(rt).ok_or("no posted value")?;
