@@ -9,7 +9,7 @@ import os
 import re
 import subprocess
 
-from harness import SAMPLES, TOP, Case, Failed, Skipped, expect, files, multiple, read, require
+from harness import CASES, SAMPLES, TOP, Case, Failed, Skipped, expect, files, multiple, read, require, run
 
 FOLDER = f"{SAMPLES}/scenarios"
 
@@ -100,6 +100,13 @@ def runs_out_of_memory(setup, file, lacks, refusals):
     # the `expect` lines of the scenario judge this text
     plan = refusals.Plan([setup.program, "step"], refusals.prints_a_part, file, setup.run("step", file=file).out)
     plan.judged("step", 1)
+
+
+def with_full_output(setup, word):
+    """A scenario, or the report of a script, whose output cannot be written."""
+    with open("/dev/full", "wb") as full:
+        ran = run([setup.program, word], "tasks 1\ndisk 0 0 1 1 40\n" + ("start 0\n" if word == "step" else ""), stdout=full)
+        expect(ran, (1, "", "excp_job: output not written\n"))
 
 
 # --- scenarios that are made
@@ -196,9 +203,11 @@ def cases(setup):
     for name, give in made():
         yield Case(name, lambda g=give: are_met(setup, g), origin)
     yield Case("turns_of_sixty_four_commands", lambda: has_turns(setup), origin)
+    for word in "step", "report":
+        yield Case(f"output_is_not_written: {word}", lambda w=word: with_full_output(setup, w), "docs/MANUAL.md")
     for file in files("scenarios", ".findings"):
         for name, script, wanted, place in multiple(file):
             judge = lambda s=script, w=wanted: expect(setup.run("step", script=s), (1, "", w))
             yield Case(name, judge, f"{place}, by docs/MANUAL.md")
-    file = files("scenarios", ".scenario")[0]
+    file = f"{CASES}/scenarios/close_lets_active_retry.scenario"  # each of its events is answered by one line
     yield Case("through a pipe", lambda: answers_at_once(setup, file), "docs/MANUAL.md")

@@ -1,4 +1,4 @@
-//! The table of verdicts.
+//! Verdicts on status that no device shows. All others are in tests/cases/scripts/verdicts.posts.
 
 use device_port::Kind;
 use io_images::{Address, Code, Csw, SubStatus, UnitStatus};
@@ -17,21 +17,18 @@ fn verdict_on(kind: Kind, status: (u8, u8), sense: u16, attempt: u32) -> Verdict
 
 #[test]
 fn table_of_verdicts(rt: HostRuntime) {
-    let ended = Verdict::Final(Code::Ended);
     let error = Verdict::Final(Code::PermanentError);
     let cases = [
-        (Kind::Disk, (0x0C, 0x00), 0x0000, 1, ended),
-        (Kind::Tape, (0x4C, 0x00), 0x0000, 11, ended),
-        (Kind::Printer, (0x0C, 0x40), 0x0000, 1, error),
-        (Kind::Disk, (0x0E, 0x00), 0x1000, 10, Verdict::Retry),
-        (Kind::Disk, (0x0E, 0x00), 0x1000, 11, error),
-        (Kind::Tape, (0x0E, 0x00), 0x1000, 1, error),
-        (Kind::Disk, (0x0E, 0x00), 0x0008, 1, error),
-        (Kind::Disk, (0x0E, 0x00), 0x8400, 1, error),
+        (
+            Kind::Tape,
+            (0x4C, 0x00),
+            0x0000,
+            11,
+            Verdict::Final(Code::Ended),
+        ),
         (Kind::Disk, (0x0F, 0x00), 0x0800, 1, error),
-        (Kind::Disk, (0x00, 0x08), 0x0000, 1, Verdict::Retry),
         (Kind::Disk, (0x00, 0x0A), 0x0000, 10, Verdict::Retry),
-        (Kind::Disk, (0x00, 0x04), 0x0000, 1, error),
+        (Kind::Disk, (0x00, 0x0A), 0x0000, 11, error),
     ];
     for (kind, status, sense, attempt, expected) in cases {
         assert_eq!(rt; verdict_on(kind, status, sense, attempt), expected);

@@ -1,14 +1,12 @@
-//! Runs of scripts that need more than a script and what it prints: steps in between, and readers and writers that fail.
+//! Runs of scripts that need more than a script and what it prints: steps in between, and readers that fail.
 //! Whole scripts with their posts are in tests/cases/scripts; the group random of tests/run judges scripts at random.
 //! Expected values are those of the profile's tables.
 
 use job_mount::books;
-use job_run::{Workers, report_script, run_script};
+use job_run::{Workers, run_script};
 use job_script::{JobError, Script};
 use std::alloc::AllocError;
 use std::io;
-use std::io::Write;
-use std::process::Abort;
 use std::test::Fail;
 
 mod holds;
@@ -32,29 +30,4 @@ fn books_have_their_subclasses(rt: HostRuntime) -> Result<(), Fail> {
         assert!(rt; book.isc() == isc);
     }
     Ok(())
-}
-
-/// A writer that takes no byte.
-#[derive(Drop)]
-struct Full;
-
-impl Write for Full {
-    fn write(&mut self, _buf: &[u8]) -> io::Result<usize> {
-        Err(io::Error::from(io::ErrorKind::Other))
-    }
-
-    fn flush(&mut self) -> io::Result<()> {
-        Err(io::Error::from(io::ErrorKind::Other))
-    }
-}
-
-#[test]
-fn output_is_not_written(rt: HostRuntime) {
-    let text = "tasks 1\ndisk 0 0 1 1 40\n".as_bytes();
-    let mut reader = text;
-    let done = run_script(&rt, rt.alloc(), &mut reader, &mut Full, ONE_OF_EACH);
-    assert_eq!(rt; done, Err(JobError::NotWritten));
-    let mut reader = text;
-    let done = report_script(&rt, rt.alloc(), &mut reader, &mut Full, ONE_OF_EACH, false);
-    assert_eq!(rt; done, Err(JobError::NotWritten));
 }

@@ -8,7 +8,6 @@ ghost use Rattle.excp_system.specs.Opening.{AreBooks};
 use ckd_disk::{Disk, Geometry, InitialRecord};
 use device_port::Fault;
 use excp_system::{Site, Task};
-use fifo_row::Full;
 use io_area::Area;
 use io_images::{Extent, SubStatus, UnitStatus};
 use request_piece::{Name, Request};
@@ -104,28 +103,28 @@ pub fn faulty_disks(
     Ok(books)
 }
 
-/// The task issues its next request to a unit: its name, in an error if the row is full.
+/// The task issues its next request to a unit: its name.
 pub fn issue<S: Site, R: Wait>(
     rt: &R,
     alloc: Global,
     task: &mut Task<'_, S>,
     unit: u16,
-) -> Result<Result<Name, Name>, AllocError>
+) -> Result<Name, AllocError>
     requires { unit < S.rows.units }
     ensures { task.new.number ≡ task.old.number }
 {
     issue_over(rt, alloc, task, unit, &READ_RECORD)
 }
 
-/// The task issues its next request to a unit, for DCB 1 and over these bytes from X'1000' on: its name, in an error if
-/// the row is full.
+/// The task issues its next request to a unit, for DCB 1 and over these bytes from X'1000' on: its name. A full row is an
+/// error too.
 pub fn issue_over<S: Site, R: Wait>(
     rt: &R,
     alloc: Global,
     task: &mut Task<'_, S>,
     unit: u16,
     image: &[u8],
-) -> Result<Result<Name, Name>, AllocError>
+) -> Result<Name, AllocError>
     requires { unit < S.rows.units }
     ensures { task.new.number ≡ task.old.number }
 {
@@ -133,8 +132,8 @@ pub fn issue_over<S: Site, R: Wait>(
     let area = Area::new(alloc, 0x1000, image).map_err(|_| AllocError)?;
     let request = Request::new(alloc, name, unit, 1, 0x1000, area).map_err(|_| AllocError)?;
     match task.excp(rt, request) {
-        Ok(()) => Ok(Ok(name)),
-        Err(Full(request)) => Ok(Err(request.name())),
+        Ok(()) => Ok(name),
+        Err(_) => Err(AllocError),
     }
 }
 

@@ -31,7 +31,7 @@ fn issue_all<S: Site, R: Wait>(
 {
     for _ in 0..ISSUED {
         let task = &mut tasks[0];
-        issue(rt, alloc, task, 0)?.map_err(|_| AllocError)?;
+        issue(rt, alloc, task, 0)?;
     }
     Ok(())
 }

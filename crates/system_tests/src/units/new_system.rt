@@ -20,8 +20,8 @@ fn serve_both<S: Site, R: Wait + Abort + AllocGlobal>(
 ) -> Result<(), Fail>
     requires { S.rows.units ≡ 2 }
 {
-    issue(rt, rt.alloc(), task, 0)?.map_err(|_| AllocError)?;
-    issue(rt, rt.alloc(), task, 1)?.map_err(|_| AllocError)?;
+    issue(rt, rt.alloc(), task, 0)?;
+    issue(rt, rt.alloc(), task, 1)?;
     system.lock_of(1).lock(rt).take(rt)?;
     let mut unit = system.lock_of(0).lock(rt);
     unit.take(rt)?;

@@ -16,7 +16,7 @@ fn halt_first<S: Site, R: Wait + Abort + AllocGlobal>(
 ) -> Result<(), Fail>
     requires { S.rows.units ≡ 2 }
 {
-    let name = issue(rt, rt.alloc(), task, 0)?.map_err(|_| AllocError)?;
+    let name = issue(rt, rt.alloc(), task, 0)?;
     let mut unit = system.lock_of(0).lock(rt);
     unit.take(rt)?;
     unit.start()?;

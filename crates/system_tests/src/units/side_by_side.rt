@@ -94,9 +94,9 @@ fn exchange<S: Site, R: Wait>(
     if !is_set(&barrier.reached) {
         return Ok([None, None]);
     }
-    issue(rt, alloc, task, 0)?.map_err(|_| AllocError)?;
-    issue(rt, alloc, task, 0)?.map_err(|_| AllocError)?;
-    issue(rt, alloc, task, 1)?.map_err(|_| AllocError)?;
+    issue(rt, alloc, task, 0)?;
+    issue(rt, alloc, task, 0)?;
+    issue(rt, alloc, task, 1)?;
     let first = collected(rt, task);
     barrier.let_go.store(true, Ordering::SeqCst);
     let second = collected(rt, task);

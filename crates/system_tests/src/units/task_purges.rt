@@ -30,8 +30,8 @@ fn issue_both<S: Site, R: Wait + AllocGlobal>(
 ) -> Result<Name, Fail>
     requires { S.rows.units ≡ 2 }
 {
-    let name = issue(rt, rt.alloc(), task, 0)?.map_err(|_| AllocError)?;
-    issue(rt, rt.alloc(), task, 1)?.map_err(|_| AllocError)?;
+    let name = issue(rt, rt.alloc(), task, 0)?;
+    issue(rt, rt.alloc(), task, 1)?;
     system.lock_of(1).lock(rt).take(rt)?;
     let mut unit = system.lock_of(0).lock(rt);
     unit.take(rt)?;

@@ -138,7 +138,7 @@ fn issue_one<S: Site, R: Wait + AllocGlobal>(
 {
     let mut image = READ_RECORD;
     image[32] = if meets == Meets::Violation { 1 } else { 0 };
-    issue_over(rt, rt.alloc(), task, 0, &image)?.map_err(|_| AllocError)?;
+    issue_over(rt, rt.alloc(), task, 0, &image)?;
     Ok(())
 }
 

@@ -25,23 +25,6 @@ impl<'a> NotAwaited<'a> {
     {
         NotAwaited { script }
     }
-
-    /// Does the commands of a task.
-    fn commands<S: Site, R: Wait>(
-        &self,
-        rt: &R,
-        alloc: Global,
-        system: &System<'_, S, AnyDevice>,
-        alarm: &Alarm,
-        client: &mut Client<'_, S>,
-    ) -> Result<Lines, TaskError>
-        requires { S.rows.units ≡ vec_len self.now.script.now.set_up.units }
-        ensures { client.new.number ≡ client.old.number }
-    {
-        let mut lines = Lines::of_task(alloc, self.script, client.number())?;
-        Job::new(self.script, system, alarm).commands(rt, alloc, client, &mut lines)?;
-        Ok(lines)
-    }
 }
 
 impl<'a> TaskProgram<AnyDevice> for NotAwaited<'a> {
@@ -57,6 +40,8 @@ impl<'a> TaskProgram<AnyDevice> for NotAwaited<'a> {
         alarm: &Alarm,
         client: &mut Client<'_, S>,
     ) -> Result<Lines, TaskError> {
-        self.commands(rt, alloc, system, alarm, client)
+        let mut lines = Lines::of_task(alloc, self.script, client.number())?;
+        Job::new(self.script, system, alarm).commands(rt, alloc, client, &mut lines)?;
+        Ok(lines)
     }
 }
