@@ -51,8 +51,6 @@ impl Gate for Barrier {
             self.gave_up.store(true, Ordering::SeqCst);
         }
     }
-
-    fn lack_memory(&self, _unit: u16, _point: Point) {}
 }
 
 /// Whether a flag is set within so many looks.
