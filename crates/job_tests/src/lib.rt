@@ -1,5 +1,5 @@
-//! Tests of whole runs: scripts with what they print, whatever the interleaving of their tasks and workers; and the
-//! steps of one unit and one task through the unit's lock.
+//! Tests of runs that no script states: rows of one place, alarms, tasks that end early, readers that fail, and steps
+//! of one unit and one task that run out of memory.
 #![tactic(auto)]
 
 #[cfg(test)]

@@ -1,8 +1,8 @@
 //! Tests of tasks, units and the rows between them, by hand and by workers, and of the end of a run.
 //!
-//! They say what no contract does: the values of the profile's tables, that a call succeeds where there is memory, and
-//! that nothing is lost where there is none. Where a call always answers want of memory, the wrong body of
-//! memory_is_enough, the tests that make it fail, but for those that are made for refused memory.
+//! They have what only code reaches: a call that runs out of memory and is made again, locks, threads and gates. All
+//! else is in tests/cases/scenarios. A call that always runs out of memory, the mutant of memory_is_enough, fails
+//! every test, but for those that are made for calls that run out of memory.
 #![tactic(auto)]
 
 #[cfg(test)]
