@@ -25,9 +25,6 @@ fn books_have_their_subclasses(rt: HostRuntime) -> Result<(), Fail> {
     let text = "tasks 1\ndisk 0 0 1 1 40\ntape 1 7 40\nprinter 2 3 10 2\n";
     let script = Script::parse(rt.alloc(), text.as_bytes())?;
     let books = books(rt.alloc(), &script, 1)?;
-    assert!(rt; books.len() == 3);
-    for (book, isc) in books.iter().zip([0, 7, 3]) {
-        assert!(rt; book.isc() == isc);
-    }
+    assert!(rt; books.iter().map(|book| book.isc()).eq([0, 7, 3]));
     Ok(())
 }

@@ -6,8 +6,8 @@ ghost use Rattle.excp_system.specs.Opening.{AreBooks, AreFresh, site_of};
 ghost use Rattle.job_mount.specs.Books.{IsFresh};
 
 use Step::{
-    Close, Collect, Deliver, Excp, Fill, Interrupt, Open, Outside, Purge, PurgeTask, Related,
-    Reset, Run, Settle, Start, Take,
+    Close, Collect, Excp, Fill, Interrupt, Open, Outside, Purge, PurgeTask, Related, Reset, Run,
+    Settle, Start, Take,
 };
 use any_device::AnyDevice;
 use excp_system::{Rows, Site, System, Task, UnitState};
@@ -44,12 +44,12 @@ enum Step {
     Excp(u8),
     Related(u8),
     Outside(u8),
+    /// A posted request goes back, and the task collects it.
     Collect,
     Take,
     Start,
     Run(u16),
     Interrupt,
-    Deliver,
     /// Opens the next DCB for output.
     Open,
     /// Purges with halt of a DCB and of a task.
@@ -86,14 +86,12 @@ const FULL_TRACES: &[Step] = &[
     Close(1),
     Fill(0),
     Close(1),
-    Deliver,
     Collect,
     PurgeTask(1),
     Fill(2),
     Purge(1),
     Fill(1),
     Interrupt,
-    Deliver,
     Collect,
     Fill(0),
     Open,
@@ -105,15 +103,12 @@ const FULL_TRACES: &[Step] = &[
     Run(16),
     Fill(2),
     Interrupt,
-    Deliver,
     Collect,
     Fill(2),
     Start,
     Fill(0),
     Reset(3),
-    Deliver,
     Collect,
-    Deliver,
     Collect,
     Fill(0),
     Close(2),
@@ -138,13 +133,11 @@ const SETTLED: &[Step] = &[
     Take,
     Fill(0),
     Settle,
-    Deliver,
     Collect,
     Excp(1),
     Take,
     Fill(1),
     Settle,
-    Deliver,
     Collect,
     Excp(1),
     Excp(2),
@@ -152,8 +145,6 @@ const SETTLED: &[Step] = &[
     Take,
     Fill(3),
     Settle,
-    Deliver,
-    Deliver,
     Collect,
     Collect,
     Start,
@@ -231,10 +222,7 @@ fn tried<S: Site, R: Wait>(
         Reset(dcb) => unit.reset(dcb).ok(),
         Fill(room) => fill(unit, usize::from(room)),
         Settle => unit.settle().ok(),
-        _ => {
-            unit.deliver(rt);
-            Some(())
-        }
+        _ => None,
     }
 }
 
@@ -248,10 +236,11 @@ fn done<'r, S: Site, R: Wait + AllocGlobal>(
     requires { 0 < S.rows.units }
 {
     match step {
-        Collect => Ok(
-            task.take_post(rt)
-                .map(|value| (value.name().seq, value.code())),
-        ),
+        Collect => {
+            system.lock_of(0).lock(rt).deliver(rt);
+            let post = task.take_post(rt);
+            Ok(post.map(|value| (value.name().seq, value.code())))
+        }
         Excp(_) | Related(_) | Outside(_) => {
             issue(rt, rt.alloc(), task, &image(step))?;
             Ok(None)
