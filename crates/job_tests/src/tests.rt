@@ -1,6 +1,5 @@
 //! Runs of scripts that need more than a script and what it prints: steps in between, and readers that fail.
 //! Whole scripts with their posts are in tests/cases/scripts; the group random of tests/run judges scripts at random.
-//! Expected values are those of the profile's tables.
 
 use job_mount::books;
 use job_run::{Workers, run_script};

@@ -23,18 +23,17 @@ use std::sync::Wait;
 use std::test::Fail;
 use unit_book::{Mode, ProcessingMethod, UnitBook};
 
-/// One task, and a disk of one track with R1, whose data are C1C2C3C4.
-const DISK: &str = "tasks 1\ndisk 0 0 1 1 40\nrec 0 0 0 1 - C1C2C3C4\n";
+/// One task, and a disk of one track.
+const DISK: &str = "tasks 1\ndisk 0 0 1 1 40\n";
 
 /// The one track.
 const EXTENT: [u8; 16] = [0x18, 0, 0, 0, 0, 0, 0, 0, 0, 0, 0, 0, 0, 0, 0, 1];
 
-/// An unrelated IOB, its ECB, and search, transfer back and read data, from X'1000' on.
-const IMAGE: [u8; 104] = [
+/// An unrelated IOB, its ECB, and two no-operations, from X'1000' on.
+const IMAGE: [u8; 64] = [
     0x42, 0, 0, 0, 0, 0, 0x10, 0x28, 0, 0, 0, 0, 0, 0, 0, 0, 0, 0, 0x10, 0x30, 0, 0, 0, 1, 0, 0, 0,
-    0, 0, 0, 0, 0, 0, 0, 0, 0, 0, 0, 0, 1, 0, 0, 0, 0, 0, 0, 0, 0, 0x31, 0, 0x10, 0x50, 0x40, 0, 0,
-    5, 0x08, 0, 0x10, 0x30, 0, 0, 0, 0, 0x06, 0, 0x10, 0x60, 0, 0, 0, 4, 0, 0, 0, 0, 0, 0, 0, 0, 0,
-    0, 0, 0, 1, 0, 0, 0, 0, 0, 0, 0, 0, 0, 0, 0, 0, 0, 0, 0, 0, 0, 0, 0,
+    0, 0, 0, 0, 0, 0, 0, 0, 0, 0, 0, 0, 1, 0, 0, 0, 0, 0, 0, 0, 0, 0x03, 0, 0, 0, 0x60, 0, 0, 1,
+    0x03, 0, 0, 0, 0x20, 0, 0, 1,
 ];
 
 /// A step of the task or of the unit.
@@ -112,10 +111,9 @@ const FULL_TRACES: &[Step] = &[
     Collect,
     Fill(0),
     Close(2),
-    Start,
 ];
 
-/// How its requests end, in the order of their posts.
+/// How the requests of these steps end, in the order of their posts.
 const FULL_TRACES_END: &[Post] = &[
     (2, Code::Purged),
     (1, Code::Purged),
@@ -124,8 +122,7 @@ const FULL_TRACES_END: &[Post] = &[
     (5, Code::Purged),
 ];
 
-/// A unit is settled where the trace has room for no entry, for the start, and for a start and a run but not for the
-/// posts.
+/// A unit is settled with room for no entry, for a start, and for a start and a run but not for the posts.
 const SETTLED: &[Step] = &[
     Open,
     Open,
@@ -147,10 +144,8 @@ const SETTLED: &[Step] = &[
     Settle,
     Collect,
     Collect,
-    Start,
 ];
 
-/// How its requests end.
 const SETTLED_END: &[Post] = &[
     (1, Code::Ended),
     (2, Code::Ended),
@@ -158,8 +153,8 @@ const SETTLED_END: &[Post] = &[
     (4, Code::Ended),
 ];
 
-/// The IOB, ECB and program of a request, with its data.
-fn image(step: Step) -> [u8; 104] {
+/// The IOB, ECB and program of a request.
+fn image(step: Step) -> [u8; 64] {
     let mut image = IMAGE;
     match step {
         Step::Excp(dcb) => image[23] = dcb,
@@ -182,7 +177,7 @@ fn issue<S: Site, R: Wait>(
     rt: &R,
     alloc: Global,
     task: &mut Task<'_, S>,
-    image: &[u8; 104],
+    image: &[u8; 64],
 ) -> Result<(), AllocError>
     requires { 0 < S.rows.units }
 {
