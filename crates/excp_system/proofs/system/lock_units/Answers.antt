@@ -60,7 +60,7 @@ loop-book-preserved g c =
     let rows = zip_first (zip_second rest) in
     let came = sym i.books ∙ steps.0.0 in
     let one : length (yielded ++ (b, ((c.in-Some.intake, c.in-Some.back), c.in-Some.notice)) ∷ []) ≡ u + 1 =
-        length-append yielded ((b, ((c.in-Some.intake, c.in-Some.back), c.in-Some.notice)) ∷ []) in
+    length-append yielded ((b, ((c.in-Some.intake, c.in-Some.back), c.in-Some.notice)) ∷ []) in
     record {
       here = omega (arith, i.here, one, c.push_reserved.ensures.len);
       few = omega (arith, one, ap length came, length-drop u c.args.books.items, c.requires.books.count_is);
@@ -82,12 +82,12 @@ returns g c =
     let u = length c.loop-book.yielded in
     let ends = c.args.ends in
     elim c.in-None.ensures.steps [
-      inl e ↦ omega (arith, i.here, i.few, ap length i.books, length-drop u c.args.books.items, c.requires.books.count_is, e.1.0, it.a.rest.ok)
-    | inr e ↦ elim e.1 [
-        inl f ↦ elim f.1 [
-          inl h ↦ omega (arith, i.here, i.few, ap length i.intakes, length-drop u ends.intake.items, ends.intake_are.count_is, h.1.0, it.b.a.a.rest.ok)
-        | inr h ↦ omega (arith, i.here, i.few, ap length i.backs, length-drop u ends.back.items, ends.back_are.count_is, h.1.0, it.b.a.b.rest.ok)
+      | inl e ↦ omega (arith, i.here, i.few, ap length i.books, length-drop u c.args.books.items, c.requires.books.count_is, e.1.0, it.a.rest.ok)
+      | inr e ↦ elim e.1 [
+        | inl f ↦ elim f.1 [
+          | inl h ↦ omega (arith, i.here, i.few, ap length i.intakes, length-drop u ends.intake.items, ends.intake_are.count_is, h.1.0, it.b.a.a.rest.ok)
+          | inr h ↦ omega (arith, i.here, i.few, ap length i.backs, length-drop u ends.back.items, ends.back_are.count_is, h.1.0, it.b.a.b.rest.ok)
         ]
-      | inr f ↦ omega (arith, i.here, i.few, ap length i.notices, length-drop u ends.notice.items, ends.notice_are.count_is, f.1.0, it.b.b.rest.ok)
+        | inr f ↦ omega (arith, i.here, i.few, ap length i.notices, length-drop u ends.notice.items, ends.notice_are.count_is, f.1.0, it.b.b.rest.ok)
       ]
     ]
