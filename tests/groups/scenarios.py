@@ -7,7 +7,7 @@ docs/SPECIFICATION.md, and tests/cases/scenarios/*.findings, with scenarios that
 import os
 import subprocess
 
-from harness import SAMPLES, TOP, Case, Failed, expect, files, multiple, read, require
+from harness import SAMPLES, TOP, Case, Failed, files, multiple, read, require
 
 FOLDER = f"{SAMPLES}/scenarios"
 
@@ -44,6 +44,13 @@ def is_missed(setup, file):
             raise Failed(f"the changed line {at} is not what fails", ran, None, ran.text())
 
 
+def is_rejected(setup, script, wanted):
+    """A scenario fails, and these faults and failed expectations are printed."""
+    ran = setup.run("step", script=script)
+    if (ran.status, ran.err) != (1, wanted):
+        raise Failed("another outcome", ran, wanted, ran.err)
+
+
 def answers_at_once(setup, file):
     """Each event is answered before the next line is written."""
     with subprocess.Popen([setup.program, "step"], stdin=subprocess.PIPE, stdout=subprocess.PIPE, text=True) as it:
@@ -66,7 +73,7 @@ def cases(setup):
         yield Case(f"{name}: each expectation changed", lambda f=file: is_missed(setup, f), f"{place}, by docs/MANUAL.md")
     for file in files("scenarios", ".findings"):
         for name, script, wanted, place in multiple(file):
-            judge = lambda s=script, w=wanted: expect(setup.run("step", script=s), (1, "", w))
+            judge = lambda s=script, w=wanted: is_rejected(setup, s, w)
             yield Case(name, judge, f"{place}, by docs/MANUAL.md")
     file = files("scenarios", ".scenario")[0]
     yield Case("through a pipe", lambda: answers_at_once(setup, file), "docs/MANUAL.md")
