@@ -77,6 +77,13 @@ def is_missed(setup, file):
             raise Failed(f"the changed line {at} is not what fails", ran, None, ran.text())
 
 
+def is_rejected(setup, script, wanted):
+    """A scenario fails, and these faults and failed expectations are printed."""
+    ran = setup.run("step", script=script)
+    if (ran.status, ran.err) != (1, wanted):
+        raise Failed("another outcome", ran, wanted, ran.err)
+
+
 def answers_at_once(setup, file):
     """Each event is answered before the next line is written."""
     with subprocess.Popen([setup.program, "step"], stdin=subprocess.PIPE, stdout=subprocess.PIPE, text=True) as it:
@@ -207,7 +214,7 @@ def cases(setup):
         yield Case(f"output_is_not_written: {word}", lambda w=word: with_full_output(setup, w), "docs/MANUAL.md")
     for file in files("scenarios", ".findings"):
         for name, script, wanted, place in multiple(file):
-            judge = lambda s=script, w=wanted: expect(setup.run("step", script=s), (1, "", w))
+            judge = lambda s=script, w=wanted: is_rejected(setup, s, w)
             yield Case(name, judge, f"{place}, by docs/MANUAL.md")
     file = f"{CASES}/scenarios/close_lets_active_retry.scenario"  # each of its events is answered by one line
     yield Case("through a pipe", lambda: answers_at_once(setup, file), "docs/MANUAL.md")

@@ -7,7 +7,7 @@ use crate::finding::{Finding, FindingKind, SCRIPT, add, tell};
 use crate::media::check_unit;
 use crate::notes::{AreaUse, early, note_doubles, note_unused};
 use crate::programs::{Issued, note_requests};
-use crate::requests::why_refused;
+use crate::requests::why_rejected;
 use crate::telling::{Found, Source, write_findings};
 use job_script::{
     Action, Cause, Command, DcbName, ExcpLine, FaultName, JobError, LIMIT, Line, Refusal, SetUp,
@@ -178,7 +178,7 @@ impl<'a> Check<'a> {
         if is_assumed {
             return Ok(());
         }
-        if let Some(cause) = why_refused(&excp) {
+        if let Some(cause) = why_rejected(&excp) {
             return Err(Refusal::Caused(cause));
         }
         self.requests.push(Issued { line, excp })?;

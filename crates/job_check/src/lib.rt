@@ -18,5 +18,5 @@ mod telling;
 pub use check::check_script;
 pub use finding::{Finding, FindingKind, SCRIPT};
 pub use media::mount_faults;
-pub use requests::why_refused;
+pub use requests::why_rejected;
 pub use telling::{Found, Source, write_findings};

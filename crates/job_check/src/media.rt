@@ -16,7 +16,7 @@ use unit_book::{ExtentRefusal, ExtentsRefusal, extents_refusal};
 const STATUS: &str =
     "a device shows 0E 00 with any sense bytes, or 00 with 02, 04 or 08 and sense bytes 0000";
 
-/// Why units cannot be mounted, and why DCBs of them cannot be opened, in the order of the units' numbers.
+/// Why units cannot be mounted, and why their DCBs cannot be opened, in the order of the units' numbers.
 pub fn mount_faults(
     alloc: Global,
     units: &[UnitSetup],

@@ -32,9 +32,9 @@ const PROGRAM: Texts = [
 const SHOWN: &str =
     "what is shown, {n} byte{s} at {a}, does not lie in the area of {n} byte{s} at {a}";
 
-/// Why the request of an EXCP is refused, if it is. If nothing else is wrong, the bytes that are shown do not lie in its
+/// Why the request of an EXCP is rejected, if it is. If nothing else is wrong, the bytes that are shown do not lie in its
 /// area.
-pub fn why_refused(excp: &Excp) -> Option<Cause>
+pub fn why_rejected(excp: &Excp) -> Option<Cause>
     ensures { IfNone result (CanIssue excp.now) }
 {
     if can_issue(excp) {

@@ -1,5 +1,8 @@
 //! How findings are written: a line for each, which begins with its place.
 
+ghost use Rattle.std.specs.Prelude.{IfErr};
+ghost use Rattle.job_check.specs.Printing.{IsPrintFault};
+
 use job_script::JobError;
 use std::alloc::Global;
 use std::io::{BufWriter, Write};
@@ -36,7 +39,9 @@ pub fn write_findings<F: Found, W: Write + Drop>(
     source: Source<'_>,
     findings: &[F],
     writer: W,
-) -> Result<(), JobError> {
+) -> Result<(), JobError>
+    ensures { IfErr result IsPrintFault }
+{
     let Ok(mut out) = BufWriter::new(alloc, writer) else {
         return Err(JobError::NoMemory);
     };

@@ -15,8 +15,8 @@ pub struct End {
     pub sense: u16,
 }
 
-/// Writes what a request was posted with: `post`, the numbers of task, unit and request, how it ended, and the bytes that are
-/// shown of its area, without a line feed.
+/// Writes the line of a post, without a line feed: `post`, the numbers of task, unit and request, how the request ended, and
+/// the shown bytes of its area.
 pub fn write_post<W: Write>(
     out: &mut W,
     task: usize,
@@ -29,8 +29,8 @@ pub fn write_post<W: Write>(
     write_bytes(out, shown)
 }
 
-/// Writes a line up to its shown bytes: `post`, the numbers of task, unit and request, and how it ended, each with a
-/// blank behind it. Its text is put together from the end.
+/// Writes a line up to its shown bytes: `post`, the numbers of task, unit and request, and how it ended, each followed by a
+/// blank. Puts the text together from its end.
 fn write_head<W: Write>(
     out: &mut W,
     task: usize,

@@ -98,7 +98,7 @@ no_wait (says_excp e) = Ok (says_line (says_excp e))
 abbrev pub with_no_wait : Result LineSaid FaultName → Result ScenarioSaid FaultName
 with_no_wait read = read >>= no_wait
 
--- what a line says that no script has, or a script
+-- what a line says, of a kind that no script has, or of a script
 abbrev pub by_event_kind : Option EventVerb → ℕ → List ℕ → Result ScenarioSaid FaultName
 by_event_kind None line text = with_no_wait (line_of line text)
 by_event_kind (Some verb) line text = by_event_verb verb (words text)
@@ -107,7 +107,7 @@ by_event_kind (Some verb) line text = by_event_verb verb (words text)
 abbrev pub scenario_line : ℕ → List ℕ → Result ScenarioSaid FaultName
 scenario_line line text = by_event_kind (event_kind text) line text
 
--- a refusal has the same name as another, or both are for want of memory
+-- two refusals have the same name, or both are out of memory
 abbrev pub IsNamedAs : Refusal → Refusal → Type 0
 IsNamedAs (Caused cause) (Caused other) = other.name ≡ cause.name
 IsNamedAs NoMemory NoMemory = Unit {0}

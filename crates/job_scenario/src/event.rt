@@ -1,15 +1,15 @@
-//! What happens in a scenario beside the commands of tasks, and how much room there is for it.
+//! The events of a scenario other than the commands of tasks, and the sizes of rows and books.
 
 ghost use Rattle.std.specs.Prelude.{◌≤◌};
 
-/// How much room there is.
+/// The size of rows or of a book.
 #[derive(Clone, Copy, PartialEq, Eq, Debug)]
 pub enum Room {
-    /// For requests on their way to each unit.
+    /// How many requests each intake row holds.
     Intake(u16),
-    /// For posts on their way back to each task.
+    /// How many posts each post row holds.
     Post(u16),
-    /// For requests in the book of a unit: the unit's number, and for how many.
+    /// The number of a unit, and how many requests its book holds.
     Book(u16, u16),
 }
 
@@ -21,12 +21,12 @@ pub struct Turn {
     ghost some: { 1 ≤ most },
 }
 
-/// An event that no script has. The number is that of a unit, but for `Collect` that of a task.
+/// An event that scripts do not have. The number is that of a unit, in `Collect` that of a task.
 #[derive(Clone, Copy, PartialEq, Eq, Debug)]
 pub enum Event {
     /// The first request on its way to the unit arrives.
     Take(u16),
-    /// The request that is next is started.
+    /// The next request is started.
     Start(u16),
     /// The active program does some commands.
     Run(Turn),
@@ -36,10 +36,10 @@ pub enum Event {
     Deliver(u16),
     /// The task collects its next post.
     Collect(u16),
-    /// All that waits or is active is brought to its end.
+    /// Every request that waits or is active ends.
     Settle(u16),
     /// The unit takes, starts, runs, interrupts and delivers until it is idle.
     Serve(u16),
-    /// The scenario is brought to its end.
+    /// The scenario ends.
     Finish,
 }

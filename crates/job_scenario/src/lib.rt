@@ -1,4 +1,4 @@
-//! Scenarios: the lines of scripts, rooms, events and what is expected of them (profile).
+//! Lines of scenarios: those of scripts, sizes of rows and books, events and expectations (profile).
 //!
 //! A scenario has the form of a script. Its commands and events happen in the order of their lines.
 //!

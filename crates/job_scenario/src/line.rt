@@ -1,4 +1,4 @@
-//! A line of a scenario as its words say: a line of a script, a room, an event, or what is expected of the event before it.
+//! A line of a scenario, by its words: a line of a script, a size, an event, or an expectation of the event before it.
 
 ghost use Rattle.std.specs.Prelude.{◌≡◌};
 ghost use Rattle.job_script.specs.Said.{says_command};
@@ -15,23 +15,23 @@ use job_script::{Action, Cause, Command, FaultName, Line, Refusal, Verb};
 use script_words::{Words, is_word};
 use std::alloc::Global;
 
-/// That no line begins with its first word.
+/// No line begins with this word.
 const UNKNOWN: &str =
     "no line begins with '{w}'; a set-up line, room, excp, purge, purgetask, close, reset, take, start, run, interrupt, \
     deliver, collect, settle, serve, finish or expect is wanted";
 
-/// That a scenario has no `wait`.
+/// A scenario has no `wait`.
 const NO_WAIT: &str =
     "a scenario has no wait, since its events happen in the order of its lines: collect {n} collects a post";
 
-/// What a line says.
+/// A line of a scenario.
 #[derive(Drop)]
 pub enum ScenarioLine {
-    /// A line that a script has too, `wait` apart.
+    /// A line that scripts have too, other than `wait`.
     Script(Line),
     Room(Room),
     Event(Event),
-    /// The text after its first word is the answer of the event before it.
+    /// The text after the first word is the answer of the event before this line.
     Expect,
 }
 
@@ -46,7 +46,7 @@ impl ScenarioLine {
         }
     }
 
-    /// Reads a line that no script has.
+    /// Reads a line that scripts do not have.
     #[tactic(auto, unfolding(crate::specs::ScenarioLines::by_event_verb))]
     fn by_verb(verb: EventVerb, line: &Words<'_>) -> Result<ScenarioLine, Cause>
         ensures { ReadsAs scenario_said result (by_event_verb verb (words_in line.now)) }
@@ -70,7 +70,7 @@ impl ScenarioLine {
     }
 }
 
-/// What kind of line it is, if no script has it.
+/// The first word of a line, if scripts have no such line.
 #[tactic(auto, unfolding(crate::specs::ScenarioLines::event_kind))]
 fn event_verb(line: &Words<'_>) -> Option<EventVerb>
     ensures { result ≡ event_kind line.now.line.now }
@@ -82,18 +82,18 @@ fn event_verb(line: &Words<'_>) -> Option<EventVerb>
     }
 }
 
-/// Reads a line that a script has too.
+/// Reads a line that scripts have too.
 fn of_script(alloc: Global, number: usize, line: &Words<'_>) -> Result<ScenarioLine, Refusal>
     ensures { Returns scenario_said result (with_no_wait (line_of number line.now.line.now)) }
 {
     match Line::read(alloc, number, line) {
         Ok(Line::Command(command)) => of_command(command),
         Ok(read) => Ok(ScenarioLine::Script(read)),
-        Err(refusal) => Err(retold(refusal, line)),
+        Err(refusal) => Err(with_words_of_scenarios(refusal, line)),
     }
 }
 
-/// A command of a script, if it is no `wait`.
+/// A command of a task. Rejects `wait`.
 fn of_command(command: Command) -> Result<ScenarioLine, Refusal>
     ensures { Returns scenario_said result (no_wait (says_command (command_said command))) }
 {
@@ -106,7 +106,7 @@ fn of_command(command: Command) -> Result<ScenarioLine, Refusal>
     }
 }
 
-/// The number of a unit or a task, on a line that has no other word behind its first.
+/// The number of a unit or a task, on a line of two words.
 #[tactic(auto, unfolding(crate::specs::ScenarioLines::number_line))]
 fn number_on(line: &Words<'_>) -> Result<u16, Cause>
     ensures { Reads result (number_line (words_in line.now)) }
@@ -153,8 +153,8 @@ fn room_on(line: &Words<'_>) -> Result<Room, Cause>
     ))
 }
 
-/// Why a line is refused. If its first word is unknown, the words are told that begin a line of a scenario.
-fn retold(refusal: Refusal, line: &Words<'_>) -> Refusal
+/// Why a line is rejected. If its first word is unknown, the text lists the first words of lines of a scenario.
+fn with_words_of_scenarios(refusal: Refusal, line: &Words<'_>) -> Refusal
     ensures { IsNamedAs refusal result }
 {
     match refusal {

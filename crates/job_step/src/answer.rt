@@ -1,4 +1,4 @@
-//! What an event answers, in words.
+//! The answers of events, as text.
 
 use excp_system::{Delivery, Intake};
 use io_images::Code;
@@ -7,18 +7,18 @@ use request_piece::{Name, Posted};
 use std::io::{Result, Write};
 use unit_book::{Closing, Interruption, Purging, Running, Starting};
 
-/// What an EXCP answers.
+/// The answer of an EXCP.
 #[derive(Clone, Copy)]
 pub enum Issuing {
-    /// The request is on its way, under this name.
+    /// The request is on its way to its unit, under this name.
     Accepted(Name),
-    /// There is no room on the way to its unit. It uses no number.
+    /// The intake row of its unit is full. The request gets no number.
     Full,
-    /// The task has used the last number of a request to the unit.
+    /// The task has used its last number for the unit.
     NoNumber,
 }
 
-/// The name of a request to a unit: the numbers of its task, of the unit, and its own.
+/// Writes a word and the name of a request: the numbers of its task and unit, and its own.
 fn write_named<W: Write>(out: &mut W, word: &str, unit: u16, name: Name) -> Result<()> {
     let Name { task, seq } = name;
     write!(out, "{word} {task} {unit} {seq}")
@@ -98,7 +98,7 @@ pub fn write_closing<W: Write>(out: &mut W, unit: u16, answer: Closing) -> Resul
     }
 }
 
-/// What a request was posted with, in the form of a run.
+/// Writes the line of a post, as a run prints it.
 pub fn write_posted<W: Write>(out: &mut W, posted: &Posted, shown: &[u8]) -> Result<()> {
     let Name { task, seq } = posted.name();
     let end = End {

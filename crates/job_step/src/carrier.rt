@@ -9,10 +9,12 @@ use io_images::Extent;
 use job_script::{DcbName, Excp};
 use request_piece::Posted;
 use std::alloc::{AllocError, Global};
-use unit_book::{Closing, DcbError, Interruption, Mode, OpenError, Purging, Running, Starting};
+use unit_book::{
+    Closing, DcbError, Interruption, Mode, OpenError, ProcessingMethod, Purging, Running, Starting,
+};
 
-/// Units and tasks, and the calls of each. A call that runs out of memory changes nothing, but `settle`, which may have
-/// brought a part to its end.
+/// Units and tasks, and the calls of each. A call that runs out of memory changes nothing. The exception is `settle`, which
+/// may already have ended some requests.
 pub trait Carrier: Drop {
     // how many units there are
     ghost units: { Self → ℕ };
@@ -20,7 +22,7 @@ pub trait Carrier: Drop {
     // how many tasks there are
     ghost tasks: { Self → ℕ };
 
-    /// A task issues the request of an EXCP.
+    /// Issues the request of an EXCP for a task.
     fn excp(&mut self, alloc: Global, task: u16, excp: &Excp) -> Result<Issuing, AllocError>
         requires task { task < tasks self.old }
         requires unit { excp.now.dcb.unit < units self.old }
@@ -29,43 +31,48 @@ pub trait Carrier: Drop {
         ensures tasks { tasks self.new ≡ tasks self.old };
 
     /// Opens a DCB of a unit.
-    fn open(&mut self, unit: u16, input: bool, extents: &[Extent]) -> Result<u16, OpenError>
+    fn open(
+        &mut self,
+        unit: u16,
+        method: ProcessingMethod,
+        extents: &[Extent],
+    ) -> Result<u16, OpenError>
         requires unit { unit < units self.old }
         ensures units { units self.new ≡ units self.old }
         ensures tasks { tasks self.new ≡ tasks self.old };
 
-    /// The first request on its way to a unit arrives.
+    /// Lets the first request on its way to a unit arrive.
     fn take(&mut self, unit: u16) -> Result<Intake, AllocError>
         requires unit { unit < units self.old }
         ensures units { units self.new ≡ units self.old }
         ensures tasks { tasks self.new ≡ tasks self.old };
 
-    /// What comes next at a unit is started.
+    /// Starts what comes next at a unit.
     fn start(&mut self, unit: u16) -> Result<Starting, AllocError>
         requires unit { unit < units self.old }
         ensures units { units self.new ≡ units self.old }
         ensures tasks { tasks self.new ≡ tasks self.old };
 
-    /// The active program of a unit does at most so many commands.
+    /// Runs the active program of a unit for at most `most` commands.
     fn run(&mut self, unit: u16, most: u32) -> Result<Running, AllocError>
         requires unit { unit < units self.old }
         requires some { 1 ≤ most }
         ensures units { units self.new ≡ units self.old }
         ensures tasks { tasks self.new ≡ tasks self.old };
 
-    /// The pending status of a unit is taken.
+    /// Takes the pending status of a unit.
     fn interrupt(&mut self, unit: u16) -> Result<Interruption, AllocError>
         requires unit { unit < units self.old }
         ensures units { units self.new ≡ units self.old }
         ensures tasks { tasks self.new ≡ tasks self.old };
 
-    /// The first posted value of a unit goes on its way to its task.
+    /// Sends the first posted value of a unit to its task.
     fn deliver(&mut self, unit: u16) -> Delivery
         requires unit { unit < units self.old }
         ensures units { units self.new ≡ units self.old }
         ensures tasks { tasks self.new ≡ tasks self.old };
 
-    /// A task collects its next post.
+    /// Collects the next post of a task.
     fn collect(&mut self, task: u16) -> Option<Posted>
         requires task { task < tasks self.old }
         ensures units { units self.new ≡ units self.old }
@@ -95,7 +102,7 @@ pub trait Carrier: Drop {
         ensures units { units self.new ≡ units self.old }
         ensures tasks { tasks self.new ≡ tasks self.old };
 
-    /// Brings all that waits at a unit or is active there to its end.
+    /// Ends every request that waits or is active at a unit.
     fn settle(&mut self, unit: u16) -> Result<(), AllocError>
         requires unit { unit < units self.old }
         ensures units { units self.new ≡ units self.old }

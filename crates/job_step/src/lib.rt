@@ -1,4 +1,4 @@
-//! A scenario carried out step by step: each event is one step of the units, and its answer is printed at once (profile).
+//! Carries out a scenario step by step. Each event is one step of the units, and its answer is printed at once (profile).
 //!
 //! Tests: tests/cases/scenarios, `tests/run scenarios`.
 #![tactic(auto)]

@@ -1,11 +1,14 @@
-//! The lines of a scenario, each read when it is wanted: who writes them may wait for the answer to one before the next.
+//! The lines of a scenario. A line is read only when it is wanted, so a program may wait for one answer before it writes the
+//! next line.
 
-use crate::fault::StepError;
+ghost use Rattle.std.specs.Prelude.{IfErr};
+ghost use Rattle.job_step.specs.Faults.{IsStepFault};
+
 use job_script::{JobError, LIMIT};
 use std::alloc::Global;
 use std::io::{BufRead, BufReader, ErrorKind, Read, Take};
 
-/// The lines of a reader, which has at most 1,048,576 bytes.
+/// The lines of a reader of at most 1,048,576 bytes.
 #[derive(Drop)]
 pub struct Lines<R: Read + Drop> {
     reader: BufReader<Take<R>>,
@@ -18,8 +21,10 @@ pub struct Lines<R: Read + Drop> {
 }
 
 impl<R: Read + Drop> Lines<R> {
-    /// Before the first line.
-    pub fn new(alloc: Global, reader: R) -> Result<Self, JobError> {
+    /// The lines of this reader, before the first one.
+    pub fn new(alloc: Global, reader: R) -> Result<Self, JobError>
+        ensures { IfErr result IsStepFault }
+    {
         let Ok(reader) = BufReader::new(alloc, reader.take(LIMIT as u64 + 1)) else {
             return Err(JobError::NoMemory);
         };
@@ -31,8 +36,10 @@ impl<R: Read + Drop> Lines<R> {
         })
     }
 
-    /// The next line, without its line feed; none after the last.
-    pub fn next(&mut self) -> Result<Option<&[u8]>, JobError> {
+    /// Reads the next line. Returns it without its line feed, or `None` after the last.
+    pub fn next(&mut self) -> Result<Option<&[u8]>, JobError>
+        ensures { IfErr result IsStepFault }
+    {
         self.line.clear();
         let count = match self.reader.read_until(b'\n', &mut self.line) {
             Ok(count) => count,
@@ -50,7 +57,7 @@ impl<R: Read + Drop> Lines<R> {
         Ok(Some(self.current()))
     }
 
-    /// The last line that was read, without its line feed.
+    /// The line that was read last, without its line feed.
     pub fn current(&self) -> &[u8] {
         match self.line.as_slice() {
             [line @ .., b'\n'] => line,

@@ -1,9 +1,10 @@
 //! Units under locks and real rows, used by one thread.
 
-ghost use Rattle.std.specs.Prelude.{◌≡◌, ◌<◌, ◌≤◌, length};
+ghost use Rattle.std.specs.Prelude.{◌≡◌, ◌<◌, ◌≤◌, IfErr, length};
 ghost use Rattle.excp_system.specs.Drained.{ArePlaced};
 ghost use Rattle.post_ledger.specs.Report.{IsFor};
 ghost use Rattle.post_ledger.specs.Work.{lists_of};
+ghost use Rattle.job_step.specs.Faults.{IsStepFault};
 
 use crate::answer::{Issuing, write_posted};
 use crate::carrier::Carrier;
@@ -19,7 +20,9 @@ use request_piece::Posted;
 use std::alloc::{AllocError, Global};
 use std::io::Write;
 use std::sync::Wait;
-use unit_book::{Closing, DcbError, Interruption, Mode, OpenError, Purging, Running, Starting};
+use unit_book::{
+    Closing, DcbError, Interruption, Mode, OpenError, ProcessingMethod, Purging, Running, Starting,
+};
 
 /// The units of a site under their locks, and its tasks.
 #[derive(Drop)]
@@ -49,8 +52,16 @@ impl<'a, 'r, S: Site, R: Wait> Carrier for Locked<'a, 'r, S, R> {
         }
     }
 
-    fn open(&mut self, unit: u16, input: bool, extents: &[Extent]) -> Result<u16, OpenError> {
-        self.system.lock_of(unit).lock(self.rt).open(input, extents)
+    fn open(
+        &mut self,
+        unit: u16,
+        method: ProcessingMethod,
+        extents: &[Extent],
+    ) -> Result<u16, OpenError> {
+        self.system
+            .lock_of(unit)
+            .lock(self.rt)
+            .open(method, extents)
     }
 
     fn take(&mut self, unit: u16) -> Result<Intake, AllocError> {
@@ -107,8 +118,10 @@ impl<'a, 'r, S: Site, R: Wait> Carrier for Locked<'a, 'r, S, R> {
 }
 
 impl<'a, 'r, S: Site, R: Wait> Locked<'a, 'r, S, R> {
-    /// Brings all to its end. Answers how many posts the tasks had not collected, and each of them.
-    pub fn finish(self, alloc: Global, shown: &Shown) -> Result<Vec<u8>, JobError> {
+    /// Ends all requests. Returns the answer: how many posts the tasks had not collected, and each of these posts.
+    pub fn finish(self, alloc: Global, shown: &Shown) -> Result<Vec<u8>, JobError>
+        ensures { IfErr result IsStepFault }
+    {
         let Locked { rt, system, tasks } = self;
         let count = tasks.len() as u16;
         let report = match finish(rt, alloc, system, tasks) {
@@ -123,7 +136,7 @@ impl<'a, 'r, S: Site, R: Wait> Locked<'a, 'r, S, R> {
     }
 }
 
-/// Writes how many posts the tasks had not collected, and each of them, in order of tasks and units.
+/// Writes how many posts the tasks had not collected, and each of these posts, in order of tasks and units.
 fn write_rest(
     out: &mut Vec<u8>,
     report: &Report<AnyDevice>,
@@ -145,7 +158,7 @@ fn write_rest(
     Ok(())
 }
 
-/// How many posts a task had not collected.
+/// The number of posts that a task had not collected.
 fn left_of(report: &Report<AnyDevice>, task: u16, units: u16) -> usize
     requires task { task < length report.now.lists }
     requires units { length (lists_of report.now.lists task) ≡ units }

@@ -1,4 +1,7 @@
-//! What is printed of a scenario: the answer of each event at once, and each expectation that fails.
+//! Prints the answer of each event at once, and each fault and failed expectation.
+
+ghost use Rattle.std.specs.Prelude.{◌≡◌, IfErr, IfOk, IfSome, Ok};
+ghost use Rattle.job_step.specs.Faults.{EndsStep, IsStepFault};
 
 use crate::fault::StepError;
 use job_check::{Finding, FindingKind, Found, SCRIPT, Source, write_findings};
@@ -8,7 +11,7 @@ use std::alloc::Global;
 use std::io::Write;
 use std::{fmt, io};
 
-/// An expectation that failed: the number of its line, what was expected, and what was answered.
+/// A failed expectation: the number of its line, the expected text, and the line of the answer, if one is left.
 #[derive(Drop)]
 struct Unmet<'a> {
     line: usize,
@@ -40,7 +43,7 @@ impl<'a> fmt::Display for Unmet<'a> {
     }
 }
 
-/// Writes a text of printable ASCII characters.
+/// Writes a text of ASCII characters.
 fn write_text<W: fmt::Write>(f: &mut fmt::Formatter<W>, text: &[u8]) -> fmt::Result {
     for byte in text {
         f.write_char(char::from(*byte))?;
@@ -48,21 +51,21 @@ fn write_text<W: fmt::Write>(f: &mut fmt::Formatter<W>, text: &[u8]) -> fmt::Res
     Ok(())
 }
 
-/// Where answers and failed expectations are printed.
+/// Prints answers on one writer, and faults and failed expectations on another.
 #[derive(Drop)]
 pub struct Printer<'a, W: Write, E: Write> {
     alloc: Global,
     out: &'a mut W,
     errors: &'a mut E,
     source: Source<'a>,
-    /// How many bytes of the last answer were compared with what was expected.
+    /// How many bytes of the last answer were compared with an expectation.
     compared: usize,
-    /// Whether all expectations were met.
+    /// Whether no line has a fault and all expectations are met so far.
     is_met: bool,
 }
 
 impl<'a, W: Write, E: Write> Printer<'a, W, E> {
-    /// Nothing was printed yet.
+    /// Has printed nothing yet.
     pub fn new(alloc: Global, out: &'a mut W, errors: &'a mut E, source: Source<'a>) -> Self {
         Printer {
             alloc,
@@ -74,13 +77,15 @@ impl<'a, W: Write, E: Write> Printer<'a, W, E> {
         }
     }
 
-    /// Whether all expectations were met.
+    /// Whether no line has a fault and all expectations are met so far.
     pub fn is_met(&self) -> bool {
         self.is_met
     }
 
-    /// Prints the lines of an answer, each behind the words of its event, and passes them on at once.
-    pub fn answer(&mut self, event: &[u8], answer: &[u8]) -> Result<(), JobError> {
+    /// Prints the lines of an answer at once, each after the words of its event.
+    pub fn answer(&mut self, event: &[u8], answer: &[u8]) -> Result<(), JobError>
+        ensures { IfErr result IsStepFault }
+    {
         self.compared = 0;
         for line in answer.split(|byte| *byte == b'\n') {
             if self.write_line(event, line).is_err() {
@@ -107,12 +112,16 @@ impl<'a, W: Write, E: Write> Printer<'a, W, E> {
         self.out.write_all(b"\n")
     }
 
-    /// What an event or a line gave; none if its line has a fault, which is printed.
-    pub fn told<T: Drop>(
+    /// The value of an outcome. Prints the fault of a line, and then returns `None`.
+    pub fn unless_fault<T: Drop>(
         &mut self,
         outcome: Result<T, StepError>,
         bytes: &[u8],
-    ) -> Result<Option<T>, JobError> {
+    ) -> Result<Option<T>, JobError>
+        requires { IfErr outcome EndsStep }
+        ensures given { IfOk result (λ given. IfSome given (λ value. outcome ≡ Ok value)) }
+        ensures fault { IfErr result IsStepFault }
+    {
         match outcome {
             Ok(given) => Ok(Some(given)),
             Err(StepError::Job(error)) => Err(error),
@@ -123,21 +132,27 @@ impl<'a, W: Write, E: Write> Printer<'a, W, E> {
         }
     }
 
-    /// Prints the fault of the line with this number and these bytes; 0 is the number of the scenario as a whole.
-    fn fault(&mut self, number: usize, bytes: &[u8], cause: Cause) -> Result<(), JobError> {
+    /// Prints the fault of the line with this number and these bytes. The number 0 stands for the whole scenario.
+    fn fault(&mut self, number: usize, bytes: &[u8], cause: Cause) -> Result<(), JobError>
+        ensures { IfErr result IsStepFault }
+    {
         let kind = FindingKind::Fault(cause.name, cause.message);
         let line = if number == 0 { SCRIPT } else { number };
         self.faults(&[Finding { line, bytes, kind }])
     }
 
-    /// Prints faults, with which no scenario meets what it expects.
-    pub fn faults(&mut self, faults: &[Finding<'_>]) -> Result<(), JobError> {
+    /// Prints faults. The scenario fails.
+    pub fn faults(&mut self, faults: &[Finding<'_>]) -> Result<(), JobError>
+        ensures { IfErr result IsStepFault }
+    {
         self.is_met = false;
         write_findings(self.alloc, self.source, faults, &mut *self.errors)
     }
 
-    /// Compares the next line of the last answer with what the line with this number expects.
-    pub fn expect(&mut self, number: usize, line: &[u8], answer: &[u8]) -> Result<(), JobError> {
+    /// Compares the next line of the last answer with the text of an `expect` line, which has this number.
+    pub fn expect(&mut self, number: usize, line: &[u8], answer: &[u8]) -> Result<(), JobError>
+        ensures { IfErr result IsStepFault }
+    {
         let expected = trimmed(after_words(line, 1));
         let answered = self.next_of(answer);
         if answered == Some(expected) {

@@ -1,7 +1,8 @@
 //! A scenario from its first line to its last.
 
-ghost use Rattle.std.specs.Prelude.{◌≡◌, ◌≤◌, vec_len};
+ghost use Rattle.std.specs.Prelude.{◌≡◌, ◌≤◌, IfErr, vec_len};
 ghost use Rattle.excp_system.specs.Opening.{AreBooks, AreFresh, site_of};
+ghost use Rattle.job_step.specs.Faults.{EndsStep, IsStepFault};
 
 use crate::carrier::Carrier;
 use crate::fault::StepError;
@@ -22,9 +23,9 @@ use std::marker::Brand;
 use std::sync::Wait;
 use unit_book::UnitBook;
 
-/// Reads a scenario, at most 1,048,576 bytes and one more, line by line, and carries out each event before it reads the
-/// next line. Prints each answer, and each expectation that fails; a fault ends it. Returns whether no line has a fault and
-/// all expectations were met.
+/// Reads a scenario line by line, at most 1,048,576 bytes and one more. Carries out each event and prints its answer before
+/// it reads the next line. Prints each failed expectation. A fault is printed and ends the scenario. Returns whether no line
+/// has a fault and all expectations are met.
 pub fn step_scenario<R: Wait, I: Read + Drop, W: Write, E: Write>(
     rt: &R,
     alloc: Global,
@@ -32,22 +33,26 @@ pub fn step_scenario<R: Wait, I: Read + Drop, W: Write, E: Write>(
     out: &mut W,
     errors: &mut E,
     source: Source<'_>,
-) -> Result<bool, JobError> {
+) -> Result<bool, JobError>
+    ensures { IfErr result IsStepFault }
+{
     let mut lines = Lines::new(alloc, input)?;
     let mut printer = Printer::new(alloc, out, errors, source);
     carry_out(rt, alloc, &mut lines, &mut printer)?;
     Ok(printer.is_met())
 }
 
-/// Reads what is declared, and then carries the events out.
+/// Reads the set-up, and then carries the events out.
 fn carry_out<R: Wait, I: Read + Drop, W: Write, E: Write>(
     rt: &R,
     alloc: Global,
     lines: &mut Lines<I>,
     printer: &mut Printer<'_, W, E>,
-) -> Result<(), JobError> {
+) -> Result<(), JobError>
+    ensures { IfErr result IsStepFault }
+{
     let read = Plan::read(alloc, lines);
-    let Some((plan, first)) = printer.told(read, lines.current())? else {
+    let Some((plan, first)) = printer.unless_fault(read, lines.current())? else {
         return Ok(());
     };
     let Some(books) = plan.books(alloc)? else {
@@ -76,6 +81,7 @@ fn on_site<S: Site, R: Wait, I: Read + Drop, W: Write, E: Write>(
     requires units { S.rows.units ≡ vec_len plan.now.set_up.units }
     requires tasks { S.rows.tasks ≡ plan.now.set_up.tasks }
     requires few { (S.rows.units ≤ 64) × (S.rows.tasks ≤ 64) }
+    ensures { IfErr result IsStepFault }
 {
     let (system, tasks, _) = System::<S, AnyDevice>::new(alloc, rows, books)?;
     let carrier = Locked { rt, system, tasks };
@@ -92,15 +98,17 @@ fn on_site<S: Site, R: Wait, I: Read + Drop, W: Write, E: Write>(
     rest(alloc, finished, lines, &answer, printer)
 }
 
-/// Carries events out up to the end of the scenario, or to a line with a fault. Returns whether the last is `finish`, which
-/// is left to be done.
+/// Carries events out up to `finish`, a line with a fault or the end of the scenario. Returns whether it came to `finish`,
+/// which the caller carries out.
 fn events<C: Carrier, I: Read + Drop, W: Write, E: Write>(
     alloc: Global,
     stepper: &mut Stepper<'_, C>,
     first: Option<ScenarioLine>,
     lines: &mut Lines<I>,
     printer: &mut Printer<'_, W, E>,
-) -> Result<bool, JobError> {
+) -> Result<bool, JobError>
+    ensures { IfErr result IsStepFault }
+{
     let mut next = first;
     for _ in 0..=LIMIT {
         let Some(line) = next else {
@@ -110,11 +118,11 @@ fn events<C: Carrier, I: Read + Drop, W: Write, E: Write>(
             return Ok(true);
         }
         let done = one_line(stepper, line, lines, printer);
-        if printer.told(done, lines.current())?.is_none() {
+        if printer.unless_fault(done, lines.current())?.is_none() {
             return Ok(false);
         }
         let read = read_line(alloc, lines);
-        match printer.told(read, lines.current())? {
+        match printer.unless_fault(read, lines.current())? {
             Some(line) => next = line,
             None => return Ok(false),
         }
@@ -122,13 +130,15 @@ fn events<C: Carrier, I: Read + Drop, W: Write, E: Write>(
     Ok(false)
 }
 
-/// Carries the event of a line out and prints its answer, or compares what it expects; an empty line does neither.
+/// Carries out the event of a line and prints its answer, or compares an expectation. An empty line does neither.
 fn one_line<C: Carrier, I: Read + Drop, W: Write, E: Write>(
     stepper: &mut Stepper<'_, C>,
     line: ScenarioLine,
     lines: &Lines<I>,
     printer: &mut Printer<'_, W, E>,
-) -> Result<(), StepError> {
+) -> Result<(), StepError>
+    ensures { IfErr result EndsStep }
+{
     if let ScenarioLine::Script(Line::Nothing) = &line {
         return Ok(());
     }
@@ -139,17 +149,19 @@ fn one_line<C: Carrier, I: Read + Drop, W: Write, E: Write>(
     Ok(printer.answer(lines.current(), &stepper.answer)?)
 }
 
-/// After `finish`, on this line, nothing happens any more; what it answered may be expected.
+/// Reads the lines after `finish`, which is the line `finished`. They may only expect its answer.
 fn rest<I: Read + Drop, W: Write, E: Write>(
     alloc: Global,
     finished: usize,
     lines: &mut Lines<I>,
     answer: &[u8],
     printer: &mut Printer<'_, W, E>,
-) -> Result<(), JobError> {
+) -> Result<(), JobError>
+    ensures { IfErr result IsStepFault }
+{
     for _ in 0..=LIMIT {
         let read = after_finish(alloc, finished, lines);
-        match printer.told(read, lines.current())? {
+        match printer.unless_fault(read, lines.current())? {
             Some(Some(true)) => printer.expect(lines.number, lines.current(), answer)?,
             Some(Some(false)) => {}
             _ => return Ok(()),
@@ -158,12 +170,15 @@ fn rest<I: Read + Drop, W: Write, E: Write>(
     Ok(())
 }
 
-/// Whether the next line after `finish` expects something, and none after the last; any other line has a fault.
+/// Reads a line after `finish`. Returns whether it expects something, or `None` after the last. Every other line with words
+/// has a fault.
 fn after_finish<I: Read + Drop>(
     alloc: Global,
     finished: usize,
     lines: &mut Lines<I>,
-) -> Result<Option<bool>, StepError> {
+) -> Result<Option<bool>, StepError>
+    ensures { IfErr result EndsStep }
+{
     let Some(line) = read_line(alloc, lines)? else {
         return Ok(None);
     };
@@ -173,7 +188,7 @@ fn after_finish<I: Read + Drop>(
     if let ScenarioLine::Script(Line::Nothing) = &line {
         return Ok(Some(false));
     }
-    let text = "nothing happens behind finish, which is line {n}";
+    let text = "no event comes after finish, which is line {n}";
     let cause = Cause::new(FaultName::Order, text, &[finished as u64]);
     Err(StepError::Line(lines.number, cause))
 }

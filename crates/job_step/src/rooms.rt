@@ -1,19 +1,17 @@
-//! How much room there is in rows and books.
+//! The sizes of rows and books.
 
 ghost use Rattle.std.specs.Prelude.{◌≤◌};
 
 use job_scenario::Room;
 use job_script::LIMIT;
 
-/// The fewest bytes of the line of an EXCP, with its line feed. So a scenario has no more requests than its limit has such
-/// lines, and by default there is always room.
+/// The fewest bytes of the line of an EXCP, with its line feed.
 const LEAST_EXCP: usize = 30;
 
-/// Room for all requests of a scenario.
+/// The size by default. No scenario has more requests, since it has no more lines of an EXCP.
 const ALWAYS: usize = LIMIT / LEAST_EXCP;
 
-/// How many requests may be on their way to each unit, how many posts on their way back to each task, and how many requests
-/// a book may hold; 0 where no line says it.
+/// The sizes of all intake rows, of all post rows, and of each book, in requests. A size that no line sets is 0.
 #[derive(Clone, Copy)]
 pub struct Rooms {
     intake: u16,
@@ -22,7 +20,7 @@ pub struct Rooms {
 }
 
 impl Rooms {
-    /// There always is room.
+    /// No line sets a size yet.
     pub fn new() -> Self {
         Rooms {
             intake: 0,
@@ -31,7 +29,7 @@ impl Rooms {
         }
     }
 
-    /// A line says how much room there is.
+    /// Sets the size that a line says.
     pub fn set(&mut self, room: Room) {
         match room {
             Room::Intake(count) => self.intake = count,
@@ -44,7 +42,7 @@ impl Rooms {
         }
     }
 
-    /// How many requests may be on their way to each unit.
+    /// How many requests an intake row holds.
     pub fn intake(&self) -> usize
         ensures some { 1 ≤ result }
         ensures few { result ≤ 65536 }
@@ -52,7 +50,7 @@ impl Rooms {
         room_of(self.intake)
     }
 
-    /// How many posts may be on their way back to each task.
+    /// How many posts a post row holds.
     pub fn post(&self) -> usize
         ensures some { 1 ≤ result }
         ensures few { result ≤ 65536 }
@@ -60,7 +58,7 @@ impl Rooms {
         room_of(self.post)
     }
 
-    /// How many requests the book of a unit may hold.
+    /// How many requests the book of a unit holds.
     pub fn book(&self, unit: usize) -> usize
         ensures some { 1 ≤ result }
         ensures few { result ≤ 65536 }
@@ -69,7 +67,7 @@ impl Rooms {
     }
 }
 
-/// The room that a line says, or always room.
+/// The size that a line sets, or else the default.
 fn room_of(count: u16) -> usize
     ensures some { 1 ≤ result }
     ensures few { result ≤ 65536 }

@@ -1,6 +1,9 @@
-//! What the lines before the first event of a scenario declare.
+//! The set-up of a scenario: what the lines before its first event declare.
 
-ghost use Rattle.std.specs.Prelude.{◌≤◌};
+ghost use Rattle.std.specs.Prelude.{◌≤◌, IfErr, IfOk, IfSome, OnOk, vec_len};
+ghost use Rattle.job_mount.specs.Books.{IsFresh};
+ghost use Rattle.excp_system.specs.Opening.{AreBooks};
+ghost use Rattle.job_step.specs.Faults.{EndsStep};
 
 use crate::fault::StepError;
 use crate::lines::Lines;
@@ -10,11 +13,11 @@ use job_mount::{mounted_book, open_dcbs};
 use job_scenario::{Room, ScenarioLine};
 use job_script::{Cause, FaultName, JobError, Line, Refusal, SetUp, UnitSetup};
 use script_words::Words;
-use std::alloc::Global;
+use std::alloc::{AllocError, Global};
 use std::io::Read;
 use unit_book::UnitBook;
 
-/// What is declared before the first event.
+/// The units, tasks and areas of a scenario, and the sizes of its rows and books.
 #[derive(Drop)]
 pub struct Plan {
     pub set_up: SetUp,
@@ -22,7 +25,7 @@ pub struct Plan {
 }
 
 impl Plan {
-    /// Nothing is declared.
+    /// Declares nothing yet.
     fn new(alloc: Global) -> Self {
         Plan {
             set_up: SetUp::new(alloc),
@@ -30,11 +33,15 @@ impl Plan {
         }
     }
 
-    /// Reads the lines up to the first event, which is returned, if one comes.
+    /// Reads the lines up to the first event. Returns that event too, if one comes.
     pub fn read<R: Read + Drop>(
         alloc: Global,
         lines: &mut Lines<R>,
-    ) -> Result<(Plan, Option<ScenarioLine>), StepError> {
+    ) -> Result<(Plan, Option<ScenarioLine>), StepError>
+        ensures tasks { IfOk result (λ read. 1 ≤ read.0.set_up.tasks) }
+        ensures units { IfOk result (λ read. 1 ≤ vec_len read.0.set_up.units) }
+        ensures fault { IfErr result EndsStep }
+    {
         let mut plan = Plan::new(alloc);
         let mut first = None;
         for _ in 0..=job_script::LIMIT {
@@ -52,19 +59,21 @@ impl Plan {
         Ok((plan, first))
     }
 
-    /// Adds what a line declares, or hands it back, if it is an event.
+    /// Adds what a line declares. Returns the line if it is an event.
     fn add(
         &mut self,
         alloc: Global,
         number: usize,
         line: ScenarioLine,
-    ) -> Result<Option<ScenarioLine>, StepError> {
+    ) -> Result<Option<ScenarioLine>, StepError>
+        ensures { IfErr result EndsStep }
+    {
         match line {
             ScenarioLine::Script(Line::Nothing) => Ok(None),
             ScenarioLine::Script(Line::SetUp(line)) => {
                 match self.set_up.add(alloc, number, line) {
                     Ok(()) => Ok(None),
-                    Err(refusal) => Err(refused(number, refusal)),
+                    Err(refusal) => Err(rejected(number, refusal)),
                 }
             }
             ScenarioLine::Room(room) => {
@@ -76,8 +85,10 @@ impl Plan {
         }
     }
 
-    /// The unit of a room is declared.
-    fn names_unit_of(&self, number: usize, room: Room) -> Result<(), StepError> {
+    /// Checks that the unit of a room is declared.
+    fn names_unit_of(&self, number: usize, room: Room) -> Result<(), StepError>
+        ensures { IfErr result EndsStep }
+    {
         match room {
             Room::Book(unit, _) => match self.set_up.names_unit(unit) {
                 Ok(()) => Ok(()),
@@ -87,8 +98,12 @@ impl Plan {
         }
     }
 
-    /// The tasks and a unit are declared.
-    fn whole(&self) -> Result<(), StepError> {
+    /// Checks that the tasks and a unit are declared.
+    fn whole(&self) -> Result<(), StepError>
+        ensures tasks { OnOk result (1 ≤ self.now.set_up.tasks) }
+        ensures units { OnOk result (1 ≤ vec_len self.now.set_up.units) }
+        ensures fault { IfErr result EndsStep }
+    {
         if self.set_up.tasks == 0 {
             return Err(lacks("no line before the first event declares the tasks"));
         }
@@ -98,58 +113,68 @@ impl Plan {
         Ok(())
     }
 
-    /// The books of the units, mounted, with their DCBs open; none if there is a unit that cannot be mounted, or a DCB that
-    /// cannot be opened.
-    pub fn books(&self, alloc: Global) -> Result<Option<Vec<UnitBook<AnyDevice>>>, JobError> {
+    /// The books of the units, mounted, with their DCBs open. Returns `None` if a unit cannot be mounted or a DCB cannot be
+    /// opened.
+    pub fn books(&self, alloc: Global) -> Result<Option<Vec<UnitBook<AnyDevice>>>, AllocError>
+        ensures { IfOk result (λ made. IfSome made (λ books. AreBooks (vec_len self.now.set_up.units) books.items)) }
+    {
         let mut books = Vec::new(alloc);
         for (number, unit) in self.set_up.units.iter().enumerate() {
-            match opened_book(alloc, unit, self.rooms.book(number)) {
-                Ok(book) => books.push(book)?,
-                Err(JobError::Line { .. }) => return Ok(None),
-                Err(error) => return Err(error),
+            match opened_book(alloc, unit, self.rooms.book(number))? {
+                Some(book) => books.push(book)?,
+                None => return Ok(None),
             }
         }
         Ok(Some(books))
     }
 }
 
-/// The book of a unit, mounted, with its DCBs open.
+/// The book of a unit, for up to `capacity` requests at a time (1 to 65,536), mounted, with its DCBs open. Returns `None` if
+/// the unit cannot be mounted or a DCB cannot be opened.
 fn opened_book(
     alloc: Global,
     unit: &UnitSetup,
     capacity: usize,
-) -> Result<UnitBook<AnyDevice>, JobError>
+) -> Result<Option<UnitBook<AnyDevice>>, AllocError>
     requires some { 1 ≤ capacity }
     requires few { capacity ≤ 65536 }
+    ensures { IfOk result (λ made. IfSome made IsFresh) }
 {
-    let mut book = mounted_book(alloc, unit, capacity)?;
+    let mut book = match mounted_book(alloc, unit, capacity) {
+        Ok(book) => book,
+        Err(JobError::NoMemory) => return Err(AllocError),
+        Err(_) => return Ok(None),
+    };
     match open_dcbs(&mut book, &unit.openings)? {
-        None => Ok(book),
-        Some(line) => Err(JobError::Line {
-            line,
-            name: FaultName::Extent,
-        }),
+        None => Ok(Some(book)),
+        Some(_) => Ok(None),
     }
 }
 
-/// The fault of a scenario that does not declare all that it has to.
-fn lacks(text: &'static str) -> StepError {
+/// The fault of a scenario that lacks a declaration.
+fn lacks(text: &'static str) -> StepError
+    ensures { EndsStep result }
+{
     StepError::Line(0, Cause::new(FaultName::Order, text, &[]))
 }
 
-/// Why a line is refused.
-pub fn refused(number: usize, refusal: Refusal) -> StepError {
+/// The fault of a rejected line, or out of memory.
+pub fn rejected(number: usize, refusal: Refusal) -> StepError
+    ensures { EndsStep result }
+{
     match refusal {
         Refusal::Caused(cause) => StepError::Line(number, cause),
         Refusal::NoMemory => StepError::Job(JobError::NoMemory),
     }
 }
 
-/// The next line, and none after the last.
+/// Reads the next line. Returns `None` after the last.
 pub fn read_line<R: Read + Drop>(
     alloc: Global,
     lines: &mut Lines<R>,
-) -> Result<Option<ScenarioLine>, StepError> {
+) -> Result<Option<ScenarioLine>, StepError>
+    ensures { IfErr result EndsStep }
+{
     if lines.next()?.is_none() {
         return Ok(None);
     }
@@ -158,6 +183,6 @@ pub fn read_line<R: Read + Drop>(
     words.scan(lines.current());
     match ScenarioLine::read(alloc, number, &words) {
         Ok(line) => Ok(Some(line)),
-        Err(refusal) => Err(refused(number, refusal)),
+        Err(refusal) => Err(rejected(number, refusal)),
     }
 }

@@ -1,11 +1,10 @@
-//! Which bytes of its area are shown of each request.
+//! The bytes of its area that each request shows.
 
 use job_script::Excp;
 use request_piece::{Name, Posted};
 use std::alloc::{AllocError, Global};
 
-/// The place and the number of the bytes that are shown of each request: for each task and unit, in order of the numbers of
-/// its requests.
+/// For each task and unit, the place and the number of the bytes that its requests show, in order of their numbers.
 #[derive(Drop)]
 pub struct Shown {
     units: usize,
@@ -13,7 +12,7 @@ pub struct Shown {
 }
 
 impl Shown {
-    /// No request.
+    /// Holds no request yet.
     pub fn new(alloc: Global, tasks: usize, units: usize) -> Result<Self, AllocError> {
         let mut places = Vec::new(alloc);
         for _ in 0..tasks {
@@ -32,7 +31,7 @@ impl Shown {
         }
     }
 
-    /// The next request of a task to a unit shows the bytes that its EXCP says.
+    /// Notes the bytes that the next request of a task shows, as its EXCP says.
     pub fn push(&mut self, task: u16, excp: &Excp) -> Result<(), AllocError> {
         match self.list_of(task, excp.dcb.unit) {
             Some(list) => Ok(list.push((excp.show, excp.len))?),
@@ -47,7 +46,7 @@ impl Shown {
         self.places.get_mut(place)
     }
 
-    /// The bytes that are shown of a posted request.
+    /// The bytes that a posted request shows.
     pub fn of<'a>(&self, posted: &'a Posted) -> &'a [u8] {
         let Name { task, seq } = posted.name();
         let place = usize::from(task)

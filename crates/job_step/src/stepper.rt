@@ -1,6 +1,7 @@
-//! One event of a scenario after the other, each with the text of its answer.
+//! Carries out the events of a scenario one by one, and keeps the answer of the last one.
 
-ghost use Rattle.std.specs.Prelude.{◌≡◌, ◌<◌, OnOk, vec_len};
+ghost use Rattle.std.specs.Prelude.{◌≡◌, ◌<◌, IfErr, OnOk, vec_len};
+ghost use Rattle.job_step.specs.Faults.{EndsStep};
 
 use crate::answer::{
     Issuing, write_closing, write_delivery, write_intake, write_interruption, write_issuing,
@@ -8,14 +9,13 @@ use crate::answer::{
 };
 use crate::carrier::Carrier;
 use crate::fault::StepError;
-use crate::set_up::refused;
+use crate::set_up::rejected;
 use crate::shown::Shown;
 use excp_system::{Delivery, Intake};
-use job_check::why_refused;
+use job_check::why_rejected;
 use job_scenario::{Event, ScenarioLine};
 use job_script::{
-    Action, Cause, Command, DcbName, ExcpLine, FaultName, JobError, Line, Opening, SetUp,
-    SetUpLine, late,
+    Action, Cause, Command, DcbName, ExcpLine, FaultName, JobError, Line, Opening, SetUp, SetUpLine,
 };
 use std::alloc::{AllocError, Global};
 use std::io::Write;
@@ -24,23 +24,23 @@ use unit_book::{DcbError, Interruption, Mode, OpenError, Running, Starting};
 /// The most commands of a turn in which a program runs to its end. A program fetches at most 4,096 CCWs.
 const TO_THE_END: u32 = 65_535;
 
-/// What carries the events out, what is declared, and the text of the last answer.
+/// What carries events out, what is declared, and the answer of the last event.
 #[derive(Drop)]
 pub struct Stepper<'a, C: Carrier> {
     alloc: Global,
     carrier: C,
     set_up: &'a SetUp,
     shown: Shown,
-    /// The line of the first event.
+    /// The number of the line of the first event.
     first: usize,
-    /// What the last event answered.
+    /// The answer of the last event.
     pub answer: Vec<u8>,
     ghost units_are: { C.units carrier ≡ vec_len set_up.now.units },
     ghost tasks_are: { C.tasks carrier ≡ set_up.now.tasks },
 }
 
 impl<'a, C: Carrier> Stepper<'a, C> {
-    /// Before the first event, which stands on this line; nothing is shown of a request yet.
+    /// Before the first event. `first` is the number of its line, and no request shows bytes yet.
     pub fn new(alloc: Global, carrier: C, set_up: &'a SetUp, shown: Shown, first: usize) -> Self
         requires units { C.units carrier ≡ vec_len set_up.now.units }
         requires tasks { C.tasks carrier ≡ set_up.now.tasks }
@@ -55,7 +55,7 @@ impl<'a, C: Carrier> Stepper<'a, C> {
         }
     }
 
-    /// What carried the events out, and what is shown of the requests.
+    /// What carried the events out, and the bytes that requests show.
     pub fn into_parts(self) -> (C, Shown) {
         let Stepper {
             alloc: _,
@@ -68,8 +68,10 @@ impl<'a, C: Carrier> Stepper<'a, C> {
         (carrier, shown)
     }
 
-    /// Carries out the event of the line with this number, and leaves its answer.
-    pub fn line(&mut self, number: usize, line: ScenarioLine) -> Result<(), StepError> {
+    /// Carries out the event of the line with this number, and keeps its answer.
+    pub fn line(&mut self, number: usize, line: ScenarioLine) -> Result<(), StepError>
+        ensures { IfErr result EndsStep }
+    {
         self.answer.clear();
         match line {
             ScenarioLine::Script(Line::Excp(excp)) => self.excp(number, excp),
@@ -78,23 +80,34 @@ impl<'a, C: Carrier> Stepper<'a, C> {
                 self.open(number, unit, opening)
             }
             ScenarioLine::Script(Line::SetUp(_)) | ScenarioLine::Room(_) => {
-                Err(refused(number, late(self.first)))
+                Err(self.late(number))
             }
             ScenarioLine::Event(event) => self.event(number, event),
             ScenarioLine::Script(Line::Nothing) | ScenarioLine::Expect => Ok(()),
         }
     }
 
-    fn excp(&mut self, number: usize, line: ExcpLine) -> Result<(), StepError> {
+    /// The fault of a set-up line after the first event.
+    fn late(&self, number: usize) -> StepError
+        ensures { EndsStep result }
+    {
+        let text = "a set-up line comes before the first event, which is line {n}";
+        let cause = Cause::new(FaultName::Order, text, &[self.first as u64]);
+        StepError::Line(number, cause)
+    }
+
+    fn excp(&mut self, number: usize, line: ExcpLine) -> Result<(), StepError>
+        ensures { IfErr result EndsStep }
+    {
         let unit = line.dcb.unit;
         let task = line.task;
         self.names_task(number, task)?;
         self.names_unit(number, unit)?;
         let excp = match self.set_up.over_area(line) {
             Ok(excp) => excp,
-            Err(refusal) => return Err(refused(number, refusal)),
+            Err(refusal) => return Err(rejected(number, refusal)),
         };
-        if let Some(cause) = why_refused(&excp) {
+        if let Some(cause) = why_rejected(&excp) {
             return Err(StepError::Line(number, cause));
         }
         self.shown.reserve(task, unit)?;
@@ -105,8 +118,10 @@ impl<'a, C: Carrier> Stepper<'a, C> {
         written(write_issuing(&mut self.answer, unit, answer))
     }
 
-    /// Carries out a command of a task that is no EXCP.
-    fn command(&mut self, number: usize, command: Command) -> Result<(), StepError> {
+    /// Carries out a command of a task other than an EXCP.
+    fn command(&mut self, number: usize, command: Command) -> Result<(), StepError>
+        ensures { IfErr result EndsStep }
+    {
         self.names_task(number, command.task)?;
         match command.action {
             Action::Purge(dcb, mode) => {
@@ -139,7 +154,9 @@ impl<'a, C: Carrier> Stepper<'a, C> {
     }
 
     /// Purges the requests of a task at each unit, in the order of their numbers.
-    fn purge_task(&mut self, task: u16, mode: Mode) -> Result<(), StepError> {
+    fn purge_task(&mut self, task: u16, mode: Mode) -> Result<(), StepError>
+        ensures { IfErr result EndsStep }
+    {
         for unit in 0..self.set_up.units.len() {
             self.purge_at(unit as u16, task, mode)?;
         }
@@ -149,7 +166,8 @@ impl<'a, C: Carrier> Stepper<'a, C> {
     /// Purges the requests of a task at one unit.
     fn purge_at(&mut self, unit: u16, task: u16, mode: Mode) -> Result<(), StepError>
         requires { unit < vec_len self.old.set_up.now.units }
-        ensures { self.new.set_up.now ≡ self.old.set_up.now }
+        ensures set_up { self.new.set_up.now ≡ self.old.set_up.now }
+        ensures fault { IfErr result EndsStep }
     {
         let answer = self.carrier.purge_task(unit, task, mode)?;
         if unit > 0 {
@@ -158,9 +176,11 @@ impl<'a, C: Carrier> Stepper<'a, C> {
         written(write_purging(&mut self.answer, unit, answer))
     }
 
-    fn open(&mut self, number: usize, unit: u16, opening: Opening) -> Result<(), StepError> {
+    fn open(&mut self, number: usize, unit: u16, opening: Opening) -> Result<(), StepError>
+        ensures { IfErr result EndsStep }
+    {
         self.names_unit(number, unit)?;
-        match self.carrier.open(unit, opening.input, &opening.extents) {
+        match self.carrier.open(unit, opening.method, &opening.extents) {
             Ok(dcb) => written(write!(self.answer, "Opened {dcb}")),
             Err(OpenError::TooManyDcbs) => written(write!(self.answer, "TooManyDcbs")),
             Err(OpenError::BadExtent) => written(write!(self.answer, "BadExtent")),
@@ -168,8 +188,10 @@ impl<'a, C: Carrier> Stepper<'a, C> {
         }
     }
 
-    /// Carries out an event that no script has.
-    fn event(&mut self, number: usize, event: Event) -> Result<(), StepError> {
+    /// Carries out an event that scripts do not have.
+    fn event(&mut self, number: usize, event: Event) -> Result<(), StepError>
+        ensures { IfErr result EndsStep }
+    {
         match event {
             Event::Collect(task) => {
                 self.names_task(number, task)?;
@@ -209,14 +231,15 @@ impl<'a, C: Carrier> Stepper<'a, C> {
                 self.names_unit(number, unit)?;
                 self.serve(unit)
             }
-            // the caller brings the scenario to its end
+            // the caller ends the scenario
             Event::Finish => Ok(()),
         }
     }
 
-    /// A task collects its next post.
+    /// Collects the next post of a task.
     fn collect(&mut self, task: u16) -> Result<(), StepError>
         requires { task < self.old.set_up.now.tasks }
+        ensures { IfErr result EndsStep }
     {
         match self.carrier.collect(task) {
             None => written(write!(self.answer, "Quiet")),
@@ -227,10 +250,11 @@ impl<'a, C: Carrier> Stepper<'a, C> {
         }
     }
 
-    /// Takes, starts, runs to the end, interrupts and delivers, until nothing of that changes the unit. The answer has what
-    /// was delivered.
+    /// Takes, starts, runs to the end, interrupts and delivers, until none of these changes the unit. The answer lists the
+    /// deliveries.
     fn serve(&mut self, unit: u16) -> Result<(), StepError>
         requires { unit < vec_len self.old.set_up.now.units }
+        ensures { IfErr result EndsStep }
     {
         for _ in 0..u64::MAX {
             if !self.serve_once(unit)? {
@@ -243,12 +267,13 @@ impl<'a, C: Carrier> Stepper<'a, C> {
     /// Does each of these once. Returns whether that changed the unit.
     fn serve_once(&mut self, unit: u16) -> Result<bool, StepError>
         requires { unit < vec_len self.old.set_up.now.units }
-        ensures { self.new.set_up.now ≡ self.old.set_up.now }
+        ensures set_up { self.new.set_up.now ≡ self.old.set_up.now }
+        ensures fault { IfErr result EndsStep }
     {
         let is_idle = !self.turn(unit)?;
         let answer = self.carrier.deliver(unit);
         if let Delivery::Delivered(_) = answer {
-            self.tell_delivery(unit, answer)?;
+            self.add_delivery(unit, answer)?;
             return Ok(true);
         }
         if is_idle {
@@ -270,9 +295,10 @@ impl<'a, C: Carrier> Stepper<'a, C> {
         Ok(is_taken || is_started || is_run || interrupted != Interruption::Quiet)
     }
 
-    /// Tells of one more delivery.
-    fn tell_delivery(&mut self, unit: u16, answer: Delivery) -> Result<(), StepError>
-        ensures { self.new.set_up.now ≡ self.old.set_up.now }
+    /// Adds a delivery to the answer.
+    fn add_delivery(&mut self, unit: u16, answer: Delivery) -> Result<(), StepError>
+        ensures set_up { self.new.set_up.now ≡ self.old.set_up.now }
+        ensures fault { IfErr result EndsStep }
     {
         if !self.answer.is_empty() {
             written(write!(self.answer, ", "))?;
@@ -280,27 +306,31 @@ impl<'a, C: Carrier> Stepper<'a, C> {
         written(write_delivery(&mut self.answer, unit, answer))
     }
 
-    /// Tells of a post row that is full, or that nothing was delivered.
+    /// Adds to the answer that the post row is full, or that nothing was delivered.
     fn end_serving(&mut self, unit: u16, answer: Delivery) -> Result<(), StepError>
-        ensures { self.new.set_up.now ≡ self.old.set_up.now }
+        ensures set_up { self.new.set_up.now ≡ self.old.set_up.now }
+        ensures fault { IfErr result EndsStep }
     {
         if answer == Delivery::Quiet && !self.answer.is_empty() {
             return Ok(());
         }
-        self.tell_delivery(unit, answer)
+        self.add_delivery(unit, answer)
     }
 
-    /// No such DCB is an answer; want of memory ends the scenario.
-    fn no_dcb(&mut self, error: DcbError) -> Result<(), StepError> {
+    /// Answers that there is no such DCB. Out of memory ends the scenario.
+    fn no_dcb(&mut self, error: DcbError) -> Result<(), StepError>
+        ensures { IfErr result EndsStep }
+    {
         match error {
             DcbError::NoSuchDcb => written(write!(self.answer, "NoSuchDcb")),
             DcbError::NoMemory => Err(StepError::Job(JobError::NoMemory)),
         }
     }
 
-    /// The unit is declared.
+    /// Checks that a unit is declared.
     fn names_unit(&self, number: usize, unit: u16) -> Result<(), StepError>
-        ensures { OnOk result (unit < vec_len self.now.set_up.now.units) }
+        ensures below { OnOk result (unit < vec_len self.now.set_up.now.units) }
+        ensures fault { IfErr result EndsStep }
     {
         match self.set_up.names_unit(unit) {
             Ok(()) => Ok(()),
@@ -308,9 +338,10 @@ impl<'a, C: Carrier> Stepper<'a, C> {
         }
     }
 
-    /// The task is declared.
+    /// Checks that a task is declared.
     fn names_task(&self, number: usize, task: u16) -> Result<(), StepError>
-        ensures { OnOk result (task < self.now.set_up.now.tasks) }
+        ensures below { OnOk result (task < self.now.set_up.now.tasks) }
+        ensures fault { IfErr result EndsStep }
     {
         match self.set_up.names_task(task) {
             Ok(()) => Ok(()),
@@ -319,8 +350,10 @@ impl<'a, C: Carrier> Stepper<'a, C> {
     }
 }
 
-/// A text that was written to memory, which may run out.
-fn written(outcome: std::io::Result<()>) -> Result<(), StepError> {
+/// The outcome of writing to a text in memory, which may run out.
+fn written(outcome: std::io::Result<()>) -> Result<(), StepError>
+    ensures { IfErr result EndsStep }
+{
     match outcome {
         Ok(()) => Ok(()),
         Err(_) => Err(StepError::Job(JobError::NoMemory)),

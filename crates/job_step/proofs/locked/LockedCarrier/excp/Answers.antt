@@ -1,5 +1,4 @@
-use Rattle.std.proofs.Common.{◌≡◌, ◌<◌, length, arith, sym, ◌∙◌, subst}
-use Rattle.excp_system.specs.States.{TaskState}
+use Rattle.std.proofs.Common.{◌<◌, length, arith}
 use Rattle.post_ledger.proofs.Works.{placed_set}
 use Rattle.job_step.proofs.Placed.{number_kept}
 use Rattle.job_step.proofs.locked.LockedCarrier.excp.Goals as goal

@@ -1,0 +1,2 @@
+-- Why findings are not printed.
+pub mod Printing

@@ -1,0 +1,2 @@
+-- Why a scenario ends before its last line.
+pub mod Faults
