@@ -183,7 +183,14 @@ fn step<R: Wait, I: Read>(
     let is_coloured = takes_colour(rt, rt.stderr());
     let source = Source { name, is_coloured };
     let mut screen = Screen::new(rt.stdout(), false, is_broken);
-    let is_met = step_scenario(threads, rt.alloc(), input, &mut screen, &mut rt.stderr(), source)?;
+    let is_met = step_scenario(
+        threads,
+        rt.alloc(),
+        input,
+        &mut screen,
+        &mut rt.stderr(),
+        source,
+    )?;
     Ok(if is_met { 0 } else { REJECTED })
 }
 
