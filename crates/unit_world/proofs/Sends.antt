@@ -11,7 +11,7 @@ use Rattle.unit_book.specs.Posts.{posted}
 use Rattle.unit_world.specs.declared.answer.Delivering.{Delivering}
 use Rattle.unit_world.specs.declared.answer.Delivering.TheVariants as delivering
 use Rattle.unit_world.specs.declared.unit_side.UnitSide.{UnitSide}
-use Rattle.unit_world.specs.Parts.{UnitPart, part_of}
+use Rattle.unit_world.specs.Parts.{UnitPart, unit_part}
 use Rattle.unit_world.specs.PostLists.{PostLists, with_value}
 use Rattle.unit_world.specs.Sending.{IsForRows, SendsBack, SendsOne}
 use Rattle.unit_world.specs.Sites.{SiteState, DeliversAs, DeliversPost, HoldsPost, IsFirstOut, IsSite, OnDelivered, StepsUnit, from_unit, world_at}
@@ -20,20 +20,20 @@ use Rattle.unit_world.proofs.Sites.{same-item, set-same, side-at, side-put, side
 use Rattle.unit_world.proofs.States.{first-of-task, first-of-unit}
 
 module _ {D : Type 0} (meaning : Meaning D) (items : List (UnitSide D)) (rows : PostLists) (place unit : ℕ) (here : place ≡ unit)
-    (lt : unit < length (map part_of items)) (side : UnitSide D) (is : side ≡ get_or items place side)
+    (lt : unit < length (map unit_part items)) (side : UnitSide D) (is : side ≡ get_or items place side)
     (site : IsSite meaning (view_of items rows)) (legal : Legal meaning side.book.mounted side.book.trace)
     (all : given meaning side.book ++ side.book.out ≡ posted meaning side.book.mounted side.book.trace) where
-  at : slice_get (map part_of items) unit ≡ Some (part_of side)
+  at : slice_get (map unit_part items) unit ≡ Some (unit_part side)
   at = side-at items place unit here lt side is
 
   -- the first value is of a task that has a row, and of this unit
   pub for-rows : IsForRows side.book.out rows
   for-rows value first =
-      let t = first-of-task meaning (world_at (view_of items rows) unit (part_of side)) value (site.worlds unit (part_of side) at) legal all first in
+      let t = first-of-task meaning (world_at (view_of items rows) unit (unit_part side)) value (site.worlds unit (unit_part side) at) legal all first in
       omega (arith, t, length-map rows.lists (from_unit unit))
 
   own : (value : PostedState) → slice_get side.book.out 0 ≡ Some value → value.unit ≡ unit
-  own value first = first-of-unit meaning (world_at (view_of items rows) unit (part_of side)) value (site.worlds unit (part_of side) at) legal all first
+  own value first = first-of-unit meaning (world_at (view_of items rows) unit (unit_part side)) value (site.worlds unit (unit_part side) at) legal all first
 
   module _ (book : Book D) (rows_after : PostLists) where
     abbrev pub site_after : SiteState D
@@ -44,11 +44,11 @@ module _ {D : Type 0} (meaning : Meaning D) (items : List (UnitSide D)) (rows : 
     stays b r =
         (λ j. view_of (set items place (side_with side (b j))) (r j))
         ∙ ap (λ us. record (view_of items rows) { units = us })
-        (side-put items place unit here lt side is side ∙ set-same (map part_of items) unit (part_of side) at)
+        (side-put items place unit here lt side is side ∙ set-same (map unit_part items) unit (unit_part side) at)
 
     abbrev delivered_now : PostedState → SiteState D
     delivered_now value = record (view_of items rows) {
-      units = set (map part_of items) unit (record (part_of side) { book = record side.book { out = drop 1 side.book.out } });
+      units = set (map unit_part items) unit (record (unit_part side) { book = record side.book { out = drop 1 side.book.out } });
       rows = with_value rows.lists value.name.task value;
     }
 
@@ -60,7 +60,7 @@ module _ {D : Type 0} (meaning : Meaning D) (items : List (UnitSide D)) (rows : 
 
     abbrev first-out : (value : PostedState) → slice_get side.book.out 0 ≡ Some value → IsFirstOut (view_of items rows) unit value.name
     first-out value first = record {
-      part = part_of side;
+      part = unit_part side;
       at = at;
       value = value;
       first = first;
@@ -73,18 +73,18 @@ module _ {D : Type 0} (meaning : Meaning D) (items : List (UnitSide D)) (rows : 
     sends-keeps delivering.Quiet h = subst (IsSite meaning) (sym (stays h.1 h.2)) site
     sends-keeps (delivering.Full name) h = subst (IsSite meaning) (sym (stays h.book_is h.rows_are)) site
     sends-keeps (delivering.Delivered name) h = subst (IsSite meaning) (sym (sent-is name h))
-        (deliver-keeps meaning (view_of items rows) unit (part_of side) h.value at site h.first (own h.value h.first) (for-rows h.value h.first) h.room)
+        (deliver-keeps meaning (view_of items rows) unit (unit_part side) h.value at site h.first (own h.value h.first) (for-rows h.value h.first) h.room)
 
     pub sends-step : (answer : Delivering) → SendsBack side.book rows answer book rows_after →
         OnDelivered answer (StepsUnit meaning (view_of items rows) unit site_after)
     sends-step delivering.Quiet h = tt
     sends-step (delivering.Full name) h = tt
     sends-step (delivering.Delivered name) h = subst (StepsUnit meaning (view_of items rows) unit) (sym (sent-is name h))
-        (deliver-steps meaning (view_of items rows) unit (part_of side) h.value at site h.first (own h.value h.first) (for-rows h.value h.first) h.room)
+        (deliver-steps meaning (view_of items rows) unit (unit_part side) h.value at site h.first (own h.value h.first) (for-rows h.value h.first) h.room)
 
     pub sends-answer : (answer : Delivering) → SendsBack side.book rows answer book rows_after → DeliversAs (view_of items rows) unit answer site_after
     sends-answer delivering.Quiet h = (
-      λ p e. subst (λ (x : UnitPart D). x.book.out ≡ []) (same-item (map part_of items) unit (part_of side) p at e) h.0,
+      λ p e. subst (λ (x : UnitPart D). x.book.out ≡ []) (same-item (map unit_part items) unit (unit_part side) p at e) h.0,
       stays h.1 h.2,
     )
     sends-answer (delivering.Full name) h = subst (λ n. HoldsPost (view_of items rows) unit n site_after) h.named

@@ -9,7 +9,7 @@ use Rattle.unit_world.specs.declared.answer.AcceptError.TheVariants as accepting
 use Rattle.unit_world.specs.declared.answer.Arriving.{Arriving}
 use Rattle.unit_world.specs.declared.answer.Arriving.TheVariants as arriving
 use Rattle.unit_world.specs.declared.unit_side.UnitSide.{UnitSide}
-use Rattle.unit_world.specs.Parts.{UnitPart, HasNextNumber, PartAccepts, PartRefuses, PartTakes, part_of}
+use Rattle.unit_world.specs.Parts.{UnitPart, HasNextNumber, PartAccepts, PartRefuses, PartTakes, unit_part}
 use Rattle.unit_world.specs.PostLists.{PostLists}
 use Rattle.unit_world.specs.Sites.{SiteState, AcceptRefused, IsSite, OnPart, OnTook, OnUnit, StepsUnit, world_at}
 use Rattle.unit_world.specs.States.{IsWorldState, MakesStep}
@@ -62,49 +62,49 @@ module _ {D : Type 0} (meaning : Meaning D) where
 
   -- THE UNIT AT A PLACE becomes another
   module _ (items : List (UnitSide D)) (rows : PostLists) (place unit : ℕ) (here : place ≡ unit)
-      (lt : unit < length (map part_of items)) (side : UnitSide D) (is : side ≡ get_or items place side) (after : UnitSide D) where
-    at : slice_get (map part_of items) unit ≡ Some (part_of side)
+      (lt : unit < length (map unit_part items)) (side : UnitSide D) (is : side ≡ get_or items place side) (after : UnitSide D) where
+    at : slice_get (map unit_part items) unit ≡ Some (unit_part side)
     at = side-at items place unit here lt side is
 
-    put : view_of (set items place after) rows ≡ record (view_of items rows) { units = set (map part_of items) unit (part_of after) }
+    put : view_of (set items place after) rows ≡ record (view_of items rows) { units = set (map unit_part items) unit (unit_part after) }
     put = ap (λ us. record (view_of items rows) { units = us }) (side-put items place unit here lt side is after)
 
-    pub side-world : IsSite meaning (view_of items rows) → IsWorldState meaning (world_at (view_of items rows) unit (part_of side))
-    side-world site = site.worlds unit (part_of side) at
+    pub side-world : IsSite meaning (view_of items rows) → IsWorldState meaning (world_at (view_of items rows) unit (unit_part side))
+    side-world site = site.worlds unit (unit_part side) at
 
     pub side-same : after ≡ side → view_of (set items place after) rows ≡ view_of items rows
     side-same same =
         put
-        ∙ ap (λ x. record (view_of items rows) { units = set (map part_of items) unit (part_of x) }) same
-        ∙ ap (λ us. record (view_of items rows) { units = us }) (set-same (map part_of items) unit (part_of side) at)
+        ∙ ap (λ x. record (view_of items rows) { units = set (map unit_part items) unit (unit_part x) }) same
+        ∙ ap (λ us. record (view_of items rows) { units = us }) (set-same (map unit_part items) unit (unit_part side) at)
 
-    pub side-does : (Does : UnitPart D → UnitPart D → Type 0) → Does (part_of side) (part_of after) →
+    pub side-does : (Does : UnitPart D → UnitPart D → Type 0) → Does (unit_part side) (unit_part after) →
         OnUnit (view_of items rows) unit Does (view_of (set items place after) rows)
-    side-does Does h = record { before = part_of side; after = part_of after; at = at; does = h; is = put }
+    side-does Does h = record { before = unit_part side; after = unit_part after; at = at; does = h; is = put }
 
-    pub side-steps : MakesStep meaning (world_at (view_of items rows) unit (part_of side)) (world_at (view_of items rows) unit (part_of after)) →
+    pub side-steps : MakesStep meaning (world_at (view_of items rows) unit (unit_part side)) (world_at (view_of items rows) unit (unit_part after)) →
         StepsUnit meaning (view_of items rows) unit (view_of (set items place after) rows)
     side-steps f = subst (StepsUnit meaning (view_of items rows) unit) (sym put)
-        (unit-steps meaning (view_of items rows) unit (part_of side) (part_of after) at f)
+        (unit-steps meaning (view_of items rows) unit (unit_part side) (unit_part after) at f)
 
-    pub side-keeps : IsSite meaning (view_of items rows) → IsWorldState meaning (world_at (view_of items rows) unit (part_of after)) →
+    pub side-keeps : IsSite meaning (view_of items rows) → IsWorldState meaning (world_at (view_of items rows) unit (unit_part after)) →
         IsSite meaning (view_of (set items place after) rows)
-    side-keeps site w = subst (IsSite meaning) (sym put) (unit-site meaning (view_of items rows) unit (part_of side) (part_of after) at site w)
+    side-keeps site w = subst (IsSite meaning) (sym put) (unit-site meaning (view_of items rows) unit (unit_part side) (unit_part after) at site w)
 
-    pub side-fact : (P : UnitPart D → Type 0) → P (part_of side) → OnPart (view_of items rows) unit P
-    side-fact P h p e = subst P (same-item (map part_of items) unit (part_of side) p at e) h
+    pub side-fact : (P : UnitPart D → Type 0) → P (unit_part side) → OnPart (view_of items rows) unit P
+    side-fact P h p e = subst P (same-item (map unit_part items) unit (unit_part side) p at e) h
 
-    pub side-took : (answer : Arriving) → PartTakes meaning (part_of side) answer (part_of after) →
+    pub side-took : (answer : Arriving) → PartTakes meaning (unit_part side) answer (unit_part after) →
         OnTook answer (StepsUnit meaning (view_of items rows) unit (view_of (set items place after) rows))
     side-took arriving.Held h = tt
     side-took arriving.Quiet h = tt
-    side-took (arriving.Took name) h = side-steps (part-takes (view_of items rows) unit (arriving.Took name) (part_of side) (part_of after) h)
+    side-took (arriving.Took name) h = side-steps (part-takes (view_of items rows) unit (arriving.Took name) (unit_part side) (unit_part after) h)
 
-    of_part : (r : Piece) (e : AcceptError) → r.unit ≡ unit → PartRefuses (part_of side) r e → OnPart (view_of items rows) r.unit (λ p. PartRefuses p r e)
+    of_part : (r : Piece) (e : AcceptError) → r.unit ≡ unit → PartRefuses (unit_part side) r e → OnPart (view_of items rows) r.unit (λ p. PartRefuses p r e)
     of_part r e own h = subst (λ k. OnPart (view_of items rows) k (λ p. PartRefuses p r e)) (sym own) (side-fact (λ p. PartRefuses p r e) h)
 
-    pub side-refused : (r : Piece) (e : AcceptError) → r.unit ≡ unit → PartRefuses (part_of side) r e → AcceptRefused (view_of items rows) r e
+    pub side-refused : (r : Piece) (e : AcceptError) → r.unit ≡ unit → PartRefuses (unit_part side) r e → AcceptRefused (view_of items rows) r e
     side-refused r accepting.NoSuchUnit own h = absurd h
-    side-refused r accepting.NoSuchTask own h = (subst (λ k. k < length (map part_of items)) (sym own) lt, of_part r accepting.NoSuchTask own h)
-    side-refused r accepting.OtherNumber own h = (subst (λ k. k < length (map part_of items)) (sym own) lt, of_part r accepting.OtherNumber own h)
-    side-refused r accepting.Full own h = (subst (λ k. k < length (map part_of items)) (sym own) lt, of_part r accepting.Full own h)
+    side-refused r accepting.NoSuchTask own h = (subst (λ k. k < length (map unit_part items)) (sym own) lt, of_part r accepting.NoSuchTask own h)
+    side-refused r accepting.OtherNumber own h = (subst (λ k. k < length (map unit_part items)) (sym own) lt, of_part r accepting.OtherNumber own h)
+    side-refused r accepting.Full own h = (subst (λ k. k < length (map unit_part items)) (sym own) lt, of_part r accepting.Full own h)

@@ -17,7 +17,7 @@ use Rattle.request_piece.specs.PostedState.{PostedState}
 use Rattle.unit_book.specs.Book.{Book}
 use Rattle.unit_book.specs.Lists.{Each}
 use Rattle.unit_world.specs.declared.unit_side.UnitSide.{UnitSide}
-use Rattle.unit_world.specs.Parts.{UnitPart, part_of}
+use Rattle.unit_world.specs.Parts.{UnitPart, unit_part}
 use Rattle.unit_world.specs.PostLists.{PostLists, list_of, with_value, without_value}
 use Rattle.unit_world.specs.Sites.{SiteState, IsSite, KeepsOthers, OnBook, OnPart, StepsUnit, StepsOfUnit, from_unit, world_at}
 use Rattle.unit_world.specs.States.{IsWorldState, MakesStep, MakesSteps}
@@ -51,16 +51,16 @@ two-refused (Ok a) f p q = tt
 two-refused (Err e) f p q = f p q
 
 -- the unit at a place, and another in its place
-module _ {D : Type 0} (items : List (UnitSide D)) (place unit : ℕ) (here : place ≡ unit) (lt : unit < length (map part_of items))
+module _ {D : Type 0} (items : List (UnitSide D)) (place unit : ℕ) (here : place ≡ unit) (lt : unit < length (map unit_part items))
     (side : UnitSide D) (is : side ≡ get_or items place side) where
-  pub side-at : slice_get (map part_of items) unit ≡ Some (part_of side)
+  pub side-at : slice_get (map unit_part items) unit ≡ Some (unit_part side)
   side-at =
-      slice_get-map part_of items unit
-      ∙ ap (option_map part_of) (slice_get-get_or items unit side (omega (arith, lt, length-map items part_of)))
-      ∙ ap (λ (u : UnitSide D). Some (part_of u)) (sym (is ∙ ap (λ k. get_or items k side) here))
+      slice_get-map unit_part items unit
+      ∙ ap (option_map unit_part) (slice_get-get_or items unit side (omega (arith, lt, length-map items unit_part)))
+      ∙ ap (λ (u : UnitSide D). Some (unit_part u)) (sym (is ∙ ap (λ k. get_or items k side) here))
 
-  pub side-put : (after : UnitSide D) → map part_of (set items place after) ≡ set (map part_of items) unit (part_of after)
-  side-put after = map-set part_of items place after ∙ ap (λ k. set (map part_of items) k (part_of after)) here
+  pub side-put : (after : UnitSide D) → map unit_part (set items place after) ≡ set (map unit_part items) unit (unit_part after)
+  side-put after = map-set unit_part items place after ∙ ap (λ k. set (map unit_part items) k (unit_part after)) here
 
 -- the posts of a unit in rows
 pub from-row : (unit task : ℕ) (rows : List (List PostedState)) → list_of (map (from_unit unit) rows) task ≡ from_unit unit (list_of rows task)
@@ -139,7 +139,7 @@ less-other unit task rows value first other =
 
 -- what the contracts see of these fields
 abbrev pub view_of : {D : Type 0} → List (UnitSide D) → PostLists → SiteState D
-view_of items rows = record { units = map part_of items; post_room = rows.room; rows = rows.lists }
+view_of items rows = record { units = map unit_part items; post_room = rows.room; rows = rows.lists }
 
 module _ {D : Type 0} (meaning : Meaning D) where
   -- the other units stay, and so does what is on the way back from them
@@ -207,68 +207,68 @@ side_with side book = record side { book = book }
 
 -- A CALL OF THE BOOK of the unit at a place
 module _ {D : Type 0} (meaning : Meaning D) (items : List (UnitSide D)) (rows : PostLists) (place unit : ℕ) (here : place ≡ unit)
-    (lt : unit < length (map part_of items)) (side : UnitSide D) (is : side ≡ get_or items place side) (book : Book D) where
-  at : slice_get (map part_of items) unit ≡ Some (part_of side)
+    (lt : unit < length (map unit_part items)) (side : UnitSide D) (is : side ≡ get_or items place side) (book : Book D) where
+  at : slice_get (map unit_part items) unit ≡ Some (unit_part side)
   at = side-at items place unit here lt side is
 
   put : view_of (set items place (side_with side book)) rows
-      ≡ record (view_of items rows) { units = set (map part_of items) unit (part_of (side_with side book)) }
+      ≡ record (view_of items rows) { units = set (map unit_part items) unit (unit_part (side_with side book)) }
   put = ap (λ us. record (view_of items rows) { units = us }) (side-put items place unit here lt side is (side_with side book))
 
   -- if it changes nothing, nor does the site
   put-same : book ≡ side.book → view_of (set items place (side_with side book)) rows ≡ view_of items rows
   put-same same =
       put
-      ∙ ap (λ b. record (view_of items rows) { units = set (map part_of items) unit (part_of (side_with side b)) }) same
-      ∙ ap (λ us. record (view_of items rows) { units = us }) (set-same (map part_of items) unit (part_of side) at)
+      ∙ ap (λ b. record (view_of items rows) { units = set (map unit_part items) unit (unit_part (side_with side b)) }) same
+      ∙ ap (λ us. record (view_of items rows) { units = us }) (set-same (map unit_part items) unit (unit_part side) at)
 
-  pub call-step : MakesStep meaning (world_at (view_of items rows) unit (part_of side)) (world_at (view_of items rows) unit (part_of (side_with side book))) →
+  pub call-step : MakesStep meaning (world_at (view_of items rows) unit (unit_part side)) (world_at (view_of items rows) unit (unit_part (side_with side book))) →
       StepsUnit meaning (view_of items rows) unit (view_of (set items place (side_with side book)) rows)
   call-step f = subst (StepsUnit meaning (view_of items rows) unit) (sym put)
-      (unit-steps meaning (view_of items rows) unit (part_of side) (part_of (side_with side book)) at f)
+      (unit-steps meaning (view_of items rows) unit (unit_part side) (unit_part (side_with side book)) at f)
 
   call-site : IsSite meaning (view_of items rows) →
-      IsWorldState meaning (world_at (view_of items rows) unit (part_of (side_with side book))) →
+      IsWorldState meaning (world_at (view_of items rows) unit (unit_part (side_with side book))) →
       IsSite meaning (view_of (set items place (side_with side book)) rows)
   call-site site w = subst (IsSite meaning) (sym put)
-      (unit-site meaning (view_of items rows) unit (part_of side) (part_of (side_with side book)) at site w)
+      (unit-site meaning (view_of items rows) unit (unit_part side) (unit_part (side_with side book)) at site w)
 
   -- a list of steps of its world
-  pub call-list : MakesSteps meaning (world_at (view_of items rows) unit (part_of side)) (world_at (view_of items rows) unit (part_of (side_with side book))) →
+  pub call-list : MakesSteps meaning (world_at (view_of items rows) unit (unit_part side)) (world_at (view_of items rows) unit (unit_part (side_with side book))) →
       StepsOfUnit meaning (view_of items rows) unit (view_of (set items place (side_with side book)) rows)
   call-list f =
-      let after = part_of (side_with side book) in
-      let units = map part_of items in
+      let after = unit_part (side_with side book) in
+      let units = map unit_part items in
       let now = slice_get-set_same units unit after lt in
       subst (StepsOfUnit meaning (view_of items rows) unit) (sym put) (record {
         others = others-by-unit meaning (view_of items rows) unit after;
         steps = λ p q ep eq.
-            let e = same-item units unit (part_of side) p at ep in
+            let e = same-item units unit (unit_part side) p at ep in
             let d = same-item (set units unit after) unit after q now eq in
             subst (λ x. MakesSteps meaning (world_at (view_of items rows) unit x) (world_at (view_of items rows) unit q)) e
-            (subst (λ x. MakesSteps meaning (world_at (view_of items rows) unit (part_of side)) (world_at (view_of items rows) unit x)) d f);
+            (subst (λ x. MakesSteps meaning (world_at (view_of items rows) unit (unit_part side)) (world_at (view_of items rows) unit x)) d f);
       })
 
   pub call-settles : IsSite meaning (view_of items rows) →
-      MakesSteps meaning (world_at (view_of items rows) unit (part_of side)) (world_at (view_of items rows) unit (part_of (side_with side book))) →
+      MakesSteps meaning (world_at (view_of items rows) unit (unit_part side)) (world_at (view_of items rows) unit (unit_part (side_with side book))) →
       IsSite meaning (view_of (set items place (side_with side book)) rows)
-  call-settles site f = call-site site (state-steps meaning (world_at (view_of items rows) unit (part_of side))
-      (world_at (view_of items rows) unit (part_of (side_with side book))) (site.worlds unit (part_of side) at)
-      (site.worlds unit (part_of side) at).tasks f)
+  call-settles site f = call-site site (state-steps meaning (world_at (view_of items rows) unit (unit_part side))
+      (world_at (view_of items rows) unit (unit_part (side_with side book))) (site.worlds unit (unit_part side) at)
+      (site.worlds unit (unit_part side) at).tasks f)
 
   -- what was done to the book
   pub call-always : (Does : Book D → Book D → Type 0) → Does side.book book →
       OnBook (view_of items rows) unit Does (view_of (set items place (side_with side book)) rows)
-  call-always Does h = record { before = part_of side; after = part_of (side_with side book); at = at; does = (h, refl); is = put }
+  call-always Does h = record { before = unit_part side; after = unit_part (side_with side book); at = at; does = (h, refl); is = put }
 
   -- what holds of the book before and after
   on-old : (P : Book D → Type 0) → P side.book → OnPart (view_of items rows) unit (λ p. P p.book)
-  on-old P h p e = subst (λ (x : UnitPart D). P x.book) (same-item (map part_of items) unit (part_of side) p at e) h
+  on-old P h p e = subst (λ (x : UnitPart D). P x.book) (same-item (map unit_part items) unit (unit_part side) p at e) h
 
   on-new : (P : Book D → Type 0) → P book → OnPart (view_of (set items place (side_with side book)) rows) unit (λ p. P p.book)
   on-new P h p e =
-      let after = part_of (side_with side book) in
-      let units = map part_of items in
+      let after = unit_part (side_with side book) in
+      let units = map unit_part items in
       let now = slice_get-set_same units unit after lt in
       let f = subst (λ us. slice_get us unit ≡ Some p) (side-put items place unit here lt side is (side_with side book)) e in
       subst (λ (x : UnitPart D). P x.book) (same-item (set units unit after) unit after p now f) h
@@ -306,25 +306,25 @@ module _ {D : Type 0} (meaning : Meaning D) (items : List (UnitSide D)) (rows : 
     call-err refused = on_err_weaker r put-same refused
 
     pub call-keeps : {Done : A → Type 0} → IsSite meaning (view_of items rows) → IfOk r Done → OnErr r (book ≡ side.book) →
-        ((a : A) → Done a → MakesStep meaning (world_at (view_of items rows) unit (part_of side)) (world_at (view_of items rows) unit (part_of (side_with side book)))) →
+        ((a : A) → Done a → MakesStep meaning (world_at (view_of items rows) unit (unit_part side)) (world_at (view_of items rows) unit (unit_part (side_with side book)))) →
         IsSite meaning (view_of (set items place (side_with side book)) rows)
     call-keeps site done refused f = either r done refused
-        (λ a h. call-site site (state-step meaning (world_at (view_of items rows) unit (part_of side))
-        (world_at (view_of items rows) unit (part_of (side_with side book))) (site.worlds unit (part_of side) at)
-        (site.worlds unit (part_of side) at).tasks (f a h)))
+        (λ a h. call-site site (state-step meaning (world_at (view_of items rows) unit (unit_part side))
+        (world_at (view_of items rows) unit (unit_part (side_with side book))) (site.worlds unit (unit_part side) at)
+        (site.worlds unit (unit_part side) at).tasks (f a h)))
         (λ same. subst (IsSite meaning) (sym (put-same same)) site)
 
     pub call-steps : {Done : A → Type 0} → IfOk r Done →
-        ((a : A) → Done a → MakesStep meaning (world_at (view_of items rows) unit (part_of side)) (world_at (view_of items rows) unit (part_of (side_with side book)))) →
+        ((a : A) → Done a → MakesStep meaning (world_at (view_of items rows) unit (unit_part side)) (world_at (view_of items rows) unit (unit_part (side_with side book)))) →
         OnOk r (StepsUnit meaning (view_of items rows) unit (view_of (set items place (side_with side book)) rows))
     call-steps done f = on-done r done (λ a h. call-step (f a h))
 
     -- where only the room for entries may have grown if it is refused
     pub call-grows : {Done : A → Type 0} → IsSite meaning (view_of items rows) → IfOk r Done → OnErr r (book ≡ record side.book { spare = book.spare }) →
-        ((a : A) → Done a → MakesStep meaning (world_at (view_of items rows) unit (part_of side)) (world_at (view_of items rows) unit (part_of (side_with side book)))) →
+        ((a : A) → Done a → MakesStep meaning (world_at (view_of items rows) unit (unit_part side)) (world_at (view_of items rows) unit (unit_part (side_with side book)))) →
         IsSite meaning (view_of (set items place (side_with side book)) rows)
     call-grows site done refused f = either r done refused
-        (λ a h. call-site site (state-step meaning (world_at (view_of items rows) unit (part_of side))
-        (world_at (view_of items rows) unit (part_of (side_with side book))) (site.worlds unit (part_of side) at)
-        (site.worlds unit (part_of side) at).tasks (f a h)))
-        (λ same. call-site site (state-spare meaning (world_at (view_of items rows) unit (part_of side)) book (site.worlds unit (part_of side) at) same))
+        (λ a h. call-site site (state-step meaning (world_at (view_of items rows) unit (unit_part side))
+        (world_at (view_of items rows) unit (unit_part (side_with side book))) (site.worlds unit (unit_part side) at)
+        (site.worlds unit (unit_part side) at).tasks (f a h)))
+        (λ same. call-site site (state-spare meaning (world_at (view_of items rows) unit (unit_part side)) book (site.worlds unit (unit_part side) at) same))

@@ -41,8 +41,8 @@ abbrev pub opening_part : {D : Type 0} → Book D → ℕ → ℕ → UnitPart D
 opening_part book tasks intake_room = record { book = book; intake_room = intake_room; flight = []; issued = replicate tasks 0 }
 
 -- what contracts see of the fields of a unit
-abbrev pub part_of : {D : Type 0} → UnitSide D → UnitPart D
-part_of side = record { book = side.book; intake_room = side.flight.capacity; flight = side.flight.items; issued = side.issued.items }
+abbrev pub unit_part : {D : Type 0} → UnitSide D → UnitPart D
+unit_part side = record { book = side.book; intake_room = side.flight.capacity; flight = side.flight.items; issued = side.issued.items }
 
 -- a request is accepted: it is of one of the tasks, has the task's next number, and there is room
 pub record PartAccepts {D : Type 0} (old : UnitPart D) (r : Piece) (new : UnitPart D) : Type 0 where

@@ -1,7 +1,7 @@
 //! The purge of a task at every unit.
 
 ghost use Rattle.std.specs.Prelude.{◌≡◌, map, IfOk, OnErr};
-ghost use Rattle.unit_world.specs.Parts.{part_of};
+ghost use Rattle.unit_world.specs.Parts.{unit_part};
 ghost use Rattle.unit_world.specs.Purges.{PurgesParts};
 
 use crate::unit_side::UnitSide;
@@ -17,7 +17,7 @@ pub(crate) fn purge_everywhere<D: Device>(
     task: u16,
     mode: Mode,
 ) -> Result<Vec<Result<Purging, AllocError>>, AllocError>
-    ensures ok { IfOk result (λ answers. PurgesParts D.meaning task mode (map part_of units.old.items) answers.items (map part_of units.new.items)) }
+    ensures ok { IfOk result (λ answers. PurgesParts D.meaning task mode (map unit_part units.old.items) answers.items (map unit_part units.new.items)) }
     ensures err { OnErr result (units.new ≡ units.old) }
 {
     let count = units.len();

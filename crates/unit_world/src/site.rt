@@ -29,14 +29,14 @@ pub struct PlainSite<D: Device> {
 
 impl<D: Device> Model for PlainSite<D> {
     ghost use Rattle.std.specs.Prelude.{map};
-    ghost use Rattle.unit_world.specs.Parts.{part_of};
+    ghost use Rattle.unit_world.specs.Parts.{unit_part};
     ghost use Rattle.unit_world.specs.Sites.{SiteState, IsSite};
 
     ghost Value = { SiteState D };
 
-    ghost view = { λ s. record { units = map part_of s.units.items; post_room = s.rows.room; rows = s.rows.lists } };
+    ghost view = { λ s. record { units = map unit_part s.units.items; post_room = s.rows.room; rows = s.rows.lists } };
 
-    ghost invariant = { λ s. IsSite D.meaning (record { units = map part_of s.units.items; post_room = s.rows.room; rows = s.rows.lists }) };
+    ghost invariant = { λ s. IsSite D.meaning (record { units = map unit_part s.units.items; post_room = s.rows.room; rows = s.rows.lists }) };
 }
 
 impl<D: Device> PlainSite<D> {

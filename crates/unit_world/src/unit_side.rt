@@ -4,7 +4,7 @@ ghost use Rattle.std.specs.Prelude.{◌≡◌, ◌<◌, ◌+◌, ◌↔◌, [], 
 ghost use Rattle.circular_buffer.specs.Buffer.{buffer};
 ghost use Rattle.unit_book.specs.Book.{occupancy};
 ghost use Rattle.unit_book.specs.Trace.{active, arrived_of};
-ghost use Rattle.unit_world.specs.Parts.{HasNextNumber, IsFinishedPart, PartAccepts, PartRefuses, PartTakes, active_phase_shown, next_name_of, opening_part, part_of};
+ghost use Rattle.unit_world.specs.Parts.{HasNextNumber, IsFinishedPart, PartAccepts, PartRefuses, PartTakes, active_phase_shown, next_name_of, opening_part, unit_part};
 ghost use Rattle.unit_world.specs.Sending.{IsForRows, SendsBack};
 
 use crate::answer::{AcceptError, ActivePhase, Arriving, Delivering};
@@ -52,7 +52,7 @@ impl<D: Device> UnitSide<D> {
         tasks: usize,
         intake: usize,
     ) -> Result<Self, AllocFailed<UnitBook<D>>>
-        ensures ok { IfOk result (λ side. part_of side ≡ opening_part book tasks intake) }
+        ensures ok { IfOk result (λ side. unit_part side ≡ opening_part book tasks intake) }
         ensures err { IfErr result (λ e. e.value ≡ book) }
     {
         match Lists::new(alloc, tasks, intake) {
@@ -67,8 +67,8 @@ impl<D: Device> UnitSide<D> {
 
     /// Accepts a request for this unit.
     pub fn accept(&mut self, request: Request) -> Result<(), (AcceptError, Request)>
-        ensures ok { OnOk result (PartAccepts (part_of self.old) request (part_of self.new)) }
-        ensures refused { IfErr result (λ e. PartRefuses (part_of self.old) request e.0) }
+        ensures ok { OnOk result (PartAccepts (unit_part self.old) request (unit_part self.new)) }
+        ensures refused { IfErr result (λ e. PartRefuses (unit_part self.old) request e.0) }
         ensures handed_back { IfErr result (λ e. e.1 ≡ request) }
         ensures err { OnErr result (self.new ≡ self.old) }
     {
@@ -91,8 +91,8 @@ impl<D: Device> UnitSide<D> {
 
     /// Lets the first request in flight arrive at the book, if the book has room.
     pub fn take(&mut self) -> Result<Arriving, AllocError>
-        requires { HasNextNumber (part_of self.old) }
-        ensures ok { IfOk result (λ answer. PartTakes D.meaning (part_of self.old) answer (part_of self.new)) }
+        requires { HasNextNumber (unit_part self.old) }
+        ensures ok { IfOk result (λ answer. PartTakes D.meaning (unit_part self.old) answer (unit_part self.new)) }
         ensures room { OnErr result (occupancy self.old.book < self.old.book.capacity) }
         ensures full { OnErr result (self.old.book.spare < 2) }
         ensures err { OnErr result (self.new ≡ self.old) }
@@ -115,7 +115,7 @@ impl<D: Device> UnitSide<D> {
 impl<D: Device> UnitSide<D> {
     /// The name of the next request of a task.
     pub fn next_name(&self, task: u16) -> Option<Name>
-        ensures { result ≡ next_name_of (part_of self.now).issued task }
+        ensures { result ≡ next_name_of (unit_part self.now).issued task }
     {
         let issued = *self.issued.get(usize::from(task))?;
         if issued == u32::MAX {
@@ -129,7 +129,7 @@ impl<D: Device> UnitSide<D> {
 
     /// The name of the request in flight at a place.
     pub fn flight_name(&self, at: usize) -> Option<Name>
-        ensures { result ≡ option_map (λ r. r.name) (slice_get (part_of self.now).flight at) }
+        ensures { result ≡ option_map (λ r. r.name) (slice_get (unit_part self.now).flight at) }
     {
         match self.flight.get(at) {
             Some(request) => Some(request.name()),
@@ -154,7 +154,7 @@ impl<D: Device> UnitSide<D> {
 
     /// Whether nothing is in flight or waits, and nothing is active.
     pub fn is_finished(&self) -> bool
-        ensures { IsTrue result ↔ IsFinishedPart (part_of self.now) }
+        ensures { IsTrue result ↔ IsFinishedPart (unit_part self.now) }
     {
         self.flight.is_empty() && self.book.waiting_len() == 0 && self.book.active_name().is_none()
     }

@@ -2,7 +2,7 @@ use Rattle.std.proofs.Common.{◌≡◌, ◌<◌, ◌∙◌, length, map, refl, 
 use Rattle.std.specs.Prelude.{IfErr, OnErr, OnOk}
 use Rattle.std.proofs.lemmas.List.{length-map}
 use Rattle.std.proofs.lemmas.Result.{on_err_weaker, on_ok_weaker}
-use Rattle.unit_world.specs.Parts.{PartAccepts, part_of}
+use Rattle.unit_world.specs.Parts.{PartAccepts, unit_part}
 use Rattle.unit_world.specs.Sites.{SiteState, AcceptRefused, IsSite, OnUnit, StepsUnit}
 use Rattle.unit_world.proofs.Sides.{part-accepted, part-accepts, side-does, side-keeps, side-refused, side-same, side-steps, side-world}
 use Rattle.unit_world.proofs.Sites.{if-err, view_of}
@@ -21,12 +21,12 @@ invariant_of-self g c =
     let call = c.accept in
     let after = call.new.self in
     let here : place ≡ unit = c.from-unit.ensures ∙ c.unit.ensures in
-    let lt : unit < length (map part_of items) = omega (arith, c.if-unit-len.false, c.len.ensures, here, length-map items part_of) in
+    let lt : unit < length (map unit_part items) = omega (arith, c.if-unit-len.false, c.len.ensures, here, length-map items unit_part) in
     let is = c.index_mut-side.ensures.value in
     let old = view_of items i.rows in
     let new = view_of (set items place after) i.rows in
     either-on call.result call.ensures.ok call.ensures.err
-    (λ h. side-keeps meaning items i.rows place unit here lt side is after c.self.invariant (part-accepted meaning old r (part_of side) (part_of after) (side-world meaning items i.rows place unit here lt side is after c.self.invariant) h))
+    (λ h. side-keeps meaning items i.rows place unit here lt side is after c.self.invariant (part-accepted meaning old r (unit_part side) (unit_part after) (side-world meaning items i.rows place unit here lt side is after c.self.invariant) h))
     (λ same. subst (IsSite meaning) (sym (side-same meaning items i.rows place unit here lt side is after same)) c.self.invariant)
 
 pub returns-clause-ok : goal.returns-clause-ok
@@ -41,7 +41,7 @@ returns-clause-ok g c =
     let call = c.accept in
     let after = call.new.self in
     let here : place ≡ unit = c.from-unit.ensures ∙ c.unit.ensures in
-    let lt : unit < length (map part_of items) = omega (arith, c.if-unit-len.false, c.len.ensures, here, length-map items part_of) in
+    let lt : unit < length (map unit_part items) = omega (arith, c.if-unit-len.false, c.len.ensures, here, length-map items unit_part) in
     let is = c.index_mut-side.ensures.value in
     let old = view_of items i.rows in
     let new = view_of (set items place after) i.rows in
@@ -60,12 +60,12 @@ returns-clause-step g c =
     let call = c.accept in
     let after = call.new.self in
     let here : place ≡ unit = c.from-unit.ensures ∙ c.unit.ensures in
-    let lt : unit < length (map part_of items) = omega (arith, c.if-unit-len.false, c.len.ensures, here, length-map items part_of) in
+    let lt : unit < length (map unit_part items) = omega (arith, c.if-unit-len.false, c.len.ensures, here, length-map items unit_part) in
     let is = c.index_mut-side.ensures.value in
     let old = view_of items i.rows in
     let new = view_of (set items place after) i.rows in
     subst (λ (s : SiteState _). OnOk call.result (StepsUnit meaning s unit new)) c.self.view_is
-    (on_ok_weaker call.result (λ h. side-steps meaning items i.rows place unit here lt side is after (part-accepts meaning old r (part_of side) (part_of after) h)) call.ensures.ok)
+    (on_ok_weaker call.result (λ h. side-steps meaning items i.rows place unit here lt side is after (part-accepts meaning old r (unit_part side) (unit_part after) h)) call.ensures.ok)
 
 pub returns-clause-refused : goal.returns-clause-refused
 returns-clause-refused g c =
@@ -79,7 +79,7 @@ returns-clause-refused g c =
     let call = c.accept in
     let after = call.new.self in
     let here : place ≡ unit = c.from-unit.ensures ∙ c.unit.ensures in
-    let lt : unit < length (map part_of items) = omega (arith, c.if-unit-len.false, c.len.ensures, here, length-map items part_of) in
+    let lt : unit < length (map unit_part items) = omega (arith, c.if-unit-len.false, c.len.ensures, here, length-map items unit_part) in
     let is = c.index_mut-side.ensures.value in
     let old = view_of items i.rows in
     let new = view_of (set items place after) i.rows in
@@ -98,7 +98,7 @@ returns-clause-err g c =
     let call = c.accept in
     let after = call.new.self in
     let here : place ≡ unit = c.from-unit.ensures ∙ c.unit.ensures in
-    let lt : unit < length (map part_of items) = omega (arith, c.if-unit-len.false, c.len.ensures, here, length-map items part_of) in
+    let lt : unit < length (map unit_part items) = omega (arith, c.if-unit-len.false, c.len.ensures, here, length-map items unit_part) in
     let is = c.index_mut-side.ensures.value in
     let old = view_of items i.rows in
     let new = view_of (set items place after) i.rows in

@@ -1,5 +1,5 @@
 use Rattle.std.proofs.Common.{◌<◌, length, map, ap, subst, arith}
-use Rattle.unit_world.specs.Parts.{part_of}
+use Rattle.unit_world.specs.Parts.{unit_part}
 use Rattle.unit_world.specs.Sites.{SiteState, DeliversAs, OnDelivered, StepsUnit}
 use Rattle.unit_world.proofs.Sends.{for-rows, sends-answer, sends-keeps, sends-step, site_after}
 use Rattle.unit_world.proofs.site.PlainSite.deliver.Goals as goal
@@ -12,7 +12,7 @@ send_back-requires g c =
     let place = c.from.result in
     let unit = c.args.unit in
     let side = c.index_mut-side.result.now in
-    let lt : unit < length (map part_of items) = omega (arith, c.requires, ap (λ (s : SiteState _). length s.units) c.self.view_is) in
+    let lt : unit < length (map unit_part items) = omega (arith, c.requires, ap (λ (s : SiteState _). length s.units) c.self.view_is) in
     let here = c.from.ensures in
     let is = c.index_mut-side.ensures.value in
     for-rows meaning items i.rows place unit here lt side is c.self.invariant c.holds.ensures.legal c.holds.ensures.given
@@ -25,7 +25,7 @@ invariant_of-self g c =
     let place = c.from.result in
     let unit = c.args.unit in
     let side = c.index_mut-side.result.now in
-    let lt : unit < length (map part_of items) = omega (arith, c.requires, ap (λ (s : SiteState _). length s.units) c.self.view_is) in
+    let lt : unit < length (map unit_part items) = omega (arith, c.requires, ap (λ (s : SiteState _). length s.units) c.self.view_is) in
     let here = c.from.ensures in
     let is = c.index_mut-side.ensures.value in
     sends-keeps meaning items i.rows place unit here lt side is c.self.invariant c.holds.ensures.legal c.holds.ensures.given c.send_back.new.book c.send_back.new.rows c.send_back.result c.send_back.ensures
@@ -38,7 +38,7 @@ returns-clause-answer g c =
     let place = c.from.result in
     let unit = c.args.unit in
     let side = c.index_mut-side.result.now in
-    let lt : unit < length (map part_of items) = omega (arith, c.requires, ap (λ (s : SiteState _). length s.units) c.self.view_is) in
+    let lt : unit < length (map unit_part items) = omega (arith, c.requires, ap (λ (s : SiteState _). length s.units) c.self.view_is) in
     let here = c.from.ensures in
     let is = c.index_mut-side.ensures.value in
     let call = c.send_back in
@@ -54,7 +54,7 @@ returns-clause-step g c =
     let place = c.from.result in
     let unit = c.args.unit in
     let side = c.index_mut-side.result.now in
-    let lt : unit < length (map part_of items) = omega (arith, c.requires, ap (λ (s : SiteState _). length s.units) c.self.view_is) in
+    let lt : unit < length (map unit_part items) = omega (arith, c.requires, ap (λ (s : SiteState _). length s.units) c.self.view_is) in
     let here = c.from.ensures in
     let is = c.index_mut-side.ensures.value in
     let call = c.send_back in

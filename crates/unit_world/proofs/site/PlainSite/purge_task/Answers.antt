@@ -1,7 +1,7 @@
 use Rattle.std.proofs.Common.{◌≡◌, Vec, map, sym, ap, subst}
 use Rattle.std.specs.Prelude.{IfOk, OnErr}
 use Rattle.std.proofs.lemmas.Result.{on_err_weaker}
-use Rattle.unit_world.specs.Parts.{part_of}
+use Rattle.unit_world.specs.Parts.{unit_part}
 use Rattle.unit_world.specs.Purges.{PurgesSite}
 use Rattle.unit_world.specs.Sites.{SiteState, IsSite}
 use Rattle.unit_world.proofs.PurgedUnits.{purges-keeps, purges-site}
@@ -16,7 +16,7 @@ invariant_of-self g c =
     let old = view_of i.units.items i.rows in
     let units = c.purge_everywhere.new.units in
     either c.purge_everywhere.result c.purge_everywhere.ensures.ok c.purge_everywhere.ensures.err
-    (λ answers h. purges-keeps meaning c.args.task c.args.mode old answers.items (map part_of units.items) h c.self.invariant)
+    (λ answers h. purges-keeps meaning c.args.task c.args.mode old answers.items (map unit_part units.items) h c.self.invariant)
     (λ same. subst (λ us. IsSite meaning (view_of us i.rows)) (sym (ap (λ (v : Vec _ _). v.items) same)) c.self.invariant)
 
 pub returns-clause-ok : goal.returns-clause-ok
@@ -27,7 +27,7 @@ returns-clause-ok g c =
     let units = c.purge_everywhere.new.units in
     let r = c.purge_everywhere.result in
     subst (λ (s : SiteState _). IfOk r (λ answers. PurgesSite meaning c.args.task c.args.mode s answers.items (view_of units.items i.rows))) c.self.view_is
-    (if-ok r (λ answers h. purges-site meaning c.args.task c.args.mode old answers.items (map part_of units.items) h) c.purge_everywhere.ensures.ok)
+    (if-ok r (λ answers h. purges-site meaning c.args.task c.args.mode old answers.items (map unit_part units.items) h) c.purge_everywhere.ensures.ok)
 
 pub returns-clause-err : goal.returns-clause-err
 returns-clause-err g c =

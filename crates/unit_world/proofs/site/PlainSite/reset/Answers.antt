@@ -6,7 +6,7 @@ use Rattle.unit_book.specs.Answers.{Adds}
 use Rattle.unit_book.specs.Controls.{ResetRefused}
 use Rattle.unit_book.specs.Dcbs.{is_open}
 use Rattle.unit_book.specs.Refusals.{ResetLacks}
-use Rattle.unit_world.specs.Parts.{part_of}
+use Rattle.unit_world.specs.Parts.{unit_part}
 use Rattle.unit_world.specs.Sites.{SiteState, OnBook, OnPart, StepsUnit, world_at}
 use Rattle.unit_world.proofs.Sites.{call-done, call-err, call-fact, call-given, call-keeps, call-steps, side_with, view_of}
 use Rattle.unit_world.proofs.States.{both, if-done}
@@ -23,13 +23,13 @@ invariant_of-self g c =
     let side = c.index_mut-side.result.now in
     let call = c.reset in
     let book = call.new.self in
-    let lt : unit < length (map part_of items) = omega (arith, c.requires, ap (λ (s : SiteState _). length s.units) c.self.view_is) in
+    let lt : unit < length (map unit_part items) = omega (arith, c.requires, ap (λ (s : SiteState _). length s.units) c.self.view_is) in
     let here = c.from.ensures in
     let is = c.index_mut-side.ensures.value in
     let old = view_of items i.rows in
     let new = view_of (set items place (side_with side book)) i.rows in
     call-keeps meaning items i.rows place unit here lt side is book call.result c.self.invariant (both _ _ call.result (if-done _ call.result call.ensures.ok) call.ensures.opened) call.ensures.err
-    (λ a h. resets meaning (world_at old unit (part_of side)) (world_at old unit (part_of (side_with side book))) c.args.dcb refl h.1 h.0)
+    (λ a h. resets meaning (world_at old unit (unit_part side)) (world_at old unit (unit_part (side_with side book))) c.args.dcb refl h.1 h.0)
 
 pub returns-clause-step : goal.returns-clause-step
 returns-clause-step g c =
@@ -41,14 +41,14 @@ returns-clause-step g c =
     let side = c.index_mut-side.result.now in
     let call = c.reset in
     let book = call.new.self in
-    let lt : unit < length (map part_of items) = omega (arith, c.requires, ap (λ (s : SiteState _). length s.units) c.self.view_is) in
+    let lt : unit < length (map unit_part items) = omega (arith, c.requires, ap (λ (s : SiteState _). length s.units) c.self.view_is) in
     let here = c.from.ensures in
     let is = c.index_mut-side.ensures.value in
     let old = view_of items i.rows in
     let new = view_of (set items place (side_with side book)) i.rows in
     subst (λ (s : SiteState _). OnOk call.result (StepsUnit meaning s unit new)) c.self.view_is
     (call-steps meaning items i.rows place unit here lt side is book call.result (both _ _ call.result (if-done _ call.result call.ensures.ok) call.ensures.opened)
-    (λ a h. resets meaning (world_at old unit (part_of side)) (world_at old unit (part_of (side_with side book))) c.args.dcb refl h.1 h.0))
+    (λ a h. resets meaning (world_at old unit (unit_part side)) (world_at old unit (unit_part (side_with side book))) c.args.dcb refl h.1 h.0))
 
 pub returns-clause-ok : goal.returns-clause-ok
 returns-clause-ok g c =
@@ -60,7 +60,7 @@ returns-clause-ok g c =
     let side = c.index_mut-side.result.now in
     let call = c.reset in
     let book = call.new.self in
-    let lt : unit < length (map part_of items) = omega (arith, c.requires, ap (λ (s : SiteState _). length s.units) c.self.view_is) in
+    let lt : unit < length (map unit_part items) = omega (arith, c.requires, ap (λ (s : SiteState _). length s.units) c.self.view_is) in
     let here = c.from.ensures in
     let is = c.index_mut-side.ensures.value in
     let old = view_of items i.rows in
@@ -78,7 +78,7 @@ returns-clause-err g c =
     let side = c.index_mut-side.result.now in
     let call = c.reset in
     let book = call.new.self in
-    let lt : unit < length (map part_of items) = omega (arith, c.requires, ap (λ (s : SiteState _). length s.units) c.self.view_is) in
+    let lt : unit < length (map unit_part items) = omega (arith, c.requires, ap (λ (s : SiteState _). length s.units) c.self.view_is) in
     let here = c.from.ensures in
     let is = c.index_mut-side.ensures.value in
     let old = view_of items i.rows in
@@ -95,7 +95,7 @@ returns-clause-opened g c =
     let side = c.index_mut-side.result.now in
     let call = c.reset in
     let book = call.new.self in
-    let lt : unit < length (map part_of items) = omega (arith, c.requires, ap (λ (s : SiteState _). length s.units) c.self.view_is) in
+    let lt : unit < length (map unit_part items) = omega (arith, c.requires, ap (λ (s : SiteState _). length s.units) c.self.view_is) in
     let here = c.from.ensures in
     let is = c.index_mut-side.ensures.value in
     let old = view_of items i.rows in
@@ -113,7 +113,7 @@ returns-clause-refused g c =
     let side = c.index_mut-side.result.now in
     let call = c.reset in
     let book = call.new.self in
-    let lt : unit < length (map part_of items) = omega (arith, c.requires, ap (λ (s : SiteState _). length s.units) c.self.view_is) in
+    let lt : unit < length (map unit_part items) = omega (arith, c.requires, ap (λ (s : SiteState _). length s.units) c.self.view_is) in
     let here = c.from.ensures in
     let is = c.index_mut-side.ensures.value in
     let old = view_of items i.rows in
@@ -131,7 +131,7 @@ returns-clause-full g c =
     let side = c.index_mut-side.result.now in
     let call = c.reset in
     let book = call.new.self in
-    let lt : unit < length (map part_of items) = omega (arith, c.requires, ap (λ (s : SiteState _). length s.units) c.self.view_is) in
+    let lt : unit < length (map unit_part items) = omega (arith, c.requires, ap (λ (s : SiteState _). length s.units) c.self.view_is) in
     let here = c.from.ensures in
     let is = c.index_mut-side.ensures.value in
     let old = view_of items i.rows in

@@ -1,7 +1,7 @@
 use Rattle.std.proofs.Common.{◌<◌, length, map, set, ap, subst, arith}
 use Rattle.unit_book.specs.Refusals.{SettleLacks}
 use Rattle.unit_book.specs.Settle.{IsIdle}
-use Rattle.unit_world.specs.Parts.{part_of}
+use Rattle.unit_world.specs.Parts.{unit_part}
 use Rattle.unit_world.specs.Sites.{SiteState, OnBook, SettlesBook, StepsOfUnit, world_at}
 use Rattle.unit_world.proofs.Sites.{call-always, call-list, call-now, call-now-err, call-settles, two-done, side_with, view_of}
 use Rattle.unit_world.proofs.Steps.{settles}
@@ -17,12 +17,12 @@ invariant_of-self g c =
     let side = c.index_mut-side.result.now in
     let call = c.settle in
     let book = call.new.self in
-    let lt : unit < length (map part_of items) = omega (arith, c.requires, ap (λ (s : SiteState _). length s.units) c.self.view_is) in
+    let lt : unit < length (map unit_part items) = omega (arith, c.requires, ap (λ (s : SiteState _). length s.units) c.self.view_is) in
     let here = c.from.ensures in
     let is = c.index_mut-side.ensures.value in
     let old = view_of items i.rows in
     let new = view_of (set items place (side_with side book)) i.rows in
-    call-settles meaning items i.rows place unit here lt side is book c.self.invariant (settles meaning (world_at old unit (part_of side)) book call.ensures.steps)
+    call-settles meaning items i.rows place unit here lt side is book c.self.invariant (settles meaning (world_at old unit (unit_part side)) book call.ensures.steps)
 
 pub returns-clause-settles : goal.returns-clause-settles
 returns-clause-settles g c =
@@ -34,7 +34,7 @@ returns-clause-settles g c =
     let side = c.index_mut-side.result.now in
     let call = c.settle in
     let book = call.new.self in
-    let lt : unit < length (map part_of items) = omega (arith, c.requires, ap (λ (s : SiteState _). length s.units) c.self.view_is) in
+    let lt : unit < length (map unit_part items) = omega (arith, c.requires, ap (λ (s : SiteState _). length s.units) c.self.view_is) in
     let here = c.from.ensures in
     let is = c.index_mut-side.ensures.value in
     let old = view_of items i.rows in
@@ -58,13 +58,13 @@ returns-clause-steps g c =
     let side = c.index_mut-side.result.now in
     let call = c.settle in
     let book = call.new.self in
-    let lt : unit < length (map part_of items) = omega (arith, c.requires, ap (λ (s : SiteState _). length s.units) c.self.view_is) in
+    let lt : unit < length (map unit_part items) = omega (arith, c.requires, ap (λ (s : SiteState _). length s.units) c.self.view_is) in
     let here = c.from.ensures in
     let is = c.index_mut-side.ensures.value in
     let old = view_of items i.rows in
     let new = view_of (set items place (side_with side book)) i.rows in
     subst (λ (s : SiteState _). StepsOfUnit meaning s unit new) c.self.view_is
-    (call-list meaning items i.rows place unit here lt side is book (settles meaning (world_at old unit (part_of side)) book call.ensures.steps))
+    (call-list meaning items i.rows place unit here lt side is book (settles meaning (world_at old unit (unit_part side)) book call.ensures.steps))
 
 pub returns-clause-idle : goal.returns-clause-idle
 returns-clause-idle g c =
@@ -76,7 +76,7 @@ returns-clause-idle g c =
     let side = c.index_mut-side.result.now in
     let call = c.settle in
     let book = call.new.self in
-    let lt : unit < length (map part_of items) = omega (arith, c.requires, ap (λ (s : SiteState _). length s.units) c.self.view_is) in
+    let lt : unit < length (map unit_part items) = omega (arith, c.requires, ap (λ (s : SiteState _). length s.units) c.self.view_is) in
     let here = c.from.ensures in
     let is = c.index_mut-side.ensures.value in
     let old = view_of items i.rows in
@@ -94,7 +94,7 @@ returns-clause-full g c =
     let side = c.index_mut-side.result.now in
     let call = c.settle in
     let book = call.new.self in
-    let lt : unit < length (map part_of items) = omega (arith, c.requires, ap (λ (s : SiteState _). length s.units) c.self.view_is) in
+    let lt : unit < length (map unit_part items) = omega (arith, c.requires, ap (λ (s : SiteState _). length s.units) c.self.view_is) in
     let here = c.from.ensures in
     let is = c.index_mut-side.ensures.value in
     let old = view_of items i.rows in

@@ -2,7 +2,7 @@ use Rattle.std.proofs.Common.{◌≡◌, ◌<◌, length, map, refl, set, ap, su
 use Rattle.std.specs.Prelude.{IfOk, OnErr, OnOk}
 use Rattle.unit_book.specs.Answers.{StartsBook}
 use Rattle.unit_book.specs.Refusals.{StartLacks}
-use Rattle.unit_world.specs.Parts.{part_of}
+use Rattle.unit_world.specs.Parts.{unit_part}
 use Rattle.unit_world.specs.Sites.{SiteState, OnBook, OnPart, StepsUnit, world_at}
 use Rattle.unit_world.proofs.Sites.{call-err, call-full, call-keeps, call-ok, call-steps, side_with, view_of}
 use Rattle.unit_world.proofs.Steps.{starts}
@@ -18,13 +18,13 @@ invariant_of-self g c =
     let side = c.index_mut-side.result.now in
     let call = c.start in
     let book = call.new.self in
-    let lt : unit < length (map part_of items) = omega (arith, c.requires, ap (λ (s : SiteState _). length s.units) c.self.view_is) in
+    let lt : unit < length (map unit_part items) = omega (arith, c.requires, ap (λ (s : SiteState _). length s.units) c.self.view_is) in
     let here = c.from.ensures in
     let is = c.index_mut-side.ensures.value in
     let old = view_of items i.rows in
     let new = view_of (set items place (side_with side book)) i.rows in
     call-keeps meaning items i.rows place unit here lt side is book call.result c.self.invariant (call.ensures.ok) call.ensures.err
-    (λ a h. starts meaning (world_at old unit (part_of side)) (world_at old unit (part_of (side_with side book))) a refl h)
+    (λ a h. starts meaning (world_at old unit (unit_part side)) (world_at old unit (unit_part (side_with side book))) a refl h)
 
 pub returns-clause-step : goal.returns-clause-step
 returns-clause-step g c =
@@ -36,14 +36,14 @@ returns-clause-step g c =
     let side = c.index_mut-side.result.now in
     let call = c.start in
     let book = call.new.self in
-    let lt : unit < length (map part_of items) = omega (arith, c.requires, ap (λ (s : SiteState _). length s.units) c.self.view_is) in
+    let lt : unit < length (map unit_part items) = omega (arith, c.requires, ap (λ (s : SiteState _). length s.units) c.self.view_is) in
     let here = c.from.ensures in
     let is = c.index_mut-side.ensures.value in
     let old = view_of items i.rows in
     let new = view_of (set items place (side_with side book)) i.rows in
     subst (λ (s : SiteState _). OnOk call.result (StepsUnit meaning s unit new)) c.self.view_is
     (call-steps meaning items i.rows place unit here lt side is book call.result (call.ensures.ok)
-    (λ a h. starts meaning (world_at old unit (part_of side)) (world_at old unit (part_of (side_with side book))) a refl h))
+    (λ a h. starts meaning (world_at old unit (unit_part side)) (world_at old unit (unit_part (side_with side book))) a refl h))
 
 pub returns-clause-ok : goal.returns-clause-ok
 returns-clause-ok g c =
@@ -55,7 +55,7 @@ returns-clause-ok g c =
     let side = c.index_mut-side.result.now in
     let call = c.start in
     let book = call.new.self in
-    let lt : unit < length (map part_of items) = omega (arith, c.requires, ap (λ (s : SiteState _). length s.units) c.self.view_is) in
+    let lt : unit < length (map unit_part items) = omega (arith, c.requires, ap (λ (s : SiteState _). length s.units) c.self.view_is) in
     let here = c.from.ensures in
     let is = c.index_mut-side.ensures.value in
     let old = view_of items i.rows in
@@ -73,7 +73,7 @@ returns-clause-err g c =
     let side = c.index_mut-side.result.now in
     let call = c.start in
     let book = call.new.self in
-    let lt : unit < length (map part_of items) = omega (arith, c.requires, ap (λ (s : SiteState _). length s.units) c.self.view_is) in
+    let lt : unit < length (map unit_part items) = omega (arith, c.requires, ap (λ (s : SiteState _). length s.units) c.self.view_is) in
     let here = c.from.ensures in
     let is = c.index_mut-side.ensures.value in
     let old = view_of items i.rows in
@@ -90,7 +90,7 @@ returns-clause-full g c =
     let side = c.index_mut-side.result.now in
     let call = c.start in
     let book = call.new.self in
-    let lt : unit < length (map part_of items) = omega (arith, c.requires, ap (λ (s : SiteState _). length s.units) c.self.view_is) in
+    let lt : unit < length (map unit_part items) = omega (arith, c.requires, ap (λ (s : SiteState _). length s.units) c.self.view_is) in
     let here = c.from.ensures in
     let is = c.index_mut-side.ensures.value in
     let old = view_of items i.rows in

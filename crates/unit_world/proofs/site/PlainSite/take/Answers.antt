@@ -2,7 +2,7 @@ use Rattle.std.proofs.Common.{◌≡◌, ◌<◌, length, map, set, ap, subst, s
 use Rattle.std.specs.Prelude.{IfOk, OnErr}
 use Rattle.std.proofs.lemmas.Result.{on_err_weaker}
 use Rattle.unit_book.specs.Book.{occupancy}
-use Rattle.unit_world.specs.Parts.{PartTakes, part_of}
+use Rattle.unit_world.specs.Parts.{PartTakes, unit_part}
 use Rattle.unit_world.specs.Sites.{SiteState, IsSite, OnPart, OnTook, OnUnit, StepsUnit}
 use Rattle.unit_world.proofs.Sides.{part-next, part-taken, side-does, side-fact, side-keeps, side-same, side-took, side-world}
 use Rattle.unit_world.proofs.Sites.{if-ok, view_of}
@@ -17,11 +17,11 @@ take-requires g c =
     let place = c.from.result in
     let unit = c.args.unit in
     let side = c.index_mut-side.result.now in
-    let lt : unit < length (map part_of items) = omega (arith, c.requires, ap (λ (s : SiteState _). length s.units) c.self.view_is) in
+    let lt : unit < length (map unit_part items) = omega (arith, c.requires, ap (λ (s : SiteState _). length s.units) c.self.view_is) in
     let here = c.from.ensures in
     let is = c.index_mut-side.ensures.value in
     let old = view_of items i.rows in
-    part-next meaning old unit (part_of side) (side-world meaning items i.rows place unit here lt side is side c.self.invariant)
+    part-next meaning old unit (unit_part side) (side-world meaning items i.rows place unit here lt side is side c.self.invariant)
 
 pub invariant_of-self : goal.invariant_of-self
 invariant_of-self g c =
@@ -33,13 +33,13 @@ invariant_of-self g c =
     let side = c.index_mut-side.result.now in
     let call = c.take in
     let after = call.new.self in
-    let lt : unit < length (map part_of items) = omega (arith, c.requires, ap (λ (s : SiteState _). length s.units) c.self.view_is) in
+    let lt : unit < length (map unit_part items) = omega (arith, c.requires, ap (λ (s : SiteState _). length s.units) c.self.view_is) in
     let here = c.from.ensures in
     let is = c.index_mut-side.ensures.value in
     let old = view_of items i.rows in
     let new = view_of (set items place after) i.rows in
     either call.result call.ensures.ok call.ensures.err
-    (λ a h. side-keeps meaning items i.rows place unit here lt side is after c.self.invariant (part-taken meaning old unit a (part_of side) (part_of after) (side-world meaning items i.rows place unit here lt side is after c.self.invariant) h))
+    (λ a h. side-keeps meaning items i.rows place unit here lt side is after c.self.invariant (part-taken meaning old unit a (unit_part side) (unit_part after) (side-world meaning items i.rows place unit here lt side is after c.self.invariant) h))
     (λ same. subst (IsSite meaning) (sym (side-same meaning items i.rows place unit here lt side is after same)) c.self.invariant)
 
 pub returns-clause-ok : goal.returns-clause-ok
@@ -52,7 +52,7 @@ returns-clause-ok g c =
     let side = c.index_mut-side.result.now in
     let call = c.take in
     let after = call.new.self in
-    let lt : unit < length (map part_of items) = omega (arith, c.requires, ap (λ (s : SiteState _). length s.units) c.self.view_is) in
+    let lt : unit < length (map unit_part items) = omega (arith, c.requires, ap (λ (s : SiteState _). length s.units) c.self.view_is) in
     let here = c.from.ensures in
     let is = c.index_mut-side.ensures.value in
     let old = view_of items i.rows in
@@ -70,7 +70,7 @@ returns-clause-step g c =
     let side = c.index_mut-side.result.now in
     let call = c.take in
     let after = call.new.self in
-    let lt : unit < length (map part_of items) = omega (arith, c.requires, ap (λ (s : SiteState _). length s.units) c.self.view_is) in
+    let lt : unit < length (map unit_part items) = omega (arith, c.requires, ap (λ (s : SiteState _). length s.units) c.self.view_is) in
     let here = c.from.ensures in
     let is = c.index_mut-side.ensures.value in
     let old = view_of items i.rows in
@@ -88,7 +88,7 @@ returns-clause-room g c =
     let side = c.index_mut-side.result.now in
     let call = c.take in
     let after = call.new.self in
-    let lt : unit < length (map part_of items) = omega (arith, c.requires, ap (λ (s : SiteState _). length s.units) c.self.view_is) in
+    let lt : unit < length (map unit_part items) = omega (arith, c.requires, ap (λ (s : SiteState _). length s.units) c.self.view_is) in
     let here = c.from.ensures in
     let is = c.index_mut-side.ensures.value in
     let old = view_of items i.rows in
@@ -106,7 +106,7 @@ returns-clause-full g c =
     let side = c.index_mut-side.result.now in
     let call = c.take in
     let after = call.new.self in
-    let lt : unit < length (map part_of items) = omega (arith, c.requires, ap (λ (s : SiteState _). length s.units) c.self.view_is) in
+    let lt : unit < length (map unit_part items) = omega (arith, c.requires, ap (λ (s : SiteState _). length s.units) c.self.view_is) in
     let here = c.from.ensures in
     let is = c.index_mut-side.ensures.value in
     let old = view_of items i.rows in
@@ -124,7 +124,7 @@ returns-clause-err g c =
     let side = c.index_mut-side.result.now in
     let call = c.take in
     let after = call.new.self in
-    let lt : unit < length (map part_of items) = omega (arith, c.requires, ap (λ (s : SiteState _). length s.units) c.self.view_is) in
+    let lt : unit < length (map unit_part items) = omega (arith, c.requires, ap (λ (s : SiteState _). length s.units) c.self.view_is) in
     let here = c.from.ensures in
     let is = c.index_mut-side.ensures.value in
     let old = view_of items i.rows in
