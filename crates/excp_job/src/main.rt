@@ -14,7 +14,7 @@ use job_check::{Source, check_script};
 use job_options::{Counts, Order, Words};
 use job_run::{Workers, report_script, run_script};
 use job_script::JobError;
-use job_step::step_scenario;
+use job_step::{SiteKind, step_scenario};
 use screen::Screen;
 use std::cell::Cell;
 use std::env;
@@ -92,7 +92,7 @@ fn carry_out<R: Threads + Wait + Sync, I: Read>(
         Order::Report { counts, steps } => report(rt, threads, input, counts, steps, &is_broken),
         Order::Check => check(rt, input, name, &is_broken),
         Order::Assemble => assemble(rt, input, name, &is_broken),
-        Order::Step => step(rt, threads, input, name, &is_broken),
+        Order::Step { is_plain } => step(rt, threads, input, kind_of(is_plain), name, &is_broken),
     };
     match done {
         Ok(status) => status,
@@ -177,6 +177,7 @@ fn step<R: Wait, I: Read>(
     rt: &HostRuntime,
     threads: &R,
     input: &mut I,
+    kind: SiteKind,
     name: &str,
     is_broken: &Cell<bool>,
 ) -> Result<u8, JobError> {
@@ -186,12 +187,22 @@ fn step<R: Wait, I: Read>(
     let is_met = step_scenario(
         threads,
         rt.alloc(),
+        kind,
         input,
         &mut screen,
         &mut rt.stderr(),
         source,
     )?;
     Ok(if is_met { 0 } else { REJECTED })
+}
+
+/// What carries a scenario out.
+fn kind_of(is_plain: bool) -> SiteKind {
+    if is_plain {
+        SiteKind::Plain
+    } else {
+        SiteKind::Locked
+    }
 }
 
 fn workers(counts: Counts) -> Workers {

@@ -70,8 +70,13 @@ fn assemble<'a>(alloc: Global) -> Result<Command<'a>, AllocError> {
 }
 
 fn step<'a>(alloc: Global) -> Result<Command<'a>, AllocError> {
+    let plain = Arg::new(alloc, "plain")
+        .long("plain")
+        .help("Units and rows without locks; the answers are the same")
+        .action(ArgAction::SetTrue);
     Command::new(alloc, "step")
         .about("Carries out a scenario event by event, and prints each answer at once")
+        .arg(plain)?
         .arg(script(alloc))
 }
 

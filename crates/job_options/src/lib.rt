@@ -36,8 +36,8 @@ pub enum Order {
     Check,
     /// To print the plain script of one with symbolic areas.
     Assemble,
-    /// To carry out a scenario, and print the answer of each event.
-    Step,
+    /// To carry out a scenario, and print the answer of each event; with `is_plain` without locks.
+    Step { is_plain: bool },
 }
 
 /// What the command line asks for, and the file of the script; standard input if no file is named.
@@ -79,7 +79,10 @@ fn asked_for(matches: &ArgMatches<'_>) -> Option<Order> {
     match name {
         "check" => Some(Order::Check),
         "assemble" => Some(Order::Assemble),
-        "step" => Some(Order::Step),
+        "step" => {
+            let is_plain = options.get_flag("plain");
+            Some(Order::Step { is_plain })
+        }
         "report" => {
             let counts = counts_of(options)?;
             let steps = options.get_flag("steps");

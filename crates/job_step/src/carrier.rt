@@ -1,12 +1,14 @@
 //! What carries out the events of a scenario: units with their books, and rows between them and the tasks.
 
-ghost use Rattle.std.specs.Prelude.{◌≡◌, ◌<◌, ◌≤◌, ℕ};
+ghost use Rattle.std.specs.Prelude.{◌≡◌, ◌<◌, ◌≤◌, ℕ, IfErr};
 ghost use Rattle.job_mount.specs.Requests.{CanIssue};
+ghost use Rattle.job_step.specs.Faults.{IsStepFault};
 
 use crate::answer::Issuing;
+use crate::shown::Shown;
 use excp_system::{Delivery, Intake};
 use io_images::Extent;
-use job_script::{DcbName, Excp};
+use job_script::{DcbName, Excp, JobError};
 use request_piece::Posted;
 use std::alloc::{AllocError, Global};
 use unit_book::{
@@ -107,4 +109,8 @@ pub trait Carrier: Drop {
         requires unit { unit < units self.old }
         ensures units { units self.new ≡ units self.old }
         ensures tasks { tasks self.new ≡ tasks self.old };
+
+    /// Ends every request. Returns the answer: how many posts the tasks had not collected, and each of these posts.
+    fn finish(self, alloc: Global, shown: &Shown) -> Result<Vec<u8>, JobError>
+        ensures { IfErr result IsStepFault };
 }

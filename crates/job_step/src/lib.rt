@@ -6,8 +6,10 @@
 mod answer;
 mod carrier;
 mod fault;
+mod left;
 mod lines;
 mod locked;
+mod plain;
 mod printer;
 mod report;
 mod rooms;
@@ -16,4 +18,4 @@ mod shown;
 mod stepper;
 
 pub use fault::StepError;
-pub use report::step_scenario;
+pub use report::{SiteKind, step_scenario};

@@ -115,13 +115,8 @@ impl<'a, 'r, S: Site, R: Wait> Carrier for Locked<'a, 'r, S, R> {
     fn settle(&mut self, unit: u16) -> Result<(), AllocError> {
         self.system.lock_of(unit).lock(self.rt).settle()
     }
-}
 
-impl<'a, 'r, S: Site, R: Wait> Locked<'a, 'r, S, R> {
-    /// Ends all requests. Returns the answer: how many posts the tasks had not collected, and each of these posts.
-    pub fn finish(self, alloc: Global, shown: &Shown) -> Result<Vec<u8>, JobError>
-        ensures { IfErr result IsStepFault }
-    {
+    fn finish(self, alloc: Global, shown: &Shown) -> Result<Vec<u8>, JobError> {
         let Locked { rt, system, tasks } = self;
         let count = tasks.len() as u16;
         let report = match finish(rt, alloc, system, tasks) {

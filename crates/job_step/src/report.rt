@@ -8,6 +8,7 @@ use crate::carrier::Carrier;
 use crate::fault::StepError;
 use crate::lines::Lines;
 use crate::locked::Locked;
+use crate::plain::Plain;
 use crate::printer::Printer;
 use crate::set_up::{Plan, read_line};
 use crate::shown::Shown;
@@ -23,12 +24,22 @@ use std::marker::Brand;
 use std::sync::Wait;
 use unit_book::UnitBook;
 
+/// What carries a scenario out.
+#[derive(Clone, Copy)]
+pub enum SiteKind {
+    /// Units under locks and real rows.
+    Locked,
+    /// Units and rows without locks.
+    Plain,
+}
+
 /// Reads a scenario line by line, at most 1,048,576 bytes and one more. Carries out each event and prints its answer before
 /// it reads the next line. Prints each failed expectation. A fault is printed and ends the scenario. Returns whether no line
 /// has a fault and all expectations are met.
 pub fn step_scenario<R: Wait, I: Read + Drop, W: Write, E: Write>(
     rt: &R,
     alloc: Global,
+    kind: SiteKind,
     input: I,
     out: &mut W,
     errors: &mut E,
@@ -38,7 +49,7 @@ pub fn step_scenario<R: Wait, I: Read + Drop, W: Write, E: Write>(
 {
     let mut lines = Lines::new(alloc, input)?;
     let mut printer = Printer::new(alloc, out, errors, source);
-    carry_out(rt, alloc, &mut lines, &mut printer)?;
+    carry_out(rt, alloc, kind, &mut lines, &mut printer)?;
     Ok(printer.is_met())
 }
 
@@ -46,6 +57,7 @@ pub fn step_scenario<R: Wait, I: Read + Drop, W: Write, E: Write>(
 fn carry_out<R: Wait, I: Read + Drop, W: Write, E: Write>(
     rt: &R,
     alloc: Global,
+    kind: SiteKind,
     lines: &mut Lines<I>,
     printer: &mut Printer<'_, W, E>,
 ) -> Result<(), JobError>
@@ -58,10 +70,50 @@ fn carry_out<R: Wait, I: Read + Drop, W: Write, E: Write>(
     let Some(books) = plan.books(alloc)? else {
         return printer.faults(&mount_faults(alloc, &plan.set_up.units)?);
     };
+    match kind {
+        SiteKind::Locked => with_rows(rt, alloc, books, &plan, first, lines, printer),
+        SiteKind::Plain => on_plain_site(alloc, books, &plan, first, lines, printer),
+    }
+}
+
+/// Carries the events out on real rows.
+fn with_rows<R: Wait, I: Read + Drop, W: Write, E: Write>(
+    rt: &R,
+    alloc: Global,
+    books: Vec<UnitBook<AnyDevice>>,
+    plan: &Plan,
+    first: Option<ScenarioLine>,
+    lines: &mut Lines<I>,
+    printer: &mut Printer<'_, W, E>,
+) -> Result<(), JobError>
+    requires books { AreBooks (vec_len plan.now.set_up.units) books.items }
+    requires units { (1 ≤ vec_len plan.now.set_up.units) × (vec_len plan.now.set_up.units ≤ 64) }
+    requires tasks { (1 ≤ plan.now.set_up.tasks) × (plan.now.set_up.tasks ≤ 64) }
+    ensures { IfErr result IsStepFault }
+{
     let units = plan.set_up.units.len() as u16;
     let (intake, post) = (plan.rooms.intake(), plan.rooms.post());
     let mut rows = Rows::new(alloc, plan.set_up.tasks, units, intake, post)?;
-    on_site::<Brand, R, I, W, E>(rt, alloc, &mut rows, books, &plan, first, lines, printer)
+    on_site::<Brand, R, I, W, E>(rt, alloc, &mut rows, books, plan, first, lines, printer)
+}
+
+/// Carries the events out on a site without locks.
+fn on_plain_site<I: Read + Drop, W: Write, E: Write>(
+    alloc: Global,
+    books: Vec<UnitBook<AnyDevice>>,
+    plan: &Plan,
+    first: Option<ScenarioLine>,
+    lines: &mut Lines<I>,
+    printer: &mut Printer<'_, W, E>,
+) -> Result<(), JobError>
+    requires books { AreBooks (vec_len plan.now.set_up.units) books.items }
+    requires units { vec_len plan.now.set_up.units ≤ 64 }
+    requires tasks { plan.now.set_up.tasks ≤ 64 }
+    ensures { IfErr result IsStepFault }
+{
+    let (intake, post) = (plan.rooms.intake(), plan.rooms.post());
+    let carrier = Plain::new(alloc, books, plan.set_up.tasks, intake, post)?;
+    all_events(alloc, carrier, plan, first, lines, printer)
 }
 
 /// Carries the events out on the units and rows of a site.
@@ -85,6 +137,22 @@ fn on_site<S: Site, R: Wait, I: Read + Drop, W: Write, E: Write>(
 {
     let (system, tasks, _) = System::<S, AnyDevice>::new(alloc, rows, books)?;
     let carrier = Locked { rt, system, tasks };
+    all_events(alloc, carrier, plan, first, lines, printer)
+}
+
+/// Carries the events out up to the end of the scenario.
+fn all_events<C: Carrier, I: Read + Drop, W: Write, E: Write>(
+    alloc: Global,
+    carrier: C,
+    plan: &Plan,
+    first: Option<ScenarioLine>,
+    lines: &mut Lines<I>,
+    printer: &mut Printer<'_, W, E>,
+) -> Result<(), JobError>
+    requires units { C.units carrier ≡ vec_len plan.now.set_up.units }
+    requires tasks { C.tasks carrier ≡ plan.now.set_up.tasks }
+    ensures { IfErr result IsStepFault }
+{
     let set_up = &plan.set_up;
     let shown = Shown::new(alloc, usize::from(set_up.tasks), set_up.units.len())?;
     let mut stepper = Stepper::new(alloc, carrier, set_up, shown, lines.number);

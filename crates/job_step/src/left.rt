@@ -1,0 +1,191 @@
+//! What is left at a site without locks, brought to its end.
+
+ghost use Rattle.std.specs.Prelude.{◌≡◌, ◌<◌, ◌≤◌, IfErr, length};
+ghost use Rattle.job_step.specs.Faults.{IsStepFault};
+
+use crate::answer::write_posted;
+use crate::shown::Shown;
+use any_device::AnyDevice;
+use job_script::JobError;
+use request_piece::Posted;
+use std::alloc::{AllocError, Global};
+use std::io::Write;
+use unit_world::{Arriving, Delivering, PlainSite};
+
+/// The posts that were not collected, those of each task and unit in order.
+#[derive(Drop)]
+pub struct Left {
+    units: usize,
+    posts: Vec<Vec<Posted>>,
+}
+
+impl Left {
+    /// None yet, of so many tasks and units.
+    fn new(alloc: Global, tasks: usize, units: usize) -> Result<Left, AllocError> {
+        let mut posts = Vec::new(alloc);
+        for _ in 0..tasks {
+            for _ in 0..units {
+                posts.push(Vec::new(alloc))?;
+            }
+        }
+        Ok(Left { units, posts })
+    }
+
+    /// Adds a post of a task.
+    fn push(&mut self, posted: Posted) -> Result<(), AllocError> {
+        let place = usize::from(posted.name().task)
+            .saturating_mul(self.units)
+            .saturating_add(usize::from(posted.unit()));
+        match self.posts.get_mut(place) {
+            Some(list) => Ok(list.push(posted)?),
+            // no task or unit has this number
+            None => Ok(()),
+        }
+    }
+
+    /// How many posts there are, and each on a line of its own.
+    pub fn written(&self, alloc: Global, shown: &Shown) -> Result<Vec<u8>, JobError>
+        ensures { IfErr result IsStepFault }
+    {
+        let mut answer = Vec::new(alloc);
+        match self.write(&mut answer, shown) {
+            Ok(()) => Ok(answer),
+            Err(_) => Err(JobError::NoMemory),
+        }
+    }
+
+    fn write(&self, out: &mut Vec<u8>, shown: &Shown) -> std::io::Result<()> {
+        let mut count: usize = 0;
+        for list in &self.posts {
+            count = count.saturating_add(list.len());
+        }
+        write!(out, "Finished {count}")?;
+        for list in &self.posts {
+            write_list(out, list, shown)?;
+        }
+        Ok(())
+    }
+}
+
+fn write_list(out: &mut Vec<u8>, posts: &[Posted], shown: &Shown) -> std::io::Result<()> {
+    for posted in posts {
+        out.write_all(b"\n")?;
+        write_posted(out, posted, shown.of(posted))?;
+    }
+    Ok(())
+}
+
+/// Ends every request of a site of so many units and tasks, and returns the posts that were not collected.
+pub fn gather(
+    alloc: Global,
+    site: PlainSite<AnyDevice>,
+    units: u16,
+    tasks: u16,
+) -> Result<Left, AllocError>
+    requires { units ≡ length site.units }
+{
+    let mut site = site;
+    let mut left = Left::new(alloc, usize::from(tasks), usize::from(units))?;
+    for _ in 0..u64::MAX {
+        if round(&mut site, units, tasks, &mut left)? {
+            break;
+        }
+    }
+    Ok(left)
+}
+
+/// Does all that units and tasks can do. Returns whether nothing is left.
+fn round(
+    site: &mut PlainSite<AnyDevice>,
+    units: u16,
+    tasks: u16,
+    left: &mut Left,
+) -> Result<bool, AllocError>
+    requires { units ≡ length site.old.units }
+    ensures { length site.new.units ≡ length site.old.units }
+{
+    work_all(site, units)?;
+    for task in 0..tasks {
+        collect(site, task, left)?;
+    }
+    Ok(is_drained(site, units))
+}
+
+/// Does all that each unit can do.
+fn work_all(site: &mut PlainSite<AnyDevice>, units: u16) -> Result<(), AllocError>
+    requires { units ≡ length site.old.units }
+    ensures { length site.new.units ≡ length site.old.units }
+{
+    for unit in 0..units {
+        work(site, unit)?;
+    }
+    Ok(())
+}
+
+/// Lets requests arrive, ends them and delivers their posts, as far as there is room.
+fn work(site: &mut PlainSite<AnyDevice>, unit: u16) -> Result<(), AllocError>
+    requires { unit < length site.old.units }
+    ensures { length site.new.units ≡ length site.old.units }
+{
+    receive(site, unit)?;
+    site.settle(unit)?;
+    give_back(site, unit);
+    Ok(())
+}
+
+/// Lets what is in flight to a unit arrive, as far as its book has room.
+fn receive(site: &mut PlainSite<AnyDevice>, unit: u16) -> Result<(), AllocError>
+    requires { unit < length site.old.units }
+    ensures { length site.new.units ≡ length site.old.units }
+{
+    for _ in 0..u64::MAX {
+        match site.take(unit)? {
+            Arriving::Took(_) => {}
+            Arriving::Held | Arriving::Quiet => break,
+        }
+    }
+    Ok(())
+}
+
+/// Delivers what a unit has posted, as far as there is room.
+fn give_back(site: &mut PlainSite<AnyDevice>, unit: u16)
+    requires { unit < length site.old.units }
+    ensures { length site.new.units ≡ length site.old.units }
+{
+    for _ in 0..u64::MAX {
+        match site.deliver(unit) {
+            Delivering::Delivered(_) => {}
+            Delivering::Quiet | Delivering::Full(_) => break,
+        }
+    }
+}
+
+/// Collects the posts of a task.
+fn collect(site: &mut PlainSite<AnyDevice>, task: u16, left: &mut Left) -> Result<(), AllocError>
+    ensures { length site.new.units ≡ length site.old.units }
+{
+    for _ in 0..site.post_len(task) {
+        if let Some(posted) = site.collect(task) {
+            left.push(posted)?;
+        }
+    }
+    Ok(())
+}
+
+/// Whether nothing is in flight, waits, is active or is out.
+fn is_drained(site: &PlainSite<AnyDevice>, units: u16) -> bool
+    requires { units ≡ length site.now.units }
+{
+    for unit in 0..units {
+        if !is_unit_drained(site, unit) {
+            return false;
+        }
+    }
+    true
+}
+
+fn is_unit_drained(site: &PlainSite<AnyDevice>, unit: u16) -> bool
+    requires { unit < length site.now.units }
+{
+    site.is_finished(unit) && site.book(unit).out_len() == 0
+}

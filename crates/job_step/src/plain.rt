@@ -1,0 +1,150 @@
+//! Units and rows without locks and threads.
+
+ghost use Rattle.std.specs.Prelude.{◌≡◌, ◌<◌, ◌≤◌, length, IfOk};
+ghost use Rattle.excp_system.specs.Opening.{AreBooks};
+
+use crate::answer::Issuing;
+use crate::carrier::Carrier;
+use crate::left::{Left, gather};
+use crate::shown::Shown;
+use any_device::AnyDevice;
+use excp_system::{Delivery, Intake};
+use io_images::Extent;
+use job_mount::request;
+use job_script::{DcbName, Excp, JobError};
+use request_piece::Posted;
+use std::alloc::{AllocError, Global};
+use unit_book::{
+    Closing, DcbError, Interruption, Mode, OpenError, ProcessingMethod, Purging, Running, Starting,
+    UnitBook,
+};
+use unit_world::{Arriving, Delivering, PlainSite};
+
+/// The units of a site, and the post rows of its tasks.
+#[derive(Drop)]
+pub struct Plain {
+    pub site: PlainSite<AnyDevice>,
+    ghost few_units: { length site.units ≤ 64 },
+    ghost few_tasks: { length site.rows ≤ 64 },
+}
+
+impl Plain {
+    /// The units with these books, each with room for `intake` requests in flight, and tasks with room for `post` posts in
+    /// the row of each.
+    pub fn new(
+        alloc: Global,
+        books: Vec<UnitBook<AnyDevice>>,
+        tasks: u16,
+        intake: usize,
+        post: usize,
+    ) -> Result<Plain, AllocError>
+        requires books { AreBooks (length books.items) books.items }
+        requires few_units { length books.items ≤ 64 }
+        requires few_tasks { tasks ≤ 64 }
+        ensures units { IfOk result (λ c. length c.site.units ≡ length books.items) }
+        ensures tasks { IfOk result (λ c. length c.site.rows ≡ tasks) }
+    {
+        let mut site = PlainSite::new(alloc, tasks, post)?;
+        for book in books {
+            site.add_unit(book, intake)?;
+        }
+        Ok(Plain { site })
+    }
+}
+
+/// What a take did, in the words of a unit under a lock.
+fn intake_of(answer: Arriving) -> Intake {
+    match answer {
+        Arriving::Held => Intake::Held,
+        Arriving::Quiet => Intake::Quiet,
+        Arriving::Took(name) => Intake::Took(name),
+    }
+}
+
+/// What a delivery did, in the words of a unit under a lock.
+fn delivery_of(answer: Delivering) -> Delivery {
+    match answer {
+        Delivering::Quiet => Delivery::Quiet,
+        Delivering::Delivered(name) => Delivery::Delivered(name),
+        Delivering::Full(name) => Delivery::Full(name),
+    }
+}
+
+impl Carrier for Plain {
+    ghost units = { λ c. length c.site.units };
+
+    ghost tasks = { λ c. length c.site.rows };
+
+    fn excp(&mut self, alloc: Global, task: u16, excp: &Excp) -> Result<Issuing, AllocError> {
+        let Some(name) = self.site.next_name(task, excp.dcb.unit) else {
+            return Ok(Issuing::NoNumber);
+        };
+        let request = request(alloc, excp, name)?;
+        match self.site.accept(request) {
+            Ok(()) => Ok(Issuing::Accepted(name)),
+            // unit, task and number are right, so only the room is missing
+            Err(_) => Ok(Issuing::Full),
+        }
+    }
+
+    fn open(
+        &mut self,
+        unit: u16,
+        method: ProcessingMethod,
+        extents: &[Extent],
+    ) -> Result<u16, OpenError> {
+        self.site.open(unit, method, extents)
+    }
+
+    fn take(&mut self, unit: u16) -> Result<Intake, AllocError> {
+        Ok(intake_of(self.site.take(unit)?))
+    }
+
+    fn start(&mut self, unit: u16) -> Result<Starting, AllocError> {
+        self.site.start(unit)
+    }
+
+    fn run(&mut self, unit: u16, most: u32) -> Result<Running, AllocError> {
+        self.site.run(unit, most)
+    }
+
+    fn interrupt(&mut self, unit: u16) -> Result<Interruption, AllocError> {
+        self.site.interrupt(unit)
+    }
+
+    fn deliver(&mut self, unit: u16) -> Delivery {
+        delivery_of(self.site.deliver(unit))
+    }
+
+    fn collect(&mut self, task: u16) -> Option<Posted> {
+        self.site.collect(task)
+    }
+
+    fn purge(&mut self, dcb: DcbName, mode: Mode) -> Result<Purging, DcbError> {
+        self.site.purge(dcb.unit, dcb.number, mode)
+    }
+
+    fn purge_task(&mut self, unit: u16, task: u16, mode: Mode) -> Result<Purging, AllocError> {
+        self.site.purge_task_at(unit, task, mode)
+    }
+
+    fn close(&mut self, dcb: DcbName) -> Result<Closing, DcbError> {
+        self.site.close(dcb.unit, dcb.number)
+    }
+
+    fn reset(&mut self, dcb: DcbName) -> Result<(), DcbError> {
+        self.site.reset(dcb.unit, dcb.number)
+    }
+
+    fn settle(&mut self, unit: u16) -> Result<(), AllocError> {
+        self.site.settle(unit)
+    }
+
+    fn finish(self, alloc: Global, shown: &Shown) -> Result<Vec<u8>, JobError> {
+        let Plain { site } = self;
+        let units = site.units() as u16;
+        let tasks = site.tasks() as u16;
+        let left = gather(alloc, site, units, tasks)?;
+        left.written(alloc, shown)
+    }
+}
