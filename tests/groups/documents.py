@@ -1,5 +1,5 @@
-"""The documents: their sentences, by tests/sentences; the names of definitions, by tests/definitions; the layers of crates.txt, and the
-steps of a request in ARCHITECTURE.md; and the kit that the README names, of which there is only a warning."""
+"""The documents: their sentences, by tests/sentences; the names of definitions, by tests/definitions; the definitions that the headline
+rests on, by tests/closure; the layers of crates.txt; the steps of a request in ARCHITECTURE.md; and the kit that the README names, of which there is only a warning."""
 
 import re
 import shutil
@@ -60,6 +60,8 @@ def cases(setup):
     yield Case("the measure of sentences", lambda: passes("sentences", "--self-test"), "tests/sentences, texts with known measures")
     yield Case("definitions", lambda: passes("definitions"), "docs/GLOSSARY.md")
     yield Case("the list of definitions", lambda: passes("definitions", "--self-test"), "tests/definitions, crates with known faults")
+    yield Case("definitions of the headline", lambda: passes("closure", "--check"), "docs/PROVED.md, by tests/closure")
+    yield Case("the list of the headline", lambda: passes("closure", "--self-test"), "tests/closure, specs with a known list")
     yield Case("layers of crates.txt", layers_hold, "crates.txt, line 1")
     yield Case("steps of a request", steps_hold, "docs/ARCHITECTURE.md, by the sources")
     yield Case("kit of the README", names_kit, "rt version")
