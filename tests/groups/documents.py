@@ -1,6 +1,9 @@
-"""The documents: their sentences, by tests/sentences; the names of definitions, by tests/definitions; the definitions that the headline
-rests on, by tests/closure; the layers of crates.txt; the steps of a request in ARCHITECTURE.md; the code that CLIENT.md and
-ADDING-A-DEVICE.md quote; and the kit that the README names, of which there is only a warning."""
+"""The documents: their sentences and links, their definitions, and what they quote of crates.txt and of the sources.
+
+tests/sentences measures the sentences, and tests/definitions finds names of definitions that several crates have. tests/closure
+has the definitions that the headline rests on. The layers of crates.txt, the steps of a request in ARCHITECTURE.md and the code
+that CLIENT.md and ADDING-A-DEVICE.md quote are compared with the sources. A README that names another kit is a warning.
+"""
 
 import re
 import shutil
