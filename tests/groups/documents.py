@@ -1,8 +1,13 @@
-"""The documents: their sentences, by tests/sentences; the names of definitions, by tests/definitions; the layers of crates.txt, and the
-steps of a request in ARCHITECTURE.md; and the kit that the README names, of which there is only a warning."""
+"""The documents: their sentences and links, their definitions, and what they quote of crates.txt and of the sources.
+
+tests/sentences measures the sentences, and tests/definitions finds names of definitions that several crates have. tests/closure
+has the definitions that the headline rests on. The layers of crates.txt, the steps of a request in ARCHITECTURE.md and the code
+that CLIENT.md and ADDING-A-DEVICE.md quote are compared with the sources. A README that names another kit is a warning.
+"""
 
 import re
 import shutil
+import textwrap
 
 from harness import TOP, Case, Failed, Skipped, read, require, run
 
@@ -55,11 +60,38 @@ def steps_hold():
             require(re.search(rf"\bfn {function}\b", read(f"{TOP}/crates/{crate}/src/{path}")), f"step {number}: no fn {function} in {file}")
 
 
+# The pages that quote code, and a block of code in them, behind a line that ends with its file.
+QUOTING = ["CLIENT.md", "ADDING-A-DEVICE.md"]
+
+QUOTE = re.compile(r"`([^`\n]+)`:\n\n```\w*\n(.*?)\n```$", re.M | re.S)
+
+
+def has(file, block):
+    """These lines are in the file one after another, whatever spaces all of them begin with."""
+    there, wanted = read(f"{TOP}/{file}").split("\n"), textwrap.dedent(block)
+    count = len(wanted.split("\n"))
+    return any(textwrap.dedent("\n".join(there[at : at + count])) == wanted for at in range(len(there) - count + 1))
+
+
+def quotes_hold(page):
+    """Each block of code of a page is word for word in the file that the line before it names."""
+    content = read(f"{TOP}/docs/{page}")
+    quotes = QUOTE.findall(content)
+    marks = len(re.findall(r"^```", content, re.M))
+    require(quotes and marks == 2 * len(quotes), f"docs/{page}: {marks // 2} blocks of code, of which {len(quotes)} name their file")
+    for file, block in quotes:
+        require(has(file, block), f"docs/{page}: {file} has no such lines:\n{block}")
+
+
 def cases(setup):
     yield Case("sentences", lambda: passes("sentences"), "tests/sentences, by CONTRIBUTING.md")
     yield Case("the measure of sentences", lambda: passes("sentences", "--self-test"), "tests/sentences, texts with known measures")
     yield Case("definitions", lambda: passes("definitions"), "docs/GLOSSARY.md")
     yield Case("the list of definitions", lambda: passes("definitions", "--self-test"), "tests/definitions, crates with known faults")
+    yield Case("definitions of the headline", lambda: passes("closure", "--check"), "docs/PROVED.md, by tests/closure")
+    yield Case("the list of the headline", lambda: passes("closure", "--self-test"), "tests/closure, specs with a known list")
     yield Case("layers of crates.txt", layers_hold, "crates.txt, line 1")
     yield Case("steps of a request", steps_hold, "docs/ARCHITECTURE.md, by the sources")
+    for page in QUOTING:
+        yield Case(f"quotes of {page}", lambda page=page: quotes_hold(page), f"docs/{page}, by the sources")
     yield Case("kit of the README", names_kit, "rt version")
