@@ -1,4 +1,5 @@
-"""Scenarios, event by event: what each event answers, each expectation changed in turn, and each allocation made to fail.
+"""Scenarios, event by event, with locks and without: what each event answers, each expectation changed in turn, and each
+allocation made to fail.
 
 The files are tests/cases/scenarios/*.scenario and samples/scenarios/*.scenario, whose `expect` lines follow from
 docs/SPECIFICATION.md, and tests/cases/scenarios/*.findings, with scenarios that have faults and what is printed of them.
@@ -58,10 +59,18 @@ def expectations(text):
     return [(at, line) for at, line in enumerate(text.split("\n"), 1) if line.startswith("expect ")]
 
 
+def carried_out(setup, text):
+    """Carries a scenario out on units under locks, and on units without them: both print the same."""
+    ran, plain = setup.run("step", script=text), setup.run("step", "--plain", script=text)
+    if (ran.status, ran.out, ran.err) != (plain.status, plain.out, plain.err):
+        raise Failed("with --plain it prints something else", plain, ran.text(), plain.text())
+    return ran
+
+
 def is_met(setup, text, place=""):
     """Each expectation of a scenario is met."""
     require(expectations(text), f"{place or 'the scenario'} expects nothing")
-    ran = setup.run("step", script=text)
+    ran = carried_out(setup, text)
     ran.file = place
     if (ran.status, ran.err) != (0, ""):
         raise Failed("an expectation is not met", ran, None, ran.err or ran.text())
@@ -79,7 +88,7 @@ def is_missed(setup, file):
 
 def is_rejected(setup, script, wanted):
     """A scenario fails, and these faults and failed expectations are printed."""
-    ran = setup.run("step", script=script)
+    ran = carried_out(setup, script)
     if (ran.status, ran.err) != (1, wanted):
         raise Failed("another outcome", ran, wanted, ran.err)
 
@@ -99,14 +108,14 @@ def answers_at_once(setup, file):
     require(it.returncode == 0, f"status {it.returncode}")
 
 
-def runs_out_of_memory(setup, file, lacks, refusals):
+def runs_out_of_memory(setup, words, file, lacks, refusals):
     """With each allocation made to fail in turn, a scenario prints all, or a part and that memory ran out."""
     setup.skip_unproved()
     if lacks:
         raise Skipped(lacks)
     # the `expect` lines of the scenario judge this text
-    plan = refusals.Plan([setup.program, "step"], refusals.prints_a_part, file, setup.run("step", file=file).out)
-    plan.judged("step", 1)
+    plan = refusals.Plan([setup.program, *words], refusals.prints_a_part, file, setup.run(*words, file=file).out)
+    plan.judged(" ".join(words), 1)
 
 
 def with_full_output(setup, word):
@@ -204,8 +213,9 @@ def cases(setup):
         place, name = os.path.relpath(file, TOP), os.path.basename(file).removesuffix(".scenario")
         yield Case(name, lambda f=file, p=place: is_met(setup, read(f), p), f"{place}, by docs/SPECIFICATION.md")
         yield Case(f"{name}: each expectation changed", lambda f=file: is_missed(setup, f), f"{place}, by docs/MANUAL.md")
-        judge = lambda f=file: runs_out_of_memory(setup, f, lacks, refusals)
-        yield Case(f"{name}: each allocation", judge, f"{place}, by docs/MANUAL.md")
+        for words in ("step",), ("step", "--plain"):
+            judge = lambda w=words, f=file: runs_out_of_memory(setup, w, f, lacks, refusals)
+            yield Case(f"{name}: each allocation of {' '.join(words)}", judge, f"{place}, by docs/MANUAL.md")
     origin = "tests/groups/scenarios.py, by docs/SPECIFICATION.md"
     for name, give in made():
         yield Case(name, lambda g=give: are_met(setup, g), origin)
