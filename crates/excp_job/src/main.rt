@@ -11,10 +11,10 @@ mod words;
 
 use job_assembler::assemble_script;
 use job_check::{Source, check_script};
-use job_options::{Counts, Order, Words};
+use job_options::{Counts, Order, StepOptions, Words};
 use job_run::{Workers, report_script, run_script};
 use job_script::JobError;
-use job_step::{SiteKind, step_scenario};
+use job_step::{SiteKind, Views, step_scenario};
 use screen::Screen;
 use std::cell::Cell;
 use std::env;
@@ -92,7 +92,7 @@ fn carry_out<R: Threads + Wait + Sync, I: Read>(
         Order::Report { counts, steps } => report(rt, threads, input, counts, steps, &is_broken),
         Order::Check => check(rt, input, name, &is_broken),
         Order::Assemble => assemble(rt, input, name, &is_broken),
-        Order::Step { is_plain } => step(rt, threads, input, kind_of(is_plain), name, &is_broken),
+        Order::Step(options) => step(rt, threads, input, options, name, &is_broken),
     };
     match done {
         Ok(status) => status,
@@ -177,17 +177,22 @@ fn step<R: Wait, I: Read>(
     rt: &HostRuntime,
     threads: &R,
     input: &mut I,
-    kind: SiteKind,
+    options: StepOptions,
     name: &str,
     is_broken: &Cell<bool>,
 ) -> Result<u8, JobError> {
     let is_coloured = takes_colour(rt, rt.stderr());
     let source = Source { name, is_coloured };
+    let views = Views {
+        trace: options.trace,
+        state: options.state,
+    };
     let mut screen = Screen::new(rt.stdout(), false, is_broken);
     let is_met = step_scenario(
         threads,
         rt.alloc(),
-        kind,
+        kind_of(options.plain),
+        views,
         input,
         &mut screen,
         &mut rt.stderr(),

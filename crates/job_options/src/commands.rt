@@ -45,10 +45,7 @@ fn run<'a>(alloc: Global) -> Result<Command<'a>, AllocError> {
 }
 
 fn report<'a>(alloc: Global) -> Result<Command<'a>, AllocError> {
-    let steps = Arg::new(alloc, "steps")
-        .long("steps")
-        .help("Every command of each history too")
-        .action(ArgAction::SetTrue);
+    let steps = flag(alloc, "steps", "Every command of each history too");
     Command::new(alloc, "report")
         .about("Prints the posts of a script, the history of each unit and what lies on its medium")
         .arg(channels(alloc))?
@@ -70,14 +67,31 @@ fn assemble<'a>(alloc: Global) -> Result<Command<'a>, AllocError> {
 }
 
 fn step<'a>(alloc: Global) -> Result<Command<'a>, AllocError> {
-    let plain = Arg::new(alloc, "plain")
-        .long("plain")
-        .help("Units and rows without locks; the answers are the same")
-        .action(ArgAction::SetTrue);
+    let plain = flag(
+        alloc,
+        "plain",
+        "Units and rows without locks; the answers are the same",
+    );
+    let trace = flag(
+        alloc,
+        "trace",
+        "The entries that each event adds to the traces of units",
+    );
+    let state = flag(alloc, "state", "The state of each unit after each event");
     Command::new(alloc, "step")
         .about("Carries out a scenario event by event, and prints each answer at once")
         .arg(plain)?
+        .arg(trace)?
+        .arg(state)?
         .arg(script(alloc))
+}
+
+/// An option without a value.
+fn flag<'a>(alloc: Global, name: &'a str, help: &'a str) -> Arg<'a> {
+    Arg::new(alloc, name)
+        .long(name)
+        .help(help)
+        .action(ArgAction::SetTrue)
 }
 
 fn script<'a>(alloc: Global) -> Arg<'a> {

@@ -25,6 +25,15 @@ pub struct Counts {
     ghost handlers_fit: { (1 ≤ handlers) × (handlers ≤ 8) },
 }
 
+/// How a scenario is carried out: without locks, and with what is printed after each answer, new entries of traces and the
+/// state of each unit.
+#[derive(Clone, Copy)]
+pub struct StepOptions {
+    pub plain: bool,
+    pub trace: bool,
+    pub state: bool,
+}
+
 /// What the command line asks for.
 #[derive(Clone, Copy)]
 pub enum Order {
@@ -36,8 +45,8 @@ pub enum Order {
     Check,
     /// To print the plain script of one with symbolic areas.
     Assemble,
-    /// To carry out a scenario, and print the answer of each event; with `is_plain` without locks.
-    Step { is_plain: bool },
+    /// To carry out a scenario, and print the answer of each event.
+    Step(StepOptions),
 }
 
 /// What the command line asks for, and the file of the script; standard input if no file is named.
@@ -79,10 +88,11 @@ fn asked_for(matches: &ArgMatches<'_>) -> Option<Order> {
     match name {
         "check" => Some(Order::Check),
         "assemble" => Some(Order::Assemble),
-        "step" => {
-            let is_plain = options.get_flag("plain");
-            Some(Order::Step { is_plain })
-        }
+        "step" => Some(Order::Step(StepOptions {
+            plain: options.get_flag("plain"),
+            trace: options.get_flag("trace"),
+            state: options.get_flag("state"),
+        })),
         "report" => {
             let counts = counts_of(options)?;
             let steps = options.get_flag("steps");

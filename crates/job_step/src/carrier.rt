@@ -6,6 +6,7 @@ ghost use Rattle.job_step.specs.Faults.{IsStepFault};
 
 use crate::answer::Issuing;
 use crate::shown::Shown;
+use crate::view::View;
 use excp_system::{Delivery, Intake};
 use io_images::Extent;
 use job_script::{DcbName, Excp, JobError};
@@ -110,7 +111,16 @@ pub trait Carrier: Drop {
         ensures units { units self.new ≡ units self.old }
         ensures tasks { tasks self.new ≡ tasks self.old };
 
-    /// Ends every request. Returns the answer: how many posts the tasks had not collected, and each of these posts.
-    fn finish(self, alloc: Global, shown: &Shown) -> Result<Vec<u8>, JobError>
+    /// Adds to the view what is to be printed of a unit.
+    fn show(&self, unit: u16, view: &mut View) -> std::io::Result<()>
+        requires unit { unit < units self.now };
+
+    /// Takes what happened so far at a unit as printed.
+    fn skip(&self, unit: u16, view: &mut View)
+        requires unit { unit < units self.now };
+
+    /// Ends every request. Returns the answer: how many posts the tasks had not collected, and each of these posts. Adds to
+    /// the view what is to be printed of each unit.
+    fn finish(self, alloc: Global, shown: &Shown, view: &mut View) -> Result<Vec<u8>, JobError>
         ensures { IfErr result IsStepFault };
 }

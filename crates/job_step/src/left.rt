@@ -78,16 +78,16 @@ fn write_list(out: &mut Vec<u8>, posts: &[Posted], shown: &Shown) -> std::io::Re
 /// Ends every request of a site of so many units and tasks, and returns the posts that were not collected.
 pub fn gather(
     alloc: Global,
-    site: PlainSite<AnyDevice>,
+    site: &mut PlainSite<AnyDevice>,
     units: u16,
     tasks: u16,
 ) -> Result<Left, AllocError>
-    requires { units ≡ length site.units }
+    requires { units ≡ length site.old.units }
+    ensures { length site.new.units ≡ length site.old.units }
 {
-    let mut site = site;
     let mut left = Left::new(alloc, usize::from(tasks), usize::from(units))?;
     for _ in 0..u64::MAX {
-        if round(&mut site, units, tasks, &mut left)? {
+        if round(site, units, tasks, &mut left)? {
             break;
         }
     }

@@ -16,6 +16,8 @@ mod rooms;
 mod set_up;
 mod shown;
 mod stepper;
+mod view;
 
 pub use fault::StepError;
 pub use report::{SiteKind, step_scenario};
+pub use view::Views;

@@ -9,6 +9,7 @@ ghost use Rattle.job_step.specs.Faults.{IsStepFault};
 use crate::answer::{Issuing, write_posted};
 use crate::carrier::Carrier;
 use crate::shown::Shown;
+use crate::view::View;
 use any_device::AnyDevice;
 use excp_system::{Delivery, Intake, Site, System, Task};
 use fifo_row::Full;
@@ -22,6 +23,7 @@ use std::io::Write;
 use std::sync::Wait;
 use unit_book::{
     Closing, DcbError, Interruption, Mode, OpenError, ProcessingMethod, Purging, Running, Starting,
+    UnitBook,
 };
 
 /// The units of a site under their locks, and its tasks.
@@ -116,7 +118,17 @@ impl<'a, 'r, S: Site, R: Wait> Carrier for Locked<'a, 'r, S, R> {
         self.system.lock_of(unit).lock(self.rt).settle()
     }
 
-    fn finish(self, alloc: Global, shown: &Shown) -> Result<Vec<u8>, JobError> {
+    fn show(&self, unit: u16, view: &mut View) -> std::io::Result<()> {
+        let state = self.system.lock_of(unit).lock(self.rt);
+        view.add(unit, state.book())
+    }
+
+    fn skip(&self, unit: u16, view: &mut View) {
+        let state = self.system.lock_of(unit).lock(self.rt);
+        view.skip(unit, state.book());
+    }
+
+    fn finish(self, alloc: Global, shown: &Shown, view: &mut View) -> Result<Vec<u8>, JobError> {
         let Locked { rt, system, tasks } = self;
         let count = tasks.len() as u16;
         let report = match finish(rt, alloc, system, tasks) {
@@ -124,11 +136,20 @@ impl<'a, 'r, S: Site, R: Wait> Carrier for Locked<'a, 'r, S, R> {
             Err(_) => return Err(JobError::NoMemory),
         };
         let mut answer = Vec::new(alloc);
-        match write_rest(&mut answer, &report, count, shown) {
+        let written = write_rest(&mut answer, &report, count, shown);
+        match written.and(show_books(report.units(), view)) {
             Ok(()) => Ok(answer),
             Err(_) => Err(JobError::NoMemory),
         }
     }
+}
+
+/// Adds to the view what is to be printed of each unit.
+fn show_books(books: &[UnitBook<AnyDevice>], view: &mut View) -> std::io::Result<()> {
+    for (unit, book) in books.iter().enumerate() {
+        view.add(unit as u16, book)?;
+    }
+    Ok(())
 }
 
 /// Writes how many posts the tasks had not collected, and each of these posts, in order of tasks and units.

@@ -7,6 +7,7 @@ use crate::answer::Issuing;
 use crate::carrier::Carrier;
 use crate::left::{Left, gather};
 use crate::shown::Shown;
+use crate::view::View;
 use any_device::AnyDevice;
 use excp_system::{Delivery, Intake};
 use io_images::Extent;
@@ -140,11 +141,33 @@ impl Carrier for Plain {
         self.site.settle(unit)
     }
 
-    fn finish(self, alloc: Global, shown: &Shown) -> Result<Vec<u8>, JobError> {
+    fn show(&self, unit: u16, view: &mut View) -> std::io::Result<()> {
+        view.add(unit, self.site.book(unit))
+    }
+
+    fn skip(&self, unit: u16, view: &mut View) {
+        view.skip(unit, self.site.book(unit));
+    }
+
+    fn finish(self, alloc: Global, shown: &Shown, view: &mut View) -> Result<Vec<u8>, JobError> {
         let Plain { site } = self;
+        let mut site = site;
         let units = site.units() as u16;
         let tasks = site.tasks() as u16;
-        let left = gather(alloc, site, units, tasks)?;
+        let left = gather(alloc, &mut site, units, tasks)?;
+        if show_units(&site, units, view).is_err() {
+            return Err(JobError::NoMemory);
+        }
         left.written(alloc, shown)
     }
+}
+
+/// Adds to the view what is to be printed of each unit.
+fn show_units(site: &PlainSite<AnyDevice>, units: u16, view: &mut View) -> std::io::Result<()>
+    requires { units ≡ length site.now.units }
+{
+    for unit in 0..units {
+        view.add(unit, site.book(unit))?;
+    }
+    Ok(())
 }

@@ -4,6 +4,7 @@ ghost use Rattle.std.specs.Prelude.{◌≡◌, IfErr, IfOk, IfSome, Ok};
 ghost use Rattle.job_step.specs.Faults.{EndsStep, IsStepFault};
 
 use crate::fault::StepError;
+use crate::view::Views;
 use job_check::{Finding, FindingKind, Found, SCRIPT, Source, write_findings};
 use job_script::{Cause, JobError};
 use script_words::{after_words, next_word};
@@ -58,6 +59,7 @@ pub struct Printer<'a, W: Write, E: Write> {
     out: &'a mut W,
     errors: &'a mut E,
     source: Source<'a>,
+    views: Views,
     /// How many bytes of the last answer were compared with an expectation.
     compared: usize,
     /// Whether no line has a fault and all expectations are met so far.
@@ -66,12 +68,19 @@ pub struct Printer<'a, W: Write, E: Write> {
 
 impl<'a, W: Write, E: Write> Printer<'a, W, E> {
     /// Has printed nothing yet.
-    pub fn new(alloc: Global, out: &'a mut W, errors: &'a mut E, source: Source<'a>) -> Self {
+    pub fn new(
+        alloc: Global,
+        out: &'a mut W,
+        errors: &'a mut E,
+        source: Source<'a>,
+        views: Views,
+    ) -> Self {
         Printer {
             alloc,
             out,
             errors,
             source,
+            views,
             compared: 0,
             is_met: true,
         }
@@ -82,8 +91,13 @@ impl<'a, W: Write, E: Write> Printer<'a, W, E> {
         self.is_met
     }
 
-    /// Prints the lines of an answer at once, each after the words of its event.
-    pub fn answer(&mut self, event: &[u8], answer: &[u8]) -> Result<(), JobError>
+    /// What is printed of the units after each answer.
+    pub fn views(&self) -> Views {
+        self.views
+    }
+
+    /// Prints at once the lines of an answer, each after the words of its event, and the lines of a view.
+    pub fn answer(&mut self, event: &[u8], answer: &[u8], view: &[u8]) -> Result<(), JobError>
         ensures { IfErr result IsStepFault }
     {
         self.compared = 0;
@@ -91,6 +105,9 @@ impl<'a, W: Write, E: Write> Printer<'a, W, E> {
             if self.write_line(event, line).is_err() {
                 return Err(JobError::NotWritten);
             }
+        }
+        if self.out.write_all(view).is_err() {
+            return Err(JobError::NotWritten);
         }
         self.out.flush().or(Err(JobError::NotWritten))
     }

@@ -13,6 +13,7 @@ use crate::printer::Printer;
 use crate::set_up::{Plan, read_line};
 use crate::shown::Shown;
 use crate::stepper::Stepper;
+use crate::view::{View, Views};
 use any_device::AnyDevice;
 use excp_system::{Rows, Site, System};
 use job_check::{Source, mount_faults};
@@ -40,6 +41,7 @@ pub fn step_scenario<R: Wait, I: Read + Drop, W: Write, E: Write>(
     rt: &R,
     alloc: Global,
     kind: SiteKind,
+    views: Views,
     input: I,
     out: &mut W,
     errors: &mut E,
@@ -48,7 +50,7 @@ pub fn step_scenario<R: Wait, I: Read + Drop, W: Write, E: Write>(
     ensures { IfErr result IsStepFault }
 {
     let mut lines = Lines::new(alloc, input)?;
-    let mut printer = Printer::new(alloc, out, errors, source);
+    let mut printer = Printer::new(alloc, out, errors, source, views);
     carry_out(rt, alloc, kind, &mut lines, &mut printer)?;
     Ok(printer.is_met())
 }
@@ -155,14 +157,17 @@ fn all_events<C: Carrier, I: Read + Drop, W: Write, E: Write>(
 {
     let set_up = &plan.set_up;
     let shown = Shown::new(alloc, usize::from(set_up.tasks), set_up.units.len())?;
-    let mut stepper = Stepper::new(alloc, carrier, set_up, shown, lines.number);
+    let view = View::new(alloc, printer.views(), set_up.units.len())?;
+    let mut stepper = Stepper::new(alloc, carrier, set_up, shown, view, lines.number);
+    stepper.skip_set_up();
     if !events(alloc, &mut stepper, first, lines, printer)? {
         return Ok(());
     }
-    let (carrier, shown) = stepper.into_parts();
+    let (carrier, shown, mut view) = stepper.into_parts();
+    view.text.clear();
     let finished = lines.number;
-    let answer = carrier.finish(alloc, &shown)?;
-    printer.answer(lines.current(), &answer)?;
+    let answer = carrier.finish(alloc, &shown, &mut view)?;
+    printer.answer(lines.current(), &answer, &view.text)?;
     rest(alloc, finished, lines, &answer, printer)
 }
 
@@ -214,7 +219,8 @@ fn one_line<C: Carrier, I: Read + Drop, W: Write, E: Write>(
         return Ok(printer.expect(lines.number, lines.current(), &stepper.answer)?);
     }
     stepper.line(lines.number, line)?;
-    Ok(printer.answer(lines.current(), &stepper.answer)?)
+    stepper.look()?;
+    Ok(printer.answer(lines.current(), &stepper.answer, &stepper.view.text)?)
 }
 
 /// Reads the lines after `finish`, which is the line `finished`. They may only expect its answer.

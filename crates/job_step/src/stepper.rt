@@ -11,6 +11,7 @@ use crate::carrier::Carrier;
 use crate::fault::StepError;
 use crate::set_up::rejected;
 use crate::shown::Shown;
+use crate::view::View;
 use excp_system::{Delivery, Intake};
 use job_check::why_rejected;
 use job_scenario::{Event, ScenarioLine};
@@ -35,13 +36,22 @@ pub struct Stepper<'a, C: Carrier> {
     first: usize,
     /// The answer of the last event.
     pub answer: Vec<u8>,
+    /// What is printed of the units after it.
+    pub view: View,
     ghost units_are: { C.units carrier ≡ vec_len set_up.now.units },
     ghost tasks_are: { C.tasks carrier ≡ set_up.now.tasks },
 }
 
 impl<'a, C: Carrier> Stepper<'a, C> {
-    /// Before the first event. `first` is the number of its line, and no request shows bytes yet.
-    pub fn new(alloc: Global, carrier: C, set_up: &'a SetUp, shown: Shown, first: usize) -> Self
+    /// Before the first event. `first` is the number of its line, no request shows bytes yet, and the view begins.
+    pub fn new(
+        alloc: Global,
+        carrier: C,
+        set_up: &'a SetUp,
+        shown: Shown,
+        view: View,
+        first: usize,
+    ) -> Self
         requires units { C.units carrier ≡ vec_len set_up.now.units }
         requires tasks { C.tasks carrier ≡ set_up.now.tasks }
     {
@@ -52,11 +62,48 @@ impl<'a, C: Carrier> Stepper<'a, C> {
             shown,
             first,
             answer: Vec::new(alloc),
+            view,
         }
     }
 
-    /// What carried the events out, and the bytes that requests show.
-    pub fn into_parts(self) -> (C, Shown) {
+    /// Takes what the set-up made happen as printed.
+    pub fn skip_set_up(&mut self) {
+        for unit in 0..self.set_up.units.len() {
+            self.skip_at(unit as u16);
+        }
+    }
+
+    fn skip_at(&mut self, unit: u16)
+        requires { unit < vec_len self.old.set_up.now.units }
+        ensures { self.new.set_up.now ≡ self.old.set_up.now }
+    {
+        self.carrier.skip(unit, &mut self.view);
+    }
+
+    /// Puts together what is printed of the units after an event.
+    pub fn look(&mut self) -> Result<(), StepError>
+        ensures { IfErr result EndsStep }
+    {
+        self.view.text.clear();
+        if self.view.is_blind() {
+            return Ok(());
+        }
+        for unit in 0..self.set_up.units.len() {
+            self.look_at(unit as u16)?;
+        }
+        Ok(())
+    }
+
+    fn look_at(&mut self, unit: u16) -> Result<(), StepError>
+        requires { unit < vec_len self.old.set_up.now.units }
+        ensures set_up { self.new.set_up.now ≡ self.old.set_up.now }
+        ensures fault { IfErr result EndsStep }
+    {
+        written(self.carrier.show(unit, &mut self.view))
+    }
+
+    /// What carried the events out, the bytes that requests show, and the view.
+    pub fn into_parts(self) -> (C, Shown, View) {
         let Stepper {
             alloc: _,
             carrier,
@@ -64,8 +111,9 @@ impl<'a, C: Carrier> Stepper<'a, C> {
             shown,
             first: _,
             answer: _,
+            view,
         } = self;
-        (carrier, shown)
+        (carrier, shown, view)
     }
 
     /// Carries out the event of the line with this number, and keeps its answer.
