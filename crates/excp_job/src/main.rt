@@ -14,7 +14,7 @@ use job_check::{Source, check_script};
 use job_options::{Counts, Order, StepOptions, Words};
 use job_run::{Workers, report_script, run_script};
 use job_script::JobError;
-use job_step::{SiteKind, Views, step_scenario};
+use job_step::{SiteKind, Views, check_scenario, step_scenario};
 use screen::Screen;
 use std::cell::Cell;
 use std::env;
@@ -90,14 +90,14 @@ fn carry_out<R: Threads + Wait + Sync, I: Read>(
     let done = match order {
         Order::Run(counts) => run(rt, threads, input, counts),
         Order::Report { counts, steps } => report(rt, threads, input, counts, steps, &is_broken),
-        Order::Check => check(rt, input, name, &is_broken),
+        Order::Check { scenario } => check(rt, input, scenario, name, &is_broken),
         Order::Assemble => assemble(rt, input, name, &is_broken),
         Order::Step(options) => step(rt, threads, input, options, name, &is_broken),
     };
     match done {
         Ok(status) => status,
         Err(JobError::NotWritten) if is_broken.get() => {
-            if matches!(order, Order::Check) {
+            if matches!(order, Order::Check { .. }) {
                 REJECTED
             } else {
                 0
@@ -145,16 +145,22 @@ fn report<R: Threads + Wait + Sync, I: Read>(
     Ok(0)
 }
 
-/// Prints what is wrong in a script, and returns the exit status.
+/// Prints what is wrong in a script, or in a scenario, and returns the exit status.
 fn check<I: Read>(
     rt: &HostRuntime,
     input: &mut I,
+    scenario: bool,
     name: &str,
     is_broken: &Cell<bool>,
 ) -> Result<u8, JobError> {
     let is_coloured = takes_colour(rt, rt.stdout());
-    let screen = Screen::new(rt.stdout(), false, is_broken);
-    let is_rejected = check_script(rt.alloc(), input, Source { name, is_coloured }, screen)?;
+    let source = Source { name, is_coloured };
+    let mut screen = Screen::new(rt.stdout(), false, is_broken);
+    let is_rejected = if scenario {
+        check_scenario(rt.alloc(), input, &mut screen, source)?
+    } else {
+        check_script(rt.alloc(), input, source, screen)?
+    };
     Ok(if is_rejected { REJECTED } else { 0 })
 }
 

@@ -55,8 +55,10 @@ fn report<'a>(alloc: Global) -> Result<Command<'a>, AllocError> {
 }
 
 fn check<'a>(alloc: Global) -> Result<Command<'a>, AllocError> {
+    let scenario = flag(alloc, "scenario", "Reads a scenario, as `step` does");
     Command::new(alloc, "check")
         .about("Prints every fault of a script, and warnings, as FILE:LINE: TEXT; runs nothing")
+        .arg(scenario)?
         .arg(script(alloc))
 }
 

@@ -41,8 +41,8 @@ pub enum Order {
     Run(Counts),
     /// And to print what the run left behind, with `steps` every command too.
     Report { counts: Counts, steps: bool },
-    /// To print every fault of a script.
-    Check,
+    /// To print every fault of a script, or of a scenario.
+    Check { scenario: bool },
     /// To print the plain script of one with symbolic areas.
     Assemble,
     /// To carry out a scenario, and print the answer of each event.
@@ -86,7 +86,9 @@ fn file_of(alloc: Global, matches: &ArgMatches<'_>) -> Result<Option<String>, Al
 fn asked_for(matches: &ArgMatches<'_>) -> Option<Order> {
     let (name, options) = matches.subcommand()?;
     match name {
-        "check" => Some(Order::Check),
+        "check" => Some(Order::Check {
+            scenario: options.get_flag("scenario"),
+        }),
         "assemble" => Some(Order::Assemble),
         "step" => Some(Order::Step(StepOptions {
             plain: options.get_flag("plain"),

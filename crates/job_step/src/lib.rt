@@ -5,6 +5,7 @@
 
 mod answer;
 mod carrier;
+mod check;
 mod fault;
 mod left;
 mod lines;
@@ -16,8 +17,10 @@ mod rooms;
 mod set_up;
 mod shown;
 mod stepper;
+mod unmade;
 mod view;
 
+pub use check::check_scenario;
 pub use fault::StepError;
 pub use report::{SiteKind, step_scenario};
 pub use view::Views;

@@ -246,7 +246,7 @@ fn rest<I: Read + Drop, W: Write, E: Write>(
 
 /// Reads a line after `finish`. Returns whether it expects something, or `None` after the last. Every other line with words
 /// has a fault.
-fn after_finish<I: Read + Drop>(
+pub fn after_finish<I: Read + Drop>(
     alloc: Global,
     finished: usize,
     lines: &mut Lines<I>,

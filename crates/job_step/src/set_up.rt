@@ -26,7 +26,7 @@ pub struct Plan {
 
 impl Plan {
     /// Declares nothing yet.
-    fn new(alloc: Global) -> Self {
+    pub fn new(alloc: Global) -> Self {
         Plan {
             set_up: SetUp::new(alloc),
             rooms: Rooms::new(),
@@ -60,7 +60,7 @@ impl Plan {
     }
 
     /// Adds what a line declares. Returns the line if it is an event.
-    fn add(
+    pub fn add(
         &mut self,
         alloc: Global,
         number: usize,
@@ -99,7 +99,7 @@ impl Plan {
     }
 
     /// Checks that the tasks and a unit are declared.
-    fn whole(&self) -> Result<(), StepError>
+    pub fn whole(&self) -> Result<(), StepError>
         ensures tasks { OnOk result (1 ≤ self.now.set_up.tasks) }
         ensures units { OnOk result (1 ≤ vec_len self.now.set_up.units) }
         ensures fault { IfErr result EndsStep }

@@ -1,0 +1,168 @@
+//! What is wrong in a scenario: every fault of its lines. Nothing is run, and no expectation is compared.
+
+ghost use Rattle.std.specs.Prelude.{◌≡◌, ◌≤◌, IfErr, vec_len};
+ghost use Rattle.job_step.specs.Faults.{IsStepFault};
+
+use crate::lines::Lines;
+use crate::printer::Printer;
+use crate::report::after_finish;
+use crate::set_up::{Plan, read_line};
+use crate::shown::Shown;
+use crate::stepper::Stepper;
+use crate::unmade::Unmade;
+use crate::view::{View, Views};
+use job_check::{Source, mount_faults};
+use job_scenario::{Event, ScenarioLine};
+use job_script::{JobError, LIMIT};
+use std::alloc::Global;
+use std::io::{Read, Write, sink};
+
+/// Reads a scenario, at most 1,048,576 bytes and one more, and prints every fault of its lines. If a set-up line has a fault,
+/// later lines are only read: whether the names in them are declared is not known. Returns whether a line has a fault.
+pub fn check_scenario<I: Read + Drop, W: Write>(
+    alloc: Global,
+    input: I,
+    out: &mut W,
+    source: Source<'_>,
+) -> Result<bool, JobError>
+    ensures { IfErr result IsStepFault }
+{
+    let views = Views {
+        trace: false,
+        state: false,
+    };
+    let mut lines = Lines::new(alloc, input)?;
+    let mut nothing = sink();
+    let mut printer = Printer::new(alloc, &mut nothing, out, source, views);
+    check_lines(alloc, &mut lines, &mut printer)?;
+    Ok(!printer.is_met())
+}
+
+/// Checks the set-up, and then the events.
+fn check_lines<I: Read + Drop, W: Write, E: Write>(
+    alloc: Global,
+    lines: &mut Lines<I>,
+    printer: &mut Printer<'_, W, E>,
+) -> Result<(), JobError>
+    ensures { IfErr result IsStepFault }
+{
+    let mut plan = Plan::new(alloc);
+    let first = check_set_up(alloc, &mut plan, lines, printer)?;
+    if !printer.is_met() {
+        return read_on(alloc, lines, printer);
+    }
+    let number = lines.number;
+    if printer
+        .unless_fault(plan.whole(), lines.current())?
+        .is_none()
+    {
+        return read_on(alloc, lines, printer);
+    }
+    if plan.books(alloc)?.is_none() {
+        printer.faults(&mount_faults(alloc, &plan.set_up.units)?)?;
+    }
+    let carrier = Unmade {
+        units: plan.set_up.units.len(),
+        tasks: plan.set_up.tasks,
+    };
+    let view = View::new(alloc, printer.views(), 0)?;
+    let shown = Shown::new(
+        alloc,
+        usize::from(plan.set_up.tasks),
+        plan.set_up.units.len(),
+    )?;
+    let mut stepper = Stepper::new(alloc, carrier, &plan.set_up, shown, view, number);
+    match first {
+        Some(first) => check_events(alloc, &mut stepper, first, lines, printer),
+        None => Ok(()),
+    }
+}
+
+/// Checks the lines up to the first event. Returns that event, if one comes.
+fn check_set_up<I: Read + Drop, W: Write, E: Write>(
+    alloc: Global,
+    plan: &mut Plan,
+    lines: &mut Lines<I>,
+    printer: &mut Printer<'_, W, E>,
+) -> Result<Option<ScenarioLine>, JobError>
+    ensures { IfErr result IsStepFault }
+{
+    for _ in 0..=LIMIT {
+        let read = read_line(alloc, lines);
+        match printer.unless_fault(read, lines.current())? {
+            None => {}
+            Some(None) => break,
+            Some(Some(line)) => {
+                let added = plan.add(alloc, lines.number, line);
+                if let Some(Some(event)) = printer.unless_fault(added, lines.current())? {
+                    return Ok(Some(event));
+                }
+            }
+        }
+    }
+    Ok(None)
+}
+
+/// Checks the forms of the lines that are left.
+fn read_on<I: Read + Drop, W: Write, E: Write>(
+    alloc: Global,
+    lines: &mut Lines<I>,
+    printer: &mut Printer<'_, W, E>,
+) -> Result<(), JobError>
+    ensures { IfErr result IsStepFault }
+{
+    for _ in 0..=LIMIT {
+        let read = read_line(alloc, lines);
+        if let Some(None) = printer.unless_fault(read, lines.current())? {
+            break;
+        }
+    }
+    Ok(())
+}
+
+/// Checks the events, beginning with this one.
+fn check_events<I: Read + Drop, W: Write, E: Write>(
+    alloc: Global,
+    stepper: &mut Stepper<'_, Unmade>,
+    first: ScenarioLine,
+    lines: &mut Lines<I>,
+    printer: &mut Printer<'_, W, E>,
+) -> Result<(), JobError>
+    ensures { IfErr result IsStepFault }
+{
+    let mut next = Some(first);
+    for _ in 0..=LIMIT {
+        if let Some(ScenarioLine::Event(Event::Finish)) = &next {
+            return check_rest(alloc, lines, printer);
+        }
+        if let Some(line) = next {
+            let done = stepper.line(lines.number, line);
+            printer.unless_fault(done, lines.current())?;
+        }
+        let read = read_line(alloc, lines);
+        match printer.unless_fault(read, lines.current())? {
+            Some(None) => break,
+            Some(line) => next = line,
+            None => next = None,
+        }
+    }
+    Ok(())
+}
+
+/// Checks the lines after `finish`, which may only expect something.
+fn check_rest<I: Read + Drop, W: Write, E: Write>(
+    alloc: Global,
+    lines: &mut Lines<I>,
+    printer: &mut Printer<'_, W, E>,
+) -> Result<(), JobError>
+    ensures { IfErr result IsStepFault }
+{
+    let finished = lines.number;
+    for _ in 0..=LIMIT {
+        let read = after_finish(alloc, finished, lines);
+        if let Some(None) = printer.unless_fault(read, lines.current())? {
+            break;
+        }
+    }
+    Ok(())
+}
