@@ -2,7 +2,8 @@
 allocation made to fail.
 
 The files are tests/cases/scenarios/*.scenario and samples/scenarios/*.scenario, whose `expect` lines follow from
-docs/SPECIFICATION.md, and tests/cases/scenarios/*.findings, with scenarios that have faults and what is printed of them.
+docs/SPECIFICATION.md, tests/cases/scenarios/*.findings, with scenarios that have faults and what is printed of them, and
+tests/cases/scenarios/*.views, with what `step --trace --state` prints.
 Scenarios that are made here are too long for a file, or too many.
 """
 
@@ -59,12 +60,24 @@ def expectations(text):
     return [(at, line) for at, line in enumerate(text.split("\n"), 1) if line.startswith("expect ")]
 
 
-def carried_out(setup, text):
+def carried_out(setup, text, *views):
     """Carries a scenario out on units under locks, and on units without them: both print the same."""
-    ran, plain = setup.run("step", script=text), setup.run("step", "--plain", script=text)
+    ran, plain = (setup.run("step", *words, *views, script=text) for words in ((), ("--plain",)))
     if (ran.status, ran.out, ran.err) != (plain.status, plain.out, plain.err):
         raise Failed("with --plain it prints something else", plain, ran.text(), plain.text())
     return ran
+
+
+def looks_the_same(setup, text):
+    """The entries and the state of each unit are the same after each event, too."""
+    carried_out(setup, text, "--trace", "--state")
+
+
+def is_accepted(setup, text, place=""):
+    """`check --scenario` finds no fault."""
+    checked = setup.run("check", "--scenario", script=text)
+    checked.file = place
+    expect(checked, (0, "", ""))
 
 
 def is_met(setup, text, place=""):
@@ -91,6 +104,18 @@ def is_rejected(setup, script, wanted):
     ran = carried_out(setup, script)
     if (ran.status, ran.err) != (1, wanted):
         raise Failed("another outcome", ran, wanted, ran.err)
+    faults = [it for it in wanted.splitlines(True) if "expected: " not in it]
+    checked = setup.run("check", "--scenario", script=script)
+    if faults and checked.out.splitlines(True)[:1] != faults[:1]:
+        raise Failed("`check --scenario` prints another fault first", checked, faults[0], checked.out)
+    require(checked.status == (1 if faults else 0), "`check --scenario` ends with another status", checked)
+
+
+def shows(setup, script, wanted):
+    """With --trace and --state a scenario prints this."""
+    ran = setup.run("step", "--trace", "--state", script=script)
+    if (ran.status, ran.out, ran.err) != (0, wanted, ""):
+        raise Failed("another view", ran, wanted, ran.out)
 
 
 def answers_at_once(setup, file):
@@ -212,6 +237,8 @@ def cases(setup):
     for file in scenarios():
         place, name = os.path.relpath(file, TOP), os.path.basename(file).removesuffix(".scenario")
         yield Case(name, lambda f=file, p=place: is_met(setup, read(f), p), f"{place}, by docs/SPECIFICATION.md")
+        yield Case(f"{name}: entries and states", lambda f=file: looks_the_same(setup, read(f)), f"{place}, by docs/MANUAL.md")
+        yield Case(f"{name}: check", lambda f=file, p=place: is_accepted(setup, read(f), p), f"{place}, by docs/MANUAL.md")
         yield Case(f"{name}: each expectation changed", lambda f=file: is_missed(setup, f), f"{place}, by docs/MANUAL.md")
         for words in ("step",), ("step", "--plain"):
             judge = lambda w=words, f=file: runs_out_of_memory(setup, w, f, lacks, refusals)
@@ -226,5 +253,8 @@ def cases(setup):
         for name, script, wanted, place in multiple(file):
             judge = lambda s=script, w=wanted: is_rejected(setup, s, w)
             yield Case(name, judge, f"{place}, by docs/MANUAL.md")
+    for file in files("scenarios", ".views"):
+        for name, script, wanted, place in multiple(file):
+            yield Case(name, lambda s=script, w=wanted: shows(setup, s, w), f"{place}, by docs/MANUAL.md")
     file = f"{CASES}/scenarios/close_lets_active_retry.scenario"  # each of its events is answered by one line
     yield Case("through a pipe", lambda: answers_at_once(setup, file), "docs/MANUAL.md")
