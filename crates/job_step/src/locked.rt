@@ -145,9 +145,11 @@ impl<'a, 'r, S: Site, R: Wait> Carrier for Locked<'a, 'r, S, R> {
 }
 
 /// Adds to the view what is to be printed of each unit.
-fn show_books(books: &[UnitBook<AnyDevice>], view: &mut View) -> std::io::Result<()> {
-    for (unit, book) in books.iter().enumerate() {
-        view.add(unit as u16, book)?;
+fn show_books(books: &[UnitBook<AnyDevice>], view: &mut View) -> std::io::Result<()>
+    requires { length books.now ≤ 64 }
+{
+    for unit in 0..books.len() {
+        view.add(unit as u16, &books[unit])?;
     }
     Ok(())
 }

@@ -149,12 +149,12 @@ impl<'a, C: Carrier> Stepper<'a, C> {
     {
         let unit = line.dcb.unit;
         let task = line.task;
-        self.names_task(number, task)?;
-        self.names_unit(number, unit)?;
         let excp = match self.set_up.over_area(line) {
             Ok(excp) => excp,
             Err(refusal) => return Err(rejected(number, refusal)),
         };
+        self.names_task(number, task)?;
+        self.names_unit(number, unit)?;
         if let Some(cause) = why_rejected(&excp) {
             return Err(StepError::Line(number, cause));
         }
