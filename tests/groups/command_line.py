@@ -37,6 +37,8 @@ REPORTS = [
     ["report", "--handlers=8", "--channels", "2"],
     ["report", "--steps"],
     ["report", "--channels", "2", "--steps", "--handlers", "2"],
+    ["report", "--steps", "--most-steps", "18446744073709551615"],
+    ["report", "--most-steps=1", "--steps"],
 ]
 
 # Words that the program rejects, and the first line of its text.
@@ -47,6 +49,11 @@ REJECTED = [
     (["step", "--steps"], "error: unexpected argument '--steps' found"),
     (["assembly"], "error: unrecognized subcommand 'assembly'"),
     (["report", "--steps", "--steps"], "error: the argument '--steps' cannot be used multiple times"),
+    (["report", "--most-steps", "1"], "error: the following required arguments were not provided:"),
+    (
+        ["report", "--steps", "--most-steps", "0"],
+        "error: invalid value '0' for '--most-steps <N>': 0 is not in 1..18446744073709551615",
+    ),
     (["run", "--steps"], "error: unexpected argument '--steps' found"),
     (["report", "--steps=1"], "error: unexpected value '1' for '--steps' found; no more were expected"),
     (["report", "--channels", "17"], "error: invalid value '17' for '--channels <N>': 17 is not in 1..=16"),
@@ -306,7 +313,8 @@ def cases(setup):
         yield case(f"{word} a folder", of_unusable, setup, word, TOP, "it is a directory")
         name = "the name of the script's file is not UTF-8: give the script as standard input"
         yield case(f"{word} a file whose name is not UTF-8", not_utf8, setup, [word, b"/tmp/\xff"], 1, name)
-        yield case(f"{word} to a reader that is gone", without_reader, setup, [word], STORED, 0, "")
+        script = f"{SAMPLES}/read.script" if word == "check" else STORED
+        yield case(f"{word} to a reader that is gone", without_reader, setup, [word], script, 0, "")
         yield case(f"the stored help of {word}", as_stored, setup, word)
     yield case("check a file that may not be read", of_locked, setup)
     for words in (["run", b"\xff"], [b"\xff"], ["report", "--channels", b"\xff"], ["check", b"--\xff"]):

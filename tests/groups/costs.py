@@ -39,6 +39,12 @@ MEMORY = [
 # trace of loops has 1.3 million entries.
 TIMES = [("small", 4_000, 9, 20), ("waits", 3_300, 9, 20), ("loops", 4_000, 9, 20)]
 
+# The kind, a number of requests, the kind of such requests on one unit alone, and how many times as much processor time they
+# may take at most, by one worker and one handler: small requests on 64 units of one subclass, and loops on one unit beside
+# 63 idle ones. A worker that takes one notice of a subclass in a pass over its units takes 2.3 times as much for the first,
+# and one that looks at each idle unit in each pass 1.6 times for the second.
+UNITS = [("spread", 20_000, "small", 1.9), ("lone", 2_000, "loops", 1.5)]
+
 # The kind, a number of requests, and the most processor time for each second that passes: one worker is busy, and the two
 # tasks that wait for it sleep. Each thread that did not would take one more, where there is a processor for it.
 AWAKE = [("pair", 12_000, 1.7)]
@@ -104,6 +110,16 @@ def grows(setup, kind, count, times, most):
     return text
 
 
+def keeps_up(setup, kind, count, alone_kind, most):
+    """Requests among 64 units take at most `most` times as long as on one alone: the least of some runs, by turns."""
+    with script_of(alone_kind, count) as one, script_of(kind, count) as more:
+        seconds = [(cost(setup, one, count)[0], cost(setup, more, count)[0]) for _ in range(ROUNDS)]
+    alone, among = (min(column) for column in zip(*seconds))
+    text = f"{kind} {count}: {among:.3f} s, on one unit {alone:.3f} s, {among / alone:.1f} times, at most {most}"
+    require(among <= most * alone, text)
+    return text
+
+
 def sleeps(setup, kind, count, most):
     """A run takes at most this processor time for each second that passes: the least of some runs."""
     with script_of(kind, count) as script:
@@ -134,6 +150,7 @@ def cases(setup):
     for name, judge, rows in (
         ("memory", fits, MEMORY),
         ("processor time", grows, TIMES),
+        ("units", keeps_up, UNITS),
         ("threads that wait", sleeps, AWAKE),
         ("workers on one processor", gives_way, CROWDS),
     ):

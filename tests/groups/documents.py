@@ -1,14 +1,19 @@
-"""The documents: their sentences and links, their definitions, and what they quote of crates.txt and of the sources.
+"""The documents: their sentences and links, their definitions, what they quote of crates.txt and of the sources, and their
+examples.
 
 tests/sentences measures the sentences, and tests/definitions finds names of definitions that several crates have. tests/closure
 has the definitions that the headline rests on. The layers of crates.txt, the steps of a request in ARCHITECTURE.md and the code
-that CLIENT.md and ADDING-A-DEVICE.md quote are compared with the sources. A README that names another kit is a warning.
+that CLIENT.md and ADDING-A-DEVICE.md quote are compared with the sources. tests/comments measures the comments of the code, and
+finds phrases of tests/phrases. tests/examples.py has the jobs and the commands of the pages. A README that names another kit is
+a warning.
 """
 
+import os
 import re
 import shutil
 import textwrap
 
+from examples import JOBS, NOT_RUN, are_known, commands, jobs, named, prints_page, prints_posts
 from harness import TOP, Case, Failed, Skipped, read, require, run
 
 
@@ -43,6 +48,9 @@ def layers_hold():
     wrong = [f"{name} on {it}" for name in below for it in below[name] if stands_above(name, it)]
     require(len(order) > 1 and not wrong, f"crates.txt: {len(order)} layers; {'; '.join(wrong)}")
 
+
+PAGES = ["README.md", "CONTRIBUTING.md", "CHANGELOG.md", "samples/README.md"]
+PAGES += [f"docs/{it}" for it in sorted(os.listdir(f"{TOP}/docs")) if it.endswith(".md") and it != "PROGRESS.md"]
 
 STEP = re.compile(r"^\| (\d+) \| .+ \| (`.+`) \| (.+) \|$", re.M)
 
@@ -94,4 +102,15 @@ def cases(setup):
     yield Case("steps of a request", steps_hold, "docs/ARCHITECTURE.md, by the sources")
     for page in QUOTING:
         yield Case(f"quotes of {page}", lambda page=page: quotes_hold(page), f"docs/{page}, by the sources")
+    yield Case("comments", lambda: passes("comments"), "tests/comments and tests/phrases, by CONTRIBUTING.md")
+    for page in JOBS:
+        for job, posts in jobs(page):
+            judge = lambda j=job, p=posts: prints_posts(setup, j, p)
+            yield Case(f"job of {page}, line {job.line}", judge, f"{page}, line {posts.line}")
+    yield Case("commands of the pages", lambda: are_known(PAGES), "tests/examples.py")
+    for page in PAGES:
+        for block, following in commands(page):
+            if named(block, NOT_RUN) is None:
+                judge = lambda b=block, f=following: prints_page(setup, b, f)
+                yield Case(f"commands of {page}, line {block.line}", judge, page)
     yield Case("kit of the README", names_kit, "rt version")

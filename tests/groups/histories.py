@@ -2,10 +2,12 @@
 
 The files are in tests/cases/histories: `*.report` has reports, `*.steps` has reports with every command, and
 `rules.checks` has channel programs and the rule that each breaks. If a report has no history, none is compared, because
-it may be one of several. All texts follow from docs/SPECIFICATION.md and docs/MANUAL.md.
+it may be one of several. All texts follow from docs/SPECIFICATION.md and docs/MANUAL.md. With `--most-steps N`, a report
+with every command has only the first N of each unit.
 """
 
 import os
+import re
 
 from groups.samples import without_history
 from groups.scripts import is_printed
@@ -25,9 +27,31 @@ open 1 out
 area 0 001780 42000000000017A8 0000000000000000 000017B000000001 0000000000000000 0000000000000001 0000000000000000"""
 CHECK = "#           program check at "
 
+# The lines of a command: one for each CCW, and then others.
+OF_COMMAND = "#         "
+CCW = re.compile(OF_COMMAND + "[0-9A-F]{6}  ")
+LEFT_OUT = f"{OF_COMMAND}--most-steps leaves out the commands from here\n"
+
 
 def is_reported(setup, script, wanted):
     is_printed(setup, ["report"], script, wanted, str if "# unit " in wanted else without_history)
+
+
+def shortened(report, most):
+    """A report with every command, of which each unit has only the first `most`."""
+    lines, left, before = [], most, ""
+    for line in report.splitlines(keepends=True):
+        if line.startswith("# unit "):
+            left = most
+        begins = (CCW.match(line) or line.startswith(CHECK)) and not CCW.match(before)
+        if begins and left == 0:
+            lines.append(LEFT_OUT)
+        if begins:
+            left -= 1
+        if left >= 0 or not line.startswith(OF_COMMAND):
+            lines.append(line)
+        before = line
+    return "".join(lines)
 
 
 def names_rule(setup, script, rule):
@@ -48,6 +72,12 @@ def cases(setup):
                 else:
                     judge = lambda s=script, w=wanted: is_printed(setup, ["report", "--steps"], s, w)
                 yield Case(f"{group}: {name}", judge, f"{place}, by docs/SPECIFICATION.md and docs/MANUAL.md")
+                if suffix == ".steps":
+                    for most in 1, 3:
+                        words = ["report", "--steps", "--most-steps", str(most)]
+                        due = shortened(wanted, most)
+                        judge = lambda s=script, w=words, d=due: is_printed(setup, w, s, d)
+                        yield Case(f"{group}: {name}, {most} of its commands", judge, f"{place}, shortened")
     for number, line in enumerate(read(RULES).splitlines(), 1):
         if line.startswith("#"):
             continue

@@ -1,7 +1,7 @@
 """Scripts with mistakes: every fault and warning that `check` prints, and that a run rejects what has a fault.
 
-The files are tests/cases/mistakes/*.findings. `\\r` and `\\t` in a script are a carriage return and a tab. The texts follow
-from docs/MANUAL.md.
+The files are tests/cases/mistakes/*.findings. `\\r`, `\\t` and `\\ufeff` in a script are a carriage return, a tab and a byte
+order mark. The texts follow from docs/MANUAL.md.
 """
 
 import os
@@ -9,9 +9,13 @@ import os
 from harness import Case, Failed, expect, files, multiple
 
 
+ESCAPES = {"\\r": "\r", "\\t": "\t", "\\ufeff": "\ufeff"}
+
+
 def is_found(setup, script, findings):
     """`check` prints these findings, and a run rejects the script if one of them is a fault."""
-    script = script.replace("\\r", "\r").replace("\\t", "\t")
+    for escape, sign in ESCAPES.items():
+        script = script.replace(escape, sign)
     status = int(any(": note: " not in line for line in findings.splitlines()))
     expect(setup.run("check", script=script), (status, findings))
     ran = setup.run("run", script=script)

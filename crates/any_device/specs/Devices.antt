@@ -52,17 +52,12 @@ acted_on (Printer p) command given = as_unit Printer (printer.act p command give
 
 -- THE MEANING OF A UNIT'S DEVICE
 abbrev pub any_device : Meaning AnyDevice
-any_device = record {
-  kind = kind_of;
-  cylinders = cylinders_of;
-  heads = heads_of;
-  flow = flow_of;
-  prefix = prefixed;
-  act = acted_on;
-}
+any_device =
+    record { kind = kind_of; cylinders = cylinders_of; heads = heads_of; flow = flow_of; prefix = prefixed; act = acted_on }
 
 -- it gives the bytes that the one that it is gives
-gives_as : {D : Type 0} (kind : D → AnyDevice) (flow : Flow) (o : Outcome D) → GivesWhatItWants flow o → GivesWhatItWants flow (as_unit kind o)
+gives_as : {D : Type 0} (kind : D → AnyDevice) (flow : Flow) (o : Outcome D) → GivesWhatItWants flow o →
+    GivesWhatItWants flow (as_unit kind o)
 gives_as kind NoFlow o h = h
 gives_as kind Out o h = h
 gives_as kind Input o h = h
@@ -99,9 +94,12 @@ heads_under_prefix (Tape t) seek mask = tape_lawful.heads_after_prefix t seek ma
 heads_under_prefix (Printer p) seek mask = printer_lawful.heads_after_prefix p seek mask
 
 gives_what_it_wants : (d : AnyDevice) (command : ℕ) (given : List ℕ) → GivesWhatItWants (flow_of d command) (acted_on d command given)
-gives_what_it_wants (Disk d) command given = gives_as Disk (disk.flow d command) (disk.act d command given) (disk_lawful.gives d command given)
-gives_what_it_wants (Tape t) command given = gives_as Tape (tape.flow t command) (tape.act t command given) (tape_lawful.gives t command given)
-gives_what_it_wants (Printer p) command given = gives_as Printer (printer.flow p command) (printer.act p command given) (printer_lawful.gives p command given)
+gives_what_it_wants (Disk d) command given = gives_as Disk (disk.flow d command) (disk.act d command given)
+    (disk_lawful.gives d command given)
+gives_what_it_wants (Tape t) command given = gives_as Tape (tape.flow t command) (tape.act t command given)
+    (tape_lawful.gives t command given)
+gives_what_it_wants (Printer p) command given = gives_as Printer (printer.flow p command) (printer.act p command given)
+    (printer_lawful.gives p command given)
 
 no_cylinders : (d : AnyDevice) → kind_of d ≢ DiskKind → cylinders_of d ≡ 0
 no_cylinders (Disk d) off = disk_lawful.cylinders_off_disk d off

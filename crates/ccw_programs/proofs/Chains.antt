@@ -1,5 +1,6 @@
 -- A chain put together one CCW after another.
-use Rattle.std.proofs.Common.{◌≡◌, ℕ, suc, ◌+◌, ◌-◌, ◌<◌, List, [], ◌∷◌, ◌++◌, refl, ap, arith, ◌∙◌, Bool, true, false, sym, length, length-append}
+use Rattle.std.proofs.Common.{◌≡◌, ℕ, suc, ◌+◌, ◌-◌, ◌<◌, List, [], ◌∷◌, ◌++◌, refl, ap, arith, ◌∙◌, Bool, true, false, sym, length}
+use Rattle.std.proofs.Common.{length-append}
 use Rattle.io_images.specs.declared.ccw.Ccw.{Ccw}
 use Rattle.ccw_programs.specs.declared.fetch.Fetch.{Fetch}
 use Rattle.ccw_programs.specs.declared.fetch.Fetch.TheVariants.{Refused, Transfer, More, Last}
@@ -17,21 +18,24 @@ pub behind_all-whole : (ls ks : List Link) (n : ℕ) → behind_all ls (Whole ks
 behind_all-whole [] ks n = refl
 behind_all-whole (k ∷ ls) ks n = ap (after_ccw k) (behind_all-whole ls ks n)
 
-pub behind_all-broken : (ls : List Link) (at : ℕ) (rule : Rule) → behind_all ls (broken_at at rule) ≡ Broken ls (record { at = at; rule = rule })
+pub behind_all-broken : (ls : List Link) (at : ℕ) (rule : Rule) →
+    behind_all ls (broken_at at rule) ≡ Broken ls (record { at = at; rule = rule })
 behind_all-broken [] at rule = refl
 behind_all-broken (k ∷ ls) at rule = ap (after_ccw k) (behind_all-broken ls at rule)
 
 -- one fetch of the chain
 pub chain_within-next : (m : Storage) (done : ℕ) (may : Bool) (place at : ℕ) → done < 4096 →
     chain_within m (4096 - done) may place at ≡
-    chain_by (fetch_at m may place at) (rule_at m may place at) at place (done + 1) (λ may' next to. chain_within m (4096 - (done + 1)) may' next to)
+    chain_by (fetch_at m may place at) (rule_at m may place at) at place (done + 1)
+    (λ may' next to. chain_within m (4096 - (done + 1)) may' next to)
 unfolding chain_within
 chain_within-next m done may place at h =
     let e : 4096 - done ≡ suc (4096 - (done + 1)) = omega arith in
     let f : 4096 - (4096 - (done + 1)) ≡ done + 1 = omega arith in
     rw (e, f) refl
 
-pub chain_within-none : (m : Storage) (done : ℕ) (may : Bool) (place at : ℕ) → 4096 - done ≡ 0 → chain_within m (4096 - done) may place at ≡ broken_at at FetchLimit
+pub chain_within-none : (m : Storage) (done : ℕ) (may : Bool) (place at : ℕ) → 4096 - done ≡ 0 →
+    chain_within m (4096 - done) may place at ≡ broken_at at FetchLimit
 unfolding chain_within
 chain_within-none m done may place at h = rw h refl
 
@@ -40,11 +44,17 @@ module _ (m : Storage) (whole : Fetched) (links : List Link) (done : ℕ) (may :
     (more : done < 4096) (here : place ≡ length links)
     (so_far : whole ≡ behind_all links (chain_within m (4096 - done) may (length links) at)) where
   next_fetch : (f : Fetch) → f ≡ fetch_at m may place at →
-      whole ≡ behind_all links (chain_by f (rule_at m may place at) at (length links) (done + 1) (λ may' next to. chain_within m (4096 - (done + 1)) may' next to))
+      whole ≡ behind_all links
+      (chain_by f (rule_at m may place at) at (length links) (done + 1)
+      (λ may' next to. chain_within m (4096 - (done + 1)) may' next to))
   next_fetch f h = so_far ∙ ap (behind_all links) (chain_within-next m done may (length links) at more)
-      ∙ ap (λ k. behind_all links (chain_by k (rule_at m may (length links) at) at (length links) (done + 1) (λ may' next to. chain_within m (4096 - (done + 1)) may' next to)))
+      ∙ ap (λ k. behind_all links
+      (chain_by k (rule_at m may (length links) at) at (length links) (done + 1)
+      (λ may' next to. chain_within m (4096 - (done + 1)) may' next to)))
       (rw (← here) (sym h))
-      ∙ ap (λ k. behind_all links (chain_by f (rule_at m may k at) at (length links) (done + 1) (λ may' next to. chain_within m (4096 - (done + 1)) may' next to))) (sym here)
+      ∙ ap (λ k. behind_all links
+      (chain_by f (rule_at m may k at) at (length links) (done + 1) (λ may' next to. chain_within m (4096 - (done + 1)) may' next to)))
+      (sym here)
 
   pub refused : Refused ≡ fetch_at m may place at → whole ≡ Broken links (record { at = at; rule = rule_at m may place at })
   refused h = next_fetch Refused h ∙ behind_all-broken links at (rule_at m may place at)
@@ -60,5 +70,6 @@ module _ (m : Storage) (whole : Fetched) (links : List Link) (done : ℕ) (may :
       whole ≡ behind_all (links ++ record { at = at; ccw = ccw } ∷ [])
       (chain_within m (4096 - (done + 1)) true (length (links ++ record { at = at; ccw = ccw } ∷ [])) (at + 8))
   one_more ccw h =
-      let e : length (links ++ record { at = at; ccw = ccw } ∷ []) ≡ suc (length links) = omega (arith, length-append links (record { at = at; ccw = ccw } ∷ [])) in
+      let e : length (links ++ record { at = at; ccw = ccw } ∷ []) ≡ suc (length links) =
+      omega (arith, length-append links (record { at = at; ccw = ccw } ∷ [])) in
       rw (e, behind_all-append links) (next_fetch (More ccw) h)

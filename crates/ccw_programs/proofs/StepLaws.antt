@@ -1,5 +1,6 @@
 -- Laws of command steps.
-use Rattle.std.proofs.Common.{◌≡◌, ℕ, zero, suc, ◌+◌, ◌-◌, ◌<◌, ◌≤◌, List, ◌∷◌, refl, ap, arith, ◌∙◌, sym, Bool, true, false, min, inl, inr, add-zero, add-suc, add-one}
+use Rattle.std.proofs.Common.{◌≡◌, ℕ, zero, suc, ◌+◌, ◌-◌, ◌<◌, ◌≤◌, List, ◌∷◌, refl, ap, arith, ◌∙◌, sym, Bool, true, false, min, inl, inr}
+use Rattle.std.proofs.Common.{add-zero, add-suc, add-one}
 use Rattle.std.proofs.Math.Dec.{ltb}
 use Rattle.std.proofs.lemmas.Bool.{cases_Bool, ltb-true, ltb-false}
 use Rattle.io_area.specs.Storage.{Storage}
@@ -16,7 +17,8 @@ use Rattle.ccw_programs.specs.declared.rule.Rule.{Rule}
 use Rattle.ccw_programs.specs.Links.{Fetched, Whole, Broken, after_ccw, chain_by, chain_within, fetch_at, rule_at, chain, total_count}
 use Rattle.ccw_programs.specs.Areas.{areas, Areas, Parts, Bad}
 use Rattle.ccw_programs.specs.Place.{Place}
-use Rattle.ccw_programs.specs.Step.{Program, step, step_from, step_on_chain, step_on_areas, after, steps_within, length_of, is_running, placed, goes_on, first_of, last_of, sub_status, ending, moved}
+use Rattle.ccw_programs.specs.Step.{Program, step, step_from, step_on_chain, step_on_areas, after, steps_within, length_of, is_running}
+use Rattle.ccw_programs.specs.Step.{placed, goes_on, first_of, last_of, sub_status, ending, moved}
 
 -- a whole chain ends with more fetches than it began with, and with 4,096 at most
 pub record Later (left fetches : ℕ) : Type 0 where
@@ -39,7 +41,8 @@ chain_by-later left place at n links rest b more Refused rule e = absurd cc
 chain_by-later left place at n links rest b more (Transfer to) rule e = less left n (more false place to links e)
 chain_by-later left place at n links rest b more (More ccw) rule e =
     let r = behind-whole _ _ links n e in less left n (more true (suc place) (at + 8) r.0 r.1)
-chain_by-later left place at n links rest b more (Last ccw) rule e = let k : 4096 - left ≡ n = cc in record { more = omega arith; few = omega arith }
+chain_by-later left place at n links rest b more (Last ccw) rule e = let k : 4096 - left ≡ n =
+    cc in record { more = omega arith; few = omega arith }
 
 chain_within-later : (left : ℕ) (m : Storage) (may : Bool) (place at : ℕ) (links : List Link) (n : ℕ) → left ≤ 4096 →
     chain_within m left may place at ≡ Whole links n → Later left n
@@ -49,7 +52,8 @@ chain_within-later (suc left) m may place at links n b h =
     chain_by-later left place at n links (λ may' next to. chain_within m left may' next to) (omega arith)
     (λ may' next to ks e. chain_within-later left m may' next to ks n (omega arith) e) (fetch_at m may place at) (rule_at m may place at) h
 
-pub chain-later : (m : Storage) (at fetches : ℕ) (links : List Link) (n : ℕ) → fetches ≤ 4096 → chain m at fetches ≡ Whole links n → (fetches < n) × (n ≤ 4096)
+pub chain-later : (m : Storage) (at fetches : ℕ) (links : List Link) (n : ℕ) → fetches ≤ 4096 → chain m at fetches ≡ Whole links n →
+    (fetches < n) × (n ≤ 4096)
 chain-later m at fetches links n b h =
     let l = chain_within-later (4096 - fetches) m _ 0 at links n (omega arith) h in (omega (arith, l.more), l.few)
 
@@ -94,7 +98,8 @@ module _ {D : Type 0} (meaning : Meaning D) where
   abbrev pub GoesLater : ℕ → Program D → Type 0
   GoesLater f q = is_running q.place.state ≡ true → (f < q.place.fetched) × (q.place.fetched ≤ 4096)
 
-  areas-later : (p : Program D) (links : List Link) (n f : ℕ) → f < n → n ≤ 4096 → (a : Areas) → GoesLater f (step_on_areas meaning p links n a)
+  areas-later : (p : Program D) (links : List Link) (n f : ℕ) → f < n → n ≤ 4096 → (a : Areas) →
+      GoesLater f (step_on_areas meaning p links n a)
   areas-later p links n f lt le (Bad refusal) h = absurd cc
   areas-later p links n f lt le (Parts parts) h =
       let flow = meaning.flow p.device (first_of links).ccw.command in
@@ -104,7 +109,8 @@ module _ {D : Type 0} (meaning : Meaning D) where
       placed-running p.place (last_of links) n acted end (sub_status flow (first_of links) (total_count links) acted end.link) h in
       (omega arith, omega arith)
 
-  fetched-later : (p : Program D) (f : ℕ) (c : Fetched) → ((links : List Link) (n : ℕ) → c ≡ Whole links n → (f < n) × (n ≤ 4096)) → GoesLater f (step_on_chain meaning p c)
+  fetched-later : (p : Program D) (f : ℕ) (c : Fetched) → ((links : List Link) (n : ℕ) → c ≡ Whole links n → (f < n) × (n ≤ 4096)) →
+      GoesLater f (step_on_chain meaning p c)
   fetched-later p f (Broken before refusal) k h = absurd cc
   fetched-later p f (Whole links n) k h = let b = k links n refl in areas-later p links n f b.0 b.1 _ h
 
@@ -117,7 +123,8 @@ module _ {D : Type 0} (meaning : Meaning D) where
     by_state (Ended csw sense) e k = absurd cc
 
   -- one step of the length
-  pub steps_within-running : (k : ℕ) (p : Program D) → is_running p.place.state ≡ true → steps_within meaning (suc k) p ≡ suc (steps_within meaning k (step meaning p))
+  pub steps_within-running : (k : ℕ) (p : Program D) → is_running p.place.state ≡ true →
+      steps_within meaning (suc k) p ≡ suc (steps_within meaning k (step meaning p))
   unfolding steps_within
   steps_within-running k p h = rw h refl
 
@@ -155,7 +162,8 @@ module _ {D : Type 0} (meaning : Meaning D) where
 
   -- HOW LONG a program is: at its length it has ended
   length-step : (k : ℕ) (p : Program D) (running : Bool) → running ≡ is_running p.place.state →
-      (is_running p.place.state ≡ true → is_running (after meaning (steps_within meaning k (step meaning p)) (step meaning p)).place.state ≡ false) →
+      (is_running p.place.state ≡ true →
+      is_running (after meaning (steps_within meaning k (step meaning p)) (step meaning p)).place.state ≡ false) →
       is_running (after meaning (steps_within meaning (suc k) p) p).place.state ≡ false
   length-step k p true e rest =
       rw (steps_within-running k p (sym e), after-first (steps_within meaning k (step meaning p)) p) (rest (sym e))
@@ -167,10 +175,12 @@ module _ {D : Type 0} (meaning : Meaning D) where
   ended-within (suc k) p h b = length-step k p (is_running p.place.state) refl
       (λ r. by_next (is_running (step meaning p).place.state) refl r (λ h' b'. ended-within k (step meaning p) h' b')) where
         by_next : (b : Bool) → b ≡ is_running (step meaning p).place.state → is_running p.place.state ≡ true →
-            (4097 ≤ (step meaning p).place.fetched + k → (step meaning p).place.fetched ≤ 4096 → is_running (after meaning (steps_within meaning k (step meaning p)) (step meaning p)).place.state ≡ false) →
+            (4097 ≤ (step meaning p).place.fetched + k → (step meaning p).place.fetched ≤ 4096 →
+            is_running (after meaning (steps_within meaning k (step meaning p)) (step meaning p)).place.state ≡ false) →
             is_running (after meaning (steps_within meaning k (step meaning p)) (step meaning p)).place.state ≡ false
         by_next false e r rest = rw (after-ended (steps_within meaning k (step meaning p)) (step meaning p) (sym e)) (sym e)
-        by_next true e r rest = let l = step-later p b r (sym e) in let more : p.place.fetched < (step meaning p).place.fetched = l.0 in rest (omega arith) l.1
+        by_next true e r rest = let l = step-later p b r (sym e) in let more : p.place.fetched < (step meaning p).place.fetched =
+            l.0 in rest (omega arith) l.1
 
   pub length-ends : (p : Program D) → p.place.fetched ≤ 4096 → is_running (after meaning (length_of meaning p) p).place.state ≡ false
   length-ends p b = ended-within 4097 p (omega arith) b
@@ -182,7 +192,8 @@ module _ {D : Type 0} (meaning : Meaning D) where
   pub length-few : (k : ℕ) (p : Program D) → steps_within meaning k p ≤ k
   length-few zero p = omega (arith, steps_within-zero p)
   length-few (suc k) p = by_state (is_running p.place.state) refl (length-few k (step meaning p)) where
-    by_state : (b : Bool) → b ≡ is_running p.place.state → steps_within meaning k (step meaning p) ≤ k → steps_within meaning (suc k) p ≤ suc k
+    by_state : (b : Bool) → b ≡ is_running p.place.state → steps_within meaning k (step meaning p) ≤ k →
+        steps_within meaning (suc k) p ≤ suc k
     by_state true e r = rw (steps_within-running k p (sym e)) (omega arith)
     by_state false e r = rw (steps_within-ended (suc k) p (sym e)) (omega arith)
 
@@ -198,7 +209,8 @@ module _ {D : Type 0} (meaning : Meaning D) where
     by_state true e = rw (zero-after p) (sym e)
     by_state false e = let z = steps_within-ended (suc k) p (sym e) in absurd (omega arith)
   runs-before (suc k) (suc j) p h = by_state (is_running p.place.state) refl (λ l. runs-before k j (step meaning p) l) where
-    by_state : (b : Bool) → b ≡ is_running p.place.state → (j < steps_within meaning k (step meaning p) → is_running (after meaning j (step meaning p)).place.state ≡ true) →
+    by_state : (b : Bool) → b ≡ is_running p.place.state →
+        (j < steps_within meaning k (step meaning p) → is_running (after meaning j (step meaning p)).place.state ≡ true) →
         is_running (after meaning (suc j) p).place.state ≡ true
     by_state true e rest = let r = steps_within-running k p (sym e) in rw (after-first j p) (rest (omega arith))
     by_state false e rest = let z = steps_within-ended (suc k) p (sym e) in absurd (omega arith)
@@ -210,7 +222,8 @@ module _ {D : Type 0} (meaning : Meaning D) where
   length-is zero (suc n) p h before ends = absurd (omega arith)
   length-is (suc k) (suc n) p h before ends =
       steps_within-running k p (rw zero-after at (before 0 (omega arith)))
-      ∙ ap suc (length-is k n (step meaning p) (omega arith) (λ j l. rw after-first at (before (suc j) (omega arith))) (rw after-first at ends))
+      ∙ ap suc (length-is k n (step meaning p) (omega arith) (λ j l. rw after-first at (before (suc j) (omega arith)))
+      (rw after-first at ends))
 
   -- WHAT IS LEFT of the length after some steps
   pub length-after : (c : ℕ) (p : Program D) → p.place.fetched ≤ 4096 → c ≤ length_of meaning p →
@@ -222,18 +235,21 @@ module _ {D : Type 0} (meaning : Meaning D) where
       (let e : c + (length_of meaning p - c) ≡ length_of meaning p = omega arith in rw (← after-add c _ p, e) (length-ends p b))
 
   -- a program that has ended stays as it is, so more steps add nothing
-  pub ended-stays : (start p q : Program D) (a c n : ℕ) → p ≡ after meaning a start → q ≡ after meaning c p → is_running q.place.state ≡ false → a + c ≤ n →
+  pub ended-stays : (start p q : Program D) (a c n : ℕ) → p ≡ after meaning a start → q ≡ after meaning c p →
+      is_running q.place.state ≡ false → a + c ≤ n →
       q ≡ after meaning n start
   ended-stays start p q a c n hp hq h le =
       let e : a + c + (n - (a + c)) ≡ n = omega arith in
       let f : after meaning (a + c) start ≡ q = after-add a c start ∙ rw (← hp, ← hq) refl in
       sym (rw (← e, after-add (a + c) (n - (a + c)) start, f) (after-ended (n - (a + c)) q h))
 
-  pub after-more : (start : Program D) {p q : Program D} (a c n : ℕ) → p ≡ after meaning a start → q ≡ after meaning c p → n ≡ a + c → q ≡ after meaning n start
+  pub after-more : (start : Program D) {p q : Program D} (a c n : ℕ) → p ≡ after meaning a start → q ≡ after meaning c p → n ≡ a + c →
+      q ≡ after meaning n start
   after-more start {p} {q} a c n hp hq e = rw (e, after-add a c start, ← hp) hq
 
   -- it runs only before its length
-  pub running-before : (j : ℕ) (p : Program D) → p.place.fetched ≤ 4096 → is_running (after meaning j p).place.state ≡ true → j < length_of meaning p
+  pub running-before : (j : ℕ) (p : Program D) → p.place.fetched ≤ 4096 → is_running (after meaning j p).place.state ≡ true →
+      j < length_of meaning p
   running-before j p b h =
       elim (cases_Bool (ltb j (length_of meaning p))) [
         | inl e ↦ ltb-true j (length_of meaning p) e
@@ -241,14 +257,16 @@ module _ {D : Type 0} (meaning : Meaning D) where
             let n = length_of meaning p in
             let le : n ≤ j = ltb-false j n e in
             let k : n + (j - n) ≡ j = omega arith in
-            let stays : after meaning j p ≡ after meaning n p = rw (← k) (after-add n (j - n) p ∙ after-ended (j - n) (after meaning n p) (length-ends p b)) in
+            let stays : after meaning j p ≡ after meaning n p =
+            rw (← k) (after-add n (j - n) p ∙ after-ended (j - n) (after meaning n p) (length-ends p b)) in
             let over = rw stays at h in
             let ends = length-ends p b in
             absurd cc
       ]
 
   -- A BURST of a program that runs after some steps: the steps of both, up to the length
-  module _ (start : Program D) {p q : Program D} (a size c : ℕ) (bound : start.place.fetched ≤ 4096) (stands : p ≡ after meaning a start) (runs : is_running p.place.state ≡ true)
+  module _ (start : Program D) {p q : Program D} (a size c : ℕ) (bound : start.place.fetched ≤ 4096) (stands : p ≡ after meaning a start)
+      (runs : is_running p.place.state ≡ true)
       (burst : q ≡ after meaning c p) (most : c ≡ min size (length_of meaning p)) where
     pub bursts-count : a + c ≡ min (a + size) (length_of meaning start)
     bursts-count =

@@ -22,14 +22,16 @@ module _ {D : Type 0} (meaning : Meaning D) (p : Program D) (running : p.place.s
   module _ (links : List Link) (fetches code : ℕ) (is_chain : chain p.area p.place.next p.place.fetched ≡ Whole links fetches)
       (is_first : code ≡ (first_of links).ccw.command) where
     step-whole : step meaning p ≡ step_on_areas meaning p links fetches (areas (meaning.flow p.device code) p.area links)
-    step-whole = step-running ∙ ap (step_on_chain meaning p) is_chain ∙ ap (λ k. step_on_areas meaning p links fetches (areas (meaning.flow p.device k) p.area links)) (sym is_first)
+    step-whole = step-running ∙ ap (step_on_chain meaning p) is_chain
+        ∙ ap (λ k. step_on_areas meaning p links fetches (areas (meaning.flow p.device k) p.area links)) (sym is_first)
 
     pub step-bad : (refusal : Refusal) → areas (meaning.flow p.device code) p.area links ≡ Bad refusal →
         step meaning p ≡ program (checked_place p.place refusal.at) p.device p.area
     step-bad refusal h = step-whole ∙ ap (step_on_areas meaning p links fetches) h
 
     pub step-acted : (parts : List Segment) → areas (meaning.flow p.device code) p.area links ≡ Parts parts →
-        step meaning p ≡ program (acted_place p.place (meaning.flow p.device code) links fetches (effect meaning p.device code parts p.area).acted)
+        step meaning p ≡ program
+        (acted_place p.place (meaning.flow p.device code) links fetches (effect meaning p.device code parts p.area).acted)
         (effect meaning p.device code parts p.area).device (effect meaning p.device code parts p.area).area
     step-acted parts h = step-whole ∙ ap (step_on_areas meaning p links fetches) h
         ∙ ap (λ k. program (acted_place p.place (meaning.flow p.device k) links fetches (effect meaning p.device k parts p.area).acted)

@@ -1,6 +1,7 @@
 -- Where the data of a chain lies in storage (Principles of Operation, chapter 15, "Designation of Storage Area", "Data
 -- Chaining" and "CCW Indirect Data Addressing").
-use Rattle.std.specs.Prelude.{◌≡◌, ℕ, zero, suc, ◌+◌, ◌-◌, ◌/◌, ◌%◌, ◌^◌, ◌==◌, nat_lt, min, Bool, true, false, not, ◌&&◌, ◌||◌, if◌then◌else◌, List, [], ◌∷◌, ◌++◌, MatchResult, Result, Ok, Err}
+use Rattle.std.specs.Prelude.{◌≡◌, ℕ, zero, suc, ◌+◌, ◌-◌, ◌/◌, ◌%◌, ◌^◌, ◌==◌, nat_lt, min, Bool, true, false, not, ◌&&◌, ◌||◌}
+use Rattle.std.specs.Prelude.{if◌then◌else◌, List, [], ◌∷◌, ◌++◌, MatchResult, Result, Ok, Err}
 use Rattle.io_area.specs.Storage.{Storage, lies_in, bytes_at}
 use Rattle.io_images.specs.Images.{word_of}
 use Rattle.io_images.specs.declared.ccw.Ccw.{Ccw}
@@ -11,7 +12,8 @@ use Rattle.device_port.specs.declared.kind.Flow.TheVariants.{None as NoFlow, Out
 use Rattle.ccw_programs.specs.declared.fetch.Link.{Link}
 use Rattle.ccw_programs.specs.declared.rule.Refusal.{Refusal}
 use Rattle.ccw_programs.specs.declared.rule.Rule.{Rule}
-use Rattle.ccw_programs.specs.declared.rule.Rule.TheVariants.{DataOutside, ListBackward, ListMisaligned, WordOutside, WordReserved, WordMisaligned, WordDataOutside}
+use Rattle.ccw_programs.specs.declared.rule.Rule.TheVariants.{DataOutside, ListBackward, ListMisaligned, WordOutside, WordReserved}
+use Rattle.ccw_programs.specs.declared.rule.Rule.TheVariants.{WordMisaligned, WordDataOutside}
 use Rattle.ccw_programs.specs.Links.{skips, is_indirect}
 
 -- a word of an address list
@@ -30,7 +32,8 @@ words_needed first count = (first % 2048 + count + 2047) / 2048
 -- its bytes lie in storage
 abbrev pub is_usable : Storage → Bool → ℕ → ℕ → Bool
 is_usable m is_first at count =
-    lies_in m at 4 && nat_lt (word_at m at) (2 ^ 31) && (is_first || (word_at m at % 2048 == 0)) && lies_in m (word_at m at) (min count (room_after (word_at m at)))
+    lies_in m at 4 && nat_lt (word_at m at) (2 ^ 31) && (is_first || (word_at m at % 2048 == 0))
+    && lies_in m (word_at m at) (min count (room_after (word_at m at)))
 
 -- the rule that a word breaks which may not be used, the first in this order
 abbrev pub word_rule : Storage → Bool → ℕ → Rule
@@ -48,8 +51,8 @@ abbrev pub only_if : Bool → Rule → Result (List Segment) Rule → Result (Li
 only_if true rule parts = parts
 only_if false rule parts = Err rule
 
--- the parts of `count` bytes that so many words from an address on give, or the rule that the first word breaks that
--- may not be used
+-- the parts of `count` bytes that `words` words from an address on give, or the rule that the first unusable word
+-- breaks
 unfoldable pub parts_from : Storage → Bool → Bool → ℕ → ℕ → ℕ → Result (List Segment) Rule
 parts_from m skip is_first at zero count = Ok []
 parts_from m skip is_first at (suc words) count =

@@ -1,7 +1,9 @@
 -- The CCWs that one command fetches (Principles of Operation, chapter 15).
-use Rattle.std.specs.Prelude.{◌≡◌, ℕ, zero, suc, ◌+◌, ◌-◌, ◌%◌, ◌==◌, nat_lt, ◌<◌, ◌≤◌, ◌^◌, Bool, true, false, not, ◌&&◌, if◌then◌else◌, List, [], ◌∷◌, length, sum_by}
+use Rattle.std.specs.Prelude.{◌≡◌, ℕ, zero, suc, ◌+◌, ◌-◌, ◌%◌, ◌==◌, nat_lt, ◌<◌, ◌≤◌, ◌^◌, Bool, true, false, not, ◌&&◌, if◌then◌else◌}
+use Rattle.std.specs.Prelude.{List, [], ◌∷◌, length, sum_by}
 use Rattle.io_area.specs.Storage.{Storage, lies_in, bytes_at}
-use Rattle.io_images.specs.Bits.{is_on, is_off, chain_data_bit, chain_command_bit, suppress_length_bit, skip_bit, indirect_bit, unusable_flags}
+use Rattle.io_images.specs.Bits.{is_on, is_off, chain_data_bit, chain_command_bit, suppress_length_bit, skip_bit, indirect_bit}
+use Rattle.io_images.specs.Bits.{unusable_flags}
 use Rattle.io_images.specs.Images.{ccw_of}
 use Rattle.io_images.specs.declared.ccw.Ccw.{Ccw}
 use Rattle.ccw_programs.specs.declared.fetch.Link.{Link}
@@ -11,7 +13,8 @@ use Rattle.ccw_programs.specs.declared.fetch.Fetch.{Fetch}
 use Rattle.ccw_programs.specs.declared.fetch.Fetch.TheVariants.{Refused, Transfer, More, Last}
 use Rattle.ccw_programs.specs.declared.rule.Refusal.{Refusal}
 use Rattle.ccw_programs.specs.declared.rule.Rule.{Rule}
-use Rattle.ccw_programs.specs.declared.rule.Rule.TheVariants.{CcwMisaligned, CcwOutside, TransferMisaligned, TransferMisplaced, NoCommand, FlagsReserved, CountZero, ChainTooLong, FetchLimit}
+use Rattle.ccw_programs.specs.declared.rule.Rule.TheVariants.{CcwMisaligned, CcwOutside, TransferMisaligned, TransferMisplaced, NoCommand}
+use Rattle.ccw_programs.specs.declared.rule.Rule.TheVariants.{FlagsReserved, CountZero, ChainTooLong, FetchLimit}
 
 -- flags of a CCW
 abbrev pub chains_data : Ccw → Bool
@@ -79,7 +82,7 @@ rule_at m may_transfer place at =
     if not (at % 8 == 0) then CcwMisaligned
     else (if lies_in m at 8 then rule_of_kind may_transfer place (ccw_of (bytes_at m at 8)) else CcwOutside)
 
--- the CCWs of a command and the number of fetches after them; or those in front of the one that failed, and that one
+-- the CCWs of a command and the number of fetches after them; or the CCWs before the one that failed, and that one
 -- with the rule that it breaks
 pub data Fetched : Type 0 where
   Whole : List Link → ℕ → Fetched
@@ -102,18 +105,19 @@ chain_by (Transfer to) rule at place fetches rest = rest false place to
 chain_by (More ccw) rule at place fetches rest = after_ccw (record { at = at; ccw = ccw }) (rest true (suc place) (at + 8))
 chain_by (Last ccw) rule at place fetches rest = Whole (record { at = at; ccw = ccw } ∷ []) fetches
 
--- the chain from an address on, with so many fetches left of 4,096
+-- the chain from an address on, if `left` of 4,096 fetches are left
 unfoldable pub chain_within : Storage → ℕ → Bool → ℕ → ℕ → Fetched
 chain_within m zero may_transfer place at = broken_at at FetchLimit
 chain_within m (suc left) may_transfer place at =
-    chain_by (fetch_at m may_transfer place at) (rule_at m may_transfer place at) at place (4096 - left) (λ may next to. chain_within m left may next to)
+    chain_by (fetch_at m may_transfer place at) (rule_at m may_transfer place at) at place (4096 - left)
+    (λ may next to. chain_within m left may next to)
 
--- THE CHAIN that one command fetches from an address, after so many fetches: a transfer may not be
--- the first CCW of all
+-- THE CHAIN that one command fetches from an address, after a number of fetches: a transfer may not be the first CCW
+-- of all
 abbrev pub chain : Storage → ℕ → ℕ → Fetched
 chain m at fetches = chain_within m (4096 - fetches) (not (fetches == 0)) 0 at
 
--- the chain behind its first CCW, which chains data, after so many fetches
+-- the rest of a chain after its first CCW, which chains data, after a number of fetches
 abbrev pub chained : Storage → Link → ℕ → Fetched
 chained m link fetches = after_ccw link (chain_within m (4096 - fetches) true 1 (link.at + 8))
 
@@ -122,8 +126,8 @@ abbrev pub behind_all : List Link → Fetched → Fetched
 behind_all [] c = c
 behind_all (l ∷ ls) c = after_ccw l (behind_all ls c)
 
--- the chain behind the CCWs that were fetched, after so many fetches, from an address on, where a transfer may come
--- next or not
+-- the rest of a chain after the CCWs that were fetched, from an address on; the Boolean says whether a transfer may
+-- come next
 abbrev pub fetched_on : Storage → List Link → ℕ → Bool → ℕ → Fetched
 fetched_on m links fetches may_transfer at = behind_all links (chain_within m (4096 - fetches) may_transfer (length links) at)
 

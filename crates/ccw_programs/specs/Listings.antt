@@ -1,5 +1,6 @@
--- WHAT A PROGRAM IS TO DO NEXT: the chain of its next command, how its data flow, and the parts of its data area; or
--- the CCW that fails, with the rule that it breaks, behind those in front of it (Principles of Operation, chapter 15).
+-- WHAT A PROGRAM IS TO DO NEXT: the chain of its next command, how its data flow, and the parts of its data area. Or,
+-- of a chain with a CCW that fails, the CCWs before that one, and the rule that it breaks (Principles of Operation,
+-- chapter 15).
 use Rattle.std.specs.Prelude.{◌≡◌, ℕ, List, [], Option, Some, None}
 use Rattle.io_area.specs.Storage.{Storage}
 use Rattle.device_port.specs.Meaning.{Meaning}

@@ -24,7 +24,8 @@ later_place next = record { next = next; fetched = 1; address = 0; residual = 0;
 
 -- the program has ended with this status
 abbrev pub ended_place : Place → Csw → ℕ → Place
-ended_place place csw sense = record { next = place.next; fetched = place.fetched; address = csw.address; residual = csw.residual; state = Ended csw sense }
+ended_place place csw sense =
+    record { next = place.next; fetched = place.fetched; address = csw.address; residual = csw.residual; state = Ended csw sense }
 
 -- the address that is stored for a CCW
 abbrev pub stored_address : ℕ → ℕ
@@ -32,9 +33,16 @@ stored_address at = (at + 8) % 2 ^ 24
 
 -- the program has ended with a program check (chapter 16, "Program Check") of the CCW at an address
 abbrev pub checked_place : Place → ℕ → Place
-checked_place place at = ended_place place (record { address = stored_address at; unit = record { 0 = 0 }; sub = record { 0 = program_check_bit }; residual = 0 }) 0
+checked_place place at =
+    ended_place place (record {
+      address = stored_address at;
+      unit = record { 0 = 0 };
+      sub = record { 0 = program_check_bit };
+      residual = 0;
+    }) 0
 
 -- THE STATUS AFTER A HALT (profile): channel end and device end, with the CCW address and the residual count
 -- of the last command step done, or the start and 0 if there was none
 abbrev pub halted : Place → Csw
-halted place = record { address = place.address; unit = record { 0 = normal_end_status }; sub = record { 0 = 0 }; residual = place.residual }
+halted place =
+    record { address = place.address; unit = record { 0 = normal_end_status }; sub = record { 0 = 0 }; residual = place.residual }

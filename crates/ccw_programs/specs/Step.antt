@@ -1,5 +1,6 @@
--- One command step, and what comes after so many of them (Principles of Operation, chapters 15 and 16, and profile).
-use Rattle.std.specs.Prelude.{◌≡◌, ◌<◌, ◌≤◌, ℕ, zero, suc, ◌+◌, ◌-◌, ◌==◌, nat_lt, min, Bool, true, false, not, ◌&&◌, ◌||◌, if◌then◌else◌, List, [], ◌∷◌, length, slice_index_or}
+-- One command step, and a number of them (Principles of Operation, chapters 15 and 16, and profile).
+use Rattle.std.specs.Prelude.{◌≡◌, ◌<◌, ◌≤◌, ℕ, zero, suc, ◌+◌, ◌-◌, ◌==◌, nat_lt, min, Bool, true, false, not, ◌&&◌, ◌||◌, if◌then◌else◌}
+use Rattle.std.specs.Prelude.{List, [], ◌∷◌, length, slice_index_or}
 use Rattle.io_images.specs.Bits.{is_off, check_or_exception, incorrect_length_bit, normal_end_status, modifier_end_status}
 use Rattle.io_area.specs.Storage.{Storage}
 use Rattle.device_port.specs.Meaning.{Meaning, effect}
@@ -32,8 +33,8 @@ ending (l ∷ []) n = record { link = l; residual = l.ccw.count - n }
 ending (l ∷ k ∷ ls) n =
     if nat_lt n l.ccw.count then record { link = l; residual = l.ccw.count - n } else ending (k ∷ ls) (n - l.ccw.count)
 
--- INCORRECT LENGTH is to be shown (chapter 16, "Incorrect Length"): from the first CCW on the program counts so many
--- bytes, the device wants others, and the CCW where the command ended chains data or does not suppress it
+-- INCORRECT LENGTH is to be shown (chapter 16, "Incorrect Length"): the program counts other bytes from the first CCW
+-- on than the device wants, and the CCW where the command ended chains data or does not suppress it
 abbrev pub shows_length : Flow → Link → ℕ → ℕ → Link → Bool
 shows_length NoFlow first counted want ended = chains_data first.ccw
 shows_length Out first counted want ended = not (want == counted) && (chains_data ended.ccw || not (suppresses_length ended.ccw))
@@ -43,7 +44,8 @@ shows_length Back first counted want ended = not (want == counted) && (chains_da
 -- the subchannel status: an incorrect length is shown beside no other error
 abbrev pub sub_status : Flow → Link → ℕ → Acted → Link → ℕ
 sub_status flow first counted acted ended =
-    if is_off check_or_exception acted.unit.0 && (acted.sub.0 == 0) && shows_length flow first counted acted.want ended then incorrect_length_bit else acted.sub.0
+    if is_off check_or_exception acted.unit.0 && (acted.sub.0 == 0) && shows_length flow first counted acted.want ended
+    then incorrect_length_bit else acted.sub.0
 
 -- the bytes that are moved
 abbrev pub moved : List Link → Acted → ℕ
@@ -61,8 +63,15 @@ next_address last unit = last.at + (if unit == modifier_end_status then 16 else 
 abbrev pub placed : Place → Link → ℕ → Acted → Ending → ℕ → Place
 placed place last fetches acted end sub =
     if goes_on last acted.unit.0 sub
-    then record { next = next_address last acted.unit.0; fetched = fetches; address = stored_address end.link.at; residual = end.residual; state = Running }
-    else ended_place place (record { address = stored_address end.link.at; unit = acted.unit; sub = record { 0 = sub }; residual = end.residual }) acted.sense
+    then record {
+      next = next_address last acted.unit.0;
+      fetched = fetches;
+      address = stored_address end.link.at;
+      residual = end.residual;
+      state = Running;
+    }
+    else ended_place place
+    (record { address = stored_address end.link.at; unit = acted.unit; sub = record { 0 = sub }; residual = end.residual }) acted.sense
 
 abbrev pub acted_place : Place → Flow → List Link → ℕ → Acted → Place
 acted_place place flow links fetches acted =
@@ -107,12 +116,12 @@ module _ {D : Type 0} (meaning : Meaning D) where
   unfoldable pub step : Program D → Program D
   step p = step_from p p.place.state
 
-  -- what stands AFTER so many command steps
+  -- the program AFTER a number of command steps
   unfoldable pub after : ℕ → Program D → Program D
   after zero p = p
   after (suc k) p = step (after k p)
 
-  -- the steps of a program until it has ended, at most so many
+  -- the steps of a program until it has ended, up to a limit
   unfoldable pub steps_within : ℕ → Program D → ℕ
   steps_within zero p = 0
   steps_within (suc k) p = if is_running p.place.state then suc (steps_within k (step p)) else 0

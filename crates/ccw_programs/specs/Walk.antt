@@ -6,16 +6,15 @@ use Rattle.io_images.specs.declared.ccw.Ccw.{Ccw}
 use Rattle.ccw_programs.specs.declared.fetch.Link.{Link}
 use Rattle.ccw_programs.specs.Links.{chains_data, is_transfer, chain, Whole}
 
--- the CCW that stands at an address
+-- the CCW at an address
 abbrev pub ccw_at : Storage → ℕ → Ccw
 ccw_at m at = ccw_of (bytes_at m at 8)
 
--- an address leads to a CCW that stands there, or to the one that a transfer there names, where a
--- transfer may stand
+-- an address leads to the CCW at it; or, if a transfer is at it and may be, to the CCW that the transfer names
 abbrev pub LeadsTo : Storage → Bool → ℕ → ℕ → Type 0
 LeadsTo m may from at = (at ≡ from) ⊎ ((may ≡ true) × (is_transfer (ccw_at m from) ≡ true) × (at ≡ (ccw_at m from).address))
 
--- a CCW of a chain is the one that stands at its address, a multiple of 8, and is no transfer
+-- a CCW of a chain is the one at its address, a multiple of 8, and is no transfer
 pub record Stands (m : Storage) (l : Link) : Type 0 where
   pub lies : lies_in m l.at 8 ≡ true
   pub aligned : (l.at % 8 == 0) ≡ true

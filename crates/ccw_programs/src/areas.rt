@@ -47,10 +47,10 @@ fn segment_lies(flow: Flow, area: &Area, segment: &Segment) -> bool
 
 /// Adds the one part of a CCW that names its data.
 fn push_direct(chain: &mut Parts, flow: Flow, area: &Area, ccw: &Ccw) -> Result<(), Rule>
-    requires room { length chain.old ≤ 495 }
+    requires room { length chain.old.items ≤ 495 }
     requires direct { is_indirect ccw.now ≡ false }
-    ensures room { length chain.new ≤ length chain.old + 33 }
-    ensures parts { AddsParts chain.old (direct_parts flow area.now ccw.now) result chain.new }
+    ensures room { length chain.new.items ≤ length chain.old.items + 33 }
+    ensures parts { AddsParts chain.old.items (direct_parts flow area.now ccw.now) result chain.new.items }
 {
     let segment = part_of(ccw);
     if !segment_lies(flow, area, &segment) {
@@ -62,9 +62,9 @@ fn push_direct(chain: &mut Parts, flow: Flow, area: &Area, ccw: &Ccw) -> Result<
 
 /// Adds the parts of a CCW that names a list of words.
 fn push_indirect(chain: &mut Parts, area: &Area, ccw: &Ccw) -> Result<(), Rule>
-    requires room { length chain.old ≤ 495 }
-    ensures room { length chain.new ≤ length chain.old + 33 }
-    ensures parts { AddsParts chain.old (indirect_parts area.now ccw.now) result chain.new }
+    requires room { length chain.old.items ≤ 495 }
+    ensures room { length chain.new.items ≤ length chain.old.items + 33 }
+    ensures parts { AddsParts chain.old.items (indirect_parts area.now ccw.now) result chain.new.items }
 {
     let list = ccw.address.get();
     if list % 4 != 0 {
@@ -78,7 +78,7 @@ fn push_indirect(chain: &mut Parts, area: &Area, ccw: &Ccw) -> Result<(), Rule>
     push_words(chain, area, list, words, count, ccw.flags.skips())
 }
 
-/// Adds the parts that so many words of a list give.
+/// Adds the parts that `words` words of a list give.
 fn push_words(
     chain: &mut Parts,
     area: &Area,
@@ -87,9 +87,9 @@ fn push_words(
     bytes: u16,
     skip: bool,
 ) -> Result<(), Rule>
-    requires { length chain.old + words ≤ 528 }
-    ensures room { length chain.new ≤ length chain.old + words }
-    ensures parts { AddsParts chain.old (parts_from area.now skip true list words bytes) result chain.new }
+    requires { length chain.old.items + words ≤ 528 }
+    ensures room { length chain.new.items ≤ length chain.old.items + words }
+    ensures parts { AddsParts chain.old.items (parts_from area.now skip true list words bytes) result chain.new.items }
 {
     let mut at = list;
     let mut count = bytes;
@@ -140,9 +140,9 @@ fn usable_part(
 
 /// Adds the parts of a CCW, or tells the rule that they break.
 fn push_parts(chain: &mut Parts, flow: Flow, area: &Area, ccw: &Ccw) -> Result<(), Rule>
-    requires { length chain.old ≤ 495 }
-    ensures room { length chain.new ≤ length chain.old + 33 }
-    ensures parts { AddsParts chain.old (parts_of flow area.now ccw.now) result chain.new }
+    requires { length chain.old.items ≤ 495 }
+    ensures room { length chain.new.items ≤ length chain.old.items + 33 }
+    ensures parts { AddsParts chain.old.items (parts_of flow area.now ccw.now) result chain.new.items }
 {
     match flow {
         Flow::None => Ok(()),
@@ -199,9 +199,9 @@ pub(crate) fn data_areas(
     requires few { length links.now ≤ 16 }
     requires some { 1 ≤ length links.now }
     requires sound { All Sound links.now }
-    requires empty { chain.old ≡ [] }
-    ensures value { MatchResult result (λ _. areas flow area.now links.now ≡ Parts chain.new) (λ refusal. areas flow area.now links.now ≡ Bad refusal) }
-    ensures can { OnOk result (CanAct flow area.now chain.new) }
+    requires empty { chain.old.items ≡ [] }
+    ensures value { MatchResult result (λ _. areas flow area.now links.now ≡ Parts chain.new.items) (λ refusal. areas flow area.now links.now ≡ Bad refusal) }
+    ensures can { OnOk result (CanAct flow area.now chain.new.items) }
 {
     for link in links {
         push_parts(chain, flow, area, &link.ccw).map_err(|rule| Refusal { at: link.at, rule })?;

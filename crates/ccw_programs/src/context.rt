@@ -83,9 +83,9 @@ impl Context {
         self.state
     }
 
-    /// The status of a program that is halted here: channel end and device end, with the CCW address and the residual
-    /// count of its last command, or its start and 0 (chapter 14, "Halt Subchannel"; that it ends at once is the
-    /// profile's).
+    /// The status of a program that is halted here (chapter 14, "Halt Subchannel"; that it ends at once is the
+    /// profile's). It has channel end and device end, with the CCW address and the residual count of its last
+    /// command, or its start and 0.
     pub fn halted(&self) -> Csw
         ensures { result ≡ halted self.now }
     {

@@ -6,7 +6,7 @@ ghost use Rattle.ccw_programs.specs.Links.{Tells, TellsKind, rule_at, rule_of_ki
 ghost use Rattle.io_images.specs.Images.{ccw_of};
 
 use crate::rule::{Refusal, Rule};
-use crate::short_list::ShortList;
+use arrayvec::ArrayVec;
 use io_area::Area;
 use io_images::Ccw;
 
@@ -111,7 +111,7 @@ pub enum First {
 pub(crate) const FETCH_LIMIT: u16 = 4096;
 
 /// The CCWs of one command: at most 16.
-pub type Links = ShortList<Link, 16>;
+pub type Links = ArrayVec<Link, 16>;
 
 /// Fetches the first CCW of a command.
 #[inline(always)]
@@ -146,12 +146,12 @@ pub(crate) fn fetch_on(
     links: &mut Links,
 ) -> Result<u16, Refusal>
     requires limit { fetches ≤ 4096 }
-    requires sound { All Sound links.old }
-    ensures some { OnOk result (1 ≤ length links.new) }
-    ensures few { OnOk result (length links.new ≤ 16) }
-    ensures sound { OnOk result (All Sound links.new) }
+    requires sound { All Sound links.old.items }
+    ensures some { OnOk result (1 ≤ length links.new.items) }
+    ensures few { OnOk result (length links.new.items ≤ 16) }
+    ensures sound { OnOk result (All Sound links.new.items) }
     ensures fetches { IfOk result (λ after. after ≤ 4096) }
-    ensures chain { MatchResult result (λ after. fetched_on area.now links.old fetches transfers from ≡ Whole links.new after) (λ refusal. fetched_on area.now links.old fetches transfers from ≡ Broken links.new refusal) }
+    ensures chain { MatchResult result (λ after. fetched_on area.now links.old.items fetches transfers from ≡ Whole links.new.items after) (λ refusal. fetched_on area.now links.old.items fetches transfers from ≡ Broken links.new.items refusal) }
 {
     let mut at = from;
     let mut may_transfer = transfers;

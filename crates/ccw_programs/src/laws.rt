@@ -11,8 +11,8 @@ pub fn chains_are_walks()
     ensures { ChainsAreWalks }
 {}
 
-/// Steps compose, so a program may go on in bursts of any sizes; a program has a length, at which it ends: at most
-/// 4,097 commands, as it may fetch 4,096 CCWs (profile), and at least one where it runs.
+/// Steps compose, so a program may go on in bursts of any sizes. A program has a length, at which it ends: at least
+/// one command if it runs, and at most 4,097, as it may fetch 4,096 CCWs (profile).
 pub fn steps_compose<D: Device>()
     ensures { StepsCompose D.meaning }
 {}

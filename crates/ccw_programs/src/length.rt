@@ -1,6 +1,5 @@
-//! The length of a command and what comes behind it: whether its length is shown as
-//! incorrect, and the next command (Principles of Operation, chapter 15, "Command Chaining", and chapter 16,
-//! "Incorrect Length").
+//! The length of a command, whether it is shown as incorrect, and the next command (Principles of Operation, chapter
+//! 15, "Command Chaining", and chapter 16, "Incorrect Length").
 
 ghost use Rattle.std.specs.Prelude.{◌≡◌, ◌≤◌, ◌<◌, ◌+◌, ◌%◌, ◌^◌};
 ghost use Rattle.ccw_programs.specs.Links.{Sound};
@@ -10,8 +9,8 @@ use crate::fetch::Link;
 use device_port::{Acted, Flow};
 use io_images::{SubStatus, UnitStatus};
 
-/// Whether incorrect length is shown, where the program counts so many bytes from the first CCW of the command on, the
-/// device wants so many, and the CCW where the command ended is this one.
+/// Whether incorrect length is shown. The program counts `counted` bytes from the first CCW of the command on, and the
+/// device wants `want`. The command ended at the CCW `ended`.
 #[inline(always)]
 fn shows_length(flow: Flow, first: &Link, counted: u32, want: u32, ended: &Link) -> bool
     ensures { result ≡ shows_length flow first.now counted want ended.now }

@@ -1,10 +1,10 @@
 //! Channel programs of format-0 CCWs (Principles of Operation, chapter 15), a burst of commands at a time.
 //!
-//! A command step fetches the CCWs of one command (`fetch`), puts the parts of their data areas together
-//! (`areas`), lets the device act, and finds where the command ended, whether its length was wrong (`ending`,
-//! `length`) and whether the program goes on (`context`). What all of it means stands in `specs/`: the chain of
-//! a command in Links.antt, its data areas in Areas.antt, the command step, what stands after so many steps and
-//! the length of a program in Step.antt.
+//! A command step has four parts. It fetches the CCWs of one command (`fetch`), and puts the parts of their data
+//! areas together (`areas`). Then the device acts. Then the step finds where the command ended and whether its length
+//! was wrong (`ending`, `length`), and whether the program goes on (`context`). `specs/` says what all of it means:
+//! Links.antt the chain of a command, Areas.antt its data areas, Step.antt the command step, a number of steps and
+//! the length of a program.
 //!
 //! Tests: tests/cases/scripts, tests/cases/histories, tests/mutants/ccw_programs.
 #![tactic(auto)]
@@ -18,7 +18,6 @@ mod length;
 mod listing;
 mod rule;
 mod run;
-mod short_list;
 mod workspace;
 
 pub use context::{Burst, Context, State};

@@ -12,9 +12,11 @@ use crate::workspace::Workspace;
 use device_port::{Device, Flow, Segment};
 use io_area::Area;
 
-/// The next command of a program: the CCWs that are fetched for it; how its data flow, where all of them can be; the
-/// parts of its data in storage; and which CCW fails, where one does, and then those in front of it, or the whole chain
-/// where the data area of one fails, and no parts (chapter 15, "Channel-Command Word").
+/// The next command of a program (chapter 15, "Channel-Command Word").
+///
+/// If all of it can be fetched and has its data area, `links` are its CCWs, `flow` is the way of its data, and
+/// `parts` are the parts of its data in storage. If a CCW cannot be fetched, `links` are those before it. If the data
+/// area of one fails, `links` are the whole chain, without parts. `refusal` is the CCW that fails, with its rule.
 #[derive(Drop)]
 pub struct Listing<'w> {
     pub links: &'w [Link],

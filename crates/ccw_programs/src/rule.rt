@@ -1,6 +1,6 @@
-//! The rules that a channel program may break: on its CCWs (Principles of Operation, chapter 15, "Channel-Command
-//! Word", "Transfer in Channel" and "Data Chaining"), and on their data areas ("Designation of Storage Area" and "CCW
-//! Indirect Data Addressing"). The limits are the profile's.
+//! The rules that a channel program may break, on its CCWs and on their data areas. They are of Principles of
+//! Operation, chapter 15: "Channel-Command Word", "Transfer in Channel", "Data Chaining", "Designation of Storage
+//! Area" and "CCW Indirect Data Addressing". The limits are the profile's.
 
 use thiserror::Error;
 

@@ -140,7 +140,7 @@ fn command_on<D: Device>(
     requires few { length links.now ≤ 16 }
     requires sound { All Sound links.now }
     requires fetches { fetches ≤ 4096 }
-    requires empty { parts.old ≡ [] }
+    requires empty { parts.old.items ≡ [] }
     ensures place { SamePlace area.old area.new }
     ensures step { program context.new device.new area.new ≡ step D.meaning (program context.old device.old area.old) }
 {
@@ -155,9 +155,8 @@ fn command_on<D: Device>(
     }
 }
 
-/// Goes on with a program, by so many commands at most: it does as many, or as many as the program has left, and
-/// tells how many and where the program then stands (chapter 15, "Command Chaining"; that a program goes on in bursts
-/// is the profile's). Takes no memory: what it puts together it puts into the workspace.
+/// Does at most `max` commands of a program, fewer if it ends before (chapter 15, "Command Chaining"; bursts are the
+/// profile's). Returns how many it did, and the state of the program. Takes no memory: it uses the workspace.
 pub fn burst<D: Device>(
     context: &mut Context,
     device: &mut D,
@@ -192,9 +191,9 @@ pub fn burst<D: Device>(
     }
 }
 
-/// Bursts of these sizes, one after another, until the sizes are used up or the program has ended: as many commands
-/// as one burst of their sum does (chapter 15, "Command Chaining"; that a program goes on in bursts is the profile's).
-/// Takes no memory.
+/// Does bursts of these sizes, one after another, until the sizes are used up or the program has ended. It does the
+/// same commands as one burst of their sum (chapter 15, "Command Chaining"; bursts are the profile's). Takes no
+/// memory.
 pub fn bursts<D: Device>(
     context: &mut Context,
     device: &mut D,

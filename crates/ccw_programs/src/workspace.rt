@@ -1,11 +1,11 @@
 //! What the commands of programs put together, one command after another.
 
 use crate::fetch::{Link, Links};
-use crate::short_list::ShortList;
+use arrayvec::ArrayVec;
 use device_port::{MOST_SEGMENTS, Segment};
 
 /// The parts of the data of a command.
-pub type Parts = ShortList<Segment, MOST_SEGMENTS>;
+pub type Parts = ArrayVec<Segment, MOST_SEGMENTS>;
 
 /// Room for the CCWs of a command and for the parts of its data. It says nothing between two commands, and is made
 /// once for many programs.
@@ -20,8 +20,8 @@ impl Workspace {
     /// Chaining" and "Channel Indirect Data Addressing"; both limits are the profile's). Takes no memory.
     pub fn new() -> Self {
         Workspace {
-            links: ShortList::new(Link::default()),
-            parts: ShortList::new(Segment::default()),
+            links: ArrayVec::new(),
+            parts: ArrayVec::new(),
         }
     }
 }

@@ -70,7 +70,8 @@ keyed = fixture (0xD1 ∷ 0xD2 ∷ []) four 0x18 []
 reads_key_and_data : (act (found keyed).device 0x0E []).bytes ≡ 0xD1 ∷ 0xD2 ∷ four
 reads_key_and_data = refl
 
-searches_a_key : ((act keyed 0x29 (0xD1 ∷ 0xD2 ∷ [])).acted ≡ status_modifier 2) × ((act (act keyed 0x29 (0xD1 ∷ 0xD2 ∷ [])).device 0x06 []).bytes ≡ four)
+searches_a_key : ((act keyed 0x29 (0xD1 ∷ 0xD2 ∷ [])).acted ≡ status_modifier 2)
+    × ((act (act keyed 0x29 (0xD1 ∷ 0xD2 ∷ [])).device 0x06 []).bytes ≡ four)
 searches_a_key = (refl, refl)
 
 reads_count : (act keyed 0x12 []).bytes ≡ 0 ∷ 0 ∷ 0 ∷ 0 ∷ 1 ∷ 2 ∷ 0 ∷ 4 ∷ []

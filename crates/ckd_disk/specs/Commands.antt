@@ -1,5 +1,6 @@
 -- What the commands of a disk mean on the track under its heads (count-key-data devices, in the profile's choice).
-use Rattle.std.specs.Prelude.{ℕ, ◌+◌, List, [], ◌++◌, Bool, Option, Some, None, nat_lt, ◌==◌, ◌&&◌, min, if◌then◌else◌, length, take, nat_eq}
+use Rattle.std.specs.Prelude.{ℕ, ◌+◌, List, [], ◌++◌, Bool, Option, Some, None, nat_lt, ◌==◌, ◌&&◌, min, if◌then◌else◌, length, take}
+use Rattle.std.specs.Prelude.{nat_eq}
 use Rattle.std.specs.List.{starts_with}
 use Rattle.io_images.specs.FileMask.{inhibits_writes, inhibits_formatting}
 use Rattle.device_port.specs.declared.answer.Acted.{Acted}
@@ -8,7 +9,8 @@ use Rattle.device_port.specs.Sense.{command_reject, no_record_found, invalid_tra
 use Rattle.ckd_disk.specs.declared.access.Access.{Access}
 use Rattle.ckd_disk.specs.Record.{Record, count_area, packed, size_at, record_written}
 use Rattle.ckd_disk.specs.Track.{TrackState, record_of, bytes_before, with_content, with_key_and_content, with_record_behind}
-use Rattle.ckd_disk.specs.Access.{Orientation, at_count, at_key, at_end, Armed, unarmed, armed_by_id, armed_by_key, armed_by_format, AccessState, access_of}
+use Rattle.ckd_disk.specs.Access.{Orientation, at_count, at_key, at_end, Armed, unarmed, armed_by_id, armed_by_key, armed_by_format}
+use Rattle.ckd_disk.specs.Access.{AccessState, access_of}
 use Rattle.ckd_disk.specs.Walk.{Reached, next, next_record, key_record, content_record}
 
 -- what a command answers that leaves the medium as it is: the status, what it leaves for the next command, and
@@ -188,7 +190,7 @@ write_key_and_data track access given =
     if inhibits_writes access.mask then refused command_reject track access
     else write_key_and_data_at track access given (armed_for_key_and_data access.armed)
 
--- 1D WRITE COUNT, KEY AND DATA: a new record behind a place, and nothing behind that
+-- 1D WRITE COUNT, KEY AND DATA: a new record after a place, and none after it
 abbrev pub write_count_key_and_data_at : TrackState → AccessState → List ℕ → Option ℕ → Written
 write_count_key_and_data_at track access given None = refused command_reject track access
 write_count_key_and_data_at track access given (Some place) =

@@ -1,5 +1,6 @@
 -- A disk: its tracks, the track under its heads, and what its commands mean.
-use Rattle.std.specs.Prelude.{◌≡◌, ℕ, ◌+◌, ◌*◌, ◌<◌, List, [], ◌∷◌, ◌++◌, Option, Some, None, Bool, not, ◌&&◌, ◌||◌, nat_lt, length, take, slice_index_or, slice_set, if◌then◌else◌}
+use Rattle.std.specs.Prelude.{◌≡◌, ℕ, ◌+◌, ◌*◌, ◌<◌, List, [], ◌∷◌, ◌++◌, Option, Some, None, Bool, not, ◌&&◌, ◌||◌, nat_lt, length, take}
+use Rattle.std.specs.Prelude.{slice_index_or, slice_set, if◌then◌else◌}
 use Rattle.std.specs.List.{AllByRecursion}
 use Rattle.io_images.specs.declared.seek.Seek.{Seek}
 use Rattle.io_images.specs.Images.{seek_of}
@@ -23,7 +24,9 @@ use Rattle.ckd_disk.specs.Record.{Record}
 use Rattle.ckd_disk.specs.Track.{TrackState}
 use Rattle.ckd_disk.specs.Access.{AccessState, access_of, at_index, unarmed, IsPlaced}
 use Rattle.ckd_disk.specs.Command.{command_of, flow_of}
-use Rattle.ckd_disk.specs.Commands.{Answer, Written, left, checked, no_operation, sense, set_file_mask, search_id, search_key, read_count, read_data, read_key_and_data, read_count_key_and_data, write_data, write_key_and_data, write_count_key_and_data}
+use Rattle.ckd_disk.specs.Commands.{Answer, Written, left, checked, no_operation, sense, set_file_mask, search_id, search_key, read_count}
+use Rattle.ckd_disk.specs.Commands.{read_data, read_key_and_data, read_count_key_and_data, write_data, write_key_and_data}
+use Rattle.ckd_disk.specs.Commands.{write_count_key_and_data}
 
 -- A DISK: the tracks stand in the order of their numbers, cylinder * heads + head; `track` is the number of the
 -- one under the heads
@@ -37,14 +40,8 @@ pub record DiskState : Type 0 where
 
 -- the same, as the code has it
 abbrev pub disk_state : ℕ → ℕ → List TrackState → ℕ → Access → Ordinals → DiskState
-disk_state cylinders heads tracks track access ordinals = record {
-  cylinders = cylinders;
-  heads = heads;
-  tracks = tracks;
-  track = track;
-  access = access_of access;
-  ordinals = ordinals;
-}
+disk_state cylinders heads tracks track access ordinals =
+    record { cylinders = cylinders; heads = heads; tracks = tracks; track = track; access = access_of access; ordinals = ordinals }
 
 abbrev pub no_track : TrackState
 no_track = record { size = 0; records = [] }
@@ -129,13 +126,14 @@ command_on disk (Some (Write command)) given = write_on disk command given
 
 -- a command that meets a fault: the heads and the medium stay as they are (profile)
 abbrev pub faulted : DiskState → Fault → Outcome DiskState
-faulted disk fault = record { acted = failed fault; device = record disk { access = left disk.access disk.access.orientation unarmed }; bytes = [] }
+faulted disk fault =
+    record { acted = failed fault; device = record disk { access = left disk.access disk.access.orientation unarmed }; bytes = [] }
 
 abbrev pub act_by : Option Fault → DiskState → ℕ → List ℕ → Outcome DiskState
 act_by None disk code given = command_on disk (command_of code) given
 act_by (Some fault) disk code given = faulted disk fault
 
--- EVERY COMMAND uses up a number, and meets the fault that stands there or else does what its code says
+-- EVERY COMMAND uses up a number, and meets the fault of the script with that number, or else does what its code says
 abbrev pub act : DiskState → ℕ → List ℕ → Outcome DiskState
 act disk code given = act_by (fault_met disk.ordinals) (record disk { ordinals = counted disk.ordinals }) code given
 

@@ -24,7 +24,8 @@ record Keeps (before after : DiskState) : Type 0 where
   cylinders : after.cylinders ≡ before.cylinders
   heads : after.heads ≡ before.heads
 
-kept_by : (first second : Bool) (d : DiskState) (x y z : Outcome DiskState) → Keeps d x.device → Keeps d y.device → Keeps d z.device → Keeps d (if first then x else if second then y else z).device
+kept_by : (first second : Bool) (d : DiskState) (x y z : Outcome DiskState) → Keeps d x.device → Keeps d y.device → Keeps d z.device →
+    Keeps d (if first then x else if second then y else z).device
 kept_by true second d x y z a b c = a
 kept_by false true d x y z a b c = b
 kept_by false false d x y z a b c = c
@@ -61,26 +62,34 @@ want_by : (empty : Bool) (n : ℕ) → n ≡ (if empty then unit_exception n els
 want_by true n = refl
 want_by false n = refl
 
-part_gives : (part : Record → List ℕ) (t : TrackState) (a : AccessState) (reached : Option Reached) → length (read_part part t a reached).bytes ≡ (read_part part t a reached).acted.want
+part_gives : (part : Record → List ℕ) (t : TrackState) (a : AccessState) (reached : Option Reached) →
+    length (read_part part t a reached).bytes ≡ (read_part part t a reached).acted.want
 part_gives part t a None = refl
 part_gives part t a (Some reached) = want_by _ _
 
-count_gives : (t : TrackState) (a : AccessState) (reached : Option Reached) → length (read_count_at t a reached).bytes ≡ (read_count_at t a reached).acted.want
+count_gives : (t : TrackState) (a : AccessState) (reached : Option Reached) →
+    length (read_count_at t a reached).bytes ≡ (read_count_at t a reached).acted.want
 count_gives t a None = refl
 count_gives t a (Some reached) = refl
 
-command_gives : (d : DiskState) (command : Option Command) (given : List ℕ) → GivesWhatItWants (flow_of command) (command_on d command given)
+command_gives : (d : DiskState) (command : Option Command) (given : List ℕ) →
+    GivesWhatItWants (flow_of command) (command_on d command given)
 command_gives d None given = refl
 command_gives d (Some (Control control.NoOperation)) given = refl
 command_gives d (Some (Control control.SetFileMask)) given = refl
 command_gives d (Some (Read read.Sense)) given = refl
-command_gives d (Some (Read read.Count)) given = count_gives (current_track d) d.access (next_record d.access.orientation (length (current_track d).records))
-command_gives d (Some (Read read.Data)) given = part_gives (λ r. r.content) (current_track d) d.access (content_record d.access.orientation (length (current_track d).records))
-command_gives d (Some (Read read.KeyAndData)) given = part_gives (λ r. r.key ++ r.content) (current_track d) d.access (key_record d.access.orientation (length (current_track d).records))
-command_gives d (Some (Read read.CountKeyAndData)) given = part_gives packed (current_track d) d.access (next_record d.access.orientation (length (current_track d).records))
+command_gives d (Some (Read read.Count)) given = count_gives (current_track d) d.access
+    (next_record d.access.orientation (length (current_track d).records))
+command_gives d (Some (Read read.Data)) given = part_gives (λ r. r.content) (current_track d) d.access
+    (content_record d.access.orientation (length (current_track d).records))
+command_gives d (Some (Read read.KeyAndData)) given = part_gives (λ r. r.key ++ r.content) (current_track d) d.access
+    (key_record d.access.orientation (length (current_track d).records))
+command_gives d (Some (Read read.CountKeyAndData)) given = part_gives packed (current_track d) d.access
+    (next_record d.access.orientation (length (current_track d).records))
 command_gives d (Some (Write command)) given = tt
 
-gives_by : (fault : Option Fault) (d : DiskState) (code : ℕ) (given : List ℕ) → GivesWhatItWants (flow_of (command_of code)) (act_by fault d code given)
+gives_by : (fault : Option Fault) (d : DiskState) (code : ℕ) (given : List ℕ) →
+    GivesWhatItWants (flow_of (command_of code)) (act_by fault d code given)
 gives_by None d code given = command_gives d (command_of code) given
 gives_by (Some fault) d code given = gives_nothing (flow_of (command_of code)) (act_by (Some fault) d code given) refl refl
 

@@ -1,5 +1,6 @@
 -- Which disks can be mounted, and what is on them then (profile).
-use Rattle.std.specs.Prelude.{◌≡◌, ℕ, ◌*◌, ◌/◌, ◌%◌, Bool, true, false, nat_lt, nat_le, ◌&&◌, List, [], ◌∷◌, ◌++◌, Result, Ok, Err, length, map, filter, replicate, ◌==◌, if◌then◌else◌}
+use Rattle.std.specs.Prelude.{◌≡◌, ℕ, ◌*◌, ◌/◌, ◌%◌, Bool, true, false, nat_lt, nat_le, ◌&&◌, List, [], ◌∷◌, ◌++◌, Result, Ok, Err, length}
+use Rattle.std.specs.Prelude.{map, filter, replicate, ◌==◌, if◌then◌else◌}
 use Rattle.std.specs.Int.{w16, to_be_bytes}
 use Rattle.std.specs.List.{range_with_len, list_all}
 use Rattle.device_port.specs.declared.device.MountError.{MountError}
@@ -27,18 +28,18 @@ is_geometry g =
 abbrev pub id_on : ℕ → ℕ → ℕ → List ℕ
 id_on cylinder head number = to_be_bytes w16 cylinder ++ (to_be_bytes w16 head ++ number ∷ [])
 
--- R0: the record that stands first on each track, without a key and with eight bytes of zeros
+-- R0: the first record of each track, without a key and with eight bytes of zeros
 abbrev pub track_descriptor : ℕ → ℕ → Record
 track_descriptor cylinder head = record { id = id_on cylinder head 0; key = []; content = replicate 8 0 }
 
--- a record that is handed in, as it stands on its track
+-- a record that is handed in, as it is on its track
 abbrev pub initial : InitialRecord → Record
 initial r = record { id = id_on r.cylinder r.head r.number; key = r.key.items; content = r.content.items }
 
 abbrev pub track_of_initial : Geometry → InitialRecord → ℕ
 track_of_initial g r = track_number g.heads r.cylinder r.head
 
--- WHAT STANDS ON A TRACK AT FIRST: R0, and behind it the records handed in for the track, in their order
+-- THE FIRST RECORDS OF A TRACK: R0, and then the records handed in for the track, in their order
 abbrev pub stands_on : Geometry → ℕ → InitialRecord → Bool
 stands_on g track r = track_of_initial g r == track
 

@@ -26,7 +26,7 @@ pub record IsSpot (records : List Record) (spot : Spot) : Type 0 where
   pub there : spot.place < length records
   pub offset : spot.offset ≡ bytes_before records spot.place
 
--- a spot names the record behind that of another
+-- a spot names the record after that of another
 pub record IsBehind (records : List Record) (spot next : Spot) : Type 0 where
   pub is : IsSpot records next
   pub place : next.place ≡ spot.place + 1
@@ -48,7 +48,7 @@ with_key_and_content track place given =
     let bytes = padded (length r.key + length r.content) given in
     with_record track place (record r { key = take (length r.key) bytes; content = drop (length r.key) bytes })
 
--- the track with a record behind a place, and nothing behind that
+-- the track with a record after a place, and none after it
 abbrev pub with_record_behind : TrackState → ℕ → Record → TrackState
 with_record_behind track place r = record { size = track.size; records = take (place + 1) track.records ++ r ∷ [] }
 

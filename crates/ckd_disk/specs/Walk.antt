@@ -21,7 +21,8 @@ gone_by (at_end place) = Some place
 -- NEXT: the record behind the one that went by. Behind the last one the index point goes by, and R0 comes next
 abbrev pub next_behind : Option ℕ → ℕ → Reached
 next_behind None count = record { place = 0; passed = 0 }
-next_behind (Some place) count = if nat_lt (place + 1) count then record { place = place + 1; passed = 0 } else record { place = 0; passed = 1 }
+next_behind (Some place) count = if nat_lt (place + 1) count then record { place = place + 1; passed = 0 }
+    else record { place = 0; passed = 1 }
 
 abbrev pub next : Orientation → ℕ → Reached
 next orientation count = next_behind (gone_by orientation) count

@@ -23,8 +23,8 @@ use io_images::{FileMask, Seek};
 use std::alloc::{AllocError, Global};
 use std::marker::Model;
 
-/// A disk of count-key-data records (profile), as contracts see it: the tracks in the order of their numbers,
-/// which one is under the heads, what the last command left for the next one, and the fault script.
+/// A disk of count-key-data records (profile). Contracts see the tracks in the order of their numbers, the track under
+/// the heads, what the last command left for the next one, and the fault script.
 #[derive(Drop)]
 pub struct Disk {
     cylinders: u16,
@@ -54,12 +54,15 @@ impl Disk {
     ghost use Rattle.ckd_disk.specs.Disk.{records_of, command_on, control_on, read_on, write_on, seek, is_seek, prefix};
     ghost use Rattle.ckd_disk.specs.Mount.{Mounts};
 
-    /// A disk that holds these records behind the R0 of each track, with its heads at the index point of track
-    /// 0, and meets these faults (profile).
+    /// A disk that holds R0 and then these records on each track, and meets these faults (profile). Its heads are at
+    /// the index point of track 0.
     ///
-    /// Refused in this order: `BadGeometry` where a number of the geometry is outside its range; `BadMedium`
-    /// where a record lies outside the geometry, is R0, has a key over 255 or a data area over 65,535 bytes or
-    /// does not fit its track, or where the faults are no fault script; `NoMemory`.
+    /// Errors, in this order:
+    ///
+    /// - `BadGeometry`: a number of the geometry is outside its range.
+    /// - `BadMedium`: a record lies outside the geometry, is R0, has a key over 255 bytes or a data area over 65,535,
+    ///   or does not fit its track; or the faults are no fault script.
+    /// - `NoMemory`.
     pub fn mount(
         alloc: Global,
         geometry: Geometry,

@@ -8,7 +8,7 @@
 #![tactic(auto)]
 
 mod access;
-mod command;
+pub mod command;
 mod commands;
 mod disk;
 mod mount;

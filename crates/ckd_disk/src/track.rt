@@ -64,7 +64,7 @@ impl Track {
         })
     }
 
-    /// Whether so many bytes fit behind the last record.
+    /// Whether `len` bytes fit after the last record.
     pub fn has_room(&self, len: usize) -> bool
         ensures { IsTrue result ↔ (bytes_of self.now.records + len ≤ self.now.size) }
     {
@@ -145,7 +145,7 @@ impl Track {
         spot.offset + size_of_first(self.from(spot))
     }
 
-    /// The bytes of a record as they stand on the track: count area, key area and data area.
+    /// The bytes of a record on the track: count area, key area and data area.
     pub fn stored(&self, spot: Spot) -> &[u8]
         requires { IsSpot self.now.records spot }
         ensures packed { result.now ≡ packed (record_of self.now.records spot.place) }
@@ -203,7 +203,7 @@ impl Track {
         parts_of(self.stored(spot))
     }
 
-    /// Whether so many bytes fit behind a record.
+    /// Whether `len` bytes fit after a record.
     pub fn has_room_behind(&self, spot: Spot, len: usize) -> bool
         requires { IsSpot self.now.records spot }
         ensures { IsTrue result ↔ (bytes_before self.now.records (spot.place + 1) + len ≤ self.now.size) }
@@ -233,7 +233,7 @@ impl Track {
         fill_at(&mut self.bytes, from, len, given);
     }
 
-    /// Erases what stands behind a record, and puts there the record that the bytes given make.
+    /// Erases all after a record, and puts the record that the given bytes make there.
     pub fn put_behind(&mut self, spot: Spot, given: &Given<'_>) -> Spot
         requires spot { IsSpot self.old.records spot }
         requires count_area { 8 ≤ length given.now }

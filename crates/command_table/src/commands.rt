@@ -2,9 +2,10 @@
 //! kinds). The mnemonics are those of IBM's books on channel programs where these have one, and else the profile's.
 
 use device_port::Kind;
+use std::alloc::{AllocError, Global};
 
-/// A command of a device: its mnemonic, which no other command of any kind has; its code; its name in words; and
-/// whether it moves data, so that its CCW needs an address and a count.
+/// A command of a device: its mnemonic, its code, its name in words, and whether it moves data. No other command of
+/// any kind has the mnemonic. The CCW of a command that moves data needs an address and a count.
 type Row = (&'static str, u8, &'static str, bool);
 
 const DATA: bool = true;
@@ -64,11 +65,14 @@ fn commands_of(kind: Kind) -> &'static [Row] {
     }
 }
 
+/// The name in words of a command of a kind of device, if it has one with this code.
+pub fn command_named(kind: Kind, code: u8) -> Option<&'static str> {
+    name_in(&COMMON, code).or(name_in(commands_of(kind), code))
+}
+
 /// The name in words of a command of a kind of device.
 pub fn command_name(kind: Kind, code: u8) -> &'static str {
-    name_in(&COMMON, code)
-        .or(name_in(commands_of(kind), code))
-        .unwrap_or("no command")
+    command_named(kind, code).unwrap_or("no command")
 }
 
 fn name_in(commands: &'static [Row], code: u8) -> Option<&'static str> {
@@ -78,6 +82,16 @@ fn name_in(commands: &'static [Row], code: u8) -> Option<&'static str> {
         }
     }
     None
+}
+
+/// The mnemonics of all commands.
+pub fn mnemonics(alloc: Global) -> Result<Vec<&'static str>, AllocError> {
+    let mut mnemonics = Vec::new(alloc);
+    let of_disk_and_tape = DISK.iter().chain(TAPE.iter());
+    for (listed, _, _, _) in COMMON.iter().chain(PRINTER.iter()).chain(of_disk_and_tape) {
+        mnemonics.push(*listed)?;
+    }
+    Ok(mnemonics)
 }
 
 /// The code of the command with this mnemonic, of whichever kind of device it is, and whether it moves data.

@@ -1,6 +1,5 @@
-//! The names of commands: for each kind of device the codes that it takes, each with the mnemonic that a symbolic area
-//! names it by and with its name in words; and the names of the flags of a CCW. What a report tells and what a symbolic
-//! area says come from the same tables.
+//! The names of commands and of the flags of a CCW. Each kind of device has codes, and each code a mnemonic and a
+//! name in words. Symbolic areas use the mnemonics, and reports print the names: both come from the same tables.
 //!
 //! Tests: tests/cases/histories, tests/cases/assembler.
 #![tactic(auto)]
@@ -8,5 +7,5 @@
 mod commands;
 mod flags;
 
-pub use commands::{code_of, command_name};
+pub use commands::{code_of, command_name, command_named, mnemonics};
 pub use flags::{CCW_FLAGS, flag_bit};

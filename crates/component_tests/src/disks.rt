@@ -52,7 +52,7 @@ fn seeking(rt: &impl Abort, alloc: Global) -> Result<Disk, Fail> {
     Ok(disk)
 }
 
-/// How a command ends without sense that wants so many bytes.
+/// A command ends without sense and wants this many bytes.
 fn ended(want: u32) -> Acted {
     Acted {
         unit: UnitStatus::new(0x0C),
@@ -116,8 +116,8 @@ fn expect_as_made(rt: &impl Abort, records: &[InitialRecord]) {
     assert!(rt; records.len() == 1 && records.iter().all(is_as_made));
 }
 
-/// Where there is no memory for a mounting or a copy, no other reason is told, and the next one from the same records
-/// is had; but that its track has no room for a record is told first: run it with each growth refused in turn.
+/// If memory runs out for a mounting or a copy, it returns no other reason, and the next one from the same records
+/// succeeds. But that a record does not fit its track comes first. Run it with each allocation made to fail in turn.
 #[test]
 fn mount_without_memory(rt: HostRuntime) -> Result<(), Fail> {
     let refusal = overfull(rt.alloc())?;

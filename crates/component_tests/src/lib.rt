@@ -1,7 +1,7 @@
 //! Tests of each component by itself, from storage to scripts, through its public calls.
 //!
-//! They say what no contract does: values worked out by hand from the standards, that a call succeeds where there is
-//! memory, and that only want of memory is told where there is none.
+//! They test what no contract says: values worked out by hand from the standards, that a call succeeds with enough
+//! memory, and that it returns only out of memory without.
 #![tactic(auto)]
 
 #[cfg(test)]

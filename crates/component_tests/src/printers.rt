@@ -12,8 +12,8 @@ fn largest(alloc: Global) -> Result<Printer, MountError> {
     Printer::mount(alloc, 100_000, 10_000, &[late_fault()])
 }
 
-/// Where there is no memory for a mounting or a copy, no other reason is told, and the next one is had: run it with
-/// each growth refused in turn.
+/// If memory runs out for a mounting or a copy, it returns no other reason, and the next one succeeds. Run it with
+/// each allocation made to fail in turn.
 #[test]
 fn mount_without_memory(rt: HostRuntime) -> Result<(), Fail> {
     let printer = match largest(rt.alloc()) {

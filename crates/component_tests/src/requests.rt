@@ -37,8 +37,8 @@ fn issued(
     }
 }
 
-/// Where there is no memory for a request, no other reason is told, the area comes back, and the next one is had: run
-/// it with each growth refused in turn.
+/// If memory runs out for a request, it returns no other reason, the area comes back, and the next request succeeds.
+/// Run it with each allocation made to fail in turn.
 #[test]
 fn requests_without_memory(rt: HostRuntime) -> Result<(), Fail> {
     let request = match issued(&rt, rt.alloc(), &fixture(), 0x1000) {

@@ -209,7 +209,7 @@ fn expect_taken<R: Wait + Abort>(rt: &R, taker: &mut Taker<'_, Parcel>)
     assert!(rt; taker.taken_len(0) == 1000 && taker.taken_len(1) == 1000);
 }
 
-/// Where a sender or the taker can get no thread it ends in want of memory.
+/// If a sender or the taker can get no thread, it ends with out of memory.
 #[test]
 fn two_senders_and_a_taker(rt: HostRuntime) -> Result<(), Fail> {
     let given_up = AtomicBool::new(false);

@@ -53,8 +53,8 @@ fn expect_as_made(rt: &impl Abort, items: &[InitialItem]) {
     assert!(rt; is_as_made);
 }
 
-/// Where there is no memory for a mounting or a copy, no other reason is told, and the next one from the same items is
-/// had: run it with each growth refused in turn.
+/// If memory runs out for a mounting or a copy, it returns no other reason, and the next one from the same items
+/// succeeds. Run it with each allocation made to fail in turn.
 #[test]
 fn mount_without_memory(rt: HostRuntime) -> Result<(), Fail> {
     let items = items(rt.alloc(), &TWO_ITEMS)?;

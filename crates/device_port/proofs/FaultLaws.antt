@@ -1,5 +1,6 @@
 -- What a place in a fault script tells of the faults of a command.
-use Rattle.std.proofs.Common.{◌≡◌, ◌<◌, ◌≤◌, ℕ, ◌+◌, ◌-◌, ◌^◌, ◌==◌, nat_lt, if◌then◌else◌, Bool, true, false, ◌&&◌, List, [], ◌∷◌, length, take, drop, get_or, Option, Some, None, refl, arith, ◌∙◌, suc, zero, subst, sym, inl, inr, add-one}
+use Rattle.std.proofs.Common.{◌≡◌, ◌<◌, ◌≤◌, ℕ, ◌+◌, ◌-◌, ◌^◌, ◌==◌, nat_lt, if◌then◌else◌, Bool, true, false, ◌&&◌, List, [], ◌∷◌, length}
+use Rattle.std.proofs.Common.{take, drop, get_or, Option, Some, None, refl, arith, ◌∙◌, suc, zero, subst, sym, inl, inr, add-one}
 use Rattle.std.proofs.Math.Seq.{drop-cons}
 use Rattle.std.specs.List.{AllByRecursion}
 use Rattle.std.specs.Option.{is_some}
@@ -22,7 +23,8 @@ fault_of-ahead last n (f ∷ fs) h le =
     grind (arith, nat_tests, ih)
 
 -- those that were passed have smaller ones
-pub fault_of-passed : (fs : List Fault) (next done n : ℕ) → AllByRecursion (λ (f : Fault). f.ordinal ≤ done) (take next fs) → done < n → fault_of fs n ≡ fault_of (drop next fs) n
+pub fault_of-passed : (fs : List Fault) (next done n : ℕ) → AllByRecursion (λ (f : Fault). f.ordinal ≤ done) (take next fs) → done < n →
+    fault_of fs n ≡ fault_of (drop next fs) n
 fault_of-passed [] zero done n h lt = refl
 fault_of-passed [] (suc next) done n h lt = refl
 fault_of-passed (f ∷ fs) zero done n h lt = refl
@@ -44,8 +46,10 @@ first_met-is done (f ∷ fs) h =
     let none = fault_of-ahead f.ordinal (done + 1) fs rest (omega arith) in
     grind (arith, nat_tests, none)
 
-pub met-ahead : (script : List Fault) (next done : ℕ) → Follows script next done → done < 2 ^ 64 - 1 → fault_of script (done + 1) ≡ first_met (done + 1) (drop next script)
-met-ahead script next done f lt = fault_of-passed script next done (done + 1) f.passed (omega arith) ∙ first_met-is done (drop next script) (f.ahead lt)
+pub met-ahead : (script : List Fault) (next done : ℕ) → Follows script next done → done < 2 ^ 64 - 1 →
+    fault_of script (done + 1) ≡ first_met (done + 1) (drop next script)
+met-ahead script next done f lt = fault_of-passed script next done (done + 1) f.passed (omega arith)
+    ∙ first_met-is done (drop next script) (f.ahead lt)
 
 nat_lt-true : (a b : ℕ) → a < b → nat_lt a b ≡ true
 nat_lt-true a b h = grind (arith, nat_tests)
@@ -63,26 +67,30 @@ pub met-first : (script : List Fault) (next done : ℕ) → Follows script next 
 met-first script next done f lt = rw (nat_lt-true (done + 1) (2 ^ 64 - 1) lt) (met-ahead script next done f (omega arith))
 
 -- at the end of a script nothing is met
-pub met-end : (script : List Fault) (next done : ℕ) → Follows script next done → length script ≤ next → fault_met (record { script = script; done = done }) ≡ None
+pub met-end : (script : List Fault) (next done : ℕ) → Follows script next done → length script ≤ next →
+    fault_met (record { script = script; done = done }) ≡ None
 met-end script next done f le =
     elim (cases_lt (done + 1) (2 ^ 64 - 1)) [
       | inl lt ↦ met-first script next done f lt ∙ rw (drop_all next script le) refl
       | inr late ↦ met-late script done late
     ]
 
-pub met-there : (script : List Fault) (next done : ℕ) (f : Fault) → Follows script next done → done + 1 < 2 ^ 64 - 1 → next < length script → f ≡ get_or script next f →
+pub met-there : (script : List Fault) (next done : ℕ) (f : Fault) → Follows script next done → done + 1 < 2 ^ 64 - 1 →
+    next < length script → f ≡ get_or script next f →
     fault_met (record { script = script; done = done }) ≡ (if f.ordinal == done + 1 then Some f else None)
 met-there script next done f h lt within is =
     let cut : drop next script ≡ f ∷ drop (next + 1) script = drop-cons script next f within ∙ rw (← is, add-one) refl in
     met-first script next done h lt ∙ rw cut refl
 
-passed-later : (fs : List Fault) (next done later : ℕ) → done ≤ later → AllByRecursion (λ (f : Fault). f.ordinal ≤ done) (take next fs) → AllByRecursion (λ (f : Fault). f.ordinal ≤ later) (take next fs)
+passed-later : (fs : List Fault) (next done later : ℕ) → done ≤ later → AllByRecursion (λ (f : Fault). f.ordinal ≤ done) (take next fs) →
+    AllByRecursion (λ (f : Fault). f.ordinal ≤ later) (take next fs)
 passed-later [] zero done later le h = tt
 passed-later [] (suc next) done later le h = tt
 passed-later (f ∷ fs) zero done later le h = tt
 passed-later (f ∷ fs) (suc next) done later le h = (omega (arith, h.0), passed-later fs next done later le h.1)
 
-passed-more : (fs : List Fault) (next later : ℕ) (f : Fault) (rest : List Fault) → AllByRecursion (λ (f : Fault). f.ordinal ≤ later) (take next fs) → drop next fs ≡ f ∷ rest → f.ordinal ≤ later →
+passed-more : (fs : List Fault) (next later : ℕ) (f : Fault) (rest : List Fault) →
+    AllByRecursion (λ (f : Fault). f.ordinal ≤ later) (take next fs) → drop next fs ≡ f ∷ rest → f.ordinal ≤ later →
     AllByRecursion (λ (f : Fault). f.ordinal ≤ later) (take (suc next) fs)
 passed-more [] zero later f rest h is at = absurd cc
 passed-more [] (suc next) later f rest h is at = absurd cc
@@ -108,7 +116,8 @@ both_from true false c d h k = absurd cc
 
 -- what is ahead after a fault was met or not
 module _ (script : List Fault) (next done : ℕ) (h : Follows script next done) (lt : done + 1 < 2 ^ 64 - 1) where
-  met-next : (ahead : List Fault) (f : Fault) → drop next script ≡ ahead → first_met (done + 1) ahead ≡ Some f → are_faults_after done ahead ≡ true → Follows script (suc next) (done + 1)
+  met-next : (ahead : List Fault) (f : Fault) → drop next script ≡ ahead → first_met (done + 1) ahead ≡ Some f →
+      are_faults_after done ahead ≡ true → Follows script (suc next) (done + 1)
   met-next [] f is met ok = absurd cc
   met-next (g ∷ rest) f is met ok =
       let same : g.ordinal ≡ done + 1 = grind (arith, nat_tests, met) in
@@ -116,11 +125,13 @@ module _ (script : List Fault) (next done : ℕ) (h : Follows script next done) 
       let more : drop (suc next) script ≡ rest = rw (← add-one) (sym (drop-drop 1 next script) ∙ rw is refl) in
       record {
         within = omega (arith, within_more script next g rest is);
-        passed = passed-more script next (done + 1) g rest (passed-later script next done (done + 1) (omega arith) h.passed) is (omega arith);
+        passed = passed-more script next (done + 1) g rest (passed-later script next done (done + 1) (omega arith) h.passed) is
+            (omega arith);
         ahead = λ late. rw (more, ← same) later;
       }
 
-  missed-next : (ahead : List Fault) → drop next script ≡ ahead → first_met (done + 1) ahead ≡ None → are_faults_after done ahead ≡ true → are_faults_after (done + 1) ahead ≡ true
+  missed-next : (ahead : List Fault) → drop next script ≡ ahead → first_met (done + 1) ahead ≡ None → are_faults_after done ahead ≡ true →
+      are_faults_after (done + 1) ahead ≡ true
   missed-next [] is met ok = refl
   missed-next (g ∷ rest) is met ok =
       let above : done < g.ordinal = grind (arith, nat_tests, ok) in
@@ -129,17 +140,21 @@ module _ (script : List Fault) (next done : ℕ) (h : Follows script next done) 
       both_from (nat_lt done g.ordinal) (nat_lt (done + 1) g.ordinal) (is_fault g) (are_faults_after g.ordinal rest) later ok
 
 -- a fault that is met is passed
-pub follows-met : (script : List Fault) (next done : ℕ) (f : Fault) → Follows script next done → fault_met (record { script = script; done = done }) ≡ Some f → Follows script (next + 1) (next_ordinal done)
+pub follows-met : (script : List Fault) (next done : ℕ) (f : Fault) → Follows script next done →
+    fault_met (record { script = script; done = done }) ≡ Some f → Follows script (next + 1) (next_ordinal done)
 follows-met script next done f h met =
     elim (cases_lt (done + 1) (2 ^ 64 - 1)) [
       | inl lt ↦
           let e : next_ordinal done ≡ done + 1 = omega arith in
-          rw e (subst (λ (n : ℕ). Follows script n (done + 1)) (sym (add-one next)) (met-next script next done h lt (drop next script) f refl (sym (met-first script next done h lt) ∙ met) (h.ahead (omega arith))))
+          rw e (subst (λ (n : ℕ). Follows script n (done + 1)) (sym (add-one next))
+          (met-next script next done h lt (drop next script) f refl (sym (met-first script next done h lt) ∙ met)
+          (h.ahead (omega arith))))
       | inr late ↦ absurd (let none = met-late script done late in cc)
     ]
 
 -- one that is not met stays ahead
-pub follows-missed : (script : List Fault) (next done : ℕ) → done < 2 ^ 64 → Follows script next done → fault_met (record { script = script; done = done }) ≡ None → Follows script next (next_ordinal done)
+pub follows-missed : (script : List Fault) (next done : ℕ) → done < 2 ^ 64 → Follows script next done →
+    fault_met (record { script = script; done = done }) ≡ None → Follows script next (next_ordinal done)
 follows-missed script next done fits h met =
     record {
       within = h.within;
@@ -147,15 +162,18 @@ follows-missed script next done fits h met =
       ahead = λ late.
           let lt : done + 1 < 2 ^ 64 - 1 = omega arith in
           let e : next_ordinal done ≡ done + 1 = omega arith in
-          rw e (missed-next script next done h lt (drop next script) refl (sym (met-first script next done h lt) ∙ met) (h.ahead (omega arith)));
+          rw e (missed-next script next done h lt (drop next script) refl (sym (met-first script next done h lt) ∙ met)
+          (h.ahead (omega arith)));
     }
 
 -- the place in the script after a command, whether a fault was met
-pub follows-some : (script : List Fault) (next done : ℕ) (fault : Option Fault) → Follows script next done → fault ≡ fault_met (record { script = script; done = done }) → is_some fault ≡ true → Follows script (next + 1) (next_ordinal done)
+pub follows-some : (script : List Fault) (next done : ℕ) (fault : Option Fault) → Follows script next done →
+    fault ≡ fault_met (record { script = script; done = done }) → is_some fault ≡ true → Follows script (next + 1) (next_ordinal done)
 follows-some script next done None h is some = absurd cc
 follows-some script next done (Some f) h is some = follows-met script next done f h (sym is)
 
-pub follows-none : (script : List Fault) (next done : ℕ) (fault : Option Fault) → done < 2 ^ 64 → Follows script next done → fault ≡ fault_met (record { script = script; done = done }) → is_some fault ≡ false → Follows script next (next_ordinal done)
+pub follows-none : (script : List Fault) (next done : ℕ) (fault : Option Fault) → done < 2 ^ 64 → Follows script next done →
+    fault ≡ fault_met (record { script = script; done = done }) → is_some fault ≡ false → Follows script next (next_ordinal done)
 follows-none script next done None fits h is none = follows-missed script next done fits h (sym is)
 follows-none script next done (Some f) fits h is none = absurd cc
 
@@ -170,27 +188,33 @@ clear-at script k none =
 -- behind the last fault all commands are clear
 pub clear-end : (script : List Fault) (next done : ℕ) → Follows script next done → length script ≤ next → IsClear script done (2 ^ 64 - 1)
 clear-end script next done f end = record {
-  none = λ k from until. clear-at script k (fault_of-passed script next done (k + 1) f.passed (omega (arith, from)) ∙ rw (drop_all next script end) refl);
+  none = λ k from until. clear-at script k (fault_of-passed script next done (k + 1) f.passed (omega (arith, from))
+      ∙ rw (drop_all next script end) refl);
 }
 
-none-below : (k : ℕ) (f : Fault) (rest : List Fault) (done : ℕ) → are_faults_after done (f ∷ rest) ≡ true → k + 1 < f.ordinal → fault_of (f ∷ rest) (k + 1) ≡ None
+none-below : (k : ℕ) (f : Fault) (rest : List Fault) (done : ℕ) → are_faults_after done (f ∷ rest) ≡ true → k + 1 < f.ordinal →
+    fault_of (f ∷ rest) (k + 1) ≡ None
 none-below k f rest done h below =
     let later : are_faults_after f.ordinal rest ≡ true = grind (arith, nat_tests, h) in
     let none = fault_of-ahead f.ordinal (k + 1) rest later (omega arith) in
     grind (arith, nat_tests, none)
 
 -- commands below the number of the next fault are clear
-pub clear-below : (script : List Fault) (next done : ℕ) (f : Fault) → Follows script next done → next < length script → f ≡ get_or script next f → f.ordinal < 2 ^ 64 → IsClear script done (f.ordinal - 1)
+pub clear-below : (script : List Fault) (next done : ℕ) (f : Fault) → Follows script next done → next < length script →
+    f ≡ get_or script next f → f.ordinal < 2 ^ 64 → IsClear script done (f.ordinal - 1)
 clear-below script next done f h within is fits =
     let cut : drop next script ≡ f ∷ drop (next + 1) script = drop-cons script next f within ∙ rw (← is, add-one) refl in
     record {
       none = λ k from until.
-          let ahead : are_faults_after done (f ∷ drop (next + 1) script) ≡ true = subst (λ (fs : List Fault). are_faults_after done fs ≡ true) cut (h.ahead (omega (arith, from, until, fits))) in
-          clear-at script k (fault_of-passed script next done (k + 1) h.passed (omega (arith, from)) ∙ rw cut (none-below k f (drop (next + 1) script) done ahead (omega (arith, until))));
+          let ahead : are_faults_after done (f ∷ drop (next + 1) script) ≡ true =
+          subst (λ (fs : List Fault). are_faults_after done fs ≡ true) cut (h.ahead (omega (arith, from, until, fits))) in
+          clear-at script k (fault_of-passed script next done (k + 1) h.passed (omega (arith, from))
+          ∙ rw cut (none-below k f (drop (next + 1) script) done ahead (omega (arith, until))));
     }
 
 -- a command that is clear meets nothing, and those behind it stay clear
-pub clear-here : (script : List Fault) (done clear : ℕ) → IsClear script done clear → done < clear → fault_met (record { script = script; done = done }) ≡ None
+pub clear-here : (script : List Fault) (done clear : ℕ) → IsClear script done clear → done < clear →
+    fault_met (record { script = script; done = done }) ≡ None
 clear-here script done clear h lt = h.none done (omega arith) lt
 
 pub clear-later : (script : List Fault) (done later clear : ℕ) → IsClear script done clear → done ≤ later → IsClear script later clear

@@ -1,5 +1,6 @@
 -- The bytes that go out, part after part.
-use Rattle.std.proofs.Common.{◌≡◌, ℕ, zero, suc, ◌+◌, ◌-◌, ◌<◌, ◌≤◌, true, List, [], ◌∷◌, ◌++◌, length, get_or, take, drop, replicate, min, refl, sym, ap, ◌∙◌, append_assoc, arith, inl, inr, add-one}
+use Rattle.std.proofs.Common.{◌≡◌, ℕ, zero, suc, ◌+◌, ◌-◌, ◌<◌, ◌≤◌, true, List, [], ◌∷◌, ◌++◌, length, get_or, take, drop, replicate, min}
+use Rattle.std.proofs.Common.{refl, sym, ap, ◌∙◌, append_assoc, arith, inl, inr, add-one}
 use Rattle.std.proofs.Math.Seq.{drop-cons}
 use Rattle.std.proofs.lemmas.Bool.{cases_lt}
 use Rattle.std.proofs.lemmas.Bool.Decides.{nat_tests}
@@ -45,26 +46,33 @@ padded-append room n xs ys is =
           let none : room - length (xs ++ ys) ≡ 0 = omega (arith, length-append xs ys) in
           let left : room - n ≡ 0 = omega arith in
           let none_left : (room - n) - length ys ≡ 0 = omega arith in
-          let nothing : padded (room - n) ys ≡ [] = ap (λ (k : ℕ). take k ys ++ replicate ((room - n) - length ys) 0) left ∙ ap (λ (k : ℕ). replicate k 0) none_left in
-          ap (λ (k : ℕ). take room (xs ++ ys) ++ replicate k 0) none ∙ append-nil (take room (xs ++ ys)) ∙ take-append-le room xs ys (omega arith) ∙ ap (λ (k : ℕ). take k xs) (sym full)
+          let nothing : padded (room - n) ys ≡ [] = ap (λ (k : ℕ). take k ys ++ replicate ((room - n) - length ys) 0) left
+          ∙ ap (λ (k : ℕ). replicate k 0) none_left in
+          ap (λ (k : ℕ). take room (xs ++ ys) ++ replicate k 0) none ∙ append-nil (take room (xs ++ ys))
+          ∙ take-append-le room xs ys (omega arith) ∙ ap (λ (k : ℕ). take k xs) (sym full)
           ∙ sym (append-nil (take n xs)) ∙ ap (λ (l : List ℕ). take n xs ++ l) (sym nothing)
       | inr long ↦
           let all : n ≡ length xs = omega arith in
           let left : room - length (xs ++ ys) ≡ (room - n) - length ys = omega (arith, length-append xs ys) in
-          ap (λ (l : List ℕ). l ++ replicate (room - length (xs ++ ys)) 0) (take_past room xs ys long) ∙ append_assoc xs (take (room - length xs) ys) (replicate (room - length (xs ++ ys)) 0)
-          ∙ ap (λ (k : ℕ). xs ++ (take (room - length xs) ys ++ replicate k 0)) left ∙ ap (λ (k : ℕ). xs ++ (take (room - k) ys ++ replicate ((room - n) - length ys) 0)) (sym all)
+          ap (λ (l : List ℕ). l ++ replicate (room - length (xs ++ ys)) 0) (take_past room xs ys long)
+          ∙ append_assoc xs (take (room - length xs) ys) (replicate (room - length (xs ++ ys)) 0)
+          ∙ ap (λ (k : ℕ). xs ++ (take (room - length xs) ys ++ replicate k 0)) left
+          ∙ ap (λ (k : ℕ). xs ++ (take (room - k) ys ++ replicate ((room - n) - length ys) 0)) (sym all)
           ∙ ap (λ (l : List ℕ). l ++ padded (room - n) ys) (sym (take_all n xs (omega arith)))
     ]
 
 -- one step of gathering
-gather_more : (image after : List ℕ) (at n : ℕ) (piece xs ys : List ℕ) → at ≤ length image → n ≡ min (length xs) (length image - at) → piece ≡ take n xs → after ≡ written image at piece
+gather_more : (image after : List ℕ) (at n : ℕ) (piece xs ys : List ℕ) → at ≤ length image → n ≡ min (length xs) (length image - at) →
+    piece ≡ take n xs → after ≡ written image at piece
     → take (at + n) after ++ padded (length after - (at + n)) ys ≡ take at image ++ padded (length image - at) (xs ++ ys)
 gather_more image after at n piece xs ys within is piece-is after-is =
     let room = length image - at in
     let piece-len : length piece ≡ n = ap length piece-is ∙ length-take n xs ∙ omega arith in
     let len : length after ≡ length image = ap length after-is ∙ length-written image at piece (omega arith) in
     let front-len : length (take at image ++ piece) ≡ at + n = length-append (take at image) piece ∙ omega (arith, length-take at image) in
-    let front : take (at + n) after ≡ take at image ++ piece = ap (take (at + n)) (after-is ∙ sym (append_assoc (take at image) piece (drop (at + length piece) image))) ∙ take_at (take at image ++ piece) (drop (at + length piece) image) (at + n) front-len in
+    let front : take (at + n) after ≡ take at image ++ piece =
+    ap (take (at + n)) (after-is ∙ sym (append_assoc (take at image) piece (drop (at + length piece) image)))
+    ∙ take_at (take at image ++ piece) (drop (at + length piece) image) (at + n) front-len in
     let left : length after - (at + n) ≡ room - n = omega arith in
     ap (λ (l : List ℕ). l ++ padded (length after - (at + n)) ys) (front ∙ ap (λ (l : List ℕ). take at image ++ l) piece-is)
     ∙ ap (λ (k : ℕ). (take at image ++ take n xs) ++ padded k ys) left
@@ -73,13 +81,15 @@ gather_more image after at n piece xs ys within is piece-is after-is =
 
 -- the parts from a place on give those of the part there, and the rest
 gathered-next : (m : Storage) (segments : List Segment) (i : ℕ) (d : Segment) → i < length segments →
-    gathered m (drop i segments) ≡ bytes_at m (get_or segments i d).address (get_or segments i d).count ++ gathered m (drop (i + 1) segments)
+    gathered m (drop i segments) ≡ bytes_at m (get_or segments i d).address (get_or segments i d).count
+    ++ gathered m (drop (i + 1) segments)
 gathered-next m segments i d h =
     let cut : drop i segments ≡ get_or segments i d ∷ drop (i + 1) segments = drop-cons segments i d h ∙ rw add-one refl in
     rw cut refl
 
 -- one more part is gathered
-pub gathers-on : (m : Storage) (segments : List Segment) (i : ℕ) (d : Segment) (image after whole : List ℕ) (at n : ℕ) → i < length segments → at ≤ length image →
+pub gathers-on : (m : Storage) (segments : List Segment) (i : ℕ) (d : Segment) (image after whole : List ℕ) (at n : ℕ) →
+    i < length segments → at ≤ length image →
     lies_in m (get_or segments i d).address (get_or segments i d).count ≡ true →
     n ≡ min (get_or segments i d).count (length image - at) →
     after ≡ written image at (take n (bytes_at m (get_or segments i d).address (get_or segments i d).count)) →
@@ -95,7 +105,8 @@ take-less : (most count n : ℕ) (bytes : List ℕ) → n ≡ min count most →
 take-less most count n bytes is =
     elim (cases_lt most count) [
       | inl less ↦ let e : n ≡ most = omega arith in take-take most count bytes (omega arith) ∙ ap (λ (k : ℕ). take k bytes) (sym e)
-      | inr more ↦ let e : n ≡ count = omega arith in take_all most (take count bytes) (omega (arith, length-take count bytes)) ∙ ap (λ (k : ℕ). take k bytes) (sym e)
+      | inr more ↦ let e : n ≡ count = omega arith in take_all most (take count bytes) (omega (arith, length-take count bytes))
+          ∙ ap (λ (k : ℕ). take k bytes) (sym e)
     ]
 
 -- the first bytes that a chain of one part gives

@@ -1,7 +1,9 @@
 -- Where packed items lie in a buffer, and what a write leaves of them, whatever the items are.
-use Rattle.std.proofs.Common.{◌≡◌, ℕ, zero, suc, ◌+◌, ◌-◌, ◌*◌, ◌<◌, ◌≤◌, List, [], ◌∷◌, ◌++◌, length, get_or, set, take, drop, replicate, refl, sym, ap, subst, ◌∙◌, append_assoc, add-one, arith}
+use Rattle.std.proofs.Common.{◌≡◌, ℕ, zero, suc, ◌+◌, ◌-◌, ◌*◌, ◌<◌, ◌≤◌, List, [], ◌∷◌, ◌++◌, length, get_or, set, take, drop, replicate}
+use Rattle.std.proofs.Common.{refl, sym, ap, subst, ◌∙◌, append_assoc, add-one, arith}
 use Rattle.std.specs.List.{AllByRecursion}
-use Rattle.std.proofs.lemmas.List.{take_at, take_all, drop_at, take-append-drop, length-append, length-take, length-take-le, length-drop, drop_more, take_more, append-nil, drop-drop, set_split, length-set, length-replicate}
+use Rattle.std.proofs.lemmas.List.{take_at, take_all, drop_at, take-append-drop, length-append, length-take, length-take-le, length-drop}
+use Rattle.std.proofs.lemmas.List.{drop_more, take_more, append-nil, drop-drop, set_split, length-set, length-replicate}
 use Rattle.std.proofs.lemmas.List.Concat.{flat_map-cons, flat_map-append}
 use Rattle.std.proofs.lemmas.List.Elements.{All-from_recursion}
 use Rattle.device_port.specs.Moves.{padded, written}
@@ -9,10 +11,17 @@ use Rattle.device_port.specs.Packed.{Spelling, ReadsBack, image_of, offset_of, i
 
 -- ---- writes into a buffer
 
-pub length-written : (buffer : List ℕ) (at : ℕ) (bytes : List ℕ) → at + length bytes ≤ length buffer → length (written buffer at bytes) ≡ length buffer
+pub length-written : (buffer : List ℕ) (at : ℕ) (bytes : List ℕ) → at + length bytes ≤ length buffer →
+    length (written buffer at bytes) ≡ length buffer
 length-written buffer at bytes fit =
     let rest = drop (at + length bytes) buffer in
-    omega (arith, length-append (take at buffer) (bytes ++ rest), length-append bytes rest, length-take at buffer, length-drop (at + length bytes) buffer)
+    omega (
+      arith,
+      length-append (take at buffer) (bytes ++ rest),
+      length-append bytes rest,
+      length-take at buffer,
+      length-drop (at + length bytes) buffer,
+    )
 
 pub length-padded : (n : ℕ) (bytes : List ℕ) → length (padded n bytes) ≡ n
 length-padded n bytes =
@@ -21,7 +30,8 @@ length-padded n bytes =
     omega (arith, length-append (take n bytes) zeros, length-take n bytes, count)
 
 -- two writes, one behind the other
-pub written-written : (buffer : List ℕ) (at next : ℕ) (xs ys : List ℕ) → at + length xs ≤ length buffer → next ≡ at + length xs → written (written buffer at xs) next ys ≡ written buffer at (xs ++ ys)
+pub written-written : (buffer : List ℕ) (at next : ℕ) (xs ys : List ℕ) → at + length xs ≤ length buffer → next ≡ at + length xs →
+    written (written buffer at xs) next ys ≡ written buffer at (xs ++ ys)
 written-written buffer at next xs ys fit next-is =
     let once = written buffer at xs in
     let rest = drop (at + length xs) buffer in
@@ -29,7 +39,8 @@ written-written buffer at next xs ys fit next-is =
     let len : length (take at buffer ++ xs) ≡ next = omega (arith, length-append (take at buffer) xs, length-take at buffer, next-is) in
     let front : take next once ≡ take at buffer ++ xs = ap (take next) split ∙ take_at (take at buffer ++ xs) rest next len in
     let back : drop (next + length ys) once ≡ drop (at + length (xs ++ ys)) buffer =
-    sym (drop-drop (length ys) next once) ∙ ap (λ (x : List ℕ). drop (length ys) (drop next x)) split ∙ ap (drop (length ys)) (drop_at (take at buffer ++ xs) rest next len)
+    sym (drop-drop (length ys) next once) ∙ ap (λ (x : List ℕ). drop (length ys) (drop next x)) split
+    ∙ ap (drop (length ys)) (drop_at (take at buffer ++ xs) rest next len)
     ∙ drop-drop (length ys) (at + length xs) buffer ∙ ap (λ (n : ℕ). drop n buffer) (omega (arith, length-append xs ys)) in
     ap (λ (x : List ℕ). x ++ (ys ++ drop (next + length ys) once)) front
     ∙ ap (λ (x : List ℕ). (take at buffer ++ xs) ++ (ys ++ x)) back
@@ -37,12 +48,14 @@ written-written buffer at next xs ys fit next-is =
     ∙ ap (λ (x : List ℕ). take at buffer ++ x) (sym (append_assoc xs ys (drop (at + length (xs ++ ys)) buffer)))
 
 -- a write over a part of a buffer of the same length
-pub written-part : (before old after new : List ℕ) (at : ℕ) → at ≡ length before → length new ≡ length old → written (before ++ (old ++ after)) at new ≡ before ++ (new ++ after)
+pub written-part : (before old after new : List ℕ) (at : ℕ) → at ≡ length before → length new ≡ length old →
+    written (before ++ (old ++ after)) at new ≡ before ++ (new ++ after)
 written-part before old after new at at-is len =
     let whole = before ++ (old ++ after) in
     let front : take at whole ≡ before = take_at before (old ++ after) at (sym at-is) in
     let back : drop (at + length new) whole ≡ after =
-    sym (drop-drop (length new) at whole) ∙ ap (drop (length new)) (drop_at before (old ++ after) at (sym at-is)) ∙ drop_at old after (length new) (sym len) in
+    sym (drop-drop (length new) at whole) ∙ ap (drop (length new)) (drop_at before (old ++ after) at (sym at-is))
+    ∙ drop_at old after (length new) (sym len) in
     ap (λ (x : List ℕ). x ++ (new ++ drop (at + length new) whole)) front ∙ ap (λ (x : List ℕ). before ++ (new ++ x)) back
 
 -- ---- lists whose items all fit
@@ -79,20 +92,24 @@ module _ {X : Type 0} (s : Spelling X) where
     pub counted : count ≡ length items
 
   pub image_of-push : (items : List X) (x : X) → image_of s (items ++ x ∷ []) ≡ image_of s items ++ s.packed x
-  image_of-push items x = flat_map-append s.packed items (x ∷ []) ∙ ap (λ (l : List ℕ). image_of s items ++ l) (flat_map-cons s.packed x [] ∙ append-nil (s.packed x))
+  image_of-push items x = flat_map-append s.packed items (x ∷ []) ∙ ap (λ (l : List ℕ). image_of s items ++ l)
+      (flat_map-cons s.packed x [] ∙ append-nil (s.packed x))
 
   pub Fits-at : (items : List X) (place : ℕ) (d : X) → AllByRecursion s.Fits items → place < length items → s.Fits (get_or items place d)
   Fits-at items place d fits lt = All-from_recursion s.Fits items fits place d lt
 
   -- what one place more takes on
-  pub offset_of-more : (items : List X) (place : ℕ) (d : X) → place < length items → offset_of s items (place + 1) ≡ offset_of s items place + length (s.packed (get_or items place d))
+  pub offset_of-more : (items : List X) (place : ℕ) (d : X) → place < length items →
+      offset_of s items (place + 1) ≡ offset_of s items place + length (s.packed (get_or items place d))
   offset_of-more items place d lt =
       let x = get_or items place d in
-      ap (λ (l : List X). length (image_of s l)) (take_more items place d lt) ∙ ap length (image_of-push (take place items) x) ∙ length-append (image_of s (take place items)) (s.packed x)
+      ap (λ (l : List X). length (image_of s l)) (take_more items place d lt) ∙ ap length (image_of-push (take place items) x)
+      ∙ length-append (image_of s (take place items)) (s.packed x)
 
   -- the bytes before a place and from there on
   image_of-cut : (items : List X) (place : ℕ) → image_of s items ≡ image_of s (take place items) ++ image_of s (drop place items)
-  image_of-cut items place = ap (image_of s) (sym (take-append-drop place items)) ∙ flat_map-append s.packed (take place items) (drop place items)
+  image_of-cut items place = ap (image_of s) (sym (take-append-drop place items))
+      ∙ flat_map-append s.packed (take place items) (drop place items)
 
   pub offset_of-within : (items : List X) (place : ℕ) → offset_of s items place ≤ length (image_of s items)
   offset_of-within items place =
@@ -103,7 +120,8 @@ module _ {X : Type 0} (s : Spelling X) where
   offset_of-all items place e = ap (λ (l : List X). length (image_of s l)) (take_all place items (omega arith))
 
   -- items of at least so many bytes each
-  pub image_of-wide : (least : ℕ) (items : List X) → ((x : X) → s.Fits x → least ≤ length (s.packed x)) → AllByRecursion s.Fits items → length items * least ≤ length (image_of s items)
+  pub image_of-wide : (least : ℕ) (items : List X) → ((x : X) → s.Fits x → least ≤ length (s.packed x)) → AllByRecursion s.Fits items →
+      length items * least ≤ length (image_of s items)
   image_of-wide least [] wide fits = omega arith
   image_of-wide least (x ∷ items) wide fits =
       let back = image_of s items in
@@ -125,9 +143,11 @@ module _ {X : Type 0} (s : Spelling X) where
   used-within items bytes used count p = omega (arith, p.taken, ap length p.parts, length-append (image_of s items) p.unused)
 
   -- a buffer cut at a place
-  pub cut_at : (items : List X) (bytes : List ℕ) (used count place : ℕ) (p : Packs s items bytes used count) → bytes ≡ image_of s (take place items) ++ (image_of s (drop place items) ++ p.unused)
+  pub cut_at : (items : List X) (bytes : List ℕ) (used count place : ℕ) (p : Packs s items bytes used count) →
+      bytes ≡ image_of s (take place items) ++ (image_of s (drop place items) ++ p.unused)
   cut_at items bytes used count place p =
-      p.parts ∙ ap (λ (l : List ℕ). l ++ p.unused) (image_of-cut s items place) ∙ append_assoc (image_of s (take place items)) (image_of s (drop place items)) p.unused
+      p.parts ∙ ap (λ (l : List ℕ). l ++ p.unused) (image_of-cut s items place)
+      ∙ append_assoc (image_of s (take place items)) (image_of s (drop place items)) p.unused
 
   -- a buffer around the item at a place
   pub around : (items : List X) (bytes : List ℕ) (used count place : ℕ) (d : X) (p : Packs s items bytes used count) → place < length items
@@ -142,25 +162,29 @@ module _ {X : Type 0} (s : Spelling X) where
       ∙ ap (λ (l : List ℕ). front ++ l) (append_assoc (s.packed x) back p.unused)
 
   -- what a buffer begins with at the offset of a place
-  pub begins_at : (items : List X) (bytes : List ℕ) (used count place : ℕ) (d : X) → Packs s items bytes used count → place < length items → Begins s (drop (offset_of s items place) bytes) (get_or items place d)
+  pub begins_at : (items : List X) (bytes : List ℕ) (used count place : ℕ) (d : X) → Packs s items bytes used count →
+      place < length items → Begins s (drop (offset_of s items place) bytes) (get_or items place d)
   begins_at items bytes used count place d p lt =
       let rest = image_of s (drop (place + 1) items) ++ p.unused in
       record {
         fits = Fits-at s items place d p.fits lt;
         rest = rest;
-        parts = ap (drop (offset_of s items place)) (around items bytes used count place d p lt) ∙ drop_at (image_of s (take place items)) (s.packed (get_or items place d) ++ rest) (offset_of s items place) refl;
+        parts = ap (drop (offset_of s items place)) (around items bytes used count place d p lt)
+            ∙ drop_at (image_of s (take place items)) (s.packed (get_or items place d) ++ rest) (offset_of s items place) refl;
       }
 
 -- ---- what is read back
 
 module _ {X : Type 0} (s : Spelling X) (reads : ReadsBack s) where
   -- items that were packed are read back, whatever follows
-  pub items_at-packed : (items : List X) (rest : List ℕ) → AllByRecursion s.Fits items → items_at s (length items) (image_of s items ++ rest) ≡ items
+  pub items_at-packed : (items : List X) (rest : List ℕ) → AllByRecursion s.Fits items →
+      items_at s (length items) (image_of s items ++ rest) ≡ items
   unfolding items_at
   items_at-packed [] rest fits = refl
   items_at-packed (x ∷ items) rest fits =
       let after = image_of s items ++ rest in
-      let regrouped : image_of s (x ∷ items) ++ rest ≡ s.packed x ++ after = ap (λ (l : List ℕ). l ++ rest) (flat_map-cons s.packed x items) ∙ append_assoc (s.packed x) (image_of s items) rest in
+      let regrouped : image_of s (x ∷ items) ++ rest ≡ s.packed x ++ after =
+      ap (λ (l : List ℕ). l ++ rest) (flat_map-cons s.packed x items) ∙ append_assoc (s.packed x) (image_of s items) rest in
       let bytes = s.packed x ++ after in
       let next : drop (s.size_at bytes) bytes ≡ after = drop_at (s.packed x) after (s.size_at bytes) (sym (reads.size x after fits.0)) in
       ap (items_at s (suc (length items))) regrouped
@@ -169,9 +193,11 @@ module _ {X : Type 0} (s : Spelling X) (reads : ReadsBack s) where
       ∙ ap (λ (l : List X). x ∷ l) (items_at-packed items rest fits.1)
 
   -- a buffer that packs items is read as these
-  pub held-packs : (items : List X) (bytes : List ℕ) (used count : ℕ) → Packs s items bytes used count → HoldsItems s bytes used count × (items_at s count bytes ≡ items)
+  pub held-packs : (items : List X) (bytes : List ℕ) (used count : ℕ) → Packs s items bytes used count →
+      HoldsItems s bytes used count × (items_at s count bytes ≡ items)
   held-packs items bytes used count p =
-      let read : items_at s count bytes ≡ items = ap (λ (n : ℕ). items_at s n bytes) p.counted ∙ ap (items_at s (length items)) p.parts ∙ items_at-packed items p.unused p.fits in (
+      let read : items_at s count bytes ≡ items = ap (λ (n : ℕ). items_at s n bytes) p.counted ∙ ap (items_at s (length items)) p.parts
+      ∙ items_at-packed items p.unused p.fits in (
         record {
           within = used-within s items bytes used count p;
           packed = ap (take used) p.parts ∙ take_at (image_of s items) p.unused used (sym p.taken) ∙ ap (image_of s) (sym read);
@@ -216,11 +242,14 @@ module _ {X : Type 0} (s : Spelling X) (reads : ReadsBack s) where
       let tail = items_at s n (drop (s.size_at bytes) bytes) in
       let p = packs-held s bytes used (suc n) h in
       let after = image_of s tail ++ p.unused in
-      let parts : bytes ≡ s.packed x ++ after = p.parts ∙ ap (λ (l : List ℕ). l ++ p.unused) (flat_map-cons s.packed x tail) ∙ append_assoc (s.packed x) (image_of s tail) p.unused in
+      let parts : bytes ≡ s.packed x ++ after = p.parts ∙ ap (λ (l : List ℕ). l ++ p.unused) (flat_map-cons s.packed x tail)
+      ∙ append_assoc (s.packed x) (image_of s tail) p.unused in
       let b : Begins s bytes x = record { fits = h.fits.0; rest = after; parts = parts } in
       let size = size_at-begins bytes x b in
-      let back : drop (s.size_at bytes) bytes ≡ after = ap (drop (s.size_at bytes)) parts ∙ drop_at (s.packed x) after (s.size_at bytes) (sym size) in
-      let taken : used ≡ length (s.packed x) + length (image_of s tail) = p.taken ∙ ap length (flat_map-cons s.packed x tail) ∙ length-append (s.packed x) (image_of s tail) in
+      let back : drop (s.size_at bytes) bytes ≡ after = ap (drop (s.size_at bytes)) parts
+      ∙ drop_at (s.packed x) after (s.size_at bytes) (sym size) in
+      let taken : used ≡ length (s.packed x) + length (image_of s tail) = p.taken ∙ ap length (flat_map-cons s.packed x tail)
+      ∙ length-append (s.packed x) (image_of s tail) in
       let left : used - s.size_at bytes ≡ length (image_of s tail) = omega arith in
       record {
         begins = b;
@@ -246,17 +275,20 @@ module _ {X : Type 0} (s : Spelling X) (reads : ReadsBack s) where
 
 module _ {X : Type 0} (s : Spelling X) where
   -- an item put at a place, with nothing behind it
-  pub item_put : (items : List X) (bytes : List ℕ) (used count place end : ℕ) (x : X) → Packs s items bytes used count → place ≤ length items → s.Fits x → end ≡ offset_of s items place
+  pub item_put : (items : List X) (bytes : List ℕ) (used count place end : ℕ) (x : X) → Packs s items bytes used count →
+      place ≤ length items → s.Fits x → end ≡ offset_of s items place
       → Packs s (take place items ++ x ∷ []) (written bytes end (s.packed x)) (end + length (s.packed x)) (place + 1)
   item_put items bytes used count place end x p le fit end-is =
       let kept = take place items in
       let unused = drop (end + length (s.packed x)) bytes in
       let back = image_of s (drop place items) ++ p.unused in
-      let front : take end bytes ≡ image_of s kept = ap (take end) (cut_at s items bytes used count place p) ∙ take_at (image_of s kept) back end (sym end-is) in
+      let front : take end bytes ≡ image_of s kept = ap (take end) (cut_at s items bytes used count place p)
+      ∙ take_at (image_of s kept) back end (sym end-is) in
       let push = image_of-push s kept x in
       record {
         unused = unused;
-        parts = ap (λ (l : List ℕ). l ++ (s.packed x ++ unused)) front ∙ sym (append_assoc (image_of s kept) (s.packed x) unused) ∙ ap (λ (l : List ℕ). l ++ unused) (sym push);
+        parts = ap (λ (l : List ℕ). l ++ (s.packed x ++ unused)) front ∙ sym (append_assoc (image_of s kept) (s.packed x) unused)
+            ∙ ap (λ (l : List ℕ). l ++ unused) (sym push);
         fits = all_pushed s.Fits kept x (all_taken s.Fits place items p.fits) fit;
         taken = omega (arith, end-is, ap length push, length-append (image_of s kept) (s.packed x));
         counted = omega (arith, length-append kept (x ∷ []), length-take-le place items le);
@@ -272,23 +304,31 @@ module _ {X : Type 0} (s : Spelling X) where
       (item_put items bytes used count count used x p (omega (arith, p.counted)) fit end)
 
   -- an item in place of another that has as many bytes and begins alike: only what differs is written
-  pub item_patched : (items : List X) (bytes : List ℕ) (used count place at : ℕ) (d x : X) (head old new : List ℕ) → Packs s items bytes used count → place < length items → s.Fits x
-      → s.packed (get_or items place d) ≡ head ++ old → s.packed x ≡ head ++ new → length new ≡ length old → at ≡ offset_of s items place + length head
+  pub item_patched : (items : List X) (bytes : List ℕ) (used count place at : ℕ) (d x : X) (head old new : List ℕ) →
+      Packs s items bytes used count → place < length items → s.Fits x
+      → s.packed (get_or items place d) ≡ head ++ old → s.packed x ≡ head ++ new → length new ≡ length old →
+      at ≡ offset_of s items place + length head
       → Packs s (set items place x) (written bytes at new) used count
   item_patched items bytes used count place at d x head old new p lt fit old-is new-is len at-is =
       let front = image_of s (take place items) in
       let after = drop (place + 1) items in
       let back = image_of s after ++ p.unused in
       let whole : bytes ≡ (front ++ head) ++ (old ++ back) =
-      around s items bytes used count place d p lt ∙ ap (λ (l : List ℕ). front ++ (l ++ back)) old-is ∙ ap (λ (l : List ℕ). front ++ l) (append_assoc head old back) ∙ sym (append_assoc front head (old ++ back)) in
+      around s items bytes used count place d p lt ∙ ap (λ (l : List ℕ). front ++ (l ++ back)) old-is
+      ∙ ap (λ (l : List ℕ). front ++ l) (append_assoc head old back) ∙ sym (append_assoc front head (old ++ back)) in
       let patched : written bytes at new ≡ (front ++ head) ++ (new ++ back) =
-      ap (λ (l : List ℕ). written l at new) whole ∙ written-part (front ++ head) old back new at (omega (arith, at-is, length-append front head)) len in
-      let listed : set items place x ≡ take place items ++ x ∷ after = set_split items place x lt ∙ ap (λ (n : ℕ). take place items ++ x ∷ drop n items) (sym (add-one place)) in
+      ap (λ (l : List ℕ). written l at new) whole ∙ written-part (front ++ head) old back new at
+      (omega (arith, at-is, length-append front head)) len in
+      let listed : set items place x ≡ take place items ++ x ∷ after = set_split items place x lt
+      ∙ ap (λ (n : ℕ). take place items ++ x ∷ drop n items) (sym (add-one place)) in
       let image : image_of s (set items place x) ≡ front ++ (s.packed x ++ image_of s after) =
-      ap (image_of s) listed ∙ flat_map-append s.packed (take place items) (x ∷ after) ∙ ap (λ (l : List ℕ). front ++ l) (flat_map-cons s.packed x after) in
+      ap (image_of s) listed ∙ flat_map-append s.packed (take place items) (x ∷ after)
+      ∙ ap (λ (l : List ℕ). front ++ l) (flat_map-cons s.packed x after) in
       let parts : written bytes at new ≡ image_of s (set items place x) ++ p.unused =
-      patched ∙ append_assoc front head (new ++ back) ∙ ap (λ (l : List ℕ). front ++ l) (sym (append_assoc head new back)) ∙ ap (λ (l : List ℕ). front ++ (l ++ back)) (sym new-is)
-      ∙ ap (λ (l : List ℕ). front ++ l) (sym (append_assoc (s.packed x) (image_of s after) p.unused)) ∙ sym (append_assoc front (s.packed x ++ image_of s after) p.unused) ∙ ap (λ (l : List ℕ). l ++ p.unused) (sym image) in
+      patched ∙ append_assoc front head (new ++ back) ∙ ap (λ (l : List ℕ). front ++ l) (sym (append_assoc head new back))
+      ∙ ap (λ (l : List ℕ). front ++ (l ++ back)) (sym new-is)
+      ∙ ap (λ (l : List ℕ). front ++ l) (sym (append_assoc (s.packed x) (image_of s after) p.unused))
+      ∙ sym (append_assoc front (s.packed x ++ image_of s after) p.unused) ∙ ap (λ (l : List ℕ). l ++ p.unused) (sym image) in
       let same : length (image_of s (set items place x)) ≡ length (image_of s items) =
       omega (
         arith,
@@ -303,4 +343,11 @@ module _ {X : Type 0} (s : Spelling X) where
         ap length p.parts,
         length-append (image_of s items) p.unused,
       ) in
-      record { unused = p.unused; parts = parts; fits = all_set s.Fits items place x p.fits fit; taken = p.taken ∙ sym same; counted = p.counted ∙ sym (length-set items place x) }
+      record {
+        unused = p.unused;
+        parts = parts;
+        fits = all_set s.Fits items place x p.fits fit;
+        taken = p.taken ∙ sym same;
+        counted =
+            p.counted ∙ sym (length-set items place x);
+      }

@@ -1,4 +1,4 @@
--- What the commands of every device do where nothing but the medium and a position stands behind them (profile).
+-- What the commands of every device do that need nothing but the medium and a position (profile).
 use Rattle.std.specs.Prelude.{ℕ, []}
 use Rattle.device_port.specs.declared.answer.Acted.{Acted}
 use Rattle.device_port.specs.declared.faults.Fault.{Fault}

@@ -1,5 +1,6 @@
 -- The fault script of a device, and the numbers of its commands (profile).
-use Rattle.std.specs.Prelude.{◌≡◌, ◌<◌, ◌≤◌, ℕ, ◌+◌, ◌-◌, ◌^◌, ◌==◌, nat_lt, min, Bool, true, ◌&&◌, ◌||◌, List, [], ◌∷◌, length, take, drop, Option, Some, None, if◌then◌else◌}
+use Rattle.std.specs.Prelude.{◌≡◌, ◌<◌, ◌≤◌, ℕ, ◌+◌, ◌-◌, ◌^◌, ◌==◌, nat_lt, min, Bool, true, ◌&&◌, ◌||◌, List, [], ◌∷◌, length, take, drop}
+use Rattle.std.specs.Prelude.{Option, Some, None, if◌then◌else◌}
 use Rattle.std.specs.List.{AllByRecursion}
 use Rattle.io_images.specs.Bits.{check_end_status, channel_data_check_bit, channel_control_check_bit, interface_control_check_bit}
 use Rattle.device_port.specs.declared.faults.Fault.{Fault}
@@ -15,7 +16,7 @@ pub record Ordinals : Type 0 where
 abbrev pub next_ordinal : ℕ → ℕ
 next_ordinal done = min (done + 1) (2 ^ 64 - 1)
 
--- the fault that stands in a script for a command
+-- the fault of a script for a command
 abbrev pub fault_of : List Fault → ℕ → Option Fault
 fault_of [] ordinal = None
 fault_of (f ∷ fs) ordinal = if f.ordinal == ordinal then Some f else fault_of fs ordinal
@@ -58,6 +59,6 @@ pub record Follows (script : List Fault) (next done : ℕ) : Type 0 where
   pub passed : AllByRecursion (λ f. f.ordinal ≤ done) (take next script)
   pub ahead : done < 2 ^ 64 - 1 → are_faults_after done (drop next script) ≡ true
 
--- until so many commands are done, no command meets a fault
+-- no command meets a fault before `clear` commands are done
 pub record IsClear (script : List Fault) (done clear : ℕ) : Type 0 where
   pub none : (k : ℕ) → done ≤ k → k < clear → fault_met (record { script = script; done = k }) ≡ None

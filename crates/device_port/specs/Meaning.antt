@@ -51,7 +51,7 @@ effect meaning d command chain m =
     let outcome = meaning.act d command (offered flow m chain) in
     record { acted = outcome.acted; device = outcome.device; area = received flow chain outcome.bytes m }
 
--- a command that gives bytes gives as many as it wants to move, and one without data wants none
+-- a command that gives bytes gives those that it wants to move, and one without data wants none
 abbrev pub GivesWhatItWants : {D : Type 0} → Flow → Outcome D → Type 0
 GivesWhatItWants NoFlow outcome = outcome.acted.want ≡ 0
 GivesWhatItWants Out outcome = Unit {0}
@@ -62,7 +62,8 @@ GivesWhatItWants Back outcome = length outcome.bytes ≡ outcome.acted.want
 -- the bytes given are those wanted
 pub record Lawful {D : Type 0} (meaning : Meaning D) : Type 0 where
   pub kind_after_act : (d : D) (command : ℕ) (bytes : List ℕ) → meaning.kind (meaning.act d command bytes).device ≡ meaning.kind d
-  pub cylinders_after_act : (d : D) (command : ℕ) (bytes : List ℕ) → meaning.cylinders (meaning.act d command bytes).device ≡ meaning.cylinders d
+  pub cylinders_after_act : (d : D) (command : ℕ) (bytes : List ℕ) →
+      meaning.cylinders (meaning.act d command bytes).device ≡ meaning.cylinders d
   pub heads_after_act : (d : D) (command : ℕ) (bytes : List ℕ) → meaning.heads (meaning.act d command bytes).device ≡ meaning.heads d
   pub kind_after_prefix : (d : D) (seek : Seek) (mask : ℕ) → meaning.kind (meaning.prefix d seek mask) ≡ meaning.kind d
   pub cylinders_after_prefix : (d : D) (seek : Seek) (mask : ℕ) → meaning.cylinders (meaning.prefix d seek mask) ≡ meaning.cylinders d

@@ -1,6 +1,7 @@
 -- Data moved between the parts of a chain and storage, in order (Principles of Operation, chapter 15,
 -- "Execution of I/O operations").
-use Rattle.std.specs.Prelude.{◌≡◌, ℕ, ◌+◌, ◌-◌, ◌≤◌, nat_le, ◌&&◌, Bool, true, List, [], ◌∷◌, ◌++◌, All, length, sum_by, take, drop, reverse, replicate, if◌then◌else◌}
+use Rattle.std.specs.Prelude.{◌≡◌, ℕ, ◌+◌, ◌-◌, ◌≤◌, nat_le, ◌&&◌, Bool, true, List, [], ◌∷◌, ◌++◌, All, length, sum_by, take, drop}
+use Rattle.std.specs.Prelude.{reverse, replicate, if◌then◌else◌}
 use Rattle.io_area.specs.Storage.{Storage, lies_in, bytes_at, with_bytes}
 use Rattle.device_port.specs.declared.chain.Segment.{Segment}
 use Rattle.device_port.specs.declared.kind.Flow.{Flow}
@@ -34,8 +35,8 @@ abbrev pub gathered : Storage → List Segment → List ℕ
 gathered m [] = []
 gathered m (s ∷ ss) = bytes_at m s.address s.count ++ gathered m ss
 
--- storage after these bytes came in at rising addresses, as many as there is room for; a part with SKIP
--- is left as it is
+-- storage after these bytes came in at rising addresses, up to the room that there is; a part with SKIP stays as it
+-- is
 abbrev pub stored : List Segment → List ℕ → Storage → Storage
 stored [] bytes m = m
 stored (s ∷ ss) bytes m = stored ss (drop s.count bytes) (if s.skip then m else with_bytes m s.address (take s.count bytes))

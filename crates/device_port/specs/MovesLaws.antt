@@ -11,7 +11,8 @@ use Rattle.device_port.specs.Moves.{stored, stored_back, received, with_bytes_do
 with_no_bytes : (m : Storage) (at : ℕ) → with_bytes m at [] ≡ m
 with_no_bytes m at =
     ap (λ (l : List ℕ). record { base = m.base; bytes = l })
-    (append_assoc (take (at - m.base) m.bytes) [] (drop (at - m.base + 0) m.bytes) ∙ ap (λ (k : ℕ). take (at - m.base) m.bytes ++ drop k m.bytes) (add-zero (at - m.base)) ∙ take-append-drop (at - m.base) m.bytes)
+    (append_assoc (take (at - m.base) m.bytes) [] (drop (at - m.base + 0) m.bytes)
+    ∙ ap (λ (k : ℕ). take (at - m.base) m.bytes ++ drop k m.bytes) (add-zero (at - m.base)) ∙ take-append-drop (at - m.base) m.bytes)
 
 either_same : (skip : Bool) (m n : Storage) → n ≡ m → (if skip then m else n) ≡ m
 either_same true m n e = refl
@@ -20,12 +21,20 @@ either_same false m n e = e
 pub stored-nothing : (chain : List Segment) (m : Storage) → stored chain [] m ≡ m
 stored-nothing [] m = refl
 stored-nothing (s ∷ ss) m =
-    rw (drop_all {X = ℕ} s.count [] (omega arith), take_all {A = ℕ} s.count [] (omega arith), either_same s.skip m (with_bytes m s.address []) (with_no_bytes m s.address)) (stored-nothing ss m)
+    rw (
+      drop_all {X = ℕ} s.count [] (omega arith),
+      take_all {A = ℕ} s.count [] (omega arith),
+      either_same s.skip m (with_bytes m s.address []) (with_no_bytes m s.address),
+    ) (stored-nothing ss m)
 
 pub stored_back-nothing : (chain : List Segment) (m : Storage) → stored_back chain [] m ≡ m
 stored_back-nothing [] m = refl
 stored_back-nothing (s ∷ ss) m =
-    rw (drop_all {X = ℕ} s.count [] (omega arith), take_all {A = ℕ} s.count [] (omega arith), either_same s.skip m (with_bytes_down m s.address []) (with_no_bytes m (s.address + 1 - 0))) (stored_back-nothing ss m)
+    rw (
+      drop_all {X = ℕ} s.count [] (omega arith),
+      take_all {A = ℕ} s.count [] (omega arith),
+      either_same s.skip m (with_bytes_down m s.address []) (with_no_bytes m (s.address + 1 - 0)),
+    ) (stored_back-nothing ss m)
 
 pub received-nothing : (flow : Flow) (chain : List Segment) (m : Storage) → received flow chain [] m ≡ m
 received-nothing NoFlow chain m = refl

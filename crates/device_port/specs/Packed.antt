@@ -27,7 +27,7 @@ unfoldable pub items_at : {X : Type 0} → Spelling X → ℕ → List ℕ → L
 items_at s zero bytes = []
 items_at s (suc n) bytes = s.item_at bytes ∷ items_at s n (drop (s.size_at bytes) bytes)
 
--- a buffer begins with so many items, which take so many of its bytes; what follows them means nothing
+-- a buffer begins with `count` items, which take `used` of its bytes; what follows them means nothing
 pub record HoldsItems {X : Type 0} (s : Spelling X) (bytes : List ℕ) (used count : ℕ) : Type 0 where
   pub within : used ≤ length bytes
   pub packed : take used bytes ≡ image_of s (items_at s count bytes)

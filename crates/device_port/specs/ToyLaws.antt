@@ -8,7 +8,8 @@ use Rattle.device_port.specs.declared.faults.Fault.{Fault}
 use Rattle.device_port.specs.Faults.{fault_met, counted}
 use Rattle.device_port.specs.Meaning.{Lawful, GivesWhatItWants}
 use Rattle.device_port.specs.MeaningLaws.{gives_nothing}
-use Rattle.device_port.specs.Toy.{ToyBlock, toy, toy_act, toy_act_by, toy_flow, tracks_of, flow_by, command_by, write_code, read_code, no_operation_code, read_backward_code}
+use Rattle.device_port.specs.Toy.{ToyBlock, toy, toy_act, toy_act_by, toy_flow, tracks_of, flow_by, command_by, write_code, read_code}
+use Rattle.device_port.specs.Toy.{no_operation_code, read_backward_code}
 
 gives_by : (is_write is_read is_backward is_nothing : Bool) (d : ToyBlock) (given : List ℕ) →
     GivesWhatItWants (flow_by is_write is_read is_backward) (command_by is_write is_read is_backward is_nothing d given)
@@ -18,7 +19,8 @@ gives_by false false true is_nothing d given = length-reverse d.block
 gives_by false false false true d given = refl
 gives_by false false false false d given = refl
 
-toy_gives : (fault : Option Fault) (d : ToyBlock) (command : ℕ) (given : List ℕ) → GivesWhatItWants (toy_flow command) (toy_act_by fault d command given)
+toy_gives : (fault : Option Fault) (d : ToyBlock) (command : ℕ) (given : List ℕ) →
+    GivesWhatItWants (toy_flow command) (toy_act_by fault d command given)
 toy_gives (Some fault) d command given = gives_nothing (toy_flow command) (toy_act_by (Some fault) d command given) refl refl
 toy_gives None d command given =
     gives_by (command == write_code) (command == read_code) (command == read_backward_code) (command == no_operation_code) d given

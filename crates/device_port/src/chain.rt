@@ -73,8 +73,7 @@ impl<'a> Chain<'a> {
         self.segments.iter().map(|s| u32::from(s.count)).sum()
     }
 
-    /// Moves bytes into storage at rising addresses, as many as there is room for. A part with SKIP is left
-    /// as it is.
+    /// Moves bytes into storage at rising addresses, up to the room that there is. A part with SKIP stays as it is.
     pub fn store(&self, area: &mut Area, bytes: &[u8])
         requires { AllLie Flow.Input area.old self.now }
         ensures place { SamePlace area.old area.new }

@@ -8,9 +8,9 @@ use io_images::{SubStatus, UnitStatus};
 use std::alloc::{AllocError, Global};
 use std::marker::Model;
 
-/// A fault that a device shows at the command with this number, counted from 1 since it was mounted
-/// (profile): unit check with any sense bytes, or a channel-data check, channel-control check or
-/// interface-control check without sense.
+/// A fault that a device shows at the command with this number, counted from 1 since it was mounted (profile). It is
+/// unit check with any sense bytes; or channel-data check, channel-control check or interface-control check without
+/// sense.
 #[derive(Clone, Copy, PartialEq, Eq, Debug)]
 pub struct Fault {
     /// The number of the command.
@@ -78,7 +78,7 @@ pub struct FaultScript {
     faults: Vec<Fault>,
     next: usize,
     done: u64,
-    /// Until so many commands are done, none meets a fault.
+    /// No command meets a fault before this many are done.
     clear: u64,
 }
 

@@ -55,7 +55,7 @@ impl<'a> Given<'a> {
         gather(self.segments, self.area, into)
     }
 
-    /// The first bytes, so many at most, where they lie in one part. None says nothing.
+    /// The first bytes, at most `most`, if they lie in one part; else none.
     #[inline(always)]
     pub fn first(&self, most: usize) -> Option<&'a [u8]>
         ensures { IfSome result (λ bytes. bytes.now ≡ take most self.now) }

@@ -130,7 +130,7 @@ fn report<R: Threads + Wait + Sync, I: Read>(
     threads: &R,
     input: &mut I,
     counts: Counts,
-    steps: bool,
+    steps: Option<u64>,
     is_broken: &Cell<bool>,
 ) -> Result<u8, JobError> {
     let mut screen = Screen::new(rt.stdout(), takes_colour(rt, rt.stdout()), is_broken);

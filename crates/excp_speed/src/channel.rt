@@ -10,7 +10,7 @@ use subchannel::Subchannel;
 /// Where storage and the program in it begin.
 const START: u32 = 0x1000;
 
-/// A disk of one track with so many records of so many bytes.
+/// A disk of one track with `records` records of `bytes` bytes.
 pub fn disk(alloc: Global, records: u8, bytes: u16) -> Result<Disk, AllocError> {
     let geometry = Geometry {
         cylinders: 1,
@@ -42,7 +42,7 @@ pub struct Channel {
 }
 
 impl Channel {
-    /// The program stands from X'1000' on, in storage of so many bytes or of its own.
+    /// The program begins at X'1000', in storage of this many bytes or of its own size.
     pub fn new(
         alloc: Global,
         disk: Disk,
@@ -62,7 +62,7 @@ impl Channel {
         }
     }
 
-    /// Starts the program so many times, runs it to its end, and counts its command steps.
+    /// Starts the program `count` times, runs it to its end, and counts its command steps.
     pub fn attempts(&mut self, count: u32) -> u64 {
         let mut steps: u64 = 0;
         for _ in 0..count {

@@ -52,7 +52,7 @@ impl Cycles {
         Ok(Cycles { book, area })
     }
 
-    /// Does so many cycles, the first ones of the book, and counts those that were posted.
+    /// Does `count` cycles, the first ones of the book, and counts those that were posted.
     pub fn run(&mut self, alloc: Global, count: u32) -> Result<u64, AllocError>
         requires { arrived_of 0 self.old.trace ≡ 0 }
     {

@@ -1,6 +1,8 @@
-//! Measures command steps, starts and book cycles on a model disk. `excp_speed` does one round and prints the counts;
-//! `excp_speed ROUNDS` does so many rounds, and prints how many there were in a second and the time of each beside
-//! them; `excp_speed ROUNDS WORDS` does only what has a name that begins so.
+//! Measures command steps, starts and book cycles on a model disk.
+//!
+//! - `excp_speed` does one round and prints the counts.
+//! - `excp_speed ROUNDS` does this many rounds, and also prints the rounds in a second and the time of each.
+//! - `excp_speed ROUNDS WORDS` does only what has a name that begins with WORDS.
 //!
 //! Tests: crates/excp_speed/stdout.
 #![tactic(auto)]

@@ -7,7 +7,8 @@ use Rattle.std.proofs.lemmas.Option.{slice_get-get_or}
 use Rattle.excp_system.specs.Drained.{ArePlaced}
 
 module _ {A : Type 0} where
-  pub all_more : (P : A → Type 0) (xs : List A) (i : ℕ) (x : A) → i < length xs → x ≡ get_or xs i x → All P (take i xs) → P x → All P (take (i + 1) xs)
+  pub all_more : (P : A → Type 0) (xs : List A) (i : ℕ) (x : A) → i < length xs → x ≡ get_or xs i x → All P (take i xs) → P x →
+      All P (take (i + 1) xs)
   all_more P xs i x lt is old p = All-more P xs i x lt old (subst P is p)
 
   pub all_at : (P : A → Type 0) (xs : List A) (i : ℕ) (x : A) → i < length xs → x ≡ get_or xs i x → All P xs → P x
@@ -20,7 +21,8 @@ module _ {A : Type 0} where
   none_left [] le = refl
   none_left (x ∷ xs) le = absurd (omega arith)
 
-  pub placed_at : (number : A → ℕ) (count : ℕ) (xs : List A) (i : ℕ) (x : A) → ArePlaced number count xs → i < length xs → x ≡ get_or xs i x → number x < count
+  pub placed_at : (number : A → ℕ) (count : ℕ) (xs : List A) (i : ℕ) (x : A) → ArePlaced number count xs → i < length xs →
+      x ≡ get_or xs i x → number x < count
   placed_at number count xs i x placed lt is =
       let at = placed.each i x (slice_get-get_or xs i x lt ∙ ap Some (sym is)) in
       omega (arith, at, lt, placed.count_is)

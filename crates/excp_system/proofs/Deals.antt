@@ -1,5 +1,6 @@
 -- Rows that get their ends.
-use Rattle.std.proofs.Common.{◌≡◌, ◌≢◌, ⊎_elim, ℕ, ◌+◌, ◌<◌, ◌≤◌, List, [], ◌∷◌, ◌++◌, length, set, get_or, replicate, Some, refl, sym, ap, ◌∙◌, arith}
+use Rattle.std.proofs.Common.{◌≡◌, ◌≢◌, ⊎_elim, ℕ, ◌+◌, ◌<◌, ◌≤◌, List, [], ◌∷◌, ◌++◌, length, set, get_or, replicate, Some, refl, sym, ap}
+use Rattle.std.proofs.Common.{◌∙◌, arith}
 use Rattle.std.specs.Prelude.{slice_get}
 use Rattle.std.proofs.lemmas.Option.{slice_get-get_or, slice_get_within}
 use Rattle.std.proofs.lemmas.List.{length-set, length-replicate}
@@ -25,16 +26,20 @@ module _ {I : Type 0} (count place dealt : ℕ) (fans : List (FanState I)) (d : 
     fan_is : f ≡ record { number = dealt; sent = replicate place [] }
     fan_is = d.after dealt f (omega arith) (slice_get-get_or fans dealt f lt ∙ ap Some (sym at))
 
-    pub dealt_next : (s : List I) (new : FanState I) → s ≡ [] → new ≡ record { number = f.number; sent = f.sent ++ s ∷ [] } → Dealt count place (dealt + 1) (set fans dealt new)
+    pub dealt_next : (s : List I) (new : FanState I) → s ≡ [] → new ≡ record { number = f.number; sent = f.sent ++ s ∷ [] } →
+        Dealt count place (dealt + 1) (set fans dealt new)
     dealt_next s new none is =
         let new_is : new ≡ record { number = dealt; sent = replicate (place + 1) [] } =
-        is ∙ (λ i. record { number = (fan_is i).number; sent = (fan_is i).sent ++ none i ∷ [] }) ∙ (λ i. record { number = dealt; sent = replicate_more place [] i }) in
+        is ∙ (λ i. record { number = (fan_is i).number; sent = (fan_is i).sent ++ none i ∷ [] })
+        ∙ (λ i. record { number = dealt; sent = replicate_more place [] i }) in
         record {
           count_is = length-set fans dealt new ∙ d.count_is;
           before = λ j g below e. dite (ℕ_discrete j dealt)
-              (λ same. some_is g new (sym e ∙ (ap (slice_get (set fans dealt new)) same ∙ get_set_same fans dealt new lt)) ∙ (new_is ∙ λ i. record { number = sym same i; sent = replicate (place + 1) [] }))
+              (λ same. some_is g new (sym e ∙ (ap (slice_get (set fans dealt new)) same ∙ get_set_same fans dealt new lt))
+              ∙ (new_is ∙ λ i. record { number = sym same i; sent = replicate (place + 1) [] }))
               (λ ne. d.before j g (omega (arith, ne)) (sym (get_set_other fans dealt j new ne) ∙ e));
-          after = λ j g above e. let ne : j ≢ dealt = λ same. absurd (omega (arith, same)) in d.after j g (omega arith) (sym (get_set_other fans dealt j new ne) ∙ e);
+          after = λ j g above e. let ne : j ≢ dealt = λ same. absurd (omega (arith, same)) in d.after j g (omega arith)
+              (sym (get_set_other fans dealt j new ne) ∙ e);
         }
 
     pub end_is : (r : ReachedRows) (s : Sending I) → s ≡ end_of r dealt place [] → s ≡ end_of r f.number (length f.sent) s.sent
@@ -44,7 +49,8 @@ module _ {I : Type 0} (count place dealt : ℕ) (fans : List (FanState I)) (d : 
         is ∙ (λ i. end_of r (number i) (reached i) (sym (ap (λ (x : Sending I). x.sent) is) i))
 
 -- the ends that a row gives, at its place among the rows that are reached
-module _ {I : Type 0} (r : ReachedRows) (count place : ℕ) (row : Fresh) (is : row ≡ unseated (r.row place) r.capacity place count) (ends : List (Sending I)) (taker : Taking I) (seats : Seats ends taker row) where
+module _ {I : Type 0} (r : ReachedRows) (count place : ℕ) (row : Fresh) (is : row ≡ unseated (r.row place) r.capacity place count)
+    (ends : List (Sending I)) (taker : Taking I) (seats : Seats ends taker row) where
   pub seat_count : length ends ≡ count
   seat_count = seats.count ∙ ap (λ (f : Fresh). f.senders) is
 
@@ -53,7 +59,8 @@ module _ {I : Type 0} (r : ReachedRows) (count place : ℕ) (row : Fresh) (is : 
       let lt : t < row.senders = omega (arith, slice_get_within ends t s e, seats.count) in
       some_is s (fresh_sender row t) (sym e ∙ seats.each t lt) ∙ ap (λ (f : Fresh). fresh_sender f t) is
 
-  pub takers_next : (takers : List (Taking I)) → length takers ≡ place → AreTakers r count (length takers) takers → AreTakers r count (length (takers ++ taker ∷ [])) (takers ++ taker ∷ [])
+  pub takers_next : (takers : List (Taking I)) → length takers ≡ place → AreTakers r count (length takers) takers →
+      AreTakers r count (length (takers ++ taker ∷ [])) (takers ++ taker ∷ [])
   takers_next takers here old = record {
     count_is = refl;
     each = λ j w e. ⊎_elim (λ t. old.each j w t)

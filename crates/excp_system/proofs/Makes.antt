@@ -1,5 +1,6 @@
 -- Tasks, handlers and units are made of their ends.
-use Rattle.std.proofs.Common.{false, ◌≡◌, ⊎_elim, ℕ, zero, suc, ◌+◌, ◌-◌, true, List, [], ◌∷◌, ◌++◌, length, take, replicate, Some, refl, sym, ap, ◌∙◌, subst, arith, length-append}
+use Rattle.std.proofs.Common.{false, ◌≡◌, ⊎_elim, ℕ, zero, suc, ◌+◌, ◌-◌, true, List, [], ◌∷◌, ◌++◌, length, take, replicate, Some, refl}
+use Rattle.std.proofs.Common.{sym, ap, ◌∙◌, subst, arith, length-append}
 use Rattle.std.specs.Prelude.{slice_get}
 use Rattle.std.specs.List.{list_all}
 use Rattle.std.proofs.lemmas.List.{length-replicate}
@@ -20,12 +21,14 @@ use Rattle.excp_system.specs.Opening.{AreTasks}
 use Rattle.excp_system.proofs.Places.{get_snoc, index_replicate}
 
 -- what is put behind the others stands at the next place
-each_next : {A : Type 0} (made : ℕ → A) (k : ℕ) (xs : List A) (x : A) → length xs ≡ k → ((j : ℕ) (y : A) → slice_get xs j ≡ Some y → y ≡ made j) → x ≡ made k →
+each_next : {A : Type 0} (made : ℕ → A) (k : ℕ) (xs : List A) (x : A) → length xs ≡ k →
+    ((j : ℕ) (y : A) → slice_get xs j ≡ Some y → y ≡ made j) → x ≡ made k →
     (j : ℕ) (y : A) → slice_get (xs ++ x ∷ []) j ≡ Some y → y ≡ made j
 each_next made k xs x here old is j y e =
     ⊎_elim (λ o. old j y o) (λ (p : (j ≡ length xs) × (x ≡ y)). sym p.1 ∙ (is ∙ ap made (sym (p.0 ∙ here)))) (get_snoc xs x y j e)
 
-pub is_task : (s : SiteRows) (t number : ℕ) (out : FanState Piece) (end : Taking PostedState) → number ≡ out.number → out ≡ record { number = t; sent = replicate s.units [] } → end ≡ taker_of (post_rows s) s.units t [] →
+pub is_task : (s : SiteRows) (t number : ℕ) (out : FanState Piece) (end : Taking PostedState) → number ≡ out.number →
+    out ≡ record { number = t; sent = replicate s.units [] } → end ≡ taker_of (post_rows s) s.units t [] →
     IsTask s (record { number = number; sent = out.sent; got = end.taken }) out end
 is_task s t number out end same is is' =
     let n : number ≡ t = same ∙ ap (λ (f : FanState Piece). f.number) is in
@@ -35,36 +38,45 @@ is_task s t number out end same is is' =
       count = ap (λ (f : FanState Piece). length f.sent) is ∙ length-replicate s.units [];
     }
 
-pub tasks_next : (units t : ℕ) (tasks : List TaskState) (w : TaskState) (number : ℕ) (out : FanState Piece) (got : List PostedState) → length tasks ≡ t → AreTasks t units tasks →
-    w ≡ record { number = number; sent = out.sent; got = got } → number ≡ out.number → out ≡ record { number = t; sent = replicate units [] } → got ≡ [] → AreTasks (t + 1) units (tasks ++ w ∷ [])
+pub tasks_next : (units t : ℕ) (tasks : List TaskState) (w : TaskState) (number : ℕ) (out : FanState Piece) (got : List PostedState) →
+    length tasks ≡ t → AreTasks t units tasks →
+    w ≡ record { number = number; sent = out.sent; got = got } → number ≡ out.number →
+    out ≡ record { number = t; sent = replicate units [] } → got ≡ [] → AreTasks (t + 1) units (tasks ++ w ∷ [])
 tasks_next units t tasks w number out got here old is same out_is none = record {
   count_is = omega (arith, length-append tasks (w ∷ []), here);
   each = each_next (λ n. record { number = n; sent = replicate units []; got = [] }) t tasks w here old.each
       (is ∙ (λ i. record { number = (same ∙ ap (λ (f : FanState Piece). f.number) out_is) i; sent = (out_is i).sent; got = none i }));
 }
 
-pub handlers_next : (k : ℕ) (handlers : List HandlerState) (h : HandlerState) → length handlers ≡ k → ((isc : ℕ) (x : HandlerState) → slice_get handlers isc ≡ Some x → x ≡ record { isc = isc; taken = [] }) →
-    h ≡ record { isc = k; taken = [] } → (isc : ℕ) (x : HandlerState) → slice_get (handlers ++ h ∷ []) isc ≡ Some x → x ≡ record { isc = isc; taken = [] }
+pub handlers_next : (k : ℕ) (handlers : List HandlerState) (h : HandlerState) → length handlers ≡ k →
+    ((isc : ℕ) (x : HandlerState) → slice_get handlers isc ≡ Some x → x ≡ record { isc = isc; taken = [] }) →
+    h ≡ record { isc = k; taken = [] } → (isc : ℕ) (x : HandlerState) → slice_get (handlers ++ h ∷ []) isc ≡ Some x →
+    x ≡ record { isc = isc; taken = [] }
 handlers_next k handlers h here old is = each_next (λ isc. record { isc = isc; taken = [] }) k handlers h here old is
 
 take_none : {A : Type 0} (k : ℕ) (xs : List A) → xs ≡ [] → take k xs ≡ []
 take_none zero xs e = refl
 take_none (suc k) xs e = ap (take (suc k)) e
 
-module _ {D : Type 0} (meaning : Meaning D) (s : SiteRows) (unit number : ℕ) (b : Book D) (intake : Taking Piece) (back : FanState PostedState) (ends : FanState Notice) (notice : Sending Notice) where
-  pub is_unit : number ≡ back.number → list_all is_opening b.trace ≡ true → intake ≡ taker_of (intake_rows s) s.tasks unit [] → back ≡ record { number = unit; sent = replicate s.tasks [] } →
-      ends ≡ record { number = unit; sent = replicate 8 [] } → notice ≡ end_of (notice_rows s) ends.number b.isc (sent_to ends b.isc) → IsUnit meaning s (record { unit = number; book = b; notified = notice.sent; owes = false }) intake back notice
+module _ {D : Type 0} (meaning : Meaning D) (s : SiteRows) (unit number : ℕ) (b : Book D) (intake : Taking Piece)
+    (back : FanState PostedState) (ends : FanState Notice) (notice : Sending Notice) where
+  pub is_unit : number ≡ back.number → list_all is_opening b.trace ≡ true → intake ≡ taker_of (intake_rows s) s.tasks unit [] →
+      back ≡ record { number = unit; sent = replicate s.tasks [] } →
+      ends ≡ record { number = unit; sent = replicate 8 [] } → notice ≡ end_of (notice_rows s) ends.number b.isc (sent_to ends b.isc) →
+      IsUnit meaning s (record { unit = number; book = b; notified = notice.sent; owes = false }) intake back notice
   is_unit same opened intake_is back_is ends_are notice_is =
       let n : number ≡ unit = same ∙ ap (λ (f : FanState PostedState). f.number) back_is in
       let m : ends.number ≡ number = ap (λ (f : FanState Notice). f.number) ends_are ∙ sym n in
       let quiet = opened-only meaning b.mounted b.trace opened in
       let none : arrivals b.trace ≡ [] = quiet.0 in
-      let gave : given meaning b ≡ [] = take_none (length (posted meaning b.mounted b.trace) - length b.out) (posted meaning b.mounted b.trace) quiet.1 in
+      let gave : given meaning b ≡ [] = take_none (length (posted meaning b.mounted b.trace) - length b.out)
+      (posted meaning b.mounted b.trace) quiet.1 in
       record {
         intake_is = intake_is ∙ (λ i. taker_of (intake_rows s) s.tasks (sym n i) (sym none i));
         back_is = sym same;
         count = ap (λ (f : FanState PostedState). length f.sent) back_is ∙ length-replicate s.tasks [];
-        sent = λ t lt. ap (λ (f : FanState PostedState). sent_to f t) back_is ∙ (index_replicate s.tasks t [] ∙ ap (of for_task t) (sym gave));
+        sent = λ t lt. ap (λ (f : FanState PostedState). sent_to f t) back_is
+            ∙ (index_replicate s.tasks t [] ∙ ap (of for_task t) (sym gave));
         notice_is = notice_is ∙ (λ i. end_of (notice_rows s) (m i) b.isc (sym (ap (λ (e : Sending Notice). e.sent) notice_is) i));
         of_unit = subst (AreOf s number) (sym none) tt;
       }

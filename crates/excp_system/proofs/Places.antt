@@ -1,5 +1,6 @@
 -- What stands where in a list.
-use Rattle.std.proofs.Common.{◌≡◌, ◌≢◌, ◌⊎◌, inl, inr, ⊎_elim, drop, ℕ, zero, suc, ◌+◌, ◌<◌, List, [], ◌∷◌, ◌++◌, length, set, replicate, Some, refl, sym, ap, ◌∙◌, arith, add-one}
+use Rattle.std.proofs.Common.{◌≡◌, ◌≢◌, ◌⊎◌, inl, inr, ⊎_elim, drop, ℕ, zero, suc, ◌+◌, ◌<◌, List, [], ◌∷◌, ◌++◌, length, set, replicate}
+use Rattle.std.proofs.Common.{Some, refl, sym, ap, ◌∙◌, arith, add-one}
 use Rattle.std.specs.Prelude.{slice_get, slice_index_or}
 
 module _ {A : Type 0} where
@@ -24,7 +25,8 @@ module _ {A : Type 0} where
   get_at_seam xs ys {x = x} e = ap (λ l. slice_get l (length xs)) e ∙ get_seam xs ys x
 
   -- what stands in a list with one more at the end
-  pub get_snoc : (xs : List A) (a b : A) (k : ℕ) → slice_get (xs ++ a ∷ []) k ≡ Some b → (slice_get xs k ≡ Some b) ⊎ ((k ≡ length xs) × (a ≡ b))
+  pub get_snoc : (xs : List A) (a b : A) (k : ℕ) → slice_get (xs ++ a ∷ []) k ≡ Some b →
+      (slice_get xs k ≡ Some b) ⊎ ((k ≡ length xs) × (a ≡ b))
   get_snoc [] a b zero e = inr (refl, cc e)
   get_snoc [] a b (suc k) e = absurd (cc e)
   get_snoc (x ∷ xs) a b zero e = inl e
@@ -49,7 +51,8 @@ module _ {A : Type 0} where
 
   pub replicate_more : (k : ℕ) (a : A) → replicate k a ++ a ∷ [] ≡ replicate (k + 1) a
   replicate_more zero a = refl
-  replicate_more (suc k) a = ap (λ l. a ∷ l) (replicate_more k a ∙ ap (λ n. replicate n a) (add-one k)) ∙ ap (λ n. replicate n a) (sym (add-one (suc k)))
+  replicate_more (suc k) a = ap (λ l. a ∷ l) (replicate_more k a ∙ ap (λ n. replicate n a) (add-one k))
+      ∙ ap (λ n. replicate n a) (sym (add-one (suc k)))
 
   pub index_replicate : (k t : ℕ) (a : A) → slice_index_or (replicate k a) t a ≡ a
   index_replicate zero t a = refl

@@ -39,11 +39,13 @@ abbrev pub locked : {D : Type 0} → ℕ → Book D → Sending Notice → Bool 
 locked unit book notice owes = record { unit = unit; book = book; notified = notice.sent; owes = owes }
 
 module _ {D : Type 0} (meaning : Meaning D) where
-  module _ (s : SiteRows) (unit : ℕ) (old : Book D) (intake : Taking Piece) (back : FanState PostedState) (notice : Sending Notice) (owes : Bool)
+  module _ (s : SiteRows) (unit : ℕ) (old : Book D) (intake : Taking Piece) (back : FanState PostedState) (notice : Sending Notice)
+      (owes : Bool)
       (is : IsUnit meaning s (locked unit old notice owes) intake back notice)
       (all : given meaning old ++ old.out ≡ posted meaning old.mounted old.trace) where
     -- what a book keeps, a unit keeps, whether it owes a notice or not
-    pub unit-keeps : (new : Book D) (owing : Bool) → Keeps meaning old [] new → IsUnit meaning s (locked unit new notice owing) intake back notice
+    pub unit-keeps : (new : Book D) (owing : Bool) → Keeps meaning old [] new →
+        IsUnit meaning s (locked unit new notice owing) intake back notice
     unit-keeps new owing k =
         let a : arrivals new.trace ≡ arrivals old.trace = k.arrived ∙ append-nil (arrivals old.trace) in
         record {
@@ -56,7 +58,8 @@ module _ {D : Type 0} (meaning : Meaning D) where
         }
 
     -- so it is with a call that changes nothing where it is refused
-    pub unit-call : {A E : Type 0} (r : Result A E) {Done : A → Type 0} (new : Book D) (owing : Bool) → Legal meaning old.mounted old.trace → due meaning old.mounted old.trace ≡ Free →
+    pub unit-call : {A E : Type 0} (r : Result A E) {Done : A → Type 0} (new : Book D) (owing : Bool) →
+        Legal meaning old.mounted old.trace → due meaning old.mounted old.trace ≡ Free →
         IfOk r Done → OnErr r (new ≡ old) → (Sound meaning old → (a : A) → Done a → Keeps meaning old [] new) →
         IsUnit meaning s (locked unit new notice owing) intake back notice
     unit-call r new owing legal settled done refused keeps =
@@ -64,10 +67,12 @@ module _ {D : Type 0} (meaning : Meaning D) where
         unit-keeps new owing (either_way r done refused (keeps sound) (keeps-same meaning old new sound))
 
     -- a request that arrives
-    pub unit-takes : (new : Book D) (r : Piece) (intake' : Taking Piece) → Keeps meaning old (r ∷ []) new → r.name.task < s.tasks → r.unit ≡ unit →
+    pub unit-takes : (new : Book D) (r : Piece) (intake' : Taking Piece) → Keeps meaning old (r ∷ []) new → r.name.task < s.tasks →
+        r.unit ≡ unit →
         intake' ≡ record intake { taken = intake.taken ++ r ∷ [] } → IsUnit meaning s (locked unit new notice owes) intake' back notice
     unit-takes new r intake' k lt mine taken = record {
-      intake_is = taken ∙ ap (λ (t : Taking Piece). record t { taken = t.taken ++ r ∷ [] }) is.intake_is ∙ ap (taker_of (intake_rows s) s.tasks unit) (sym k.arrived);
+      intake_is = taken ∙ ap (λ (t : Taking Piece). record t { taken = t.taken ++ r ∷ [] }) is.intake_is
+          ∙ ap (taker_of (intake_rows s) s.tasks unit) (sym k.arrived);
       back_is = is.back_is;
       count = is.count;
       sent = λ task lt. is.sent task lt ∙ ap (of for_task task) (sym (given-keeps meaning old new (r ∷ []) all k));
@@ -76,7 +81,8 @@ module _ {D : Type 0} (meaning : Meaning D) where
     }
 
     -- the first value that is out is for one of the tasks, and of this unit
-    pub first-is : (value : PostedState) → Legal meaning old.mounted old.trace → Some value ≡ slice_get old.out 0 → (value.name.task < s.tasks) × (value.unit ≡ unit)
+    pub first-is : (value : PostedState) → Legal meaning old.mounted old.trace → Some value ≡ slice_get old.out 0 →
+        (value.name.task < s.tasks) × (value.unit ≡ unit)
     unfolding posted_value
     first-is value legal first =
         Each-first (λ v. (v.name.task < s.tasks) × (v.unit ≡ unit)) old.out value

@@ -4,7 +4,8 @@ use Rattle.request_piece.specs.PostedState.{PostedState}
 use Rattle.request_piece.specs.declared.piece.Name.{Name}
 use Rattle.request_piece.specs.declared.piece.Piece.{Piece}
 use Rattle.fifo_row.specs.Steps.{WasEmpty, WasFull}
-use Rattle.excp_system.specs.Sites.{SiteRows, RequestFact, NoFact, intake_rows, post_rows, notice_rows, task_of, unit_of, notifier_of, end_of, taker_of}
+use Rattle.excp_system.specs.Sites.{SiteRows, RequestFact, NoFact, intake_rows, post_rows, notice_rows, task_of, unit_of, notifier_of}
+use Rattle.excp_system.specs.Sites.{end_of, taker_of}
 use Rattle.excp_system.specs.States.{HandlerState, TaskState, sent_by}
 
 -- the name of the next request of a task to a unit

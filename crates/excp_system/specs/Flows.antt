@@ -40,6 +40,7 @@ module _ {D : Type 0} (meaning : Meaning D) where
       of for_task task (posted meaning b.mounted b.trace) ≡ of unit_of w.number (v.taken ++ items) ++ of for_task task b.out
 
   abbrev pub MetPostFlows : Type 0
-  MetPostFlows = (b : Book D) (task unit : ℕ) (items : List PostedState) (views : List (View PostedState)) (v : View PostedState) (sent : List PostedState) →
+  MetPostFlows = (b : Book D) (task unit : ℕ) (items : List PostedState) (views : List (View PostedState)) (v : View PostedState)
+      (sent : List PostedState) →
       IsTaker unit_of NoFact items views v → Met v.met unit sent → HasSent b task sent →
       of for_task task (posted meaning b.mounted b.trace) ≡ of unit_of unit (v.taken ++ items) ++ of for_task task b.out

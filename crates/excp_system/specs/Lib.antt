@@ -1,4 +1,4 @@
--- The definitions of excp_system: which row is whose, what a lock and a task keep, what is told of a pending status,
+-- The definitions of excp_system: whose row each is, what a lock and a task keep, the notices of a pending status,
 -- and the calls of tasks and units.
 pub mod Sites
 pub mod Fans

@@ -37,7 +37,7 @@ site_of v = record {
   notice = λ isc. (row_at v.notice isc).row;
 }
 
--- so many rows that gave no seats yet, each with its place for its tag
+-- `count` rows that gave no seats yet, each with its place for its tag
 pub record ArePlain (capacity count senders : ℕ) (rows : List Fresh) : Type 0 where
   pub count_is : length rows ≡ count
   pub each : (k : ℕ) (f : Fresh) → slice_get rows k ≡ Some f → f ≡ unseated f.row capacity k senders
@@ -52,12 +52,12 @@ pub record AreFresh (v : RowsState) : Type 0 where
 abbrev pub AreRows : ReachedRows → ℕ → List Fresh → Type 0
 AreRows r senders rows = (k : ℕ) (f : Fresh) → slice_get rows k ≡ Some f → f ≡ unseated (r.row k) r.capacity k senders
 
--- so many senders' ends of the first `rows` rows, into which nothing was sent
+-- `count` senders' ends of the first `rows` rows, into which nothing was sent
 pub record AreFans {I : Type 0} (count rows : ℕ) (fans : List (FanState I)) : Type 0 where
   pub count_is : length fans ≡ count
   pub each : (t : ℕ) (f : FanState I) → slice_get fans t ≡ Some f → f ≡ record { number = t; sent = replicate rows [] }
 
--- the takers of so many rows, which have taken nothing
+-- the takers of `count` rows, which have taken nothing
 pub record AreTakers {I : Type 0} (r : ReachedRows) (senders count : ℕ) (takers : List (Taking I)) : Type 0 where
   pub count_is : length takers ≡ count
   pub each : (k : ℕ) (w : Taking I) → slice_get takers k ≡ Some w → w ≡ taker_of r senders k []

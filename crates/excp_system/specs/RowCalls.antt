@@ -11,10 +11,10 @@ use Rattle.unit_book.specs.Dooms.{after_dooms}
 use Rattle.unit_book.specs.Trace.{arrivals, arrived_of}
 use Rattle.fifo_row.specs.Lists.{of}
 use Rattle.fifo_row.specs.Steps.{WasEmpty, WasFull}
-use Rattle.excp_system.specs.declared.answer.Intake.{Intake}
-use Rattle.excp_system.specs.declared.answer.Intake.TheVariants as intake
-use Rattle.excp_system.specs.declared.answer.Delivery.{Delivery}
-use Rattle.excp_system.specs.declared.answer.Delivery.TheVariants as delivery
+use Rattle.unit_book.specs.declared.answer.Intake.{Intake}
+use Rattle.unit_book.specs.declared.answer.Intake.TheVariants as intake
+use Rattle.unit_book.specs.declared.answer.Delivery.{Delivery}
+use Rattle.unit_book.specs.declared.answer.Delivery.TheVariants as delivery
 use Rattle.excp_system.specs.Sites.{SiteRows, NoFact, RequestFact, intake_rows, post_rows, task_of, unit_of, for_task, end_of, taker_of}
 use Rattle.excp_system.specs.Notices.{InBook}
 use Rattle.excp_system.specs.States.{Locked}
@@ -29,12 +29,13 @@ module _ {D : Type 0} (meaning : Meaning D) (s : SiteRows) where
     pub next : request.name.seq ≡ arrived_of request.name.task old.book.trace + 1
     pub arrives : Extends meaning old.book (after_dooms (Arrive request ∷ old.book.trace)) old.book.awaits new.book
 
-  -- what `take` answers: held where the book has no room, quiet where the row was empty
+  -- what `take` answers: held if the book has no room, quiet if the row was empty, for which it has made room for entries
   abbrev pub TakesIn : Locked D → Intake → Locked D → Type 0
   TakesIn old intake.Held new = (old.book.capacity ≤ occupancy old.book) × (new ≡ old)
   TakesIn old intake.Quiet new =
       (occupancy old.book < old.book.capacity)
-      × (new ≡ record old { book = record old.book { spare = new.book.spare } }) × (2 ≤ new.book.spare)
+      × (new ≡ record old { book = record old.book { spare = new.book.spare } }) × (old.book.spare ≤ new.book.spare)
+      × (2 ≤ new.book.spare)
       × WasEmpty task_of RequestFact (taker_of (intake_rows s) s.tasks old.unit (arrivals old.book.trace))
   TakesIn old (intake.Took name) new = (occupancy old.book < old.book.capacity) × UnitTakes old name new × InBook old new
 

@@ -29,7 +29,8 @@ AreOf s unit requests = Each (λ r. (r.name.task < s.tasks) × (r.unit ≡ unit)
 
 -- what a lock keeps: its intake has taken what arrived at the book; each task was sent what the book gave of its
 -- posted values; and its ends are of the rows that the site has for this unit
-pub record IsUnit {D : Type 0} (meaning : Meaning D) (s : SiteRows) (v : Locked D) (intake : Taking Piece) (back : FanState PostedState) (notice : Sending Notice) : Type 0 where
+pub record IsUnit {D : Type 0} (meaning : Meaning D) (s : SiteRows) (v : Locked D) (intake : Taking Piece) (back : FanState PostedState)
+    (notice : Sending Notice) : Type 0 where
   pub intake_is : intake ≡ taker_of (intake_rows s) s.tasks v.unit (arrivals v.book.trace)
   pub back_is : back.number ≡ v.unit
   pub count : length back.sent ≡ s.tasks

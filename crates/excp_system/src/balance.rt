@@ -8,8 +8,8 @@ use crate::task::Task;
 use crate::unit::UnitState;
 use device_port::Device;
 
-/// Whether nothing is out at any unit, and on every intake and post row as many items were taken as sent, of all units
-/// and all tasks of a system, each at the place of its number. It takes no memory.
+/// Whether nothing is out at any unit, and each intake and post row has had as many items taken as sent. It looks at
+/// all units and all tasks of a system, each at the place of its number. It takes no memory.
 pub fn drained<S: Site, D: Device>(units: &[UnitState<'_, S, D>], tasks: &[Task<'_, S>]) -> bool
     requires units { ArePlaced (λ unit. unit.unit) S.rows.units units.now }
     requires tasks { ArePlaced (λ task. task.number) S.rows.tasks tasks.now }

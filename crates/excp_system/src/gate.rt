@@ -13,9 +13,9 @@ pub enum Point {
     Deliver,
 }
 
-/// What a worker passes, under the unit's lock, before each call: a gate may watch it, or hold it up. It is told where
-/// there was no memory for a call, and which posted values were sent back. Where a gate does not say otherwise, it does
-/// nothing when it is told.
+/// A gate that a worker passes, under the unit's lock, before each call. A gate may watch the worker, or hold it up.
+/// It also hears of each call without memory, and of the posted values that were sent back; by default it then does
+/// nothing.
 pub trait Gate {
     /// The worker is about to make this call.
     fn pass(&self, unit: u16, point: Point);
@@ -48,7 +48,7 @@ impl Stop {
         }
     }
 
-    /// Workers end at their next turn.
+    /// Workers end after the pass over their units that they are in.
     pub fn raise(&self) {
         self.raised.store(true, Ordering::SeqCst);
     }

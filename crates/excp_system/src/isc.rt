@@ -10,7 +10,7 @@ use fifo_row::Taker;
 use std::marker::{Model, PhantomData};
 use std::sync::Wait;
 
-/// The end of the notice row of one interruption subclass, at which the units' pending status is told of. Contracts
+/// The end of the notice row of one interruption subclass, which has notices of the units' pending status. Contracts
 /// see the subclass, and the notices that were taken.
 #[derive(Drop)]
 pub struct IscTaker<'r, S: Site> {

@@ -7,7 +7,6 @@
 //! Tests: system_tests (`units`), tests/mutants/excp_system.
 #![tactic(auto)]
 
-mod answer;
 mod balance;
 mod fan;
 mod gate;
@@ -15,6 +14,7 @@ mod isc;
 mod item;
 pub mod laws;
 mod opening;
+mod rota;
 mod rows;
 mod site;
 mod system;
@@ -22,7 +22,6 @@ mod task;
 mod unit;
 mod workers;
 
-pub use answer::{Delivery, Intake, UnitPurging};
 pub use balance::drained;
 pub use fan::Fan;
 pub use gate::{Gate, OpenGate, Point, Stop};

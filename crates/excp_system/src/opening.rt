@@ -10,7 +10,7 @@ use crate::site::Reach;
 use fifo_row::{Item, Row, Sender, Taker};
 use std::alloc::{AllocError, Global};
 
-/// So many senders' fans, which reach no row yet.
+/// This many fans of senders, which reach no row yet.
 pub(crate) fn new_fans<'r, I: Item, F: Reach>(
     alloc: Global,
     count: u16,

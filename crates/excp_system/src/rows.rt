@@ -45,8 +45,8 @@ impl Model for Rows {
 }
 
 impl Rows {
-    /// The rows for so many tasks and units (1 to 64 each), with room for so many requests in each intake row and so
-    /// many posted values in each post row (1 to 65,536 each). A notice row has room for a notice of each unit.
+    /// The rows for these numbers of tasks and units (1 to 64 each). `intake` is the room of each intake row and
+    /// `post` that of each post row (1 to 65,536 each). A notice row has room for a notice of each unit.
     pub fn new(
         alloc: Global,
         tasks: u16,
@@ -106,8 +106,9 @@ impl Rows {
     }
 }
 
-/// The ends of all rows of a site, which were not used yet: the tasks' of the intake rows and of their post rows; the
-/// units' of their intake rows, of the post rows and of the notice rows; and the handlers' of the notice rows.
+/// The ends of all rows of a site, which were not used yet. The tasks have ends of the intake rows and of their post
+/// rows. The units have ends of their intake rows, of the post rows and of the notice rows. The handlers have ends of
+/// the notice rows.
 #[derive(Drop)]
 pub(crate) struct Ends<'r, S: Site> {
     pub(crate) out: Vec<Fan<'r, Sent, IntakeRows<S>>>,
@@ -124,7 +125,7 @@ pub(crate) struct Ends<'r, S: Site> {
     ghost handled_are: { AreTakers (notice_rows S.rows) S.rows.units 8 handled.items },
 }
 
-/// So many rows, each with its place for its tag.
+/// `count` rows, each with its place for its tag.
 fn new_rows<I: Item + Drop>(
     alloc: Global,
     count: u16,

@@ -4,7 +4,6 @@ ghost use Rattle.std.specs.Prelude.{◌≡◌, ◌<◌, ◌≤◌, IfErr, IfOk, 
 ghost use Rattle.excp_system.specs.Opening.{AreBooks, AreFans, AreFresh, AreHandlers, AreTakers, AreTasks, site_of};
 ghost use Rattle.excp_system.specs.Sites.{intake_rows, notice_rows, post_rows};
 
-use crate::answer::UnitPurging;
 use crate::fan::Fan;
 use crate::isc::IscTaker;
 use crate::item::{Notice, Returned, Sent};
@@ -27,9 +26,9 @@ pub struct System<'r, S: Site, D: Device> {
 }
 
 impl<'r, S: Site, D: Device> System<'r, S, D> {
-    /// A system over the rows of its site, which gave no ends yet, with a book for each unit, in which nothing happened
-    /// but openings of DCBs; its tasks, in order of number; and the takers of its notices, in order of subclass. Where
-    /// there is no memory the books are handed back, and the rows are only dropped.
+    /// A system over the rows of its site, which gave no ends yet, with a book for each unit, in which nothing
+    /// happened but openings of DCBs. Returns it with its tasks, in order of number, and the takers of its notices,
+    /// in order of subclass. If memory runs out, it returns the books, and drops the rows.
     pub fn new(
         alloc: Global,
         rows: &'r mut Rows,
@@ -62,26 +61,21 @@ impl<'r, S: Site, D: Device> System<'r, S, D> {
         &self.locks[usize::from(unit)]
     }
 
-    /// Purges the requests of a task on each unit, in order of number, each under its lock: there is no one moment for
-    /// all units. Answers for each unit what was left, or that there was no memory for it. Where there is none for the
-    /// list, no unit was touched.
+    /// Purges the requests of a task at each unit, in the order of their numbers, each under its lock: there is no one
+    /// moment for all units. Returns for each unit what is active there, or that memory ran out there, which changes
+    /// nothing at that unit. If there is no memory for the answers, nothing changes at all.
     pub fn purge_task<R: Wait>(
         &self,
         rt: &R,
         task: u16,
         mode: Mode,
-    ) -> Result<Vec<UnitPurging>, AllocError>
+    ) -> Result<Vec<Result<Purging, AllocError>>, AllocError>
         ensures { IfOk result (λ answers. vec_len answers ≡ S.rows.units) }
     {
         let count = self.locks.len();
         let mut answers = Vec::with_capacity(self.alloc, count)?;
         for place in 0..count {
-            let answer = match self.locks[place].lock(rt).purge_task(rt, task, mode) {
-                Ok(Purging::Quiet) => UnitPurging::Quiet,
-                Ok(Purging::Active(name)) => UnitPurging::Active(name),
-                Err(AllocError) => UnitPurging::Refused,
-            };
-            answers.push_reserved(answer);
+            answers.push_reserved(self.locks[place].lock(rt).purge_task(rt, task, mode));
         }
         Ok(answers)
     }

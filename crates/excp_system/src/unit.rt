@@ -13,7 +13,6 @@ ghost use Rattle.excp_system.specs.Fans.{sent_to};
 ghost use Rattle.excp_system.specs.Sites.{end_of, for_task, intake_rows, notice_rows, taker_of};
 ghost use Rattle.excp_system.specs.States.{AreOf, IsUnit, owing_nothing};
 
-use crate::answer::{Delivery, Intake};
 use crate::fan::Fan;
 use crate::item::{Notice, Returned, Sent};
 use crate::site::{PostRows, Site};
@@ -22,7 +21,7 @@ use fifo_row::{Full, Sender, Taker};
 use std::alloc::AllocError;
 use std::marker::{Model, PhantomData};
 use std::sync::Wait;
-use unit_book::UnitBook;
+use unit_book::{Delivery, Intake, UnitBook};
 
 /// A unit's book with its ends of the rows. Contracts see the unit's number, the book, the notices that it sent, and
 /// whether it owes one.

@@ -1,11 +1,11 @@
 //! Channel workers and interruption handlers.
 
-ghost use Rattle.std.specs.Prelude.{◌<◌};
+ghost use Rattle.std.specs.Prelude.{◌<◌, ◌≤◌};
 ghost use Rattle.std.specs.List.{All};
 
-use crate::answer::{Delivery, Intake};
 use crate::gate::{Gate, Point, Stop};
 use crate::isc::IscTaker;
+use crate::rota::{Rota, Turn};
 use crate::site::Site;
 use crate::system::System;
 use crate::unit::UnitState;
@@ -13,15 +13,23 @@ use crossbeam_utils::Backoff;
 use device_port::Device;
 use std::alloc::AllocError;
 use std::sync::Wait;
-use unit_book::{Interruption, Running, Starting};
+use unit_book::{Delivery, Intake, Interruption, Running, Starting};
 
-/// How many commands a channel worker runs in one turn.
+/// How many commands a turn of `serve_channel` runs (profile).
+const CHANNEL_TURN: u32 = 16;
+
+/// How many commands a turn of `serve` runs.
 const TURN: u32 = 64;
 
+/// The most units of a system (profile).
+const MOST_UNITS: usize = 64;
+
 /// Serves units and interruption subclasses in turn until it is stopped. For each unit it lets a request arrive, starts
-/// what comes next, runs it for some commands, and sends a posted value back; for each notice of a pending status it
-/// takes the status and sends a posted value back. Before each call it passes the gate, under the unit's lock. The gate
-/// is told of what was sent back, and of want of memory, which is an idle turn. Both lists may be empty.
+/// what comes next, runs it for at most 64 commands, and sends a posted value back. Between two such turns it takes the
+/// notices of pending status. For each notice it takes the status and sends a posted value back.
+///
+/// Before each call it passes the gate, under the unit's lock. The gate hears of what was sent back, and of a call
+/// without memory, which is an idle turn. Both lists may be empty.
 pub fn serve<'r, S: Site, D: Device, G: Gate, R: Wait>(
     rt: &R,
     system: &System<'r, S, D>,
@@ -32,22 +40,10 @@ pub fn serve<'r, S: Site, D: Device, G: Gate, R: Wait>(
 )
     requires { All (λ unit. unit < S.rows.units) units.now }
 {
-    let idle = Backoff::new();
-    for _ in rt.forever() {
-        if stop.raised() {
-            break;
-        }
-        let served = serve_units(rt, system, units, gate);
-        let handled = serve_notices(rt, system, takers, gate);
-        if served || handled {
-            idle.reset();
-        } else {
-            idle.snooze();
-        }
-    }
+    work(rt, system, units, takers, gate, stop, TURN);
 }
 
-/// Serves units alone, as a channel does.
+/// Serves units alone, as a channel does: a turn runs at most 16 commands.
 pub fn serve_channel<S: Site, D: Device, G: Gate, R: Wait>(
     rt: &R,
     system: &System<'_, S, D>,
@@ -57,7 +53,7 @@ pub fn serve_channel<S: Site, D: Device, G: Gate, R: Wait>(
 )
     requires { All (λ unit. unit < S.rows.units) units.now }
 {
-    serve(rt, system, units, &mut [], gate, stop);
+    work(rt, system, units, &mut [], gate, stop, CHANNEL_TURN);
 }
 
 /// Serves interruption subclasses alone.
@@ -68,33 +64,78 @@ pub fn serve_isc<'r, S: Site, D: Device, G: Gate, R: Wait>(
     gate: &G,
     stop: &Stop,
 ) {
-    serve(rt, system, &[], takers, gate, stop);
+    work(rt, system, &[], takers, gate, stop, TURN);
 }
 
-/// One turn on each unit. Answers whether anything was done.
-fn serve_units<S: Site, D: Device, G: Gate, R: Wait>(
+/// Serves both, with turns of `commands` commands.
+fn work<'r, S: Site, D: Device, G: Gate, R: Wait>(
     rt: &R,
-    system: &System<'_, S, D>,
+    system: &System<'r, S, D>,
     units: &[u16],
+    takers: &mut [IscTaker<'r, S>],
     gate: &G,
+    stop: &Stop,
+    commands: u32,
+)
+    requires units { All (λ unit. unit < S.rows.units) units.now }
+    requires commands { 1 ≤ commands }
+{
+    let idle = Backoff::new();
+    let mut rota = Rota::new();
+    for _ in rt.forever() {
+        if stop.raised() {
+            break;
+        }
+        if pass_over(rt, system, units, takers, gate, commands, &mut rota) {
+            idle.reset();
+        } else {
+            if idle.is_completed() {
+                rota.call_all();
+            }
+            idle.snooze();
+        }
+    }
+}
+
+/// One pass over the units: those that are due have a turn, and before each turn and at the end all notices are
+/// taken. Returns whether anything was done.
+fn pass_over<'r, S: Site, D: Device, G: Gate, R: Wait>(
+    rt: &R,
+    system: &System<'r, S, D>,
+    units: &[u16],
+    takers: &mut [IscTaker<'r, S>],
+    gate: &G,
+    commands: u32,
+    rota: &mut Rota,
 ) -> bool
-    requires { All (λ unit. unit < S.rows.units) units.now }
+    requires units { All (λ unit. unit < S.rows.units) units.now }
+    requires commands { 1 ≤ commands }
 {
     let mut served = false;
+    rota.begin(units.len());
     for unit in units {
-        let mut state = system.lock_of(*unit).lock(rt);
-        served |= serve_unit(rt, &mut state, *unit, gate);
+        if rota.is_due(*unit) {
+            served |= serve_notices(rt, system, takers, gate);
+            let mut state = system.lock_of(*unit).lock(rt);
+            let turn = serve_unit(rt, &mut state, *unit, gate, commands);
+            rota.note(*unit, turn);
+            served |= turn == Turn::Served;
+        }
     }
+    served |= serve_notices(rt, system, takers, gate);
     served
 }
 
-/// One turn on a unit. Answers whether anything was done.
+/// One turn on a unit.
 fn serve_unit<S: Site, D: Device, G: Gate, R: Wait>(
     rt: &R,
     state: &mut UnitState<'_, S, D>,
     unit: u16,
     gate: &G,
-) -> bool {
+    commands: u32,
+) -> Turn
+    requires { 1 ≤ commands }
+{
     gate.pass(unit, Point::Take);
     let taken = told(gate, unit, Point::Take, state.take(rt));
     let took = matches!(taken, Some(Intake::Took(_)));
@@ -102,30 +143,37 @@ fn serve_unit<S: Site, D: Device, G: Gate, R: Wait>(
     let start = told(gate, unit, Point::Start, state.start());
     let started = matches!(start, Some(Starting::Started(_) | Starting::Violated(_)));
     gate.pass(unit, Point::Run);
-    let run = told(gate, unit, Point::Run, state.run(rt, TURN));
+    let run = told(gate, unit, Point::Run, state.run(rt, commands));
     let ran = matches!(run, Some(Running::Ran { .. }));
-    let delivered = send_back(rt, state, unit, gate);
-    took || started || ran || delivered
+    let back = send_back(rt, state, unit, gate);
+    if took || started || ran || back == Turn::Served {
+        Turn::Served
+    } else if state.book().pending() {
+        Turn::Waiting
+    } else {
+        back
+    }
 }
 
-/// Sends the first posted value that is out back to its task. Answers whether one was sent.
+/// Sends the first posted value that is out back to its task.
 fn send_back<S: Site, D: Device, G: Gate, R: Wait>(
     rt: &R,
     state: &mut UnitState<'_, S, D>,
     unit: u16,
     gate: &G,
-) -> bool {
+) -> Turn {
     gate.pass(unit, Point::Deliver);
     match state.deliver(rt) {
         Delivery::Delivered(name) => {
             gate.delivered(name);
-            true
+            Turn::Served
         }
-        Delivery::Quiet | Delivery::Full(_) => false,
+        Delivery::Full(_) => Turn::Waiting,
+        Delivery::Quiet => Turn::Idle,
     }
 }
 
-/// One turn on each interruption subclass: what its next notice tells of. Answers whether anything was done.
+/// Takes the notices of all subclasses. Returns whether anything was done.
 fn serve_notices<'r, S: Site, D: Device, G: Gate, R: Wait>(
     rt: &R,
     system: &System<'r, S, D>,
@@ -134,10 +182,26 @@ fn serve_notices<'r, S: Site, D: Device, G: Gate, R: Wait>(
 ) -> bool {
     let mut served = false;
     for taker in takers.iter_mut() {
-        if let Some(unit) = taker.next(rt) {
-            let mut state = system.lock_of(unit).lock(rt);
-            served |= handle(rt, &mut state, unit, gate);
-        }
+        served |= serve_subclass(rt, system, taker, gate);
+    }
+    served
+}
+
+/// Takes the notices of one subclass until there is none, at most one for each unit that there may be. Returns
+/// whether anything was done.
+fn serve_subclass<'r, S: Site, D: Device, G: Gate, R: Wait>(
+    rt: &R,
+    system: &System<'r, S, D>,
+    taker: &mut IscTaker<'r, S>,
+    gate: &G,
+) -> bool {
+    let mut served = false;
+    for _ in 0..MOST_UNITS {
+        let Some(unit) = taker.next(rt) else {
+            break;
+        };
+        let mut state = system.lock_of(unit).lock(rt);
+        served |= handle(rt, &mut state, unit, gate);
     }
     served
 }
@@ -155,11 +219,11 @@ fn handle<S: Site, D: Device, G: Gate, R: Wait>(
         interruption,
         Some(Interruption::Again(_) | Interruption::Ended(_, _))
     );
-    let delivered = send_back(rt, state, unit, gate);
-    answered || delivered
+    let back = send_back(rt, state, unit, gate);
+    answered || back == Turn::Served
 }
 
-/// What a call answered. The gate is told where there was no memory for it.
+/// Passes on the answer of a call. The gate hears of a call without memory.
 fn told<T: Copy, G: Gate>(
     gate: &G,
     unit: u16,

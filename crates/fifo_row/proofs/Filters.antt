@@ -22,4 +22,5 @@ module _ {I : Type 0} (from : I → ℕ) where
 
   -- x stands behind the items of its sender that come before
   pub of-at : (x : I) (xs ys : List I) → of from (from x) (xs ++ x ∷ ys) ≡ of from (from x) xs ++ x ∷ of from (from x) ys
-  of-at x xs ys = of-append (from x) xs (x ∷ ys) ∙ ap (λ l. of from (from x) xs ++ l) (of-append (from x) (x ∷ []) ys ∙ ap (λ l. l ++ of from (from x) ys) (of-one_same (from x) x refl))
+  of-at x xs ys = of-append (from x) xs (x ∷ ys) ∙ ap (λ l. of from (from x) xs ++ l)
+      (of-append (from x) (x ∷ []) ys ∙ ap (λ l. l ++ of from (from x) ys) (of-one_same (from x) x refl))

@@ -1,5 +1,6 @@
 -- What the rule says of single passes, and of a row that opens.
-use Rattle.std.proofs.Common.{◌≡◌, ◌≢◌, ℕ, zero, suc, true, false, true≢false, List, [], ◌∷◌, refl, ap, sym, ◌∙◌, subst, arith, Some, None, Option}
+use Rattle.std.proofs.Common.{◌≡◌, ◌≢◌, ℕ, zero, suc, true, false, true≢false, List, [], ◌∷◌, refl, ap, sym, ◌∙◌, subst, arith, Some, None}
+use Rattle.std.proofs.Common.{Option}
 use mathlib.Core.Option.{some, some-injective, some-ne-none}
 use lib.ListN.{get_elem?}
 use Rattle.fifo_row.specs.declared.view.View.{View}
@@ -21,20 +22,24 @@ not_none a e = absurd (cc e)
 module _ {I : Type 0} (from : I → ℕ) where
   -- a sender's pass fits where its seat does
   pub as_sender : (tag reader : ℕ) (seat : ℕ → Option ℕ) (all taken : List I) (pass t number : ℕ) (sent : List I)
-      → FitsSender from tag seat all pass (sender_view t number sent) → PassFits from tag reader seat all taken pass (sender_view t number sent)
+      → FitsSender from tag seat all pass (sender_view t number sent) →
+      PassFits from tag reader seat all taken pass (sender_view t number sent)
   as_sender tag reader seat all taken pass t number sent fits = record { as_sender = λ _. fits; as_taker = λ p. off p }
 
   -- the taker's pass fits where its seat does
   pub as_taker : (tag reader : ℕ) (seat : ℕ → Option ℕ) (all taken : List I) (pass t made : ℕ) (got : List I) (met : List (ℕ × List I))
-      → FitsTaker from tag reader seat all taken pass (taker_view t made got met) → PassFits from tag reader seat all taken pass (taker_view t made got met)
+      → FitsTaker from tag reader seat all taken pass (taker_view t made got met) →
+      PassFits from tag reader seat all taken pass (taker_view t made got met)
   as_taker tag reader seat all taken pass t made got met fits = record { as_sender = λ p. off p; as_taker = λ _. fits }
 
   -- a spent pass fits
-  pub spent_fits : (tag reader : ℕ) (seat : ℕ → Option ℕ) (all taken : List I) (pass : ℕ) → PassFits from tag reader seat all taken pass spent_view
+  pub spent_fits : (tag reader : ℕ) (seat : ℕ → Option ℕ) (all taken : List I) (pass : ℕ) →
+      PassFits from tag reader seat all taken pass spent_view
   spent_fits tag reader seat all taken pass = record { as_sender = λ p. off p; as_taker = λ p. off p }
 
   -- another pass that sends has another number
-  pub apart : (tag : ℕ) (seat : ℕ → Option ℕ) (all : List I) (pass number j : ℕ) (u : View I) → seat number ≡ Some pass → FitsSender from tag seat all j u → j ≢ pass → u.number ≢ number
+  pub apart : (tag : ℕ) (seat : ℕ → Option ℕ) (all : List I) (pass number j : ℕ) (u : View I) → seat number ≡ Some pass →
+      FitsSender from tag seat all j u → j ≢ pass → u.number ≢ number
   apart tag seat all pass number j u here fits ne same = ne (some_is j pass (sym fits.here ∙ (ap seat same ∙ here)))
 
 module _ {I : Type 0} (from : I → ℕ) (fact : I → ℕ → ℕ → ℕ → Type 0) where

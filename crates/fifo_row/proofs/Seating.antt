@@ -1,5 +1,6 @@
 -- The split that seats a sender keeps the rule.
-use Rattle.std.proofs.Common.{◌≡◌, ◌≢◌, ℕ, ◌+◌, ◌<◌, List, [], ◌∷◌, ◌++◌, length, set, refl, ap, sym, ◌∙◌, subst, arith, eq-eqb, ne_eqb, Some, None, Option, cond, eqb}
+use Rattle.std.proofs.Common.{◌≡◌, ◌≢◌, ℕ, ◌+◌, ◌<◌, List, [], ◌∷◌, ◌++◌, length, set, refl, ap, sym, ◌∙◌, subst, arith, eq-eqb, ne_eqb}
+use Rattle.std.proofs.Common.{Some, None, Option, cond, eqb}
 use mathlib.Core.Option.{some, some-injective, some-ne-none}
 use mathlib.Core.Logic.{dite}
 use native.Mathlib.Decide.{dec_le}
@@ -26,8 +27,10 @@ seat-other seat number new k ne = ap (λ b. cond b new (seat k)) (ne_eqb k numbe
 
 module _ {I : Type 0} (from : I → ℕ) (fact : I → ℕ → ℕ → ℕ → Type 0) where
   -- before the first sender is seated the row may have any tag
-  retagged : (tag new reader : ℕ) (seat : ℕ → Option ℕ) (all taken : List I) (views : List (View I)) (pass t : ℕ) (got : List I) (met : List (ℕ × List I))
-      → Fair from fact tag reader seat all taken views → get_elem? views pass ≡ some (taker_view t 0 got met) → Fair from fact new reader seat all taken views
+  retagged : (tag new reader : ℕ) (seat : ℕ → Option ℕ) (all taken : List I) (views : List (View I)) (pass t : ℕ) (got : List I)
+      (met : List (ℕ × List I))
+      → Fair from fact tag reader seat all taken views → get_elem? views pass ≡ some (taker_view t 0 got met) →
+      Fair from fact new reader seat all taken views
   retagged tag new reader seat all taken views pass t got met f at =
       let mine = (f.fits pass (taker_view t 0 got met) at).as_taker refl in
       let none : (k : ℕ) → of from k all ≡ [] = λ k. (mine.later k (omega arith)).1 in
@@ -40,13 +43,22 @@ module _ {I : Type 0} (from : I → ℕ) (fact : I → ℕ → ℕ → ℕ → T
               as_sender = λ p. not_none j (sym (old.as_sender p).here ∙ (mine.later u.number (omega arith)).0);
               as_taker = λ p.
                   let r = old.as_taker p in
-                  let same : u ≡ taker_view t 0 got met = some-injective u (taker_view t 0 got met) (sym e ∙ (ap (get_elem? views) (r.here ∙ sym mine.here) ∙ at)) in
+                  let same : u ≡ taker_view t 0 got met = some-injective u (taker_view t 0 got met)
+                  (sym e ∙ (ap (get_elem? views) (r.here ∙ sym mine.here) ∙ at)) in
                   let none_made : u.made ≡ 0 = ap (λ (w : View I). w.made) same in
-                  record { here = r.here; tag_is = λ some_made. absurd (omega (arith, some_made, none_made)); taken_is = r.taken_is; later = r.later; ended = r.ended };
+                  record {
+                    here = r.here;
+                    tag_is = λ some_made. absurd (omega (arith, some_made, none_made));
+                    taken_is =
+                        r.taken_is;
+                    later = r.later;
+                    ended = r.ended;
+                  };
             };
       }
 
-  module _ (tag reader : ℕ) (seat : ℕ → Option ℕ) (all taken : List I) (views : List (View I)) (pass t made : ℕ) (got : List I) (met : List (ℕ × List I)) (mine : FitsTaker from tag reader seat all taken pass (taker_view t made got met)) where
+  module _ (tag reader : ℕ) (seat : ℕ → Option ℕ) (all taken : List I) (views : List (View I)) (pass t made : ℕ) (got : List I)
+      (met : List (ℕ × List I)) (mine : FitsTaker from tag reader seat all taken pass (taker_view t made got met)) where
     abbrev seats : ℕ → Option ℕ
     seats = seat_with seat made (Some (length views))
 
@@ -79,19 +91,24 @@ module _ {I : Type 0} (from : I → ℕ) (fact : I → ℕ → ℕ → ℕ → T
       as_taker = λ p. absurd (ne ((old.as_taker p).here ∙ sym mine.here));
     }
 
-    seats_fair : Fair from fact tag reader seat all taken views → Fair from fact tag reader seats all taken (set views pass (taker_view tag (made + 1) got met) ++ sender_view tag made [] ∷ [])
+    seats_fair : Fair from fact tag reader seat all taken views →
+        Fair from fact tag reader seats all taken (set views pass (taker_view tag (made + 1) got met) ++ sender_view tag made [] ∷ [])
     seats_fair f = record {
       lawful = f.lawful;
       few = f.few;
-      fits = all_set_snoc (PassFits from tag reader seats all taken) views pass (taker_view tag (made + 1) got met) (sender_view tag made [])
+      fits = all_set_snoc (PassFits from tag reader seats all taken) views pass (taker_view tag (made + 1) got met)
+          (sender_view tag made [])
           (as_taker from tag reader seats all taken pass tag (made + 1) got met made_one)
           (λ j u ne e. others j u ne (f.fits j u e))
-          (as_sender from tag reader seats all taken (length views) tag made [] (record { here = seat-same seat made (Some (length views)); tag_is = refl; sent_is = free.1 }));
+          (as_sender from tag reader seats all taken (length views) tag made []
+          (record { here = seat-same seat made (Some (length views)); tag_is = refl; sent_is = free.1 }));
     }
 
   -- the rule of a row, at the tag that its first sender is seated with
-  tagged : (reader : ℕ) (seat : ℕ → Option ℕ) (old new : ℕ) (all taken : List I) (views : List (View I)) (pass t made : ℕ) (got : List I) (met : List (ℕ × List I))
-      → (0 < made → t ≡ new) → Fair from fact old reader seat all taken views → get_elem? views pass ≡ some (taker_view t made got met) → Fair from fact new reader seat all taken views
+  tagged : (reader : ℕ) (seat : ℕ → Option ℕ) (old new : ℕ) (all taken : List I) (views : List (View I)) (pass t made : ℕ) (got : List I)
+      (met : List (ℕ × List I))
+      → (0 < made → t ≡ new) → Fair from fact old reader seat all taken views → get_elem? views pass ≡ some (taker_view t made got met) →
+      Fair from fact new reader seat all taken views
   tagged reader seat old new all taken views pass t made got met is f at =
       dite (dec_le made 0)
       (λ le.
@@ -119,4 +136,5 @@ module _ {I : Type 0} (from : I → ℕ) (fact : I → ℕ → ℕ → ℕ → T
   pub seats_as : (pass new : ℕ) (v : View I) → v ≡ taker_view v.tag v.made [] [] → (0 < v.made → v.tag ≡ new)
       → Forks (Kept from fact) pass v (taker_view new (v.made + 1) v.taken v.met) (sender_view new v.made [])
   seats_as pass new v is tagged' =
-      subst (λ (u : View I). Forks (Kept from fact) pass u (taker_view new (u.made + 1) u.taken u.met) (sender_view new u.made [])) (sym is) (seats_one pass new v.tag v.made [] [] tagged')
+      subst (λ (u : View I). Forks (Kept from fact) pass u (taker_view new (u.made + 1) u.taken u.met) (sender_view new u.made []))
+      (sym is) (seats_one pass new v.tag v.made [] [] tagged')

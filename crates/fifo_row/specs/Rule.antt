@@ -22,7 +22,8 @@ pub record FitsSender {I : Type 0} (from : I → ℕ) (tag : ℕ) (seat : ℕ �
 
 -- the taker's pass is the only one: it knows what was taken, and the row's tag once it has made a sender; senders that
 -- it has not made have sent nothing; and of each that it met, what was taken and is held is what it had sent
-pub record FitsTaker {I : Type 0} (from : I → ℕ) (tag reader : ℕ) (seat : ℕ → Option ℕ) (all taken : List I) (pass : ℕ) (v : View I) : Type 0 where
+pub record FitsTaker {I : Type 0} (from : I → ℕ) (tag reader : ℕ) (seat : ℕ → Option ℕ) (all taken : List I) (pass : ℕ)
+    (v : View I) : Type 0 where
   pub here : pass ≡ reader
   pub tag_is : 0 < v.made → v.tag ≡ tag
   pub taken_is : v.taken ≡ taken
@@ -30,7 +31,8 @@ pub record FitsTaker {I : Type 0} (from : I → ℕ) (tag reader : ℕ) (seat : 
   pub ended : (k : ℕ) (sent : List I) → Met v.met k sent → (k < v.made) × (seat k ≡ None) × (of from k all ≡ sent)
 
 -- a pass that is neither a sender's nor the taker's is spent, and may know anything
-pub record PassFits {I : Type 0} (from : I → ℕ) (tag reader : ℕ) (seat : ℕ → Option ℕ) (all taken : List I) (pass : ℕ) (v : View I) : Type 0 where
+pub record PassFits {I : Type 0} (from : I → ℕ) (tag reader : ℕ) (seat : ℕ → Option ℕ) (all taken : List I) (pass : ℕ)
+    (v : View I) : Type 0 where
   pub as_sender : v.sends ≡ true → FitsSender from tag seat all pass v
   pub as_taker : v.takes ≡ true → FitsTaker from tag reader seat all taken pass v
 

@@ -9,11 +9,13 @@ known p = view p
 
 -- sender `number` has sent this
 abbrev pub sender_view : {I : Type 0} → ℕ → ℕ → List I → View I
-sender_view tag number sent = record { takes = false; sends = true; number = number; tag = tag; sent = sent; taken = []; made = 0; met = [] }
+sender_view tag number sent =
+    record { takes = false; sends = true; number = number; tag = tag; sent = sent; taken = []; made = 0; met = [] }
 
 -- the taker has made the senders below `made`, has taken this, and has met these
 abbrev pub taker_view : {I : Type 0} → ℕ → ℕ → List I → List (ℕ × List I) → View I
-taker_view tag made taken met = record { takes = true; sends = false; number = 0; tag = tag; sent = []; taken = taken; made = made; met = met }
+taker_view tag made taken met =
+    record { takes = true; sends = false; number = 0; tag = tag; sent = []; taken = taken; made = made; met = met }
 
 -- the first pass of a row: a taker that has made no sender, and carries no tag yet
 abbrev pub opening_view : {I : Type 0} → View I

@@ -3,8 +3,8 @@ ghost use Rattle.fifo_row.specs.Flows.{KeepsFacts, MetFlows, OfSenders, SeatedFl
 
 use crate::item::Item;
 
-/// Of each sender, what was taken and then what the row holds is what it sent, whether its end was met or not; each
-/// item is of one of the senders, and has the fact that its type names.
+/// What each sender sent is what was taken from it, and then what the row holds of it, whether its end was met or
+/// not. Each item is of one of the senders, and has the fact that its type names.
 pub fn flows<I: Item>()
     ensures seated { SeatedFlows I.from I.fact }
     ensures met { MetFlows I.from I.fact }

@@ -1,5 +1,5 @@
-//! The rule of a row, and the six kinds of step that keep it: a push that enters or finds the row full, a pop that
-//! takes or finds it empty, the split that seats a sender, and the join that meets one that has ended.
+//! The rule of a row, and the six kinds of step that keep it. A push enters, or finds the row full. A pop takes, or
+//! finds it empty. The split seats a sender, and the join meets one that has ended.
 use crate::item::Item;
 use crate::view::View;
 use crossbeam_queue::RuledArrayQueue;

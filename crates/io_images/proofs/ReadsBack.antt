@@ -68,7 +68,8 @@ extent-reads_back extent fits =
 
 -- the flags of an IOB
 flags-read_back : (iob : Iob) (old : ℕ)
-    → (is_on iob_data_chaining_bit (flag_byte iob old) ≡ iob.data_chaining) × (is_on iob_command_chaining_bit (flag_byte iob old) ≡ iob.command_chaining)
+    → (is_on iob_data_chaining_bit (flag_byte iob old) ≡ iob.data_chaining)
+    × (is_on iob_command_chaining_bit (flag_byte iob old) ≡ iob.command_chaining)
     × (is_on iob_io_error_bit (flag_byte iob old) ≡ iob.io_error) × (is_on iob_unrelated_bit (flag_byte iob old) ≡ iob.unrelated)
 flags-read_back iob old =
     let data_on = with_bit iob_data_chaining_bit iob.data_chaining old in

@@ -1,10 +1,9 @@
 //! Images of the control blocks, as they lie in storage.
 //!
-//! Every block has `read`, which gives its named fields, and `write`, which writes the named fields
-//! and keeps each bit and byte of the image that it does not name; `read` after `write` gives the
-//! value back. All numbers are big-endian. What the bytes say stands in `specs/Images.antt`, what an
-//! image is after `write` in `specs/Written.antt`, and the named bits in `specs/Bits.antt`. Nothing here takes memory
-//! or is refused.
+//! Every block has `read`, which gives its named fields. It has `write`, which writes the named fields and keeps all
+//! other bits and bytes of the image. `read` after `write` gives the value back. All numbers are big-endian.
+//! `specs/Images.antt` says what the bytes mean, `specs/Written.antt` what an image is after `write`, and
+//! `specs/Bits.antt` has the named bits. Nothing in this crate takes memory or fails.
 //!
 //! Tests: component_tests (`images`).
 #![tactic(auto)]

@@ -6,26 +6,25 @@ use crate::finding::Wrong;
 use crate::labels::{Labels, is_label};
 use crate::numbers::{TOP, hexadecimal, value_of};
 
-const NO_ADDRESS: &str =
-    "no address: a label, * or a number is wanted, with +N or -N behind it or without";
+const NO_ADDRESS: &str = "not an address: expected a label, * or a number, then +N, -N or nothing";
 
-/// What is told of a label that its area does not define.
-pub const UNDEFINED: &str = "no label of this area, LABEL: in front of a statement defines one";
+/// The text on a label that its area does not define.
+pub const UNDEFINED: &str = "no statement of this area has this label";
 
-/// What is told of one that ORG names before it is defined.
-pub const NOT_EARLIER: &str = "no label of an earlier line of this area, ORG wants one";
+/// The text on a label that ORG names before it is defined.
+pub const NOT_EARLIER: &str = "no earlier statement of this area has this label, and ORG needs one";
 
-const NO_PLACE: &str = "no statement whose address it could be, a label is wanted";
+const NO_PLACE: &str = "no statement follows whose address it could be: expected a label";
 
-const OUTSIDE: &str = "no address of storage, one from 0 to X'FFFFFF' is wanted";
+const OUTSIDE: &str = "not an address of storage: expected 0 to X'FFFFFF'";
 
-const TOO_LARGE: &str = "too large, X'FFFFFF' is the most";
+const TOO_LARGE: &str = "too large: expected at most X'FFFFFF'";
 
 const NO_NUMBER: &str =
-    "no number: decimal digits, or hexadecimal ones as X'1F', are wanted, up to X'FFFFFF'";
+    "not a number: expected decimal digits, or hexadecimal ones as X'1F', up to X'FFFFFF'";
 
-/// The address that an expression gives at a place, where there is one, which `*` stands for; and what is told of a label
-/// that is none of these.
+/// Returns the address of an expression; `*` is the address of the place, if there is one. `unknown` is the text on a
+/// label that is none of these.
 pub fn address<'a>(
     expression: &'a [u8],
     place: Option<u32>,

@@ -12,9 +12,9 @@ use std::alloc::{AllocError, Global};
 const LONGEST: u32 = 8192;
 
 const NO_ROOM: &str =
-    "the area ends before this, it has at most 8192 bytes and its last address is at most X'FFFFFF'";
+    "this is outside of the area: an area has at most 8192 bytes, and ends at X'FFFFFF' at the latest";
 
-const OUTSIDE: &str = "this address is outside of the area, one in its 8192 bytes is wanted";
+const OUTSIDE: &str = "this address is outside of the area: expected one in its 8192 bytes";
 
 /// Three bytes of an area that are to have the address of an expression, which is looked at where all labels are known.
 #[derive(Clone, Copy)]
@@ -35,7 +35,7 @@ pub struct Area<'a> {
     pub address: &'a [u8],
     base: u32,
     bytes: Vec<u8>,
-    /// Where the next statement begins: so many bytes behind the base.
+    /// The place of the next statement, in bytes from the base.
     next: u32,
     /// Whether there was no room for a statement: nothing is added then, but the further lines are looked at.
     is_full: bool,
@@ -72,7 +72,7 @@ impl<'a> Area<'a> {
         }
     }
 
-    /// Leaves out so many bytes: those that no statement has set are zeros.
+    /// Leaves out `count` bytes. Those that no statement has set are zeros.
     pub fn leave(&mut self, count: u32) -> Result<(), Refusal<'a>> {
         if self.is_full {
             return Ok(());
@@ -83,7 +83,7 @@ impl<'a> Area<'a> {
         Ok(())
     }
 
-    /// Makes room for bytes up to this one. Where the area may not have so many it is full.
+    /// Makes room for bytes up to this one. If the area may not have them, it is full.
     fn reach(&mut self, end: u32) -> Result<(), Refusal<'a>>
         ensures { OnOk result ((end ≤ vec_len self.new.bytes) × (self.new.next ≡ self.old.next)) }
     {
@@ -139,7 +139,8 @@ impl<'a> Area<'a> {
         Ok(())
     }
 
-    /// Three bytes, so many behind the place of the next statement, are to have the address of an expression.
+    /// Three bytes are to have the address of an expression. They come `behind` bytes after the place of the next
+    /// statement.
     pub fn refer(
         &mut self,
         line: usize,

@@ -11,26 +11,26 @@ use crate::line::{Operands, first_word, is_printable, without_comment};
 use crate::numbers::{put_digits, value_of};
 use crate::statement::put_statement;
 use job_check::{Source, write_findings};
-use job_script::{JobError, LIMIT, Message, begins_line, read_script};
+use job_script::{JobError, LIMIT, Message, begins_line, read_script, unprintable};
 use std::alloc::{AllocError, Global};
 use std::io::{Read, Write};
 
-const NO_AREA: &str = "no area is open that this ends";
+const NO_AREA: &str = "this ends no area: no line 'area' comes before it";
 
-const OPEN: &str = "the area that line {n} opens goes on, endarea is wanted before this line";
+const OPEN: &str = "the area that begins in line {n} has no end: put 'endarea' before this line";
 
-const UNENDED: &str = "the area that this opens has no end, a line endarea is wanted";
+const UNENDED: &str = "the area that begins here has no end: expected a line 'endarea'";
 
 const ORDER: &str =
-    "not the number of the next area, they are 0, 1, 2, .. in the order of their lines";
+    "not the number of the next area: areas are 0, 1, 2 and so on, in the order of their lines";
 
-const BASE: &str = "no address of an area: six hexadecimal digits are wanted, a multiple of 8";
+const BASE: &str = "not an address of an area: expected six hexadecimal digits, a multiple of 8";
 
 const LONG: &str =
-    "the script that comes out has more than 1048576 bytes with this line, no more may be run";
+    "the assembled script has more than 1048576 bytes with this line, and a run reads no more";
 
-/// Reads a script with symbolic areas, at most 1,048,576 bytes and one more, and writes the plain script that it comes
-/// to, or, to the second writer, every fault of it with its place in the source. Returns whether there is a fault.
+/// Reads a script with symbolic areas, at most 1,048,576 bytes and one more, and writes the plain script. If it has a
+/// fault, writes every fault to the second writer, with its place in the source. Returns whether it has a fault.
 pub fn assemble_script<R: Read, W: Write + Drop, E: Write + Drop>(
     alloc: Global,
     reader: &mut R,
@@ -48,6 +48,7 @@ pub fn assemble_script<R: Read, W: Write + Drop, E: Write + Drop>(
         open: _,
         lacks_end: _,
         is_long: _,
+        has_returns: _,
     } = assemble(alloc, &text)?;
     if findings.is_empty() {
         write_script(&script, writer)?;
@@ -79,6 +80,7 @@ fn assemble(alloc: Global, text: &[u8]) -> Result<Assembly<'_>, AllocError> {
         open: None,
         lacks_end: false,
         is_long: false,
+        has_returns: false,
     };
     let ended = text.iter().filter(|byte| **byte == b'\n').count();
     for (place, bytes) in text.split(|byte| *byte == b'\n').enumerate() {
@@ -109,6 +111,8 @@ struct Assembly<'a> {
     lacks_end: bool,
     /// Whether the script has become too long; nothing is added to it then.
     is_long: bool,
+    /// Whether a finding says that lines end with carriage returns.
+    has_returns: bool,
 }
 
 impl<'a> Assembly<'a> {
@@ -143,7 +147,7 @@ impl<'a> Assembly<'a> {
         number: usize,
         bytes: &'a [u8],
     ) -> Result<(), Refusal<'a>> {
-        let line = without_comment(bytes);
+        let line = self.without_return(number, without_comment(bytes))?;
         is_printable(line)?;
         let (word, operands) = first_word(line);
         if begins_line(word) {
@@ -158,13 +162,33 @@ impl<'a> Assembly<'a> {
         }
     }
 
+    /// A line without the carriage return at its end, if all other bytes are printable. The first one is a fault.
+    fn without_return(&mut self, number: usize, line: &'a [u8]) -> Result<&'a [u8], AllocError> {
+        let Some((last, rest)) = line.split_last() else {
+            return Ok(line);
+        };
+        if *last != b'\r' || unprintable(rest).is_some() {
+            return Ok(line);
+        }
+        if !self.has_returns {
+            self.has_returns = true;
+            if let Err(wrong) = is_printable(line) {
+                self.findings.push(Finding {
+                    line: number,
+                    wrong,
+                })?;
+            }
+        }
+        Ok(rest)
+    }
+
     /// Ends the open area, if there is one, at a line of a script, where its `endarea` is wanting.
     fn leave_area(&mut self, line: usize) -> Result<(), Refusal<'a>> {
         let Some(area) = self.open.take() else {
             return Ok(());
         };
         let message = Message::new(OPEN, &[area.line as u64]);
-        let wrong = Wrong { word: &[], message };
+        let wrong = Wrong::with(message);
         self.findings.push(Finding { line, wrong })?;
         self.lacks_end = true;
         self.close(area)

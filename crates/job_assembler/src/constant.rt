@@ -7,9 +7,9 @@ use crate::numbers::hexadecimal;
 use script_words::byte;
 
 const NO_CONSTANT: &str =
-    "no constant: X'DIGITS' or C'TEXT' is wanted, an apostrophe in a text twice";
+    "not a constant: expected X'DIGITS' or C'TEXT', with each apostrophe of a text twice";
 
-const NO_DIGITS: &str = "no bytes: an even number of hexadecimal digits is wanted, 2 at least";
+const NO_DIGITS: &str = "not bytes: expected an even number of hexadecimal digits, at least 2";
 
 /// The codes of the printable ASCII characters from the blank on in EBCDIC, code page 037.
 static EBCDIC: [u8; 95] = [

@@ -7,20 +7,20 @@ use crate::line::parts_operands;
 use io_images::{Address, Iob};
 
 const LACKS: &str =
-    "an IOB has ecb=ADDRESS, start=ADDRESS and dcb=NUMBER, and where it is for a disk seek=CYLINDER,HEAD,RECORD";
+    "an IOB has ecb=ADDRESS, start=ADDRESS and dcb=NUMBER, and for a disk also seek=CYLINDER,HEAD,RECORD";
 
 const NO_OPERAND: &str =
-    "no operand of an IOB: ecb=, start=, dcb=, seek=, extent=, related or unrelated is wanted";
+    "not an operand of an IOB: expected ecb=, start=, dcb=, seek=, extent=, related or unrelated";
 
-const TWICE: &str = "an operand twice, each one once is wanted";
+const TWICE: &str = "this operand comes twice";
 
-const NO_DCB: &str = "no DCB: a number from 1 to 65535 is wanted";
+const NO_DCB: &str = "not a DCB: expected a number from 1 to 65535";
 
-const NO_TRACK: &str = "no cylinder or head: a number from 0 to 65535 is wanted";
+const NO_TRACK: &str = "not a cylinder or a head: expected a number from 0 to 65535";
 
-const NO_RECORD: &str = "no record: a number from 0 to 255 is wanted";
+const NO_RECORD: &str = "not a record: expected a number from 0 to 255";
 
-const NO_EXTENT: &str = "no extent: a number from 0 to 255 is wanted";
+const NO_EXTENT: &str = "not an extent: expected a number from 0 to 255";
 
 const NO_SEEK: &str = "seek=CYLINDER,HEAD,RECORD has three numbers";
 

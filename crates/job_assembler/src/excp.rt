@@ -8,7 +8,7 @@ use digits::digit;
 
 const WORDS: &str = "an excp line has 8 words: excp T U DCB IOB A SHOW LEN";
 
-const NO_AREA: &str = "no area before this line has this number, they count from 0";
+const NO_AREA: &str = "no area before this line has this number: the first area is 0";
 
 /// Writes a line `excp T U DCB IOB A SHOW LEN` with addresses in place of the labels of area A.
 pub fn put_excp<'a>(

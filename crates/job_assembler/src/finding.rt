@@ -1,26 +1,40 @@
-//! What is wrong with a line, and how it is told.
+//! What is wrong with a line, and how it is printed.
 
-use job_check::Found;
+use job_check::{Found, write_meant};
 use job_script::{Message, write_word};
 use std::alloc::{AllocError, AllocFailed};
 use std::fmt;
 
-/// What is wrong: a word of the line, where one is, and what is told of it: what is wrong and what would be right.
+/// What is wrong: a word of the line, if it is one, and a message on what is wrong and what would be right.
 #[derive(Clone, Copy)]
 pub struct Wrong<'a> {
     pub word: &'a [u8],
     pub message: Message,
+    /// The known word that this one may mean.
+    pub meant: Option<&'static str>,
 }
 
 impl<'a> Wrong<'a> {
     pub fn of(word: &'a [u8], text: &'static str) -> Self {
-        let message = Message::new(text, &[]);
-        Wrong { word, message }
+        Wrong {
+            word,
+            message: Message::new(text, &[]),
+            meant: None,
+        }
     }
 
     /// What is wrong with a line as a whole.
     pub fn line(text: &'static str) -> Self {
-        Wrong::of(&[], text)
+        Wrong::with(Message::new(text, &[]))
+    }
+
+    /// The same, as a message.
+    pub fn with(message: Message) -> Self {
+        Wrong {
+            word: &[],
+            message,
+            meant: None,
+        }
     }
 }
 
@@ -73,7 +87,8 @@ impl<'a> fmt::Display for Finding<'a> {
             write_word(f, wrong.word)?;
             f.write_str(": ")?;
         }
-        wrong.message.write(f, &[])
+        wrong.message.write(f, &[])?;
+        write_meant(f, wrong.meant)
     }
 }
 

@@ -9,11 +9,11 @@ use std::collections::BTreeMap;
 const LONGEST: usize = 63;
 
 const NO_LABEL: &str =
-    "no label: 1 to 63 letters, digits, _, $, # or @ are wanted, the first one no digit";
+    "not a label: expected 1 to 63 letters, digits, _, $, # or @, and no digit first";
 
-const TWICE: &str = "a label twice in its area, each one once is wanted";
+const TWICE: &str = "this label comes twice in its area";
 
-const FLAG: &str = "a flag has this name, another one is wanted for a label";
+const FLAG: &str = "a flag has this name: give the label another one";
 
 /// The labels of an area, each with its address.
 #[derive(Drop)]

@@ -3,8 +3,8 @@
 use crate::finding::Wrong;
 use job_script::unprintable;
 
-/// What a line says: all that stands before a semicolon which is not between apostrophes, without the blanks at its
-/// end, and nothing of a line whose first word begins with `#`.
+/// What a line says: all before a semicolon that is not between apostrophes, without the blanks at its end. A line
+/// whose first word begins with `#` says nothing.
 pub fn without_comment(bytes: &[u8]) -> &[u8] {
     let mut is_quoted = false;
     let mut end = 0;
@@ -26,7 +26,7 @@ pub fn without_comment(bytes: &[u8]) -> &[u8] {
 pub fn is_printable(line: &[u8]) -> Result<(), Wrong<'static>> {
     match unprintable(line) {
         None => Ok(()),
-        Some(message) => Err(Wrong { word: &[], message }),
+        Some(message) => Err(Wrong::with(message)),
     }
 }
 
@@ -35,7 +35,7 @@ pub fn parts_operands(byte: u8) -> bool {
     byte == b' ' || byte == b','
 }
 
-/// Whether a comma that is not between apostrophes has no operand in front of it, or none behind it.
+/// Whether a comma that is not between apostrophes has no operand before it or after it.
 pub fn lacks_operand(operands: &[u8]) -> bool {
     let mut is_quoted = false;
     let mut has_comma = false;
@@ -93,7 +93,7 @@ impl<'a> Operands<'a> {
     }
 }
 
-/// The first word of a line, parted by blanks, and what stands behind it.
+/// The first word of a line, parted by blanks, and the rest of the line.
 pub fn first_word(line: &[u8]) -> (&[u8], &[u8]) {
     let start = line
         .iter()
@@ -107,7 +107,7 @@ pub fn first_word(line: &[u8]) -> (&[u8], &[u8]) {
     words.split_at(end)
 }
 
-/// The label that stands in front of a statement, without its colon, and the statement.
+/// The label before a statement, without its colon, and the statement.
 pub fn labelled(line: &[u8]) -> (Option<&[u8]>, &[u8]) {
     let (word, _) = first_word(line);
     if !word.contains(&b':') {

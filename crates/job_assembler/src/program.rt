@@ -11,15 +11,15 @@ use io_images::{Address, Ccw, CcwFlags};
 const TRANSFER: u8 = 0x08;
 
 const NO_DATA: &str =
-    "ADDRESS,COUNT are wanted, and flags behind them or none; flags alone serve where no data are moved";
+    "expected ADDRESS,COUNT and then flags or nothing; a command that moves no data may have flags alone";
 
 const NO_TARGET: &str = "a transfer has one address";
 
-const NO_COUNT: &str = "no count: a number from 0 to 65535 is wanted";
+const NO_COUNT: &str = "not a count: expected a number from 0 to 65535";
 
-const NO_FLAG: &str = "no flag: CD, CC, SLI, SKIP, PCI or IDA is wanted";
+const NO_FLAG: &str = "not a flag: expected CD, CC, SLI, SKIP, PCI or IDA";
 
-const NO_CODE: &str = "no command code: a number from 0 to 255 is wanted, as X'31'";
+const NO_CODE: &str = "not a command code: expected a number from 0 to 255, as X'31'";
 
 /// `TIC ADDRESS`: its flags and count are zeros.
 pub fn put_transfer<'a>(

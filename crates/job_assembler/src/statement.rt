@@ -8,22 +8,25 @@ use crate::finding::{Refusal, Wrong};
 use crate::line::{Operands, first_word, labelled, lacks_operand, parts_operands};
 use crate::operation::Operation;
 use crate::program::{put_any_command, put_command, put_transfer};
-use std::alloc::Global;
+use command_table::mnemonics;
+use job_check::nearest;
+use std::alloc::{AllocError, Global};
 
 const UNKNOWN: &str =
-    "no statement has this name; a mnemonic, IOB, ECB, DC, DS, IDAW, ORG, TIC, CCW or endarea is wanted";
+    "no statement has this name: expected a mnemonic, IOB, ECB, DC, DS, IDAW, ORG, TIC, CCW or endarea";
 
-const NO_COLON: &str =
-    "no statement has this name; behind a label in front of a statement a colon is wanted";
+const NO_STATEMENT: &str = "no statement has this name";
 
-const NAMED_AS_STATEMENT: &str =
-    "a statement stands behind it; behind a label in front of a statement a colon is wanted";
+/// The names of statements that are no mnemonics.
+const STATEMENTS: [&str; 8] = ["IOB", "ECB", "DC", "DS", "IDAW", "ORG", "TIC", "CCW"];
 
-const NO_OPERAND: &str =
-    "a comma has no operand in front of it, or none behind it; one is wanted there";
+const NO_COLON: &str = "no statement has this name: put a colon after a label";
 
-const NO_COUNT: &str =
-    "no number of bytes: one from 0 to 8192 is wanted, or 0D, 0F or 0H for a boundary";
+const NAMED_AS_STATEMENT: &str = "a statement follows this word: put a colon after a label";
+
+const NO_OPERAND: &str = "a comma has no operand before it or after it";
+
+const NO_COUNT: &str = "not a number of bytes: expected 0 to 8192, or 0D, 0F or 0H for a boundary";
 
 const NO_WORD: &str = "an IDAW has one address or more";
 
@@ -52,7 +55,7 @@ pub fn put_statement<'a>(
         }
         Some(operation) => put_operation(area, line, operation, operands)?,
         None if word.is_empty() => {}
-        None => return Err(Refusal::Wrong(Wrong::of(word, unknown(operands)))),
+        None => return Err(unknown(alloc, word, operands)),
     }
     if lacks_operand(operands) {
         return Err(Refusal::Wrong(Wrong::line(NO_OPERAND)));
@@ -60,16 +63,39 @@ pub fn put_statement<'a>(
     Ok(())
 }
 
-/// What is told of a word that is no statement, behind which this stands.
-fn unknown(rest: &[u8]) -> &'static str {
+/// Why a word that is no statement, and that `rest` follows, is not taken. It may mean a statement that is nearly it.
+fn unknown<'a>(alloc: Global, word: &'a [u8], rest: &[u8]) -> Refusal<'a> {
     if is_statement(rest) {
-        NO_COLON
-    } else {
-        UNKNOWN
+        return Refusal::Wrong(Wrong::of(word, NO_COLON));
+    }
+    match nearest_statement(alloc, word) {
+        Ok(None) => Refusal::Wrong(Wrong::of(word, UNKNOWN)),
+        Ok(meant) => {
+            let mut wrong = Wrong::of(word, NO_STATEMENT);
+            wrong.meant = meant;
+            Refusal::Wrong(wrong)
+        }
+        Err(_) => Refusal::NoMemory,
     }
 }
 
-/// Whether what stands behind a word begins with the name of a statement. An IOB and an ECB have no such operand.
+/// The statement whose name is nearest to a word, in capitals or as it is.
+fn nearest_statement(alloc: Global, word: &[u8]) -> Result<Option<&'static str>, AllocError> {
+    let mut known = mnemonics(alloc)?;
+    for name in STATEMENTS {
+        known.push(name)?;
+    }
+    let capitals = word.to_ascii_uppercase(alloc)?;
+    match nearest(alloc, &capitals, &known)? {
+        Some(statement) => Ok(Some(statement)),
+        None => {
+            let small = word.to_ascii_lowercase(alloc)?;
+            nearest(alloc, &small, &["endarea"])
+        }
+    }
+}
+
+/// Whether the rest of a line begins with the name of a statement. An IOB and an ECB have no such operand.
 fn is_statement(rest: &[u8]) -> bool {
     Operation::of(first_word(rest).0).is_some()
 }

@@ -3,7 +3,6 @@
 ghost use Rattle.std.specs.Prelude.{◌<◌};
 
 use crate::check::Check;
-use crate::notes::AreaUse;
 use job_script::{
     AreaLine, Medium, Opening, Refusal, SetUp, SetUpLine, SetUpVerb, TasksLine, UnitLine, Verb,
 };
@@ -20,20 +19,27 @@ pub fn is_assumed(assumed: &[usize], line: usize) -> bool {
 }
 
 impl<'a> Check<'a> {
-    /// Declares what a line with a fault was to declare, if its number can be read.
+    /// Declares what a line with a fault was to declare, if its number can be read. `first` is its first word, or the one
+    /// that this may mean.
     pub(crate) fn assume(
         &mut self,
         alloc: Global,
         line: usize,
         words: &Words<'_>,
+        first: &[u8],
     ) -> Result<(), AllocError> {
-        let verb = match Verb::of(words.word(0)) {
+        let verb = match Verb::of(first) {
             Some(Verb::SetUp(verb)) => verb,
             Some(Verb::Excp) => {
+                self.begin_commands(line);
                 self.assume_use(words);
                 return Ok(());
             }
-            _ => return Ok(()),
+            Some(_) => {
+                self.begin_commands(line);
+                return Ok(());
+            }
+            None => return Ok(()),
         };
         let set_up = &mut self.set_up;
         match verb {
@@ -56,7 +62,7 @@ impl<'a> Check<'a> {
             _ => {}
         }
         self.assumed.push(line)?;
-        self.count_areas(line)
+        self.count_areas()
     }
 
     /// The area of an EXCP is used: its number comes after a task, a unit, a DCB and the address of an IOB.
@@ -78,27 +84,27 @@ impl<'a> Check<'a> {
         }
     }
 
-    /// Notes where the areas are declared that a line has added.
-    pub(crate) fn count_areas(&mut self, line: usize) -> Result<(), AllocError> {
-        for _ in self.areas.len()..self.set_up.areas.len() {
-            self.areas.push(AreaUse { line, used: false })?;
+    /// The areas that a line has added are not used yet.
+    pub(crate) fn count_areas(&mut self) -> Result<(), AllocError> {
+        for _ in self.used.len()..self.set_up.areas.len() {
+            self.used.push(false)?;
         }
         Ok(())
     }
 
     /// Notes that the area with this number is used, and returns whether it is only assumed.
     pub(crate) fn use_area(&mut self, number: u64) -> bool {
-        match self.areas.get_mut(number as usize) {
-            Some(area) => {
-                area.used = true;
-                is_assumed(&self.assumed, area.line)
-            }
-            None => false,
+        let line = self.set_up.place_of_area(number).line;
+        let place = number as usize;
+        if place >= self.used.len() {
+            return false;
         }
+        self.used[place] = true;
+        is_assumed(&self.assumed, line)
     }
 }
 
-/// The tasks are declared, as many as there may be, if no line has declared them.
+/// Declares the most tasks that there may be, if no line has declared them.
 fn assume_tasks(alloc: Global, line: usize, set_up: &mut SetUp) -> Result<(), AllocError> {
     let tasks = TasksLine { tasks: 64 };
     declare(alloc, line, set_up, SetUpLine::Tasks(tasks))

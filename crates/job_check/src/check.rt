@@ -5,13 +5,16 @@ ghost use Rattle.job_script.specs.Reading.{ReadsAtMost};
 
 use crate::finding::{Finding, FindingKind, SCRIPT, add, tell};
 use crate::media::check_unit;
-use crate::notes::{AreaUse, early, note_doubles, note_unused};
+use crate::notes::{early, note_doubles, note_unused};
 use crate::programs::{Issued, note_requests};
+use crate::races::Races;
 use crate::requests::why_rejected;
+use crate::suggestion::nearest;
 use crate::telling::{Found, Source, write_findings};
+use job_scenario::begins_event;
 use job_script::{
-    Action, Cause, Command, DcbName, ExcpLine, FaultName, JobError, LIMIT, Line, Refusal, SetUp,
-    late, read_script,
+    Action, BYTE_ORDER_MARK, Cause, Command, DcbName, ExcpLine, FaultName, JobError, LIMIT, Line,
+    Message, Refusal, SetUp, begins_line, first_unprintable, is_symbolic, late, read_script,
 };
 use script_words::{Words, next_word};
 use std::alloc::{AllocError, Global};
@@ -19,7 +22,30 @@ use std::io::{Read, Write};
 
 /// A line ends a symbolic area, which no run takes.
 const SYMBOLIC: &str =
-    "a symbolic area ends here, assemble the script first and check what comes out";
+    "a symbolic area ends in this line: assemble the script first, and check its output";
+
+/// Only a line of a scenario begins with this word.
+const EVENT: &str = "'{w}' begins an event of a scenario: use 'check --scenario' and 'step'";
+
+/// The words that begin the lines of a script.
+const FIRST_WORDS: [&str; 16] = [
+    "tasks",
+    "disk",
+    "tape",
+    "printer",
+    "rec",
+    "block",
+    "mark",
+    "fault",
+    "open",
+    "area",
+    "excp",
+    "purge",
+    "purgetask",
+    "close",
+    "reset",
+    "wait",
+];
 
 /// Reads a script, at most 1,048,576 bytes and one more. Writes every fault and note, in the order of lines, each with
 /// its place in the source. Returns whether a run would reject the script.
@@ -83,10 +109,18 @@ fn refuses(findings: &[Finding<'_>]) -> bool {
 /// Adds a finding for the tasks, and for the units, if no line declares them.
 fn tell_lacks(set_up: &SetUp, findings: &mut Vec<Finding<'_>>) -> Result<(), AllocError> {
     if set_up.tasks == 0 {
-        tell(findings, SCRIPT, lack("no line declares the tasks"))?;
+        tell(
+            findings,
+            SCRIPT,
+            lack("no line declares the tasks: add a line 'tasks N'"),
+        )?;
     }
     if set_up.units.is_empty() {
-        tell(findings, SCRIPT, lack("no line declares a unit"))?;
+        tell(
+            findings,
+            SCRIPT,
+            lack("no line declares a unit: add a line 'disk', 'tape' or 'printer'"),
+        )?;
     }
     Ok(())
 }
@@ -94,6 +128,61 @@ fn tell_lacks(set_up: &SetUp, findings: &mut Vec<Finding<'_>>) -> Result<(), All
 /// The fault that no line declares something.
 fn lack(text: &'static str) -> Cause {
     Cause::new(FaultName::Order, text, &[])
+}
+
+/// A line without a byte order mark, and with a blank for each tab and carriage return.
+fn cleaned(alloc: Global, bytes: &[u8]) -> Result<Vec<u8>, AllocError> {
+    let mut cleaned = Vec::with_capacity(alloc, bytes.len())?;
+    let mark = if bytes.starts_with(&BYTE_ORDER_MARK) {
+        3
+    } else {
+        0
+    };
+    for byte in bytes.iter().skip(mark) {
+        let byte = match *byte {
+            b'\t' | b'\r' => b' ',
+            byte => byte,
+        };
+        cleaned.push(byte)?;
+    }
+    Ok(cleaned)
+}
+
+/// The finding that a line has a fault. It names the first word that may be meant by an unknown one.
+fn fault_of<'a>(
+    alloc: Global,
+    line: usize,
+    words: &Words<'a>,
+    cause: Cause,
+) -> Result<Finding<'a>, AllocError> {
+    let mut cause = cause;
+    if begins_event(words.word(0)) {
+        cause.message = Message::new(EVENT, &[1]);
+        return Ok(Finding::fault(line, words.line, cause));
+    }
+    let meant = meant(alloc, words)?;
+    if meant.is_some() {
+        cause.message = Message::new("no line begins with '{w}'", &[1]);
+    }
+    let mut finding = Finding::fault(line, words.line, cause);
+    finding.meant = meant;
+    Ok(finding)
+}
+
+/// The first word that may be meant by an unknown one.
+fn meant(alloc: Global, words: &Words<'_>) -> Result<Option<&'static str>, AllocError> {
+    let word = words.word(0);
+    if begins_line(word) {
+        return Ok(None);
+    }
+    if word.ends_with(b":") {
+        return Ok(None);
+    }
+    let small = word.to_ascii_lowercase(alloc)?;
+    if is_symbolic(word) && !begins_line(&small) {
+        return Ok(None);
+    }
+    nearest(alloc, &small, &FIRST_WORDS)
 }
 
 /// What a script declares as far as it was read, and what was found in it. A line with a fault adds nothing, but what
@@ -108,10 +197,17 @@ pub(crate) struct Check<'a> {
     requests: Vec<Issued>,
     /// The lines whose units, DCBs and areas are only assumed, in order.
     pub(crate) assumed: Vec<usize>,
-    /// Where each area of the script is declared, and whether it is used.
-    pub(crate) areas: Vec<AreaUse>,
+    /// Whether each area of the script is used.
+    pub(crate) used: Vec<bool>,
     /// The DCB of the last request that each task has issued since it last waited.
     unwaited: [Option<DcbName>; 64],
+    races: Races,
+    /// Whether a finding says that lines end with carriage returns.
+    has_returns: bool,
+    /// Whether a finding says that lines have tabs.
+    has_tabs: bool,
+    /// Whether a finding says that lines are events of a scenario.
+    has_events: bool,
 }
 
 impl<'a> Check<'a> {
@@ -122,8 +218,12 @@ impl<'a> Check<'a> {
             findings: Vec::new(alloc),
             requests: Vec::new(alloc),
             assumed: Vec::new(alloc),
-            areas: Vec::new(alloc),
+            used: Vec::new(alloc),
             unwaited: [None; 64],
+            races: Races::new(alloc),
+            has_returns: false,
+            has_tabs: false,
+            has_events: false,
         }
     }
 
@@ -139,9 +239,72 @@ impl<'a> Check<'a> {
             Ok(()) => Ok(()),
             Err(Refusal::NoMemory) => Err(AllocError),
             Err(Refusal::Caused(cause)) => {
-                let kind = FindingKind::Fault(cause.name, cause.message);
-                self.findings.push(Finding { line, bytes, kind })?;
-                self.assume(alloc, line, &words)
+                if words.is_printable() {
+                    self.add_fault(alloc, line, &words, cause)
+                } else {
+                    self.add_unprintable(alloc, line, &words, cause)
+                }
+            }
+        }
+    }
+
+    /// Adds the fault of a line, which declares what it or the word that it may mean is for.
+    fn add_fault(
+        &mut self,
+        alloc: Global,
+        line: usize,
+        words: &Words<'a>,
+        cause: Cause,
+    ) -> Result<(), AllocError> {
+        if self.repeats(words) {
+            return Ok(());
+        }
+        let finding = fault_of(alloc, line, words, cause)?;
+        let meant = finding.meant;
+        self.findings.push(finding)?;
+        match meant {
+            Some(word) => self.assume(alloc, line, words, word.as_bytes()),
+            None => self.assume(alloc, line, words, words.word(0)),
+        }
+    }
+
+    /// Adds the fault that a line has a byte that is not printable. It declares what it would without such bytes.
+    fn add_unprintable(
+        &mut self,
+        alloc: Global,
+        line: usize,
+        words: &Words<'a>,
+        cause: Cause,
+    ) -> Result<(), AllocError> {
+        if !self.repeats(words) {
+            self.findings.push(Finding::fault(line, words.line, cause))?;
+        }
+        let cleaned = cleaned(alloc, words.line)?;
+        let mut words = Words::new();
+        words.scan(&cleaned);
+        self.assume(alloc, line, &words, words.word(0))
+    }
+
+    /// Whether the fault of a line is a carriage return, a tab, or that it is an event of a scenario, and an earlier line
+    /// has a finding on one.
+    fn repeats(&mut self, words: &Words<'_>) -> bool {
+        match first_unprintable(words.line) {
+            Some((_, b'\r')) => {
+                let repeats = self.has_returns;
+                self.has_returns = true;
+                repeats
+            }
+            Some((_, b'\t')) => {
+                let repeats = self.has_tabs;
+                self.has_tabs = true;
+                repeats
+            }
+            Some(_) => false,
+            None => {
+                let is_event = begins_event(words.word(0));
+                let repeats = is_event && self.has_events;
+                self.has_events |= is_event;
+                repeats
             }
         }
     }
@@ -158,19 +321,20 @@ impl<'a> Check<'a> {
                     return Ok(());
                 }
                 self.set_up.add(alloc, number, line)?;
-                self.count_areas(number)?;
+                self.count_areas()?;
                 Ok(())
             }
-            Line::Excp(excp) => self.add_excp(excp),
-            Line::Command(command) => self.add_command(&command),
+            Line::Excp(excp) => self.add_excp(alloc, excp),
+            Line::Command(command) => self.add_command(alloc, &command),
         }
     }
 
     /// Adds an EXCP, and tries its request unless its area is only assumed.
-    fn add_excp(&mut self, excp: ExcpLine) -> Result<(), Refusal> {
+    fn add_excp(&mut self, alloc: Global, excp: ExcpLine) -> Result<(), Refusal> {
         let is_assumed = self.use_area(excp.area);
+        let number = excp.area;
         let command = self.set_up.excp(excp)?;
-        self.add_command(&command)?;
+        self.add_command(alloc, &command)?;
         let Command { line, action, .. } = command;
         let Action::Excp(excp) = action else {
             return Ok(());
@@ -178,19 +342,25 @@ impl<'a> Check<'a> {
         if is_assumed {
             return Ok(());
         }
-        if let Some(cause) = why_rejected(&excp) {
+        if let Some(cause) = why_rejected(&excp, self.set_up.place_of_area(number)) {
             return Err(Refusal::Caused(cause));
         }
         self.requests.push(Issued { line, excp })?;
         Ok(())
     }
 
-    /// Adds a command, if all that it names is declared.
-    fn add_command(&mut self, command: &Command) -> Result<(), Refusal> {
-        self.set_up.names(command)?;
+    /// No set-up line comes after this line, which is a command.
+    pub(crate) fn begin_commands(&mut self, line: usize) {
         if self.first_command.is_none() {
-            self.first_command = Some(command.line);
+            self.first_command = Some(line);
         }
+    }
+
+    /// Adds a command, if all that it names is declared.
+    fn add_command(&mut self, alloc: Global, command: &Command) -> Result<(), Refusal> {
+        self.set_up.names(command)?;
+        self.begin_commands(command.line);
+        self.races.add(alloc, command)?;
         let Some(unwaited) = self.unwaited.get_mut(usize::from(command.task)) else {
             return Ok(());
         };
@@ -215,8 +385,12 @@ impl<'a> Check<'a> {
             mut findings,
             requests,
             assumed,
-            areas,
+            used,
             unwaited: _,
+            races,
+            has_returns: _,
+            has_tabs: _,
+            has_events: _,
         } = self;
         tell_lacks(&set_up, &mut findings)?;
         for (number, unit) in set_up.units.iter().enumerate() {
@@ -225,7 +399,8 @@ impl<'a> Check<'a> {
                 note_requests(number, unit, &device, &requests, &assumed, &mut findings)?;
             }
         }
-        note_unused(&areas, &assumed, &mut findings)?;
+        note_unused(&set_up.area_lines, &used, &assumed, &mut findings)?;
+        races.note(&set_up.units, &mut findings)?;
         Ok(findings)
     }
 }

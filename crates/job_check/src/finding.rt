@@ -24,6 +24,20 @@ pub struct Finding<'a> {
     pub line: usize,
     pub bytes: &'a [u8],
     pub kind: FindingKind,
+    /// The known word that an unknown one may mean.
+    pub meant: Option<&'static str>,
+}
+
+impl<'a> Finding<'a> {
+    /// A fault of the line with this number and these bytes.
+    pub fn fault(line: usize, bytes: &'a [u8], cause: Cause) -> Self {
+        Finding {
+            line,
+            bytes,
+            kind: FindingKind::Fault(cause.name, cause.message),
+            meant: None,
+        }
+    }
 }
 
 impl<'a> Found for Finding<'a> {
@@ -38,8 +52,8 @@ impl<'a> Found for Finding<'a> {
 
 /// Adds why a line is refused, in a text without words of the line.
 pub fn tell(findings: &mut Vec<Finding<'_>>, line: usize, cause: Cause) -> Result<(), AllocError> {
-    let kind = FindingKind::Fault(cause.name, cause.message);
-    add(findings, line, kind)
+    findings.push(Finding::fault(line, &[], cause))?;
+    Ok(())
 }
 
 /// Adds a finding in a line, in a text without words of the line.
@@ -48,8 +62,12 @@ pub fn add(
     line: usize,
     kind: FindingKind,
 ) -> Result<(), AllocError> {
-    let bytes = &[];
-    findings.push(Finding { line, bytes, kind })?;
+    findings.push(Finding {
+        line,
+        bytes: &[],
+        kind,
+        meant: None,
+    })?;
     Ok(())
 }
 
@@ -59,7 +77,8 @@ impl<'a> fmt::Display for Finding<'a> {
         match self.kind {
             FindingKind::Fault(name, message) => {
                 write!(f, "{name}: ")?;
-                message.write(f, bytes)
+                message.write(f, bytes)?;
+                write_meant(f, self.meant)
             }
             FindingKind::Note(message) => {
                 f.write_str("note: ")?;
@@ -69,5 +88,16 @@ impl<'a> fmt::Display for Finding<'a> {
                 write!(f, "note: the CCW at {at:06X} is a program check: {rule}")
             }
         }
+    }
+}
+
+/// Writes the known word that an unknown one may mean.
+pub fn write_meant<W: fmt::Write>(
+    f: &mut fmt::Formatter<W>,
+    meant: Option<&'static str>,
+) -> fmt::Result {
+    match meant {
+        Some(word) => write!(f, "; did you mean '{word}'?"),
+        None => Ok(()),
     }
 }

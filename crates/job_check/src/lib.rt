@@ -12,11 +12,14 @@ mod finding;
 mod media;
 mod notes;
 mod programs;
+mod races;
 mod requests;
+mod suggestion;
 mod telling;
 
 pub use check::check_script;
-pub use finding::{Finding, FindingKind, SCRIPT};
+pub use finding::{Finding, FindingKind, SCRIPT, write_meant};
 pub use media::mount_faults;
 pub use requests::why_rejected;
+pub use suggestion::{fault_of_scenario, nearest};
 pub use telling::{Found, Source, write_findings};

@@ -14,7 +14,7 @@ use unit_book::{ExtentRefusal, ExtentsRefusal, extents_refusal};
 
 /// The status and sense bytes that a fault may have.
 const STATUS: &str =
-    "a device shows 0E 00 with any sense bytes, or 00 with 02, 04 or 08 and sense bytes 0000";
+    "no device shows this status: expected 0E 00 with any sense bytes, or 00 with 02, 04 or 08 and sense bytes 0000";
 
 /// Why units cannot be mounted, and why their DCBs cannot be opened, in the order of the units' numbers.
 pub fn mount_faults(
@@ -97,7 +97,7 @@ fn shape(medium: &Medium) -> (Kind, u16, u16) {
 /// Why a device with `cylinders` and `heads` does not take the `count` extents of a DCB.
 fn extents_cause(refusal: ExtentsRefusal, count: usize, cylinders: u16, heads: u16) -> Cause {
     match refusal {
-        ExtentsRefusal::NotOfDisk => extent("a DCB of a tape or a printer has no extent", &[]),
+        ExtentsRefusal::NotOfDisk => extent("only a DCB of a disk has extents", &[]),
         ExtentsRefusal::Extent(place, told, refusal) => {
             let number = place as u64;
             extent_cause(
@@ -109,7 +109,7 @@ fn extents_cause(refusal: ExtentsRefusal, count: usize, cylinders: u16, heads: u
             )
         }
         ExtentsRefusal::Count => {
-            let text = "{n} extents, 1 to 16 are wanted for a disk";
+            let text = "{n} extents: a DCB of a disk has 1 to 16";
             extent(text, &[count as u64])
         }
     }
@@ -125,12 +125,12 @@ fn extent_cause(
 ) -> Cause {
     match refusal {
         ExtentRefusal::Outside => extent(
-            "extent {n} begins or ends outside the disk of {n} cylinder{s} of {n} head{s}",
+            "extent {n} begins or ends outside the disk, which has {n} cylinder{s} of {n} head{s}",
             &[number, u64::from(cylinders), u64::from(heads)],
         ),
-        ExtentRefusal::Reversed => extent("the end of extent {n} lies before its start", &[number]),
+        ExtentRefusal::Reversed => extent("extent {n} ends before its start", &[number]),
         ExtentRefusal::Tracks(tracks) => extent(
-            "extent {n} has {n} track{s}, and says {n}",
+            "extent {n} has {n} track{s}, but its count is {n}",
             &[number, tracks, u64::from(told)],
         ),
     }
@@ -154,7 +154,7 @@ fn tell_medium(
             tell_disk(alloc, unit, *geometry, records, findings)?;
         }
         Medium::Tape(bytes, _) if error == MountError::BadGeometry => {
-            let text = "a tape of {n} byte{s}, 4 to 16777216 are wanted";
+            let text = "{n} byte{s}: a tape has 4 to 16777216";
             tell(findings, unit.line, medium(text, &[*bytes]))?;
         }
         Medium::Tape(bytes, items) => tell_tape(unit, *bytes, items, findings)?,
@@ -193,7 +193,7 @@ fn tell_faults(unit: &UnitSetup, findings: &mut Vec<Finding<'_>>) -> Result<(), 
 /// Why a fault by itself is no fault script.
 fn fault_cause(fault: &[Fault]) -> Cause {
     match fault {
-        [fault] if fault.ordinal == 0 => medium("commands count from 1", &[]),
+        [fault] if fault.ordinal == 0 => medium("the first command has number 1", &[]),
         _ => medium(STATUS, &[]),
     }
 }
@@ -207,7 +207,7 @@ fn order_cause(pair: &[Fault]) -> Option<Cause> {
         return None;
     }
     Some(medium(
-        "the fault of command {n} stands behind that of {n}, numbers rise",
+        "the fault of command {n} comes after the fault of command {n}: their numbers must rise",
         &[second.ordinal, first.ordinal],
     ))
 }
@@ -240,15 +240,12 @@ fn geometry_cause(geometry: Geometry, refusal: GeometryRefusal) -> Cause {
         GeometryRefusal::Cylinders => ("a disk has at least 1 cylinder", [0; 3]),
         GeometryRefusal::Heads => ("a cylinder has at least 1 head", [0; 3]),
         GeometryRefusal::Tracks => (
-            "{n} cylinder{s} of {n} head{s}, at most 65535 tracks are wanted",
+            "{n} cylinder{s} of {n} head{s}: a disk has at most 65535 tracks",
             [cylinders, heads, 0],
         ),
-        GeometryRefusal::TrackBytes => (
-            "tracks of {n} byte{s}, 16 to 65535 are wanted",
-            [bytes, 0, 0],
-        ),
+        GeometryRefusal::TrackBytes => ("{n} byte{s}: a track has 16 to 65535", [bytes, 0, 0]),
         GeometryRefusal::Bytes => (
-            "{n} cylinder{s} of {n} track{s} of {n} byte{s}, at most 16777216 bytes are wanted",
+            "{n} cylinder{s} of {n} track{s} of {n} byte{s}: a disk has at most 16777216 bytes",
             [cylinders, heads, bytes],
         ),
     };
@@ -259,14 +256,14 @@ fn geometry_cause(geometry: Geometry, refusal: GeometryRefusal) -> Cause {
 fn record_cause(geometry: Geometry, refusal: RecordRefusal) -> Cause {
     let (text, number) = match refusal {
         RecordRefusal::Cylinder => (
-            "the disk has {n} cylinder{s}, which count from 0",
+            "no such cylinder: the disk has {n}, and the first is 0",
             geometry.cylinders,
         ),
         RecordRefusal::Head => (
-            "a cylinder has {n} head{s}, which count from 0",
+            "no such head: a cylinder has {n}, and the first is 0",
             geometry.heads,
         ),
-        RecordRefusal::Number => ("records count from 1", 0),
+        RecordRefusal::Number => ("the first record has number 1", 0),
         RecordRefusal::Key => ("a key has at most 255 bytes", 0),
         RecordRefusal::Content => ("a record has at most 65535 bytes of data", 0),
     };
@@ -294,7 +291,7 @@ fn tell_track(
         full.needed,
     ];
     let cause = medium(
-        "track {n} {n} holds {n} byte{s}, its records need {n}",
+        "track {n} {n} holds {n} byte{s}, but its records need {n}",
         &numbers,
     );
     tell(findings, content_line(unit, full.record), cause)
@@ -309,14 +306,14 @@ fn tell_tape(
 ) -> Result<(), AllocError> {
     for (item, line) in items.iter().zip(unit.content_lines.iter()) {
         if let Some(len) = item.refused_len() {
-            let text = "a block of {n} byte{s}, 1 to 65535 are wanted";
+            let text = "{n} byte{s}: a block has 1 to 65535";
             tell(findings, *line, medium(text, &[len as u64]))?;
         }
     }
     let Some(overrun) = overrun_of(items, bytes) else {
         return Ok(());
     };
-    let text = "the tape holds {n} byte{s}, its items need {n}";
+    let text = "the tape holds {n} byte{s}, but its items need {n}";
     let cause = medium(text, &[bytes, overrun.needed]);
     tell(findings, content_line(unit, overrun.item), cause)
 }
@@ -329,8 +326,8 @@ fn tell_printer(
     findings: &mut Vec<Finding<'_>>,
 ) -> Result<(), AllocError> {
     let cause = match paper_refusal(lines, pages) {
-        Some(PaperRefusal::Lines) => medium("{n} lines, 1 to 100000 are wanted", &[lines]),
-        Some(PaperRefusal::Pages) => medium("{n} pages, 1 to 10000 are wanted", &[pages]),
+        Some(PaperRefusal::Lines) => medium("{n} lines: a printer has 1 to 100000", &[lines]),
+        Some(PaperRefusal::Pages) => medium("{n} pages: a printer has 1 to 10000", &[pages]),
         None => return Ok(()),
     };
     tell(findings, unit.line, cause)

@@ -8,36 +8,30 @@ use std::alloc::{AllocError, Global};
 
 /// A task resets a DCB before it has waited for its request.
 const EARLY_RESET: &str =
-    "task {n} has not waited since its last excp, the error may come behind this reset";
+    "task {n} has not waited since its last excp: the error may come after this reset";
 
 /// A task purges its own request without a wait.
 const EARLY_PURGE: &str =
-    "task {n} has not waited since its last excp, this purge may come before that request or behind it";
+    "task {n} has not waited since its last excp: this purge may come before that request or after it";
 
 /// A task closes the DCB of its own request without a wait.
 const EARLY_CLOSE: &str =
-    "task {n} has not waited since its last excp, this close may come before that request or behind it";
+    "task {n} has not waited since its last excp: this close may come before that request or after it";
 
 /// Two records of a track have one number.
 const DOUBLE: &str = "track {n} {n} has a record {n} already, by line {n}";
 
-/// The line that declares an area, and whether an EXCP uses it.
-#[derive(Clone, Copy)]
-pub struct AreaUse {
-    pub line: usize,
-    pub used: bool,
-}
-
 /// Notes the areas that are declared, and not only assumed, but not used.
 pub fn note_unused(
-    areas: &[AreaUse],
+    lines: &[usize],
+    used: &[bool],
     assumed: &[usize],
     findings: &mut Vec<Finding<'_>>,
 ) -> Result<(), AllocError> {
-    for (number, area) in areas.iter().enumerate() {
-        if !area.used && !is_assumed(assumed, area.line) {
+    for (number, (line, used)) in lines.iter().zip(used).enumerate() {
+        if !*used && !is_assumed(assumed, *line) {
             let note = Message::new("no excp uses area {n}", &[number as u64]);
-            add(findings, area.line, FindingKind::Note(note))?;
+            add(findings, *line, FindingKind::Note(note))?;
         }
     }
     Ok(())

@@ -7,6 +7,8 @@ use crate::assumed::is_assumed;
 use crate::finding::{Finding, FindingKind, add};
 use any_device::AnyDevice;
 use ccw_programs::{Context, Link, Listing, Rule, Workspace, look};
+use ckd_disk::command::{Command, Control, Write};
+use command_table::command_named;
 use device_port::{Device, Flow, Kind};
 use io_area::Area;
 use io_images::{Address, Iob, Seek};
@@ -17,23 +19,26 @@ use unit_book::{extents_refusal, passes_check};
 /// The most commands of a program that are looked at.
 const MOST_COMMANDS: usize = 64;
 
-const SEEK: u8 = 0x07;
-
-const SET_FILE_MASK: u8 = 0x1F;
-
-const SEARCH_KEY: u8 = 0x29;
-
-const SEARCH_ID: u8 = 0x31;
-
 /// The file mask of the supervisor forbids a seek.
-const SOUGHT: &str = "the seek at {a} ends file protected, the supervisor has sought";
+const SOUGHT: &str = "the seek at {a} ends with file protected: the supervisor has sought already";
 
 /// The file mask is set once.
-const MASK_SET: &str = "the set file mask at {a} is rejected, the supervisor has set it";
+const MASK_SET: &str =
+    "the set file mask at {a} ends with command reject: the supervisor has set it already";
+
+/// A disk has no such command.
+const NOT_OF_DISK: &str = "the CCW at {a} ends with command reject: a disk has no command X'{b}'";
+
+/// A tape has none.
+const NOT_OF_TAPE: &str = "the CCW at {a} ends with command reject: a tape has no command X'{b}'";
+
+/// A printer has none.
+const NOT_OF_PRINTER: &str =
+    "the CCW at {a} ends with command reject: a printer has no command X'{b}'";
 
 /// The extent check fails.
 const VIOLATED: &str =
-    "M {n}, BB {n}, CC {n}, HH {n} of the IOB is outside the extents of the DCB, the request is posted 42";
+    "M {n}, BB {n}, CC {n}, HH {n} of the IOB is outside the extents of the DCB: the request is posted 42";
 
 /// A request that can be made, and the line that issues it.
 #[derive(Drop)]
@@ -175,7 +180,7 @@ impl<'a> Walk<'a> {
         let (Some(first), Some(last)) = (listing.links.first(), listing.links.last()) else {
             return Step::Ends(None);
         };
-        if let Some(note) = self.masked(first) {
+        if let Some(note) = self.rejection(first) {
             return Step::Ends(Some(FindingKind::Note(note)));
         }
         if !last.ccw.flags.chains_command() {
@@ -188,19 +193,43 @@ impl<'a> Walk<'a> {
         }
     }
 
-    /// The note on a command that the file mask forbids.
-    fn masked(&self, first: &Link) -> Option<Message> {
-        let text = match first.ccw.command {
-            SEEK if self.is_masked => SOUGHT,
-            SET_FILE_MASK if self.is_masked => MASK_SET,
-            _ => return None,
+    /// The note on a command that the device does not have, or that the file mask forbids.
+    fn rejection(&self, first: &Link) -> Option<Message> {
+        let code = first.ccw.command;
+        let kind = self.device.kind();
+        let text = match command_named(kind, code) {
+            None => not_of(kind),
+            Some(_) if self.is_masked => masked(code)?,
+            Some(_) => return None,
         };
-        Some(Message::new(text, &[u64::from(first.at)]))
+        Some(Message::new(text, &[u64::from(first.at), u64::from(code)]))
     }
 
     /// Whether a command skips the next CCW if it finds its record.
-    fn is_search(&self, command: u8) -> bool {
-        self.device.kind() == Kind::Disk && (command == SEARCH_ID || command == SEARCH_KEY)
+    fn is_search(&self, code: u8) -> bool {
+        self.device.kind() == Kind::Disk
+            && matches!(
+                Command::decode(code),
+                Some(Command::Write(Write::SearchId | Write::SearchKey))
+            )
+    }
+}
+
+/// The text on a command that a device of this kind does not have.
+fn not_of(kind: Kind) -> &'static str {
+    match kind {
+        Kind::Disk => NOT_OF_DISK,
+        Kind::Tape => NOT_OF_TAPE,
+        Kind::Printer => NOT_OF_PRINTER,
+    }
+}
+
+/// The text on a command of a disk that the file mask forbids.
+fn masked(code: u8) -> Option<&'static str> {
+    match Command::decode(code)? {
+        Command::Write(Write::Seek) => Some(SOUGHT),
+        Command::Control(Control::SetFileMask) => Some(MASK_SET),
+        _ => None,
     }
 }
 

@@ -4,74 +4,84 @@ ghost use Rattle.std.specs.Prelude.{IfNone};
 ghost use Rattle.job_mount.specs.Requests.{CanIssue};
 
 use job_mount::can_issue;
-use job_script::{Cause, Excp, FaultName};
+use job_script::{AreaPlace, Cause, Excp, FaultName};
 use request_piece::{Misplaced, Request, RequestRefusal};
 
-/// The texts on a control block or a channel program at an address: it is not on its boundary, it does not lie in its
-/// area, it overlaps the IOB.
+/// The texts on a control block or a channel program: its address is not on its boundary, it does not lie in its area, it
+/// overlaps the IOB. Their numbers are the area, the line of the area, the address of the IOB, the address, and the length
+/// and base of the area.
 type Texts = [&'static str; 3];
 
-const IOB: Texts = [
-    "the IOB at {a} is not on a fullword",
-    "the IOB at {a} does not lie in the area of {n} byte{s} at {a}",
-    "the IOB at {a} overlaps the IOB",
-];
+const IOB_UNALIGNED: &str = "the IOB at {a} is not on a fullword boundary";
+
+const IOB_OUTSIDE: &str =
+    "the IOB at {a} does not lie in area {n} (line {n}) of {n} byte{s} at {a}";
 
 const ECB: Texts = [
-    "the ECB at {a} is not on a fullword",
-    "the ECB at {a} does not lie in the area of {n} byte{s} at {a}",
-    "the ECB at {a} overlaps the IOB",
+    "area {n} (line {n}), IOB {a}, bytes 5 to 7: {a} is not on a fullword boundary",
+    "area {n} (line {n}), IOB {a}, bytes 5 to 7: no ECB at {a} lies in the area of {n} byte{s} at {a}",
+    "area {n} (line {n}), IOB {a}, bytes 5 to 7: an ECB at {a} overlaps the IOB",
 ];
 
 const PROGRAM: Texts = [
-    "the channel program at {a} is not on a doubleword",
-    "the channel program at {a} does not lie in the area of {n} byte{s} at {a}",
-    "the channel program at {a} overlaps the IOB",
+    "area {n} (line {n}), IOB {a}, bytes 17 to 19: {a} is not on a doubleword boundary",
+    "area {n} (line {n}), IOB {a}, bytes 17 to 19: no CCW at {a} lies in the area of {n} byte{s} at {a}",
+    "area {n} (line {n}), IOB {a}, bytes 17 to 19: a CCW at {a} overlaps the IOB",
 ];
 
-const SHOWN: &str =
-    "what is shown, {n} byte{s} at {a}, does not lie in the area of {n} byte{s} at {a}";
+const OTHER_DCB: &str =
+    "area {n} (line {n}), IOB {a}, bytes 21 to 23: DCB {n}, but the line has DCB {n}";
 
-/// Why the request of an EXCP is rejected, if it is. If nothing else is wrong, the bytes that are shown do not lie in its
-/// area.
-pub fn why_rejected(excp: &Excp) -> Option<Cause>
+const SHOWN: &str =
+    "{n} byte{s} at {a}, which are shown, do not lie in area {n} (line {n}) of {n} byte{s} at {a}";
+
+/// Why the request of an EXCP on the area with this number and line is rejected, if it is. If nothing else is wrong, the
+/// bytes that are shown do not lie in the area.
+pub fn why_rejected(excp: &Excp, place: AreaPlace) -> Option<Cause>
     ensures { IfNone result (CanIssue excp.now) }
 {
     if can_issue(excp) {
         return None;
     }
     let dcb = excp.dcb.number;
+    let iob = u64::from(excp.iob);
+    let [number, line] = [place.number, place.line as u64];
+    let [len, base] = [excp.area.len() as u64, u64::from(excp.area.base())];
     let cause = match Request::refusal(dcb, excp.iob, &excp.area) {
-        Some(RequestRefusal::Iob(wrong)) => misplaced(excp, IOB, excp.iob, wrong),
-        Some(RequestRefusal::Ecb(ecb, wrong)) => misplaced(excp, ECB, ecb, wrong),
-        Some(RequestRefusal::Program(start, wrong)) => misplaced(excp, PROGRAM, start, wrong),
-        Some(RequestRefusal::OtherDcb(named)) => cause(
-            "the IOB names DCB {n}, the line DCB {n}",
-            &[u64::from(named), u64::from(dcb)],
-        ),
-        None => {
-            let [len, base] = area_place(excp);
-            cause(SHOWN, &[excp.len, u64::from(excp.show), len, base])
+        Some(RequestRefusal::Iob(Misplaced::Unaligned)) => cause(IOB_UNALIGNED, &[iob]),
+        Some(RequestRefusal::Iob(_)) => cause(IOB_OUTSIDE, &[iob, number, line, len, base]),
+        Some(RequestRefusal::Ecb(ecb, wrong)) => {
+            cause(
+                text_of(ECB, wrong),
+                &[number, line, iob, u64::from(ecb), len, base],
+            )
         }
+        Some(RequestRefusal::Program(start, wrong)) => {
+            cause(
+                text_of(PROGRAM, wrong),
+                &[number, line, iob, u64::from(start), len, base],
+            )
+        }
+        Some(RequestRefusal::OtherDcb(named)) => cause(
+            OTHER_DCB,
+            &[number, line, iob, u64::from(named), u64::from(dcb)],
+        ),
+        None => cause(
+            SHOWN,
+            &[excp.len, u64::from(excp.show), number, line, len, base],
+        ),
     };
     Some(cause)
 }
 
-/// What is wrong with what begins at this address of the area.
-fn misplaced(excp: &Excp, texts: Texts, at: u32, wrong: Misplaced) -> Cause {
+/// The text on what is misplaced.
+fn text_of(texts: Texts, wrong: Misplaced) -> &'static str {
     let [unaligned, outside, over] = texts;
-    let text = match wrong {
+    match wrong {
         Misplaced::Unaligned => unaligned,
         Misplaced::Outside => outside,
         Misplaced::OverIob => over,
-    };
-    let [len, base] = area_place(excp);
-    cause(text, &[u64::from(at), len, base])
-}
-
-/// How many bytes the area has, and the address of the first.
-fn area_place(excp: &Excp) -> [u64; 2] {
-    [excp.area.len() as u64, u64::from(excp.area.base())]
+    }
 }
 
 fn cause(text: &'static str, numbers: &[u64]) -> Cause {

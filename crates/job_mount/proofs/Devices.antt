@@ -1,5 +1,6 @@
 -- What mounting makes of a medium is the device that the lines of the unit say.
-use Rattle.std.proofs.Common.{◌≡◌, ℕ, Bool, true, false, nat_le, ◌&&◌, cond, ◌+◌, ◌*◌, ◌/◌, ◌%◌, List, [], ◌∷◌, map, Ok, Err, refl, sym, ap, ◌∙◌}
+use Rattle.std.proofs.Common.{◌≡◌, ℕ, Bool, true, false, nat_le, ◌&&◌, cond, ◌+◌, ◌*◌, ◌/◌, ◌%◌, List, [], ◌∷◌, map, Ok, Err, refl, sym, ap}
+use Rattle.std.proofs.Common.{◌∙◌}
 use Rattle.std.specs.List.{filter, list_all, range_with_len}
 use Rattle.std.proofs.lemmas.List.Folds.{list_all-map}
 use Rattle.device_port.specs.declared.device.MountError.{MountError}
@@ -37,7 +38,8 @@ on_track : (g : Geometry) (t : ℕ) (rs : List InitialRecord)
     → map record_on (filter (lies_on g t) (map record_said rs)) ≡ map initial (filter (stands_on g t) rs)
 on_track g t [] = refl
 on_track g t (r ∷ rs) =
-    kept record_on initial (stands_on g t r) (record_said r) r (filter (lies_on g t) (map record_said rs)) (filter (stands_on g t) rs) refl (on_track g t rs)
+    kept record_on initial (stands_on g t r) (record_said r) r (filter (lies_on g t) (map record_said rs)) (filter (stands_on g t) rs) refl
+    (on_track g t rs)
 
 same_records : (g : Geometry) (rs : List InitialRecord) (t : ℕ) → records_on g (map record_said rs) t ≡ opening_records g rs t
 same_records g rs t = ap (λ (l : List Record). track_descriptor (t / g.heads) (t % g.heads) ∷ l) (on_track g t rs)
@@ -46,7 +48,8 @@ same_room : (g : Geometry) (all rs : List InitialRecord)
     → list_all (track_has_room g (map record_said all)) (map record_said rs) ≡ list_all (has_room_on g all) rs
 same_room g all [] = refl
 same_room g all (r ∷ rs) =
-    ap (λ (l : List Record). nat_le (bytes_of_records l) g.track_bytes && list_all (track_has_room g (map record_said all)) (map record_said rs))
+    ap (λ (l : List Record). nat_le (bytes_of_records l) g.track_bytes && list_all (track_has_room g (map record_said all))
+    (map record_said rs))
     (same_records g all (r.cylinder * g.heads + r.head))
     ∙ ap (λ (b : Bool). has_room_on g all r && b) (same_room g all rs)
 
@@ -55,10 +58,12 @@ same_fit g rs faults =
     ap (λ (b : Bool). is_script faults && list_all (is_record g) (map record_said rs) && b) (same_room g rs rs)
     ∙ ap (λ (b : Bool). is_script faults && b && list_all (has_room_on g rs) rs) (list_all-map (is_record g) record_said rs)
 
-same_tracks : (g : Geometry) (rs : List InitialRecord) (ns : List ℕ) → map (track_with g (map record_said rs)) ns ≡ map (opening_track g rs) ns
+same_tracks : (g : Geometry) (rs : List InitialRecord) (ns : List ℕ) →
+    map (track_with g (map record_said rs)) ns ≡ map (opening_track g rs) ns
 same_tracks g rs [] = refl
 same_tracks g rs (n ∷ ns) =
-    ap (λ (l : List Record). record { size = g.track_bytes; records = l } ∷ map (track_with g (map record_said rs)) ns) (same_records g rs n)
+    ap (λ (l : List Record). record { size = g.track_bytes; records = l } ∷ map (track_with g (map record_said rs)) ns)
+    (same_records g rs n)
     ∙ ap (λ (ts : List TrackState). opening_track g rs n ∷ ts) (same_tracks g rs ns)
 
 same_disk : (g : Geometry) (rs : List InitialRecord) (faults : List Fault) → disk_with g (map record_said rs) faults ≡ opening g rs faults

@@ -79,7 +79,8 @@ after_one : (capacity : ℕ) (found : Option ℕ) (done : Books) (unit : UnitSai
     (one_unit found done (open_all (opening device unit.isc capacity) unit.openings)).1 (opened capacity others ds)))
 unfolding opened
 after_one capacity found done unit others device (Ok ds) =
-    ap (λ (r : Result Books ℕ). at_extent r) (joined_one found done (open_all (opening device unit.isc capacity) unit.openings) (opened capacity others ds))
+    ap (λ (r : Result Books ℕ). at_extent r)
+    (joined_one found done (open_all (opening device unit.isc capacity) unit.openings) (opened capacity others ds))
 after_one capacity found done unit others device (Err fault) = refl
 
 -- a unit that is mounted
@@ -140,7 +141,8 @@ unfolding one_unit
 unit_opened capacity found books units k unit mounted book whole within is (device, fresh) opens so_far =
     let one = subst (λ b. open_all b (map opening_said unit.openings.items) ≡ Ok (without_spare book)) fresh opens in
     let left = left_of unit_said units k unit within is in
-    let next = next_unit capacity found (map without_spare books) (unit_said unit) (map unit_said (drop (k + 1) units)) mounted.mounted (Ok (without_spare book)) device one in
+    let next = next_unit capacity found (map without_spare books) (unit_said unit) (map unit_said (drop (k + 1) units)) mounted.mounted
+    (Ok (without_spare book)) device one in
     ap (λ (done : Books). after capacity found done (map unit_said (drop (k + 1) units))) (map-append without_spare books (book ∷ []))
     ∙ sym next ∙ ap (after capacity found (map without_spare books)) (sym left) ∙ so_far
 
@@ -155,7 +157,8 @@ unfolding one_unit
 unit_at_fault capacity found books units k unit mounted line whole within is (device, fresh) opens so_far =
     let one = subst (λ b. open_all b (map opening_said unit.openings.items) ≡ Err line) fresh opens in
     let left = left_of unit_said units k unit within is in
-    let next = next_unit capacity found (map without_spare books) (unit_said unit) (map unit_said (drop (k + 1) units)) mounted.mounted (Err line) device one in
+    let next = next_unit capacity found (map without_spare books) (unit_said unit) (map unit_said (drop (k + 1) units)) mounted.mounted
+    (Err line) device one in
     sym next ∙ ap (after capacity found (map without_spare books)) (sym left) ∙ so_far
 
 -- a unit cannot be mounted
@@ -164,7 +167,8 @@ pub unit_refused : (capacity : ℕ) (found : Option ℕ) (books : Books) (units 
     → after capacity found (map without_spare books) (map unit_said (drop k units)) ≡ whole → Gives all_without_spare (Err fault) whole
 unit_refused capacity found books units k unit (faults.Line line name) whole within is refused so_far =
     sym so_far ∙ ap (after capacity found (map without_spare books)) (left_of unit_said units k unit within is)
-    ∙ no_unit capacity found (map without_spare books) (unit_said unit) (map unit_said (drop (k + 1) units)) (record { line = line; name = name }) refused
+    ∙ no_unit capacity found (map without_spare books) (unit_said unit) (map unit_said (drop (k + 1) units))
+    (record { line = line; name = name }) refused
 unit_refused capacity found books units k unit faults.NoMemory whole within is refused so_far = tt
 unit_refused capacity found books units k unit faults.TooLong whole within is refused so_far = absurd refused
 unit_refused capacity found books units k unit faults.Unreadable whole within is refused so_far = absurd refused
@@ -176,9 +180,11 @@ unit_refused capacity found books units k unit faults.NoThread whole within is r
 pub units_opened : (capacity : ℕ) (books : Books) (units : List UnitSetup) (k : ℕ) (whole : Result Books FaultAt) → length units ≤ k
     → after capacity None (map without_spare books) (map unit_said (drop k units)) ≡ whole → whole ≡ Ok (map without_spare books)
 units_opened capacity books units k whole over so_far =
-    sym so_far ∙ ap (after capacity None (map without_spare books)) (none_left_of unit_said units k over) ∙ all_opened capacity (map without_spare books)
+    sym so_far ∙ ap (after capacity None (map without_spare books)) (none_left_of unit_said units k over)
+    ∙ all_opened capacity (map without_spare books)
 
-pub units_at_fault : (capacity : ℕ) (line : ℕ) (books : Books) (units : List UnitSetup) (k : ℕ) (whole : Result Books FaultAt) → length units ≤ k
+pub units_at_fault : (capacity : ℕ) (line : ℕ) (books : Books) (units : List UnitSetup) (k : ℕ) (whole : Result Books FaultAt) →
+    length units ≤ k
     → after capacity (Some line) (map without_spare books) (map unit_said (drop k units)) ≡ whole
     → whole ≡ Err (record { line = line; name = names.Extent })
 units_at_fault capacity line books units k whole over so_far =
@@ -189,7 +195,8 @@ units_at_fault capacity line books units k whole over so_far =
 one_more_dcb : (old new : Book AnyDevice) (dcb : ℕ) (o : OpeningSaid) → OpensBook any_device old dcb o.method o.extents new
     → with_dcb (without_spare old) o ≡ without_spare new
 one_more_dcb old new dcb o h =
-    ap (λ (n : ℕ). record (without_spare old) { trace = Opened n o.method o.extents ∷ old.trace }) (sym h.fits.next) ∙ sym (ap without_spare h.adds)
+    ap (λ (n : ℕ). record (without_spare old) { trace = Opened n o.method o.extents ∷ old.trace }) (sym h.fits.next)
+    ∙ sym (ap without_spare h.adds)
 
 one_opened : (old new : Book AnyDevice) (dcb : ℕ) (o : OpeningSaid) (others : List OpeningSaid)
     → OpensBook any_device old dcb o.method o.extents new → open_all (without_spare old) (o ∷ others) ≡ open_all (without_spare new) others
@@ -217,7 +224,8 @@ none_left book = refl
 -- the DCBs of a unit, one after another
 pub dcb_opened : (old new : Book AnyDevice) (dcb : ℕ) (openings : List Opening) (k : ℕ) (o : Opening) (whole : Result (Book AnyDevice) ℕ)
     → k < length openings → o ≡ get_or openings k o → OpensBook any_device old dcb o.method o.extents.items new
-    → open_all (without_spare old) (map opening_said (drop k openings)) ≡ whole → open_all (without_spare new) (map opening_said (drop (k + 1) openings)) ≡ whole
+    → open_all (without_spare old) (map opening_said (drop k openings)) ≡ whole →
+    open_all (without_spare new) (map opening_said (drop (k + 1) openings)) ≡ whole
 dcb_opened old new dcb openings k o whole within is opens so_far =
     sym (one_opened old new dcb (opening_said o) (map opening_said (drop (k + 1) openings)) opens)
     ∙ ap (open_all (without_spare old)) (sym (left_of opening_said openings k o within is)) ∙ so_far

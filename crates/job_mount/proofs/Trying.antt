@@ -5,7 +5,8 @@ use Rattle.job_script.specs.Said.{CommandSaid}
 use Rattle.job_mount.specs.Mounting.{tried}
 use Rattle.job_mount.specs.Requests.{is_doable}
 
-pub one_tried : (command : CommandSaid) (others : List CommandSaid) → is_doable command.action ≡ true → tried (command ∷ others) ≡ tried others
+pub one_tried : (command : CommandSaid) (others : List CommandSaid) → is_doable command.action ≡ true →
+    tried (command ∷ others) ≡ tried others
 unfolding tried
 one_tried command others can = rw can refl
 

@@ -9,6 +9,6 @@ pub record IsFresh {D : Type 0} (b : Book D) : Type 0 where
   pub opened : list_all is_opening b.trace ≡ true
   pub some : 1 ≤ b.capacity
 
--- it has room for so many requests
+-- it has room for this many requests
 abbrev pub HasRoom : {D : Type 0} → ℕ → Book D → Type 0
 HasRoom capacity b = b.capacity ≡ capacity

@@ -72,11 +72,8 @@ fits_tape bytes items faults = is_script faults && list_all is_item items && nat
 
 -- a tape with these items, at the load point, which is to meet these faults
 abbrev pub tape_with : ℕ → List Item → List DeviceFault → TapeState
-tape_with bytes items faults = record {
-  reel = record { size = bytes; items = items };
-  place = 0;
-  ordinals = record { script = faults; done = 0 };
-}
+tape_with bytes items faults =
+    record { reel = record { size = bytes; items = items }; place = 0; ordinals = record { script = faults; done = 0 } }
 
 -- a device that can be mounted, or the fault Medium
 abbrev pub if_mountable : Bool → AnyDevice → Result AnyDevice FaultName
@@ -86,7 +83,8 @@ if_mountable can device = if can then Ok device else Err names.Medium
 abbrev pub mounted : MediumSaid → List DeviceFault → Result AnyDevice FaultName
 mounted (disk g records) faults = if_mountable (is_geometry g && fits_disk g records faults) (Disk (disk_with g records faults))
 mounted (tape bytes items) faults = if_mountable (is_size bytes && fits_tape bytes items faults) (Tape (tape_with bytes items faults))
-mounted (printer lines pages) faults = if_mountable (is_paper lines pages && is_script faults) (Printer (opening_printer lines pages faults))
+mounted (printer lines pages) faults = if_mountable (is_paper lines pages && is_script faults)
+    (Printer (opening_printer lines pages faults))
 
 -- THE DEVICE OF A UNIT
 abbrev pub device_of : UnitSaid → Result AnyDevice FaultName

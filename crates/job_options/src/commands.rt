@@ -45,12 +45,17 @@ fn run<'a>(alloc: Global) -> Result<Command<'a>, AllocError> {
 }
 
 fn report<'a>(alloc: Global) -> Result<Command<'a>, AllocError> {
-    let steps = flag(alloc, "steps", "Every command of each history too");
+    let steps = flag(
+        alloc,
+        "steps",
+        "Every command of each history too: some 200 bytes each, and up to 4,096 an attempt",
+    );
     Command::new(alloc, "report")
         .about("Prints the posts of a script, the history of each unit and what lies on its medium")
         .arg(channels(alloc))?
         .arg(handlers(alloc))?
         .arg(steps)?
+        .arg(most_steps(alloc)?)?
         .arg(script(alloc))
 }
 
@@ -94,6 +99,15 @@ fn flag<'a>(alloc: Global, name: &'a str, help: &'a str) -> Arg<'a> {
         .long(name)
         .help(help)
         .action(ArgAction::SetTrue)
+}
+
+fn most_steps<'a>(alloc: Global) -> Result<Arg<'a>, AllocError> {
+    Arg::new(alloc, "most-steps")
+        .long("most-steps")
+        .value_name("N")
+        .help("With --steps: only the first N commands of each unit")
+        .value_parser(value_parser!(u64).range(1..))
+        .requires_arg("steps")
 }
 
 fn script<'a>(alloc: Global) -> Arg<'a> {

@@ -1,5 +1,5 @@
-//! The command line: `excp_job run [--channels N] [--handlers N]`, `report` with the same options and `--steps`, `check`,
-//! `assemble` and `step`, the last four with the name of a script's file or without.
+//! The command line: `excp_job run [--channels N] [--handlers N]`, `report` with the same options, `--steps` and
+//! `--most-steps N`, `check`, `assemble` and `step`, the last four with the name of a script's file or without.
 //!
 //! Tests: `tests/run command_line`.
 #![tactic(auto)]
@@ -39,8 +39,8 @@ pub struct StepOptions {
 pub enum Order {
     /// To run a script and print its posts.
     Run(Counts),
-    /// And to print what the run left behind, with `steps` every command too.
-    Report { counts: Counts, steps: bool },
+    /// And to print what the run left behind, with `steps` that many commands of each unit too.
+    Report { counts: Counts, steps: Option<u64> },
     /// To print every fault of a script, or of a scenario.
     Check { scenario: bool },
     /// To print the plain script of one with symbolic areas.
@@ -97,7 +97,8 @@ fn asked_for(matches: &ArgMatches<'_>) -> Option<Order> {
         })),
         "report" => {
             let counts = counts_of(options)?;
-            let steps = options.get_flag("steps");
+            let most = options.get_one::<u64>("most-steps").unwrap_or(u64::MAX);
+            let steps = options.get_flag("steps").then_some(most);
             Some(Order::Report { counts, steps })
         }
         _ => Some(Order::Run(counts_of(options)?)),

@@ -19,8 +19,8 @@ struct Unit {
     isc: u8,
 }
 
-/// Writes what lies on the medium of a unit: its sizes and its subclass are those of its set-up, and what lies on it is
-/// that of its device. The faults that it meets are no part of it.
+/// Writes what lies on the medium of a unit. Sizes and subclass are those of its set-up, and the content is that of
+/// its device. The faults that it meets are no part of it.
 pub(crate) fn write_medium<W: Write>(
     out: &mut W,
     number: usize,

@@ -13,12 +13,14 @@ use Rattle.job_mount.specs.Mounting.{◌>>=◌, books_of}
 use Rattle.job_run.specs.Ending.{EndsBy, IsFaultless, IsLate, RunsWhole}
 
 -- what was parsed and mounted is a script without a fault
-pub faultless : (text : List ℕ) (said : Said) (capacity : ℕ) (books : List (Book AnyDevice)) → script_of text ≡ Ok said → books_of capacity said ≡ Ok books
+pub faultless : (text : List ℕ) (said : Said) (capacity : ℕ) (books : List (Book AnyDevice)) → script_of text ≡ Ok said →
+    books_of capacity said ≡ Ok books
     → IsFaultless text
 faultless text said capacity books parsed made = (capacity, books, (ap (λ r. r >>= books_of capacity) parsed ∙ made))
 
 -- a script that cannot be mounted has this fault
-pub not_mounted : {X : Type 0} (view : X → List (Book AnyDevice)) (n : ℕ) (old new : Option (List ℕ)) (text : List ℕ) (said : Said) (capacity : ℕ) (fault : JobError)
+pub not_mounted : {X : Type 0} (view : X → List (Book AnyDevice)) (n : ℕ) (old new : Option (List ℕ)) (text : List ℕ) (said : Said)
+    (capacity : ℕ) (fault : JobError)
     → ReadsAll n old new text → script_of text ≡ Ok said → Gives view (Err fault) (books_of capacity said) → EndsBy n old new fault
 not_mounted view n old new text said capacity (faults.Line _ _) whole parsed rejected =
     inl (record { text = text; whole = whole; rejected = (capacity, (ap (λ r. r >>= books_of capacity) parsed ∙ rejected)) })

@@ -1,5 +1,6 @@
 -- What the commands of a script send, from one place of a task's commands to the next.
-use Rattle.std.proofs.Common.{◌≡◌, ◌<◌, ◌≤◌, ◌+◌, suc, drop, drop-cons, Result, Ok, Err, OnOk, OnErr, IfErr, ◌==◌, ℕ, Bool, true, false, List, [], ◌∷◌, ◌++◌, length, get_or, cond, refl, sym, subst, ap, ◌∙◌, arith, append_assoc, length-append}
+use Rattle.std.proofs.Common.{◌≡◌, ◌<◌, ◌≤◌, ◌+◌, suc, drop, drop-cons, Result, Ok, Err, OnOk, OnErr, IfErr, ◌==◌, ℕ, Bool, true, false}
+use Rattle.std.proofs.Common.{List, [], ◌∷◌, ◌++◌, length, get_or, cond, refl, sym, subst, ap, ◌∙◌, arith, append_assoc, length-append}
 use Rattle.std.specs.Result.{IsErrAnd}
 use Rattle.std.proofs.lemmas.List.{append-nil, drop_all}
 use Rattle.std.proofs.Math.Seq.{get_or-append_seam}
@@ -21,7 +22,8 @@ sends_all-append task [] ys sent = refl
 sends_all-append task (x ∷ xs) ys sent = sends_all-append task xs ys (cond (x.task == task) (sends task x.action sent) sent)
 
 -- a command of the task
-sends_all-own : (task : ℕ) (c : Command) (sent : List (List Piece)) → c.task ≡ task → sends_all task (c ∷ []) sent ≡ sends task c.action sent
+sends_all-own : (task : ℕ) (c : Command) (sent : List (List Piece)) → c.task ≡ task →
+    sends_all task (c ∷ []) sent ≡ sends task c.action sent
 unfolding sends_all
 sends_all-own task c sent own = rw (eq-eqb c.task task own) refl
 
@@ -49,7 +51,8 @@ record First (task at : ℕ) (cs : List Command) (place : ℕ) (places : List �
   silent : sends_all task before sent ≡ sent
   left : places ≡ places_from task (place + 1) others
 
-first-step : (task at place : ℕ) (c : Command) (cs : List Command) (places : List ℕ) (sent : List (List Piece)) (is : Bool) → (c.task == task) ≡ is
+first-step : (task at place : ℕ) (c : Command) (cs : List Command) (places : List ℕ) (sent : List (List Piece)) (is : Bool) →
+    (c.task == task) ≡ is
     → cond is (at ∷ places_from task (at + 1) cs) (places_from task (at + 1) cs) ≡ place ∷ places
     → (places_from task (at + 1) cs ≡ place ∷ places → First task (at + 1) cs place places sent)
     → First task at (c ∷ cs) place places sent
@@ -88,7 +91,8 @@ first task at place (c ∷ cs) places sent e =
     first-step task at place c cs places sent (c.task == task) refl e (λ rest. first task (at + 1) place cs places sent rest)
 
 -- the commands before are done, and these places of the task are left
-pub record Reached (task : ℕ) (commands : List Command) (old : List (List Piece)) (places : List ℕ) (sent : List (List Piece)) : Type 0 where
+pub record Reached (task : ℕ) (commands : List Command) (old : List (List Piece)) (places : List ℕ)
+    (sent : List (List Piece)) : Type 0 where
   pub before : List Command
   pub others : List Command
   pub split : commands ≡ before ++ others
@@ -96,7 +100,8 @@ pub record Reached (task : ℕ) (commands : List Command) (old : List (List Piec
   pub sent_is : sent ≡ sends_all task before old
 
 -- the command at the first of these places is next
-pub record IsNext (task : ℕ) (commands : List Command) (old : List (List Piece)) (command : Command) (places : List ℕ) (sent : List (List Piece)) : Type 0 where
+pub record IsNext (task : ℕ) (commands : List Command) (old : List (List Piece)) (command : Command) (places : List ℕ)
+    (sent : List (List Piece)) : Type 0 where
   pub before : List Command
   pub others : List Command
   pub split : commands ≡ before ++ command ∷ others
@@ -108,12 +113,15 @@ pub begins : (task : ℕ) (commands : List Command) (sent : List (List Piece)) �
 unfolding sends_all
 begins task commands sent = record { before = []; others = commands; split = refl; left = refl; sent_is = refl }
 
-pub next : (task : ℕ) (commands : List Command) (old : List (List Piece)) (place : ℕ) (places : List ℕ) (sent : List (List Piece)) (command : Command)
-    → Reached task commands old (place ∷ places) sent → command ≡ get_or commands place command → IsNext task commands old command places sent
+pub next : (task : ℕ) (commands : List Command) (old : List (List Piece)) (place : ℕ) (places : List ℕ) (sent : List (List Piece))
+    (command : Command)
+    → Reached task commands old (place ∷ places) sent → command ≡ get_or commands place command →
+    IsNext task commands old command places sent
 next task commands old place places sent command r at =
     let n = first task (length r.before) place r.others places sent (sym r.left) in
     let before = r.before ++ n.before in
-    let whole : commands ≡ before ++ n.command ∷ n.others = r.split ∙ ap (λ l. r.before ++ l) n.split ∙ sym (append_assoc r.before n.before (n.command ∷ n.others)) in
+    let whole : commands ≡ before ++ n.command ∷ n.others = r.split ∙ ap (λ l. r.before ++ l) n.split
+    ∙ sym (append_assoc r.before n.before (n.command ∷ n.others)) in
     let place_is : place ≡ length before = n.place_is ∙ sym (length-append r.before n.before) in
     let same : command ≡ n.command = at ∙ ap (λ (l : List Command). get_or l place command) whole
     ∙ ap (λ (k : ℕ). get_or (before ++ n.command ∷ n.others) k command) place_is ∙ get_or-append_seam before n.command n.others command in
@@ -128,7 +136,8 @@ next task commands old place places sent command r at =
 
 -- the command at the place with this number among those of the task
 pub at_place : (task number : ℕ) (commands : List Command) (old sent : List (List Piece)) (places : List ℕ) (i : ℕ) (command : Command)
-    → places ≡ places_of number commands → number ≡ task → i < length places → Reached task commands old (drop i (places_of task commands)) sent
+    → places ≡ places_of number commands → number ≡ task → i < length places →
+    Reached task commands old (drop i (places_of task commands)) sent
     → command ≡ get_or commands (get_or places i 0) command → IsNext task commands old command (drop (i + 1) (places_of task commands)) sent
 at_place task number commands old sent places i command value same within reached at =
     let all = places_of task commands in
@@ -136,11 +145,14 @@ at_place task number commands old sent places i command value same within reache
     let inside : i < length all = subst (λ (l : List ℕ). i < length l) is within in
     let here : command ≡ get_or commands (get_or all i 0) command = at ∙ ap (λ (l : List ℕ). get_or commands (get_or l i 0) command) is in
     let plus : suc i ≡ i + 1 = omega arith in
-    let step : drop i all ≡ get_or all i 0 ∷ drop (i + 1) all = drop-cons all i 0 inside ∙ ap (λ (k : ℕ). get_or all i 0 ∷ drop k all) plus in
-    next task commands old (get_or all i 0) (drop (i + 1) all) sent command (subst (λ (l : List ℕ). Reached task commands old l sent) step reached) here
+    let step : drop i all ≡ get_or all i 0 ∷ drop (i + 1) all = drop-cons all i 0 inside
+    ∙ ap (λ (k : ℕ). get_or all i 0 ∷ drop k all) plus in
+    next task commands old (get_or all i 0) (drop (i + 1) all) sent command
+    (subst (λ (l : List ℕ). Reached task commands old l sent) step reached) here
 
 -- the command is done
-pub goes_on : (task : ℕ) (commands : List Command) (old : List (List Piece)) (command : Command) (places : List ℕ) (sent new : List (List Piece))
+pub goes_on : (task : ℕ) (commands : List Command) (old : List (List Piece)) (command : Command) (places : List ℕ)
+    (sent new : List (List Piece))
     → IsNext task commands old command places sent → new ≡ sends task command.action sent → Reached task commands old places new
 goes_on task commands old command places sent new n does =
     let done = n.before ++ command ∷ [] in
@@ -149,11 +161,13 @@ goes_on task commands old command places sent new n does =
       others = n.others;
       split = n.split ∙ sym (append_assoc n.before (command ∷ []) n.others);
       left = n.left ∙ ap (λ k. places_from task k n.others) (sym (length-append n.before (command ∷ [])));
-      sent_is = does ∙ ap (sends task command.action) n.sent_is ∙ sym (sends_all-own task command (sends_all task n.before old) n.own) ∙ sym (sends_all-append task n.before (command ∷ []) old);
+      sent_is = does ∙ ap (sends task command.action) n.sent_is ∙ sym (sends_all-own task command (sends_all task n.before old) n.own)
+          ∙ sym (sends_all-append task n.before (command ∷ []) old);
     }
 
 -- the command fails
-pub stops : (task : ℕ) (commands : List Command) (old : List (List Piece)) (command : Command) (places : List ℕ) (sent new : List (List Piece)) (cause : CommandFault) (fault : TaskError)
+pub stops : (task : ℕ) (commands : List Command) (old : List (List Piece)) (command : Command) (places : List ℕ)
+    (sent new : List (List Piece)) (cause : CommandFault) (fault : TaskError)
     → IsNext task commands old command places sent → new ≡ sent → Fails command.action sent cause → fault ≡ fault_at cause command.line
     → StopsAt task commands old new fault
 stops task commands old command places sent new cause fault n unsent fails named = record {
@@ -169,12 +183,16 @@ stops task commands old command places sent new cause fault n unsent fails named
 }
 
 -- no place is left
-none_left : (task : ℕ) (commands : List Command) (old sent : List (List Piece)) → Reached task commands old [] sent → sent ≡ sends_all task commands old
+none_left : (task : ℕ) (commands : List Command) (old sent : List (List Piece)) → Reached task commands old [] sent →
+    sent ≡ sends_all task commands old
 none_left task commands old sent r =
-    rw r.split (sym (sends_all-append task r.before r.others old ∙ idle task (length r.before) r.others (sends_all task r.before old) (sym r.left) ∙ sym r.sent_is))
+    rw r.split (sym (sends_all-append task r.before r.others old ∙ idle task (length r.before) r.others (sends_all task r.before old)
+    (sym r.left) ∙ sym r.sent_is))
 
-pub ends : (task number : ℕ) (commands : List Command) (old sent : List (List Piece)) (places : List ℕ) (i : ℕ) → places ≡ places_of number commands
-    → number ≡ task → length places ≤ i → Reached task commands old (drop i (places_of task commands)) sent → sent ≡ sends_all task commands old
+pub ends : (task number : ℕ) (commands : List Command) (old sent : List (List Piece)) (places : List ℕ) (i : ℕ) →
+    places ≡ places_of number commands
+    → number ≡ task → length places ≤ i → Reached task commands old (drop i (places_of task commands)) sent →
+    sent ≡ sends_all task commands old
 ends task number commands old sent places i value same past reached =
     let all = places_of task commands in
     let is : places ≡ all = value ∙ ap (λ (n : ℕ). places_of n commands) same in
@@ -188,12 +206,14 @@ sends_none task commands sent = record { before = []; others = commands; split =
 
 pub sends_some : (task : ℕ) (commands : List Command) (old new : List (List Piece)) (done : Result (Unit {0}) TaskError)
     → OnOk done (new ≡ sends_all task commands old) → IfErr done (StopsAt task commands old new) → SendsFirst task commands old new
-sends_some task commands old new (Ok x) all stopped = record { before = commands; others = []; split = sym (append-nil commands); sent = all }
+sends_some task commands old new (Ok x) all stopped =
+    record { before = commands; others = []; split = sym (append-nil commands); sent = all }
 sends_some task commands old new (Err fault) all stopped =
     record { before = stopped.before; others = stopped.command ∷ stopped.others; split = stopped.split; sent = stopped.sent }
 
 -- a task that stops ends early; so does one that runs out of memory
-pub stops_early : (task : ℕ) (commands : List Command) (old new : List (List Piece)) (fault : TaskError) → StopsAt task commands old new fault
+pub stops_early : (task : ℕ) (commands : List Command) (old new : List (List Piece)) (fault : TaskError) →
+    StopsAt task commands old new fault
     → EndsEarly task commands old new fault
 stops_early task commands old new (errors.Line _ _) stopped = stopped
 stops_early task commands old new errors.NoMemory stopped =

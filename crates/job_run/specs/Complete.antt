@@ -4,7 +4,7 @@ use Rattle.std.specs.List.{All}
 use Rattle.job_run.specs.declared.lines.Line.{Line}
 use Rattle.job_run.specs.declared.lines.Lines.{Lines}
 
--- the request has its post, and its bytes stand among so many
+-- the request has its post, and its bytes are among the shown ones
 pub record IsWhole (shown : ℕ) (line : Line) : Type 0 where
   pub end : is_some line.end ≡ true
   pub order : line.from ≤ line.to

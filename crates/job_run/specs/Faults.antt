@@ -1,5 +1,5 @@
 -- WHICH FAULT of a line the fault of its command is, and which faults leave the output as it was (profile).
-use Rattle.std.specs.Prelude.{◌≡◌, ℕ, Bool, false}
+use Rattle.std.specs.Prelude.{◌≡◌, ℕ, None}
 use Rattle.job_script.specs.declared.fault.JobError.{JobError}
 use Rattle.job_script.specs.declared.fault.JobError.TheVariants as faults
 use Rattle.job_script.specs.declared.fault.FaultName.TheVariants as names
@@ -41,7 +41,7 @@ LeavesWriter faults.Unmatched old new = new ≡ old
 LeavesWriter faults.NoMemory old new = new ≡ old
 LeavesWriter faults.NoThread old new = new ≡ old
 
--- what is printed has every command of the report
-abbrev pub has_steps : Output → Bool
-has_steps Posts = false
-has_steps (Report set_up books steps) = steps
+-- what is printed has no command of a unit
+abbrev pub HasNoSteps : Output → Type 0
+HasNoSteps Posts = Unit {0}
+HasNoSteps (Report set_up books steps) = steps ≡ None

@@ -6,7 +6,7 @@ use Rattle.excp_system.specs.Opening.{AreBooks, AreFresh, RowsState}
 use Rattle.job_script.specs.Commands.{most, request_count_of, request_count_to}
 use Rattle.job_script.specs.declared.script.Script.{Script}
 
--- the room for so many requests: 1 at least, and 65,536 at most
+-- the room for a number of requests: 1 at least, and 65,536 at most
 abbrev pub room_for : ℕ → ℕ
 room_for requests = min (max requests 1) 65536
 

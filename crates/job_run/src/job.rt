@@ -119,8 +119,8 @@ impl<'a, 'r, S: Site> Job<'a, 'r, S> {
         Ok(())
     }
 
-    /// Issues a request. Where as many as may be are under way, or the row of its unit is full, it collects what was
-    /// posted, and tries again.
+    /// Issues a request. If the most that may be are under way, or the row of its unit is full, it collects posts and
+    /// tries again.
     fn issue<R: Wait>(
         &self,
         rt: &R,

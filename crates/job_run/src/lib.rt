@@ -1,13 +1,13 @@
 //! The run of a script: its tasks, each on a thread of its own, beside channel workers and interruption handlers.
 //!
-//! A task does its commands in order: it issues requests, waits for their posts, purges, closes and resets. What is
-//! printed of a request is noted as its post is collected. A task that meets want of memory, or is told of it, ends, and
-//! then so does the run, with all threads joined.
+//! A task does its commands in order: it issues requests, waits for their posts, purges, closes and resets. The text
+//! of a request is noted as its post is collected. A task that runs out of memory, or hears of a worker that does,
+//! ends. Then the run ends too, with all threads joined.
 //!
-//! The parts that `run_script` is made of are public: [`run_on`] runs a script on rows and books of any size. For a run
-//! by another gate than the alarm of its tasks, by `system_threads::run_beside`, [`ScriptTasks`] is what the tasks do,
-//! and for tasks that do more or less, a [`Job`] does the commands of one; [`ended`] is what comes of a run, and
-//! [`write`] prints it.
+//! The parts of `run_script` are public. [`run_on`] runs a script on rows and books of any size. [`ScriptTasks`] is
+//! what the tasks do, for a run by another gate than the alarm of its tasks (`system_threads::run_beside`). For tasks
+//! that do more or less, a [`Job`] does the commands of one. [`ended`] is the result of a run, and [`write`] prints
+//! it.
 //!
 //! Tests: job_tests, tests/cases/scripts, the groups random and purges of tests/run.
 #![tactic(auto)]

@@ -14,14 +14,14 @@ use std::alloc::{AllocError, Global};
 pub(crate) struct Line {
     /// The address of the bytes that are shown.
     show: u32,
-    /// Where they stand among the shown bytes of the task, from their first place to the one behind them.
+    /// Their place among the shown bytes of the task: from the first one to the one after the last.
     pub from: usize,
     pub to: usize,
     pub end: Option<End>,
 }
 
 impl Line {
-    /// Whether the request has its post, and its bytes stand among so many.
+    /// Whether the request has its post, and its bytes are among the `shown` ones.
     fn is_whole(&self, shown: usize) -> bool
         ensures { IsTrue result → IsWhole shown self.now }
     {
@@ -29,15 +29,15 @@ impl Line {
     }
 }
 
-/// Whether each of these requests has its post, and its bytes stand among so many.
+/// Whether each of these requests has its post, and its bytes are among the `shown` ones.
 fn are_whole(lines: &[Line], shown: usize) -> bool
     ensures { IsTrue result → All (IsWhole shown) lines.now }
 {
     lines.iter().all(|line| line.is_whole(shown))
 }
 
-/// What is printed of the requests of a task: for each unit a line for each of the requests to it, in order of their
-/// numbers, and the bytes that are shown of all of them, whose room is made before they are issued.
+/// The printed lines of the requests of a task: for each unit a line for each request to it, in order of their
+/// numbers. And the shown bytes of all of them, whose room is made before they are issued.
 #[derive(Drop)]
 pub struct Lines {
     pub(crate) units: Vec<Vec<Line>>,
@@ -56,7 +56,7 @@ impl Lines {
         Ok(lines)
     }
 
-    /// No request to so many units.
+    /// No request to `units` units.
     fn new(alloc: Global, units: usize) -> Result<Lines, AllocError>
         ensures { IfOk result (λ lines. vec_len lines.units ≡ units) }
     {
@@ -88,7 +88,7 @@ impl Lines {
         ensures { vec_len self.new.units ≡ vec_len self.old.units }
     {
         let from = self.shown.len();
-        // where the sum is too large for a number, there is no room for so many bytes
+        // if the sum is too large for a number, there is no room for the bytes
         let to = from.saturating_add(len);
         self.shown.resize(to, 0)?;
         self.units[usize::from(unit)].push(Line {

@@ -1,9 +1,9 @@
-//! The lines that a run prints: one for each post, and their number; and behind them, in a report, what the run left
-//! behind.
+//! The lines that a run prints: one for each post, and their number. A report has more lines after them: what the run
+//! left behind.
 
-ghost use Rattle.std.specs.Prelude.{◌≡◌, ◌≤◌, All, IfErr, false, length};
+ghost use Rattle.std.specs.Prelude.{◌≡◌, ◌≤◌, All, IfErr, None, length};
 ghost use Rattle.job_run.specs.Complete.{IsComplete, IsWhole};
-ghost use Rattle.job_run.specs.Faults.{IsWriteFault, LeavesWriter, has_steps};
+ghost use Rattle.job_run.specs.Faults.{IsWriteFault, LeavesWriter, HasNoSteps};
 
 use crate::late_writer::LateWriter;
 use crate::lines::{Line, Lines};
@@ -21,12 +21,12 @@ use unit_history::{HistoryError, OpenDcbs};
 pub enum Output<'a> {
     /// What the requests of each task were posted with.
     Posts,
-    /// And then of each unit of the script, as its book has it, what happened at it, with `steps` every command too,
-    /// and what lies on its medium.
+    /// And then of each unit of the script, as its book has it, what happened at it, with `steps` that many of its commands
+    /// too, and what lies on its medium.
     Report {
         set_up: &'a SetUp,
         books: &'a [UnitBook<AnyDevice>],
-        steps: bool,
+        steps: Option<u64>,
     },
 }
 
@@ -40,7 +40,7 @@ pub fn write<W: Write>(
     writer: &mut W,
 ) -> Result<(), JobError>
     requires { All IsComplete lines.now }
-    ensures unwritten { has_steps output.entry ≡ false → IfErr result (λ fault. LeavesWriter fault writer.old writer.new) }
+    ensures unwritten { HasNoSteps output.entry → IfErr result (λ fault. LeavesWriter fault writer.old writer.new) }
     ensures fault { IfErr result IsWriteFault }
 {
     match output {
@@ -73,11 +73,11 @@ fn write_report<W: Write>(
     lines: &[Lines],
     set_up: &SetUp,
     books: &[UnitBook<AnyDevice>],
-    steps: bool,
+    steps: Option<u64>,
     writer: &mut W,
 ) -> Result<(), JobError>
     requires { All IsComplete lines.now }
-    ensures unwritten { steps ≡ false → IfErr result (λ fault. LeavesWriter fault writer.old writer.new) }
+    ensures unwritten { steps ≡ None → IfErr result (λ fault. LeavesWriter fault writer.old writer.new) }
     ensures fault { IfErr result IsWriteFault }
 {
     let mut open = OpenDcbs::of_units(alloc, books)?;

@@ -18,7 +18,7 @@ use unit_book::UnitBook;
 /// The most requests that a row or a book holds (profile).
 const MOST_HELD: usize = 65_536;
 
-/// The room of a row or a book that is to hold so many requests.
+/// The room of a row or a book that is to hold this many requests.
 fn room_for(requests: usize) -> usize
     ensures { result ≡ room_for requests }
 {

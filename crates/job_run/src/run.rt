@@ -34,9 +34,9 @@ pub struct Finished {
     ghost complete: { All IsComplete lines.items },
 }
 
-/// Reads a script, at most 1,048,576 bytes and one more, runs its tasks beside so many channel workers and interruption
-/// handlers, and writes what its requests were posted with, or returns why not. It writes only after the run, so every
-/// fault but that of a write leaves the writer as it was.
+/// Reads a script, at most 1,048,576 bytes and one more. Runs its tasks beside these numbers of channel workers and
+/// interruption handlers, and writes the posts of its requests, or returns its first fault. It writes only after the
+/// run, so every fault but that of a write leaves the writer as it was.
 pub fn run_script<R: Threads + Wait + Sync, I: Read, W: Write>(
     rt: &R,
     alloc: Global,
@@ -57,18 +57,18 @@ pub fn run_script<R: Threads + Wait + Sync, I: Read, W: Write>(
     }
 }
 
-/// Does so, and then writes of each unit its history, with `steps` every command of it too, and its medium: all of that is
-/// again text of a script, comments and set-up lines. With `steps`, memory may run out after a part was written.
+/// Does so, and then writes of each unit its history, with `steps` that many of its commands too, and its medium. All of
+/// that is again text of a script: comments and set-up lines. With `steps`, memory may run out after a part was written.
 pub fn report_script<R: Threads + Wait + Sync, I: Read, W: Write>(
     rt: &R,
     alloc: Global,
     reader: &mut I,
     writer: &mut W,
     workers: Workers,
-    steps: bool,
+    steps: Option<u64>,
 ) -> Result<(), JobError>
     ensures bounded { ReadsAtMost (LIMIT + 1) (I.remaining reader.old) (I.remaining reader.new) }
-    ensures unwritten { steps ≡ false → IfErr result (λ fault. LeavesWriter fault writer.old writer.new) }
+    ensures unwritten { steps ≡ None → IfErr result (λ fault. LeavesWriter fault writer.old writer.new) }
     ensures ran { OnOk result (RunsWhole LIMIT (I.remaining reader.old) (I.remaining reader.new)) }
     ensures fault { IfErr result (EndsBy LIMIT (I.remaining reader.old) (I.remaining reader.new)) }
 {
@@ -124,9 +124,11 @@ pub fn run_on<R: Threads + Wait + Sync>(
     }
 }
 
-/// What is printed of a run that was brought to its end: what its tasks had not collected is added to their lines. It
-/// is refused where a task ended before its last command, of which want of memory is told first and then the fault of
-/// the first such task, and where a line has no post of its own.
+/// The printed lines of a run that was brought to its end: those of its tasks, and the posts that they had not
+/// collected.
+///
+/// Errors: out of memory, if a task ended for that; the fault of the first task that ended before its last command; a
+/// line without a post of its own.
 pub fn ended(
     alloc: Global,
     report: Report<AnyDevice>,
@@ -146,7 +148,8 @@ pub fn ended(
     Ok(Finished { lines, report })
 }
 
-/// What is printed of the requests of each task; or want of memory, if a task ended for it, or the first fault.
+/// The printed lines of each task's requests. If a task ended for lack of memory it returns that, and else the first
+/// fault.
 fn lines_of(alloc: Global, outcomes: Vec<Result<Lines, TaskError>>) -> Result<Vec<Lines>, TaskError>
     ensures { IfOk result (λ lines. length lines.items ≡ length outcomes.items) }
 {
@@ -160,7 +163,7 @@ fn lines_of(alloc: Global, outcomes: Vec<Result<Lines, TaskError>>) -> Result<Ve
     Ok(lines)
 }
 
-/// Whether a task ended for want of memory.
+/// Whether a task ended because memory ran out.
 fn wants_memory(outcome: &Result<Lines, TaskError>) -> bool {
     matches!(outcome, Err(TaskError::NoMemory))
 }

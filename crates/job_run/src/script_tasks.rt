@@ -14,7 +14,7 @@ use std::sync::Wait;
 use system_threads::{Alarm, Client, TaskProgram};
 
 /// Each task does its commands of the script, up to its first fault, and waits until all its requests were posted. It
-/// leaves what is printed of them, or why it ended; want of memory of a worker outranks the fault of a line.
+/// leaves the printed lines of them, or why it ended. A worker that runs out of memory outranks the fault of a line.
 #[derive(Drop)]
 pub struct ScriptTasks<'a> {
     script: &'a Script,

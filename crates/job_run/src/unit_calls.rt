@@ -3,7 +3,7 @@
 ghost use Rattle.std.specs.Prelude.{◌<◌};
 
 use any_device::AnyDevice;
-use excp_system::{Site, System, UnitPurging};
+use excp_system::{Site, System};
 use job_script::DcbName;
 use std::alloc::AllocError;
 use std::sync::Wait;
@@ -33,9 +33,7 @@ pub(crate) fn purge_task<S: Site, R: Wait>(
     mode: Mode,
 ) -> Result<(), AllocError> {
     for answer in system.purge_task(rt, task, mode)? {
-        if answer == UnitPurging::Refused {
-            return Err(AllocError);
-        }
+        answer?;
     }
     Ok(())
 }

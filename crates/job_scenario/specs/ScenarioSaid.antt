@@ -10,7 +10,8 @@ use Rattle.job_scenario.specs.declared.line.ScenarioLine.TheVariants as lines
 use Rattle.job_scenario.specs.declared.verb.EventVerb.{EventVerb}
 use Rattle.job_scenario.specs.declared.verb.EventVerb.TheVariants as verbs
 
--- a line of a script, a room, a turn of a unit for so many commands, another event of a unit or a task, the end, or what is expected
+-- a line of a script, a room, a turn of a unit for a number of commands, another event of a unit or a task, the end,
+-- or what is expected
 pub data ScenarioSaid : Type 0 where
   says_line : LineSaid → ScenarioSaid
   says_room : Room → ScenarioSaid

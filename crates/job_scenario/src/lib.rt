@@ -11,3 +11,4 @@ mod verb;
 
 pub use event::{Event, Room, Turn};
 pub use line::ScenarioLine;
+pub use verb::begins_event;

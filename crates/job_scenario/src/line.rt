@@ -11,18 +11,18 @@ ghost use Rattle.job_scenario.specs.ScenarioSaid.{says_run, scenario_said};
 use crate::event::{Event, Room, Turn};
 use crate::verb::EventVerb;
 use job_script::forms::{has, has_least, index, number_in};
-use job_script::{Action, Cause, Command, FaultName, Line, Refusal, Verb};
+use job_script::{Action, Cause, Command, FaultName, Line, Refusal, Verb, is_symbolic};
 use script_words::{Words, is_word};
 use std::alloc::Global;
 
 /// No line begins with this word.
 const UNKNOWN: &str =
-    "no line begins with '{w}'; a set-up line, room, excp, purge, purgetask, close, reset, take, start, run, interrupt, \
-    deliver, collect, settle, serve, finish or expect is wanted";
+    "no line begins with '{w}': expected a set-up line, room, excp, purge, purgetask, close, reset, take, start, run, \
+    interrupt, deliver, collect, settle, serve, finish or expect";
 
 /// A scenario has no `wait`.
 const NO_WAIT: &str =
-    "a scenario has no wait, since its events happen in the order of its lines: collect {n} collects a post";
+    "a scenario has no wait, since its events happen in the order of its lines: use 'collect {n}' to collect a post";
 
 /// A line of a scenario.
 #[derive(Drop)]
@@ -148,7 +148,7 @@ fn room_on(line: &Words<'_>) -> Result<Room, Cause>
     }
     Err(Cause::new(
         FaultName::Number,
-        "word 2, '{w}': intake, post or book is wanted",
+        "word 2, '{w}': expected intake, post or book",
         &[2],
     ))
 }
@@ -165,7 +165,8 @@ fn with_words_of_scenarios(refusal: Refusal, line: &Words<'_>) -> Refusal
     }
 }
 
-/// Whether no line of a script begins with its first word.
+/// Whether no line of a script begins with its first word, nor one of a symbolic area.
 fn is_unknown(line: &Words<'_>) -> bool {
-    line.is_printable() && Verb::of(line.word(0)).is_none()
+    let first = line.word(0);
+    line.is_printable() && Verb::of(first).is_none() && !is_symbolic(first)
 }

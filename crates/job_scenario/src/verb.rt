@@ -63,3 +63,8 @@ impl EventVerb {
         None
     }
 }
+
+/// Whether a line of a scenario, and none of a script, begins with this word.
+pub fn begins_event(word: &[u8]) -> bool {
+    EventVerb::of(word).is_some()
+}

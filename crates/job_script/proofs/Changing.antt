@@ -1,5 +1,6 @@
 -- A change of one unit, and what has a number.
-use Rattle.std.proofs.Common.{◌≡◌, ◌<◌, ◌≤◌, ℕ, zero, suc, List, [], ◌∷◌, length, map, get_or, set, refl, sym, ap, ◌∙◌, arith, leb, cond, Ok, Err, OnErr, Result}
+use Rattle.std.proofs.Common.{◌≡◌, ◌<◌, ◌≤◌, ℕ, zero, suc, List, [], ◌∷◌, length, map, get_or, set, refl, sym, ap, ◌∙◌, arith, leb, cond}
+use Rattle.std.proofs.Common.{Ok, Err, OnErr, Result}
 use Rattle.std.proofs.lemmas.List.{length-map, map-set}
 use Rattle.job_script.specs.declared.command.DcbName.{DcbName}
 use Rattle.job_script.specs.declared.cause.Refusal.{Refusal}
@@ -13,7 +14,8 @@ use Rattle.job_script.specs.Said.{SetUpSaid, UnitSaid}
 use Rattle.job_script.specs.Views.{opening_said, unit_said}
 
 -- what has a number, seen by a view
-pub numbered_map : {X Y : Type 0} (view : X → Y) (xs : List X) (n : ℕ) (d : X) → n < length xs → numbered n (map view xs) ≡ Ok (view (get_or xs n d))
+pub numbered_map : {X Y : Type 0} (view : X → Y) (xs : List X) (n : ℕ) (d : X) → n < length xs →
+    numbered n (map view xs) ≡ Ok (view (get_or xs n d))
 unfolding numbered
 numbered_map view [] n d h = absurd (omega arith)
 numbered_map view (x ∷ xs) zero d h = refl
@@ -38,17 +40,21 @@ unfolding change_unit
 failed change s units n d e is within one = rw (is, numbered_map unit_said units n d within, one) refl
 
 -- no unit has the number
-pub unchanged : (change : UnitSaid → Result UnitSaid FaultName) (s : SetUpSaid) (units : List UnitSetup) (n : ℕ) → s.units ≡ map unit_said units
+pub unchanged : (change : UnitSaid → Result UnitSaid FaultName) (s : SetUpSaid) (units : List UnitSetup) (n : ℕ) →
+    s.units ≡ map unit_said units
     → length units ≤ n → change_unit n change s ≡ Err names.Name
 unfolding change_unit
 unchanged change s units n e past = rw (e, unnumbered_map unit_said units n past) refl
 
 -- a call that changes one unit
-pub changes : (r : Result (Unit {0}) Refusal) (change : UnitSaid → Result UnitSaid FaultName) (s : SetUpSaid) (units : List UnitSetup) (n : ℕ)
+pub changes : (r : Result (Unit {0}) Refusal) (change : UnitSaid → Result UnitSaid FaultName) (s : SetUpSaid) (units : List UnitSetup)
+    (n : ℕ)
     (old new : UnitSetup) → s.units ≡ map unit_said units → n < length units → old ≡ get_or units n old
-    → Leads r (unit_said new) (change (unit_said old)) → Leads r (record s { units = map unit_said (set units n new) }) (change_unit n change s)
+    → Leads r (unit_said new) (change (unit_said old)) → Leads r (record s { units = map unit_said (set units n new) })
+    (change_unit n change s)
 changes (Ok x) change s units n old new e within is leads = changed change s units n old new e within (rw (sym is) leads)
-changes (Err (Caused cause)) change s units n old new e within is leads = failed change s units n old cause.name e within (rw (sym is) leads)
+changes (Err (Caused cause)) change s units n old new e within is leads =
+    failed change s units n old cause.name e within (rw (sym is) leads)
 changes (Err NoMemory) change s units n old new e within is leads = tt
 
 -- a unit that says what it said before
@@ -59,7 +65,8 @@ said_again (x ∷ xs) zero old new within same = ap (λ said. said ∷ map unit_
 said_again (x ∷ xs) (suc n) old new within same = ap (λ others. unit_said x ∷ others) (said_again xs n old new (omega arith) same)
 
 -- a call that changes one unit, and keeps what it says after an error
-pub keeps : (r : Result (Unit {0}) Refusal) (s : SetUpSaid) (units : List UnitSetup) (n : ℕ) (old new : UnitSetup) → s.units ≡ map unit_said units
+pub keeps : (r : Result (Unit {0}) Refusal) (s : SetUpSaid) (units : List UnitSetup) (n : ℕ) (old new : UnitSetup) →
+    s.units ≡ map unit_said units
     → n < length units → old ≡ get_or units n old → OnErr r (unit_said new ≡ unit_said old)
     → OnErr r (record s { units = map unit_said (set units n new) } ≡ s)
 keeps (Ok x) s units n old new e within is kept = kept
@@ -72,7 +79,8 @@ pub dcb_past : (dcb : DcbName) (s : SetUpSaid) (units : List UnitSetup) → s.un
 unfolding is_dcb
 dcb_past dcb s units e past = rw (e, unnumbered_map unit_said units dcb.unit past) refl
 
-pub dcb_at : (dcb : DcbName) (s : SetUpSaid) (units : List UnitSetup) (unit : UnitSetup) → s.units ≡ map unit_said units → dcb.unit < length units
+pub dcb_at : (dcb : DcbName) (s : SetUpSaid) (units : List UnitSetup) (unit : UnitSetup) → s.units ≡ map unit_said units →
+    dcb.unit < length units
     → unit ≡ get_or units dcb.unit unit
     → is_dcb dcb s ≡ cond (leb dcb.number (length unit.openings.items)) (Ok tt) (Err names.Name)
 unfolding is_dcb

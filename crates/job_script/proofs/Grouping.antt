@@ -1,5 +1,6 @@
 -- The places of the commands of each task, and how many requests the script issues.
-use Rattle.std.proofs.Common.{◌≡◌, ◌<◌, ◌≤◌, ◌+◌, ◌==◌, ℕ, Bool, true, false, zero, suc, List, [], ◌∷◌, ◌++◌, length, take, get_or, set, refl, sym, subst, ap, ◌⊎◌, inl, inr, ◌∙◌, rules, arith, cond}
+use Rattle.std.proofs.Common.{◌≡◌, ◌<◌, ◌≤◌, ◌+◌, ◌==◌, ℕ, Bool, true, false, zero, suc, List, [], ◌∷◌, ◌++◌, length, take, get_or, set}
+use Rattle.std.proofs.Common.{refl, sym, subst, ap, ◌⊎◌, inl, inr, ◌∙◌, rules, arith, cond}
 use Rattle.std.proofs.Math.Dec.{eqb-suc-zero, eqb-zero-suc, eqb-suc-suc}
 use Rattle.std.proofs.lemmas.List.Filters.{length-filter_more}
 use Rattle.std.proofs.lemmas.List.Elements.{Contains-push_cases}
@@ -63,7 +64,8 @@ picked : (is : Bool) (a b added : List ℕ) → (is ≡ true → a ≡ b ++ adde
 picked true a b added h = h refl
 picked false a b added h = search rules
 
-pub list_of-add : (lists : List (Vec ℕ)) (n place : ℕ) (list d : Vec ℕ) → n < length lists → list.items ≡ (get_or lists n d).items ++ place ∷ []
+pub list_of-add : (lists : List (Vec ℕ)) (n place : ℕ) (list d : Vec ℕ) → n < length lists →
+    list.items ≡ (get_or lists n d).items ++ place ∷ []
     → (k : ℕ) → list_of (set lists n list) k ≡ list_of lists k ++ cond (n == k) (place ∷ []) []
 list_of-add lists n place list d within is k =
     let at = list_of-at lists n d within in
@@ -122,8 +124,10 @@ counted-more (x ∷ xs) (suc n) zero h = rw (eqb-suc-zero n) (omega arith)
 counted-more (x ∷ xs) (suc n) (suc k) h = rw (eqb-suc-suc n k) (counted-more xs n k (omega arith))
 
 -- one more command is counted, or not
-pub counts_one : (counts new : List ℕ) (test : ℕ → Command → Bool) (commands : List Command) (i n : ℕ) (item : Command) → i < length commands
-    → item ≡ get_or commands i item → n < length counts → ((k : ℕ) → k < 64 → get_or counts k 0 ≡ length (filter (test k) (take i commands)))
+pub counts_one : (counts new : List ℕ) (test : ℕ → Command → Bool) (commands : List Command) (i n : ℕ) (item : Command) →
+    i < length commands
+    → item ≡ get_or commands i item → n < length counts →
+    ((k : ℕ) → k < 64 → get_or counts k 0 ≡ length (filter (test k) (take i commands)))
     → ((k : ℕ) → test k item ≡ (n == k)) → new ≡ set counts n (get_or counts n 0 + 1)
     → (k : ℕ) → k < 64 → get_or new k 0 ≡ length (filter (test k) (take (i + 1) commands))
 counts_one counts new test commands i n item inside at within all is changed k h =

@@ -12,7 +12,8 @@ use Rattle.job_script.specs.Outcomes.{IsNoBytes, Returns}
 
 -- a word that gives no bytes
 pub joined_fails : (error : FormError) (refusal : Refusal) (front new word : List ℕ) (ws rest : List (List ℕ))
-    (whole : Option (List ℕ)) → ws ≡ word ∷ rest → Leaves (Err error) new (put_after front (hex_bytes word)) → put_after front (joined ws) ≡ whole
+    (whole : Option (List ℕ)) → ws ≡ word ∷ rest → Leaves (Err error) new (put_after front (hex_bytes word)) →
+    put_after front (joined ws) ≡ whole
     → IsNoBytes error refusal → Returns (λ (bytes : List ℕ). bytes) (Err refusal) (formed whole)
 joined_fails NotOfForm (Caused cause) front new word ws rest whole e one so_far is =
     rw (joined_stops front word ws rest whole e one so_far) (ap (λ (n : FaultName). Err n) (sym is))

@@ -17,7 +17,7 @@ named_dcb (Close dcb) = Some dcb
 named_dcb (Reset dcb) = Some dcb
 named_dcb Wait = None
 
--- the DCB that it names, if it names one, is of one of the first so many units
+-- the DCB that it names, if it names one, is of a unit below the number
 abbrev pub NamesUnits : ℕ → Command → Type 0
 NamesUnits units c = ForSome (named_dcb c.action) (λ dcb. dcb.unit < units)
 
@@ -54,7 +54,7 @@ request_count_to commands unit = length (filter (issues_to unit) commands)
 abbrev pub request_count_of : List Command → ℕ → ℕ
 request_count_of commands task = length (filter (issues_of task) commands)
 
--- the largest of the first so many numbers, and 0 of none
+-- the largest of the numbers at the places below a limit, and 0 if there is none
 unfoldable pub most : (ℕ → ℕ) → ℕ → ℕ
 most numbers zero = 0
 most numbers (suc n) = max (most numbers n) (numbers n)

@@ -5,7 +5,8 @@ use Rattle.job_script.specs.declared.line.Line.TheVariants as lines
 use Rattle.job_script.specs.declared.line.SetUpLine.{SetUpLine}
 use Rattle.job_script.specs.declared.line.SetUpLine.TheVariants as set_up_lines
 use Rattle.job_script.specs.declared.line.UnitLine.{UnitLine}
-use Rattle.job_script.specs.Said.{LineSaid, SetUpLineSaid, UnitSaid, says_area, says_fault, says_item, says_opening, says_record, says_tasks, says_unit}
+use Rattle.job_script.specs.Said.{LineSaid, SetUpLineSaid, UnitSaid, says_area, says_fault, says_item, says_opening, says_record}
+use Rattle.job_script.specs.Said.{says_tasks, says_unit}
 use Rattle.job_script.specs.Said.{says_command, says_excp, says_nothing, says_set_up}
 use Rattle.job_script.specs.Lines.{new_unit}
 use Rattle.job_script.specs.Views.{command_said, medium_said, opening_said, record_said}

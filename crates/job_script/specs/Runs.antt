@@ -50,16 +50,8 @@ small_says = record { set_up = record { tasks = 1; units = small_disk ∷ []; ar
 
 -- the extent of this disk
 abbrev pub whole_track : Extent
-whole_track = record {
-  file_mask = 24;
-  unit_block = 0;
-  bin = 0;
-  start_cylinder = 0;
-  start_head = 0;
-  end_cylinder = 0;
-  end_head = 0;
-  tracks = 1;
-}
+whole_track =
+    record { file_mask = 24; unit_block = 0; bin = 0; start_cylinder = 0; start_head = 0; end_cylinder = 0; end_head = 0; tracks = 1 }
 
 -- the disk, the record and the DCB of the stored script
 abbrev pub stored_disk : UnitSaid
@@ -116,7 +108,8 @@ pub record Runs : Type 0 where
   pub empty : Faults [] 0 Order
   pub no_command : Says small small_says
   pub one_request : Says (stored_script ++ excp_line ∷ []) (stored_with (stored_excp_on 6 ∷ []))
-  pub two_requests : Says (stored_script ++ excp_line ∷ codes "wait 0" ∷ excp_line ∷ []) (stored_with (stored_excp_on 6 ∷ wait_on_7 ∷ stored_excp_on 8 ∷ []))
+  pub two_requests : Says (stored_script ++ excp_line ∷ codes "wait 0" ∷ excp_line ∷ [])
+      (stored_with (stored_excp_on 6 ∷ wait_on_7 ∷ stored_excp_on 8 ∷ []))
   pub unknown_dcb : Faults (stored_script ++ codes "excp 0 0 2 001000 0 001060 4" ∷ []) 6 Name
   pub unknown_area : Faults (stored_script ++ codes "excp 0 0 1 001000 1 001060 4" ∷ []) 6 Name
   pub unknown_task : Faults (stored_script ++ codes "excp 1 0 1 001000 0 001060 4" ∷ []) 6 Name

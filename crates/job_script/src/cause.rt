@@ -16,7 +16,7 @@ pub struct Cause {
 }
 
 impl Cause {
-    /// A fault with this name, and the text that is told of it, in which these numbers stand.
+    /// A fault with this name, and a message of this text with these numbers.
     #[inline(always)]
     pub fn new(name: FaultName, text: &'static str, numbers: &[u64]) -> Self
         ensures { result.name ≡ name }

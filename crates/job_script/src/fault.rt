@@ -14,7 +14,7 @@ pub enum FaultName {
     Words,
     /// A word is not of its form, or a number outside its range.
     Number,
-    /// A set-up line stands behind a command, a line twice, or a number out of sequence.
+    /// A set-up line comes after a command, a line comes twice, or a number is out of sequence.
     Order,
     /// A task, unit, area or DCB is not declared.
     Name,

@@ -26,7 +26,7 @@ pub fn has(line: &Words<'_>, count: usize) -> Result<(), Cause>
         Err(wrong_count(
             line.count(),
             count,
-            "the line has {n} word{s}, {n} are wanted",
+            "a line '{w}' has {n} words, and this one has {n}",
         ))
     }
 }
@@ -42,7 +42,7 @@ pub fn has_least(line: &Words<'_>, count: usize) -> Result<(), Cause>
         Err(wrong_count(
             line.count(),
             count,
-            "the line has {n} word{s}, {n} or more are wanted",
+            "a line '{w}' has {n} words or more, and this one has {n}",
         ))
     }
 }
@@ -52,7 +52,7 @@ pub fn has_least(line: &Words<'_>, count: usize) -> Result<(), Cause>
 fn wrong_count(count: usize, wanted: usize, text: &'static str) -> Cause
     ensures { result.name ≡ names.Words }
 {
-    Cause::new(FaultName::Words, text, &[count as u64, wanted as u64])
+    Cause::new(FaultName::Words, text, &[1, wanted as u64, count as u64])
 }
 
 /// That a word is not of its form. The text tells of it with its number from 1, the word itself, and two numbers.
@@ -73,7 +73,7 @@ pub fn number(line: &Words<'_>, place: usize) -> Result<u64, Cause>
     match script_words::decimal(line.word(place)) {
         Some(number) => Ok(number),
         None => {
-            let text = "word {n}, '{w}': a decimal number of 1 to 10 digits is wanted";
+            let text = "word {n}, '{w}': expected a decimal number of 1 to 10 digits";
             Err(malformed(place, text, 0, 0))
         }
     }
@@ -90,7 +90,7 @@ pub fn number_in(line: &Words<'_>, place: usize, least: u16, most: u16) -> Resul
     match script_words::decimal_in(line.word(place), least, most) {
         Some(number) => Ok(number),
         None => {
-            let text = "word {n}, '{w}': a number from {n} to {n} is wanted";
+            let text = "word {n}, '{w}': expected a number from {n} to {n}";
             Err(malformed(place, text, u64::from(least), u64::from(most)))
         }
     }
@@ -141,7 +141,7 @@ pub fn small_number(line: &Words<'_>, place: usize) -> Result<u8, Cause>
 fn wrong_digits(place: usize, count: u64) -> Cause
     ensures { result.name ≡ names.Number }
 {
-    let text = "word {n}, '{w}': a word of {n} hexadecimal digits is wanted";
+    let text = "word {n}, '{w}': expected {n} hexadecimal digits";
     malformed(place, text, count, 0)
 }
 
@@ -200,7 +200,8 @@ fn no_bytes(error: FormError, place: usize) -> Refusal
 {
     match error {
         FormError::NotOfForm => {
-            let text = "word {n}, '{w}': an even number of hexadecimal digits, or -, is wanted";
+            let text =
+                "word {n}, '{w}': expected an even number of hexadecimal digits, or - for no byte";
             Refusal::Caused(malformed(place, text, 0, 0))
         }
         FormError::OutOfMemory => Refusal::NoMemory,
@@ -277,7 +278,7 @@ pub fn method_of(line: &Words<'_>, place: usize) -> Result<ProcessingMethod, Cau
     if word == b"out".as_slice() {
         return Ok(ProcessingMethod::Output);
     }
-    Err(malformed(place, "word {n}, '{w}': in or out is wanted", 0, 0))
+    Err(malformed(place, "word {n}, '{w}': expected in or out", 0, 0))
 }
 
 /// Reads `quiesce` or `halt`.
@@ -294,7 +295,7 @@ pub fn mode_of(line: &Words<'_>, place: usize) -> Result<Mode, Cause>
     if word == b"halt".as_slice() {
         return Ok(Mode::Halt);
     }
-    Err(malformed(place, "word {n}, '{w}': quiesce or halt is wanted", 0, 0))
+    Err(malformed(place, "word {n}, '{w}': expected quiesce or halt", 0, 0))
 }
 
 /// Whether a word begins with `#`.

@@ -21,11 +21,11 @@ pub use cause::{Cause, Refusal};
 pub use command::{Action, Command, DcbName, Excp};
 pub use fault::{FaultName, JobError};
 pub use line::{
-    AreaLine, ExcpLine, Line, SetUpLine, SetUpVerb, TasksLine, UnitLine, Verb, begins_line,
-    unprintable,
+    AreaLine, BYTE_ORDER_MARK, ExcpLine, Line, SetUpLine, SetUpVerb, TasksLine, UnitLine, Verb,
+    begins_line, first_unprintable, is_symbolic, unprintable,
 };
 pub use message::{Message, write_word};
 pub use reading::{LIMIT, read_script};
 pub use runs::worked_runs;
 pub use script::{Script, late};
-pub use set_up::{Medium, Opening, SetUp, UnitSetup};
+pub use set_up::{AreaPlace, Medium, Opening, SetUp, UnitSetup};

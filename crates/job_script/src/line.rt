@@ -28,10 +28,14 @@ use tape_unit::InitialItem;
 use units::{block, disk, fault, mark, printer, record, tape};
 pub use verb::{SetUpVerb, Verb, begins_line};
 
-/// That no line begins with its first word.
+/// No line begins with this word.
 const UNKNOWN: &str =
-    "no line begins with '{w}'; tasks, disk, tape, printer, rec, block, mark, fault, open, area, excp, \
-    purge, purgetask, close, reset or wait is wanted";
+    "no line begins with '{w}': expected tasks, disk, tape, printer, rec, block, mark, fault, open, area, \
+    excp, purge, purgetask, close, reset or wait";
+
+/// Only a line of a symbolic area begins with this word.
+const SYMBOLIC: &str =
+    "'{w}' begins a line of a symbolic area: assemble the script first, and check its output";
 
 /// A line that declares something; the number in front is that of the unit.
 #[derive(Drop)]
@@ -202,9 +206,28 @@ impl Verb {
         }
         match Verb::of(first) {
             Some(verb) => Ok(Some(verb)),
-            None => Err(Cause::new(FaultName::Words, UNKNOWN, &[1])),
+            None => Err(Cause::new(FaultName::Words, unknown(first), &[1])),
         }
     }
+}
+
+/// The text on a first word that begins no line of a script.
+fn unknown(word: &[u8]) -> &'static str {
+    if is_symbolic(word) { SYMBOLIC } else { UNKNOWN }
+}
+
+/// Whether only a line of a symbolic area begins with this word: a label with its colon, or a name in capitals.
+pub fn is_symbolic(word: &[u8]) -> bool {
+    if word.ends_with(b":") {
+        return true;
+    }
+    let Some(first) = word.first() else {
+        return false;
+    };
+    let is_name = word
+        .iter()
+        .all(|byte| byte.is_ascii_uppercase() || byte.is_ascii_digit());
+    first.is_ascii_uppercase() && is_name
 }
 
 /// That a line has a byte that is not printable.
@@ -220,15 +243,27 @@ fn not_printable(bytes: &[u8]) -> Cause
     }
 }
 
-/// Which byte of a line is first no printable ASCII character, if one is, and what would be right.
+/// How a file of UTF-8 begins if an editor has marked it so.
+pub const BYTE_ORDER_MARK: [u8; 3] = [0xEF, 0xBB, 0xBF];
+
+/// The message on the byte of a line that is first not a printable ASCII character.
 pub fn unprintable(bytes: &[u8]) -> Option<Message> {
-    let place = bytes.iter().position(|byte| *byte < b' ' || *byte > b'~')?;
-    let byte = *bytes.get(place)?;
+    if bytes.starts_with(&BYTE_ORDER_MARK) {
+        let text = "the line begins with a byte order mark (X'EFBBBF'): save the file without one";
+        return Some(Message::new(text, &[]));
+    }
+    let (place, byte) = first_unprintable(bytes)?;
     let text = match byte {
-        b'\r' => "byte {n} is X'{b}', lines end with a line feed",
-        b'\t' => "byte {n} is X'{b}', words are parted by blanks",
-        _ => "byte {n} is X'{b}', which is no printable ASCII character",
+        b'\r' => "byte {n} is a carriage return (X'{b}'): end lines with a line feed alone",
+        b'\t' => "byte {n} is a tab (X'{b}'): separate words with blanks",
+        _ => "byte {n}, X'{b}', is not a printable ASCII character",
     };
     let place = place as u64;
     Some(Message::new(text, &[place.saturating_add(1), u64::from(byte)]))
+}
+
+/// The byte of a line that is first not a printable ASCII character, with its place, from 0.
+pub fn first_unprintable(bytes: &[u8]) -> Option<(usize, u8)> {
+    let place = bytes.iter().position(|byte| *byte < b' ' || *byte > b'~')?;
+    Some((place, *bytes.get(place)?))
 }

@@ -1,27 +1,27 @@
-//! What is told of a line: a text, and the numbers and words that stand in it.
+//! A message on a line: a text with the numbers and words in it.
 
 use script_words::{after_words, next_word};
 use std::fmt;
 
-/// The most bytes of a word that are told.
+/// The most bytes of a word that a message has.
 const MOST_BYTES: usize = 64;
 
-/// A text with at most four numbers, which stand in it one behind another: `{n}` stands for one in decimal, `{a}` for
-/// an address in 6 hexadecimal digits, `{b}` for a byte in 2, `{w}` for the word of the line with this number, from 1;
-/// and `{s}` for an s, which is left out where the number before it is 1.
+/// A text with at most six numbers. The signs stand for them in their order: `{n}` is a number in decimal, `{a}` an
+/// address in 6 hexadecimal digits, `{b}` a byte in 2. `{w}` is the word of the line with this number, from 1. `{s}`
+/// is an s, unless the number before it is 1.
 #[derive(Clone, Copy)]
 pub struct Message {
     text: &'static str,
-    numbers: [u64; 4],
+    numbers: [u64; 6],
 }
 
 impl Message {
-    /// The text with these numbers; where they are fewer than four, the others are 0.
+    /// The text with these numbers. If they are fewer than six, the others are 0.
     #[inline(always)]
     pub fn new(text: &'static str, numbers: &[u64]) -> Self {
         let mut message = Message {
             text,
-            numbers: [0; 4],
+            numbers: [0; 6],
         };
         for (place, number) in message.numbers.iter_mut().zip(numbers) {
             *place = *number;

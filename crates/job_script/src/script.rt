@@ -287,6 +287,6 @@ fn lengthen(alloc: Global, lists: &mut Vec<Vec<usize>>, number: usize) -> Result
 pub fn late(command: usize) -> Refusal
     ensures { IsNamed names.Order result }
 {
-    let text = "a set-up line stands before the first command, which is line {n}";
-    Refusal::Caused(Cause::new(FaultName::Order, text, &[command as u64]))
+    let text = "'{w}' must come before the first command (line {n})";
+    Refusal::Caused(Cause::new(FaultName::Order, text, &[1, command as u64]))
 }

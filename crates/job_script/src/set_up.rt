@@ -20,6 +20,27 @@ use std::sync::Arc;
 use tape_unit::InitialItem;
 use unit_book::ProcessingMethod;
 
+/// The texts on a number that is not declared: if none is, if only 0 is, and if more are.
+type Texts = [&'static str; 3];
+
+const UNITS: Texts = [
+    "unit {n} is not declared: no line before this one declares a unit",
+    "unit {n} is not declared: the only unit is {n}",
+    "unit {n} is not declared: the units are 0 to {n}",
+];
+
+const TASKS: Texts = [
+    "task {n} is not declared: no line before this one declares the tasks",
+    "task {n} is not declared: the only task is {n}",
+    "task {n} is not declared: the tasks are 0 to {n}",
+];
+
+const AREAS: Texts = [
+    "area {n} is not declared: no line before this one declares an area",
+    "area {n} is not declared: the only area is {n}",
+    "area {n} is not declared: the areas are 0 to {n}",
+];
+
 /// The medium of a unit, and what lies on it.
 #[derive(Drop)]
 pub enum Medium {
@@ -53,6 +74,13 @@ pub struct UnitSetup {
     ghost subclass: { isc ≤ 7 },
 }
 
+/// The number of an area, and its line.
+#[derive(Clone, Copy)]
+pub struct AreaPlace {
+    pub number: u64,
+    pub line: usize,
+}
+
 /// What the set-up lines of a script declare.
 #[derive(Drop)]
 pub struct SetUp {
@@ -62,6 +90,8 @@ pub struct SetUp {
     pub units: Vec<UnitSetup>,
     /// The areas, in the order of their numbers.
     pub areas: Vec<Arc<Area, Global>>,
+    /// The lines of the areas, in their order.
+    pub area_lines: Vec<usize>,
     ghost few_tasks: { tasks ≤ 64 },
     ghost few_units: { vec_len units ≤ 64 },
 }
@@ -83,6 +113,7 @@ impl SetUp {
             tasks: 0,
             units: Vec::new(alloc),
             areas: Vec::new(alloc),
+            area_lines: Vec::new(alloc),
         }
     }
 
@@ -157,6 +188,15 @@ impl SetUp {
         Ok(Arc::try_clone(area)?)
     }
 
+    /// The place of the area with this number.
+    pub fn place_of_area(&self, number: u64) -> AreaPlace {
+        let line = match self.area_lines.get(number as usize) {
+            Some(line) => *line,
+            None => 0,
+        };
+        AreaPlace { number, line }
+    }
+
     /// The EXCP of a line, with its area.
     #[inline(always)]
     pub fn over_area(&self, line: ExcpLine) -> Result<Excp, Refusal>
@@ -193,7 +233,7 @@ impl SetUp {
             SetUpLine::Item(unit, item) => self.add_item(usize::from(unit), number, item),
             SetUpLine::Fault(unit, fault) => self.add_fault(usize::from(unit), number, fault),
             SetUpLine::Opening(unit, opening) => self.add_opening(usize::from(unit), opening),
-            SetUpLine::Area(area) => self.add_area(alloc, area),
+            SetUpLine::Area(area) => self.add_area(alloc, number, area),
         }
     }
 
@@ -205,7 +245,7 @@ impl SetUp {
         ensures kept { OnErr result (set_up_said self.new ≡ set_up_said self.old) }
     {
         if self.tasks != 0 {
-            return Err(order("the number of tasks is declared once", &[]));
+            return Err(order("the number of tasks is declared already", &[]));
         }
         self.tasks = line.tasks;
         Ok(())
@@ -220,7 +260,7 @@ impl SetUp {
     {
         if usize::from(line.number) != self.units.len() {
             let numbers = [u64::from(line.number), self.units.len() as u64];
-            return Err(order("unit {n}, expected {n}", &numbers));
+            return Err(order("unit {n} is out of order: the next unit is {n}", &numbers));
         }
         self.units.push(UnitSetup::new(alloc, line))?;
         Ok(())
@@ -281,16 +321,20 @@ impl SetUp {
     /// An area has the next number.
     #[inline(always)]
     #[tactic(auto, unfolding(crate::specs::Adding::add_area))]
-    fn add_area(&mut self, alloc: Global, line: AreaLine) -> Result<(), Refusal>
-        ensures adds { Leads result (set_up_said self.new) (add_area line.number (record { base = line.base; bytes = line.bytes.items }) (set_up_said self.old)) }
+    fn add_area(&mut self, alloc: Global, line: usize, added: AreaLine) -> Result<(), Refusal>
+        ensures adds { Leads result (set_up_said self.new) (add_area added.number (record { base = added.base; bytes = added.bytes.items }) (set_up_said self.old)) }
         ensures kept { OnErr result (set_up_said self.new ≡ set_up_said self.old) }
     {
         let expected = self.areas.len() as u64;
-        if line.number != expected {
-            return Err(order("area {n}, expected {n}", &[line.number, expected]));
+        if added.number != expected {
+            let text = "area {n} is out of order: the next area is {n}";
+            return Err(order(text, &[added.number, expected]));
         }
-        let area = new_area(alloc, line.base, &line.bytes)?;
-        self.areas.push(Arc::new(alloc, area)?)?;
+        let area = new_area(alloc, added.base, &added.bytes)?;
+        let area = Arc::new(alloc, area)?;
+        self.area_lines.reserve(1)?;
+        self.areas.push(area)?;
+        self.area_lines.push_reserved(line);
         Ok(())
     }
 
@@ -298,9 +342,7 @@ impl SetUp {
     fn no_unit(&self, number: usize) -> Cause
         ensures { result.name ≡ names.Name }
     {
-        let text = "unit {n} of {n}, which count from 0";
-        let numbers = [number as u64, self.units.len() as u64];
-        Cause::new(FaultName::Name, text, &numbers)
+        undeclared(UNITS, number as u64, self.units.len())
     }
 }
 
@@ -343,8 +385,13 @@ impl UnitSetup {
                 self.content_lines.reserve(1)?;
                 records.push_reserved(added);
             }
-            Medium::Tape(_, _) => return Err(kind("unit {n} is no disk", number)),
-            Medium::Printer { .. } => return Err(kind("unit {n} is no disk", number)),
+            Medium::Tape(_, _) => return Err(kind(
+                "unit {n} is a tape, and '{w}' is for a disk",
+                number,
+            )),
+            Medium::Printer { .. } => {
+                return Err(kind("unit {n} is a printer, and '{w}' is for a disk", number));
+            }
         }
         self.content_lines.push_reserved(line);
         Ok(())
@@ -362,8 +409,13 @@ impl UnitSetup {
                 self.content_lines.reserve(1)?;
                 items.push_reserved(item);
             }
-            Medium::Disk(_, _) => return Err(kind("unit {n} is no tape", number)),
-            Medium::Printer { .. } => return Err(kind("unit {n} is no tape", number)),
+            Medium::Disk(_, _) => return Err(kind(
+                "unit {n} is a disk, and '{w}' is for a tape",
+                number,
+            )),
+            Medium::Printer { .. } => {
+                return Err(kind("unit {n} is a printer, and '{w}' is for a tape", number));
+            }
         }
         self.content_lines.push_reserved(line);
         Ok(())
@@ -397,29 +449,45 @@ impl UnitSetup {
 fn no_dcb(number: u16, count: usize, unit: u16) -> Cause
     ensures { result.name ≡ names.Name }
 {
-    let text = "DCB {n} of {n} of unit {n}, which count from 1";
-    let numbers = [u64::from(number), count as u64, u64::from(unit)];
-    Cause::new(FaultName::Name, text, &numbers)
+    let text = match count {
+        0 => "DCB {n} is not open: unit {n} has no open line",
+        1 => "DCB {n} is not open: unit {n} has {n} open line (DCB 1)",
+        _ => "DCB {n} is not open: unit {n} has {n} open lines (DCB 1 to {n})",
+    };
+    let count = count as u64;
+    Cause::new(
+        FaultName::Name,
+        text,
+        &[u64::from(number), u64::from(unit), count, count],
+    )
 }
 
 /// That there are fewer tasks.
 fn no_task(number: u16, count: u16) -> Cause
     ensures { result.name ≡ names.Name }
 {
-    let text = "task {n} of {n}, which count from 0";
-    Cause::new(
-        FaultName::Name,
-        text,
-        &[u64::from(number), u64::from(count)],
-    )
+    undeclared(TASKS, u64::from(number), usize::from(count))
 }
 
 /// That there are fewer areas.
 fn no_area_has(number: u64, count: usize) -> Cause
     ensures { result.name ≡ names.Name }
 {
-    let text = "area {n} of {n}, which count from 0";
-    Cause::new(FaultName::Name, text, &[number, count as u64])
+    undeclared(AREAS, number, count)
+}
+
+/// That nothing with this number is declared, if `count` are.
+fn undeclared(texts: Texts, number: u64, count: usize) -> Cause
+    ensures { result.name ≡ names.Name }
+{
+    let [none, one, more] = texts;
+    let text = match count {
+        0 => none,
+        1 => one,
+        _ => more,
+    };
+    let last = (count as u64).saturating_sub(1);
+    Cause::new(FaultName::Name, text, &[number, last])
 }
 
 /// That a line stands out of its order.
@@ -433,7 +501,7 @@ fn order(text: &'static str, numbers: &[u64]) -> Refusal
 fn kind(text: &'static str, unit: usize) -> Refusal
     ensures { IsNamed names.Kind result }
 {
-    Refusal::Caused(Cause::new(FaultName::Kind, text, &[unit as u64]))
+    Refusal::Caused(Cause::new(FaultName::Kind, text, &[unit as u64, 1]))
 }
 
 /// The area of these bytes from `base`.
@@ -446,7 +514,7 @@ fn new_area(alloc: Global, base: u32, bytes: &[u8]) -> Result<Area, Refusal>
     }
 }
 
-/// Why an area of so many bytes is none.
+/// Returns why `len` bytes from `base` are no area.
 fn no_area(error: AreaError, base: u32, len: usize) -> Refusal
     ensures { IsNoArea error result }
 {
@@ -454,8 +522,8 @@ fn no_area(error: AreaError, base: u32, len: usize) -> Refusal
     let len = len as u64;
     let (text, numbers) = match error {
         AreaError::NoMemory => return Refusal::NoMemory,
-        AreaError::Misaligned => ("the address {a} is no multiple of 8", [base, 0]),
-        AreaError::TooLong => ("{n} byte{s}, at most 8192 are wanted", [len, 0]),
+        AreaError::Misaligned => ("the address {a} is not on a doubleword boundary", [base, 0]),
+        AreaError::TooLong => ("{n} byte{s}: an area has at most 8192", [len, 0]),
         AreaError::PastTop => ("{n} byte{s} from {a} end past FFFFFF", [len, base]),
     };
     Refusal::Caused(Cause::new(FaultName::Area, text, &numbers))

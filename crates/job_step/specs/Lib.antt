@@ -1,2 +1,3 @@
--- Why a scenario ends before its last line.
+-- Why a scenario ends before its last line, and the sizes that its lines set.
 pub mod Faults
+pub mod Rooms

@@ -1,11 +1,10 @@
 //! The answers of events, as text.
 
-use excp_system::{Delivery, Intake};
 use io_images::Code;
 use job_report::{End, write_post};
 use request_piece::{Name, Posted};
 use std::io::{Result, Write};
-use unit_book::{Closing, Interruption, Purging, Running, Starting};
+use unit_book::{Closing, Delivery, Intake, Interruption, Purging, Running, Starting};
 
 /// The answer of an EXCP.
 #[derive(Clone, Copy)]

@@ -1,23 +1,23 @@
 //! What carries out the events of a scenario: units with their books, and rows between them and the tasks.
 
-ghost use Rattle.std.specs.Prelude.{◌≡◌, ◌<◌, ◌≤◌, ℕ, IfErr};
+ghost use Rattle.std.specs.Prelude.{◌≡◌, ◌<◌, ◌≤◌, ℕ, vec_len, IfErr, IfOk};
 ghost use Rattle.job_mount.specs.Requests.{CanIssue};
 ghost use Rattle.job_step.specs.Faults.{IsStepFault};
 
 use crate::answer::Issuing;
 use crate::shown::Shown;
 use crate::view::View;
-use excp_system::{Delivery, Intake};
 use io_images::Extent;
 use job_script::{DcbName, Excp, JobError};
 use request_piece::Posted;
 use std::alloc::{AllocError, Global};
 use unit_book::{
-    Closing, DcbError, Interruption, Mode, OpenError, ProcessingMethod, Purging, Running, Starting,
+    Closing, DcbError, Delivery, Intake, Interruption, Mode, OpenError, ProcessingMethod, Purging,
+    Running, Starting,
 };
 
-/// Units and tasks, and the calls of each. A call that runs out of memory changes nothing. The exception is `settle`, which
-/// may already have ended some requests.
+/// Units and tasks, and the calls of each. A call that runs out of memory changes nothing. There are two exceptions:
+/// `settle` may have ended some requests, and `purge_task` has purged at the units that had memory.
 pub trait Carrier: Drop {
     // how many units there are
     ghost units: { Self → ℕ };
@@ -87,9 +87,14 @@ pub trait Carrier: Drop {
         ensures units { units self.new ≡ units self.old }
         ensures tasks { tasks self.new ≡ tasks self.old };
 
-    /// Purges the requests of a task at one unit.
-    fn purge_task(&mut self, unit: u16, task: u16, mode: Mode) -> Result<Purging, AllocError>
-        requires unit { unit < units self.old }
+    /// Purges the requests of a task at each unit, in the order of their numbers. Returns for each unit what is active there,
+    /// or that memory ran out there.
+    fn purge_task(
+        &mut self,
+        task: u16,
+        mode: Mode,
+    ) -> Result<Vec<Result<Purging, AllocError>>, AllocError>
+        ensures count { IfOk result (λ answers. vec_len answers ≡ units self.old) }
         ensures units { units self.new ≡ units self.old }
         ensures tasks { tasks self.new ≡ tasks self.old };
 

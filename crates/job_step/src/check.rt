@@ -62,6 +62,7 @@ fn check_lines<I: Read + Drop, W: Write, E: Write>(
         printer.faults(&mount_faults(alloc, &plan.set_up.units)?)?;
     }
     let carrier = Unmade {
+        alloc,
         units: plan.set_up.units.len(),
         tasks: plan.set_up.tasks,
     };

@@ -4,39 +4,32 @@ ghost use Rattle.std.specs.Prelude.{◌≡◌, ◌<◌, ◌≤◌, IfErr, length
 ghost use Rattle.job_step.specs.Faults.{IsStepFault};
 
 use crate::answer::write_posted;
+use crate::lists::Lists;
 use crate::shown::Shown;
 use any_device::AnyDevice;
 use job_script::JobError;
 use request_piece::Posted;
 use std::alloc::{AllocError, Global};
 use std::io::Write;
-use unit_world::{Arriving, Delivering, PlainSite};
+use unit_book::{Delivery, Intake};
+use unit_world::PlainSite;
 
 /// The posts that were not collected, those of each task and unit in order.
 #[derive(Drop)]
 pub struct Left {
-    units: usize,
-    posts: Vec<Vec<Posted>>,
+    posts: Lists<Posted>,
 }
 
 impl Left {
-    /// None yet, of so many tasks and units.
+    /// None yet, of these numbers of tasks and units.
     fn new(alloc: Global, tasks: usize, units: usize) -> Result<Left, AllocError> {
-        let mut posts = Vec::new(alloc);
-        for _ in 0..tasks {
-            for _ in 0..units {
-                posts.push(Vec::new(alloc))?;
-            }
-        }
-        Ok(Left { units, posts })
+        let posts = Lists::new(alloc, tasks, units)?;
+        Ok(Left { posts })
     }
 
     /// Adds a post of a task.
     fn push(&mut self, posted: Posted) -> Result<(), AllocError> {
-        let place = usize::from(posted.name().task)
-            .saturating_mul(self.units)
-            .saturating_add(usize::from(posted.unit()));
-        match self.posts.get_mut(place) {
+        match self.posts.get_mut(posted.name().task, posted.unit()) {
             Some(list) => Ok(list.push(posted)?),
             // no task or unit has this number
             None => Ok(()),
@@ -56,11 +49,11 @@ impl Left {
 
     fn write(&self, out: &mut Vec<u8>, shown: &Shown) -> std::io::Result<()> {
         let mut count: usize = 0;
-        for list in &self.posts {
+        for list in self.posts.all() {
             count = count.saturating_add(list.len());
         }
         write!(out, "Finished {count}")?;
-        for list in &self.posts {
+        for list in self.posts.all() {
             write_list(out, list, shown)?;
         }
         Ok(())
@@ -75,7 +68,7 @@ fn write_list(out: &mut Vec<u8>, posts: &[Posted], shown: &Shown) -> std::io::Re
     Ok(())
 }
 
-/// Ends every request of a site of so many units and tasks, and returns the posts that were not collected.
+/// Ends every request of a site of these numbers of units and tasks, and returns the posts that were not collected.
 pub fn gather(
     alloc: Global,
     site: &mut PlainSite<AnyDevice>,
@@ -140,8 +133,8 @@ fn receive(site: &mut PlainSite<AnyDevice>, unit: u16) -> Result<(), AllocError>
 {
     for _ in 0..u64::MAX {
         match site.take(unit)? {
-            Arriving::Took(_) => {}
-            Arriving::Held | Arriving::Quiet => break,
+            Intake::Took(_) => {}
+            Intake::Held | Intake::Quiet => break,
         }
     }
     Ok(())
@@ -154,8 +147,8 @@ fn give_back(site: &mut PlainSite<AnyDevice>, unit: u16)
 {
     for _ in 0..u64::MAX {
         match site.deliver(unit) {
-            Delivering::Delivered(_) => {}
-            Delivering::Quiet | Delivering::Full(_) => break,
+            Delivery::Delivered(_) => {}
+            Delivery::Quiet | Delivery::Full(_) => break,
         }
     }
 }

@@ -9,6 +9,7 @@ mod check;
 mod fault;
 mod left;
 mod lines;
+mod lists;
 mod locked;
 mod plain;
 mod printer;

@@ -11,7 +11,7 @@ use crate::carrier::Carrier;
 use crate::shown::Shown;
 use crate::view::View;
 use any_device::AnyDevice;
-use excp_system::{Delivery, Intake, Site, System, Task};
+use excp_system::{Site, System, Task};
 use fifo_row::Full;
 use io_images::Extent;
 use job_mount::request;
@@ -22,8 +22,8 @@ use std::alloc::{AllocError, Global};
 use std::io::Write;
 use std::sync::Wait;
 use unit_book::{
-    Closing, DcbError, Interruption, Mode, OpenError, ProcessingMethod, Purging, Running, Starting,
-    UnitBook,
+    Closing, DcbError, Delivery, Intake, Interruption, Mode, OpenError, ProcessingMethod, Purging,
+    Running, Starting, UnitBook,
 };
 
 /// The units of a site under their locks, and its tasks.
@@ -95,9 +95,12 @@ impl<'a, 'r, S: Site, R: Wait> Carrier for Locked<'a, 'r, S, R> {
         lock.lock(self.rt).purge(self.rt, dcb.number, mode)
     }
 
-    fn purge_task(&mut self, unit: u16, task: u16, mode: Mode) -> Result<Purging, AllocError> {
-        let lock = self.system.lock_of(unit);
-        lock.lock(self.rt).purge_task(self.rt, task, mode)
+    fn purge_task(
+        &mut self,
+        task: u16,
+        mode: Mode,
+    ) -> Result<Vec<Result<Purging, AllocError>>, AllocError> {
+        self.system.purge_task(self.rt, task, mode)
     }
 
     fn close(&mut self, dcb: DcbName) -> Result<Closing, DcbError> {

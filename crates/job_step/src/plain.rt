@@ -9,17 +9,16 @@ use crate::left::{Left, gather};
 use crate::shown::Shown;
 use crate::view::View;
 use any_device::AnyDevice;
-use excp_system::{Delivery, Intake};
 use io_images::Extent;
 use job_mount::request;
 use job_script::{DcbName, Excp, JobError};
 use request_piece::Posted;
 use std::alloc::{AllocError, Global};
 use unit_book::{
-    Closing, DcbError, Interruption, Mode, OpenError, ProcessingMethod, Purging, Running, Starting,
-    UnitBook,
+    Closing, DcbError, Delivery, Intake, Interruption, Mode, OpenError, ProcessingMethod, Purging,
+    Running, Starting, UnitBook,
 };
-use unit_world::{Arriving, Delivering, PlainSite};
+use unit_world::PlainSite;
 
 /// The units of a site, and the post rows of its tasks.
 #[derive(Drop)]
@@ -53,24 +52,6 @@ impl Plain {
     }
 }
 
-/// What a take did, in the words of a unit under a lock.
-fn intake_of(answer: Arriving) -> Intake {
-    match answer {
-        Arriving::Held => Intake::Held,
-        Arriving::Quiet => Intake::Quiet,
-        Arriving::Took(name) => Intake::Took(name),
-    }
-}
-
-/// What a delivery did, in the words of a unit under a lock.
-fn delivery_of(answer: Delivering) -> Delivery {
-    match answer {
-        Delivering::Quiet => Delivery::Quiet,
-        Delivering::Delivered(name) => Delivery::Delivered(name),
-        Delivering::Full(name) => Delivery::Full(name),
-    }
-}
-
 impl Carrier for Plain {
     ghost units = { λ c. length c.site.units };
 
@@ -83,7 +64,6 @@ impl Carrier for Plain {
         let request = request(alloc, excp, name)?;
         match self.site.accept(request) {
             Ok(()) => Ok(Issuing::Accepted(name)),
-            // unit, task and number are right, so only the room is missing
             Err(_) => Ok(Issuing::Full),
         }
     }
@@ -98,7 +78,7 @@ impl Carrier for Plain {
     }
 
     fn take(&mut self, unit: u16) -> Result<Intake, AllocError> {
-        Ok(intake_of(self.site.take(unit)?))
+        self.site.take(unit)
     }
 
     fn start(&mut self, unit: u16) -> Result<Starting, AllocError> {
@@ -114,7 +94,7 @@ impl Carrier for Plain {
     }
 
     fn deliver(&mut self, unit: u16) -> Delivery {
-        delivery_of(self.site.deliver(unit))
+        self.site.deliver(unit)
     }
 
     fn collect(&mut self, task: u16) -> Option<Posted> {
@@ -125,8 +105,12 @@ impl Carrier for Plain {
         self.site.purge(dcb.unit, dcb.number, mode)
     }
 
-    fn purge_task(&mut self, unit: u16, task: u16, mode: Mode) -> Result<Purging, AllocError> {
-        self.site.purge_task_at(unit, task, mode)
+    fn purge_task(
+        &mut self,
+        task: u16,
+        mode: Mode,
+    ) -> Result<Vec<Result<Purging, AllocError>>, AllocError> {
+        self.site.purge_task(task, mode)
     }
 
     fn close(&mut self, dcb: DcbName) -> Result<Closing, DcbError> {

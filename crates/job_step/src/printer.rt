@@ -5,7 +5,7 @@ ghost use Rattle.job_step.specs.Faults.{EndsStep, IsStepFault};
 
 use crate::fault::StepError;
 use crate::view::Views;
-use job_check::{Finding, FindingKind, Found, SCRIPT, Source, write_findings};
+use job_check::{Finding, Found, SCRIPT, Source, fault_of_scenario, write_findings};
 use job_script::{Cause, JobError};
 use script_words::{after_words, next_word};
 use std::alloc::Global;
@@ -153,9 +153,11 @@ impl<'a, W: Write, E: Write> Printer<'a, W, E> {
     fn fault(&mut self, number: usize, bytes: &[u8], cause: Cause) -> Result<(), JobError>
         ensures { IfErr result IsStepFault }
     {
-        let kind = FindingKind::Fault(cause.name, cause.message);
         let line = if number == 0 { SCRIPT } else { number };
-        self.faults(&[Finding { line, bytes, kind }])
+        match fault_of_scenario(self.alloc, line, bytes, cause) {
+            Ok(finding) => self.faults(&[finding]),
+            Err(_) => Err(JobError::NoMemory),
+        }
     }
 
     /// Prints faults. The scenario fails.

@@ -262,7 +262,7 @@ pub fn after_finish<I: Read + Drop>(
     if let ScenarioLine::Script(Line::Nothing) = &line {
         return Ok(Some(false));
     }
-    let text = "no event comes after finish, which is line {n}";
-    let cause = Cause::new(FaultName::Order, text, &[finished as u64]);
+    let text = "'{w}' comes after 'finish' (line {n}), which ends the scenario";
+    let cause = Cause::new(FaultName::Order, text, &[1, finished as u64]);
     Err(StepError::Line(lines.number, cause))
 }

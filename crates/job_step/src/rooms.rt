@@ -1,12 +1,13 @@
 //! The sizes of rows and books.
 
-ghost use Rattle.std.specs.Prelude.{◌≤◌};
+ghost use Rattle.std.specs.Prelude.{◌≡◌, ◌≤◌};
+ghost use Rattle.job_step.specs.Rooms.{book_size, no_sizes, size_of};
 
 use job_scenario::Room;
 use job_script::LIMIT;
 
 /// The fewest bytes of the line of an EXCP, with its line feed.
-const LEAST_EXCP: usize = 30;
+const LEAST_EXCP: usize = 29;
 
 /// The size by default. No scenario has more requests, since it has no more lines of an EXCP.
 const ALWAYS: usize = LIMIT / LEAST_EXCP;
@@ -21,7 +22,9 @@ pub struct Rooms {
 
 impl Rooms {
     /// No line sets a size yet.
-    pub fn new() -> Self {
+    pub fn new() -> Self
+        ensures { result ≡ no_sizes }
+    {
         Rooms {
             intake: 0,
             post: 0,
@@ -44,6 +47,7 @@ impl Rooms {
 
     /// How many requests an intake row holds.
     pub fn intake(&self) -> usize
+        ensures size { result ≡ size_of self.now.intake }
         ensures some { 1 ≤ result }
         ensures few { result ≤ 65536 }
     {
@@ -52,6 +56,7 @@ impl Rooms {
 
     /// How many posts a post row holds.
     pub fn post(&self) -> usize
+        ensures size { result ≡ size_of self.now.post }
         ensures some { 1 ≤ result }
         ensures few { result ≤ 65536 }
     {
@@ -60,6 +65,7 @@ impl Rooms {
 
     /// How many requests the book of a unit holds.
     pub fn book(&self, unit: usize) -> usize
+        ensures size { result ≡ book_size self.now unit }
         ensures some { 1 ≤ result }
         ensures few { result ≤ 65536 }
     {
@@ -69,6 +75,7 @@ impl Rooms {
 
 /// The size that a line sets, or else the default.
 fn room_of(count: u16) -> usize
+    ensures size { result ≡ size_of count }
     ensures some { 1 ≤ result }
     ensures few { result ≤ 65536 }
 {

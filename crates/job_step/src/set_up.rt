@@ -105,10 +105,14 @@ impl Plan {
         ensures fault { IfErr result EndsStep }
     {
         if self.set_up.tasks == 0 {
-            return Err(lacks("no line before the first event declares the tasks"));
+            return Err(lacks(
+                "no line before the first event declares the tasks: add a line 'tasks N'",
+            ));
         }
         if self.set_up.units.is_empty() {
-            return Err(lacks("no line before the first event declares a unit"));
+            return Err(lacks(
+                "no line before the first event declares a unit: add a line 'disk', 'tape' or 'printer'",
+            ));
         }
         Ok(())
     }

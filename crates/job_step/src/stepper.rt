@@ -12,7 +12,6 @@ use crate::fault::StepError;
 use crate::set_up::rejected;
 use crate::shown::Shown;
 use crate::view::View;
-use excp_system::{Delivery, Intake};
 use job_check::why_rejected;
 use job_scenario::{Event, ScenarioLine};
 use job_script::{
@@ -20,7 +19,9 @@ use job_script::{
 };
 use std::alloc::{AllocError, Global};
 use std::io::Write;
-use unit_book::{DcbError, Interruption, Mode, OpenError, Running, Starting};
+use unit_book::{
+    DcbError, Delivery, Intake, Interruption, Mode, OpenError, Purging, Running, Starting,
+};
 
 /// The most commands of a turn in which a program runs to its end. A program fetches at most 4,096 CCWs.
 const TO_THE_END: u32 = 65_535;
@@ -139,8 +140,8 @@ impl<'a, C: Carrier> Stepper<'a, C> {
     fn late(&self, number: usize) -> StepError
         ensures { EndsStep result }
     {
-        let text = "a set-up line comes before the first event, which is line {n}";
-        let cause = Cause::new(FaultName::Order, text, &[self.first as u64]);
+        let text = "'{w}' must come before the first event (line {n})";
+        let cause = Cause::new(FaultName::Order, text, &[1, self.first as u64]);
         StepError::Line(number, cause)
     }
 
@@ -149,13 +150,14 @@ impl<'a, C: Carrier> Stepper<'a, C> {
     {
         let unit = line.dcb.unit;
         let task = line.task;
+        let area = line.area;
         let excp = match self.set_up.over_area(line) {
             Ok(excp) => excp,
             Err(refusal) => return Err(rejected(number, refusal)),
         };
         self.names_task(number, task)?;
         self.names_unit(number, unit)?;
-        if let Some(cause) = why_rejected(&excp) {
+        if let Some(cause) = why_rejected(&excp, self.set_up.place_of_area(area)) {
             return Err(StepError::Line(number, cause));
         }
         self.shown.reserve(task, unit)?;
@@ -205,19 +207,18 @@ impl<'a, C: Carrier> Stepper<'a, C> {
     fn purge_task(&mut self, task: u16, mode: Mode) -> Result<(), StepError>
         ensures { IfErr result EndsStep }
     {
-        for unit in 0..self.set_up.units.len() {
-            self.purge_at(unit as u16, task, mode)?;
+        let answers = self.carrier.purge_task(task, mode)?;
+        for (unit, answer) in answers.into_iter().enumerate() {
+            self.add_purging(unit as u16, answer?)?;
         }
         Ok(())
     }
 
-    /// Purges the requests of a task at one unit.
-    fn purge_at(&mut self, unit: u16, task: u16, mode: Mode) -> Result<(), StepError>
-        requires { unit < vec_len self.old.set_up.now.units }
+    /// Adds to the answer what a purge of a task left at one unit.
+    fn add_purging(&mut self, unit: u16, answer: Purging) -> Result<(), StepError>
         ensures set_up { self.new.set_up.now ≡ self.old.set_up.now }
         ensures fault { IfErr result EndsStep }
     {
-        let answer = self.carrier.purge_task(unit, task, mode)?;
         if unit > 0 {
             written(write!(self.answer, ", "))?;
         }

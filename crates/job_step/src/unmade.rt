@@ -7,18 +7,19 @@ use crate::answer::Issuing;
 use crate::carrier::Carrier;
 use crate::shown::Shown;
 use crate::view::View;
-use excp_system::{Delivery, Intake};
 use io_images::Extent;
 use job_script::{DcbName, Excp, JobError};
 use request_piece::Posted;
 use std::alloc::{AllocError, Global};
 use unit_book::{
-    Closing, DcbError, Interruption, Mode, OpenError, ProcessingMethod, Purging, Running, Starting,
+    Closing, DcbError, Delivery, Intake, Interruption, Mode, OpenError, ProcessingMethod, Purging,
+    Running, Starting,
 };
 
 /// How many units and tasks are declared. Nothing ever happens.
 #[derive(Drop)]
 pub struct Unmade {
+    pub alloc: Global,
     pub units: usize,
     pub tasks: u16,
 }
@@ -69,8 +70,12 @@ impl Carrier for Unmade {
         Ok(Purging::Quiet)
     }
 
-    fn purge_task(&mut self, _unit: u16, _task: u16, _mode: Mode) -> Result<Purging, AllocError> {
-        Ok(Purging::Quiet)
+    fn purge_task(
+        &mut self,
+        _task: u16,
+        _mode: Mode,
+    ) -> Result<Vec<Result<Purging, AllocError>>, AllocError> {
+        vec![in self.alloc; Ok(Purging::Quiet); self.units]
     }
 
     fn close(&mut self, _dcb: DcbName) -> Result<Closing, DcbError> {

@@ -7,6 +7,7 @@ use request_piece::{Name, Scope};
 use std::alloc::{AllocError, Global};
 use std::io::{Result, Write};
 use unit_book::{DcbState, Entry, Mode, ProcessingMethod, UnitBook};
+use unit_world::{ActiveState, active_request};
 
 /// Which of them are printed.
 #[derive(Clone, Copy)]
@@ -27,7 +28,7 @@ pub struct View {
 }
 
 impl View {
-    /// Nothing is printed yet of so many units.
+    /// Nothing is printed yet of `units` units.
     pub fn new(alloc: Global, views: Views, units: usize) -> std::result::Result<Self, AllocError> {
         let mut printed = Vec::new(alloc);
         for _ in 0..units {
@@ -159,18 +160,16 @@ fn write_waiting<W: Write>(out: &mut W, unit: u16, book: &UnitBook<AnyDevice>) -
 }
 
 fn write_active<W: Write>(out: &mut W, unit: u16, book: &UnitBook<AnyDevice>) -> Result<()> {
-    let Some(name) = book.active_name() else {
+    let Some((name, state)) = active_request(book) else {
         return write!(out, "; active none");
     };
     write_of(out, "; active", unit, name)?;
-    let phase = if book.awaits() {
-        "awaits its restart"
-    } else if book.pending() {
-        "status pending"
-    } else {
-        "running"
+    let state = match state {
+        ActiveState::AwaitsRestart => "awaits its restart",
+        ActiveState::Pending => "status pending",
+        ActiveState::Running => "running",
     };
-    write!(out, " {phase}")
+    write!(out, " {state}")
 }
 
 fn write_dcbs<W: Write>(out: &mut W, book: &UnitBook<AnyDevice>) -> Result<()> {

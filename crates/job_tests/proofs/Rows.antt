@@ -18,7 +18,8 @@ disk_of content script = record {
   heads = 1;
   tracks = record {
     size = 40;
-    records = record { id = replicate 5 0; key = []; content = replicate 8 0 } ∷ record { id = 0 ∷ 0 ∷ 0 ∷ 0 ∷ 1 ∷ []; key = []; content = content } ∷ [];
+    records = record { id = replicate 5 0; key = []; content = replicate 8 0 }
+        ∷ record { id = 0 ∷ 0 ∷ 0 ∷ 0 ∷ 1 ∷ []; key = []; content = content } ∷ [];
   } ∷ [];
   track = 0;
   access = at_start 0;
@@ -63,7 +64,8 @@ abbrev buffer : Program DiskState → List ℕ
 buffer p = bytes_at p.area 0x1060 4
 
 abbrev status : ℕ → ℕ → ℕ → ℕ → ℕ → State
-status address unit sub residual sense = Ended (record { address = address; unit = record { 0 = unit }; sub = record { 0 = sub }; residual = residual }) sense
+status address unit sub residual sense =
+    Ended (record { address = address; unit = record { 0 = unit }; sub = record { 0 = sub }; residual = residual }) sense
 
 abbrev none : List ℕ
 none = replicate 8 0
@@ -84,7 +86,8 @@ incorrect_length_is_suppressed : (behind_search (ccw 0x06 0x1060 0x20 8) none).p
 unfolding after step steps_within chain_within parts_from
 incorrect_length_is_suppressed = refl
 
-no_record_found : (whole (attempt (disk_of data_bytes []) 0x18 (search ++ ccw 0x06 0x1060 0 4 ++ none) (record_number 9))).place.state ≡ status 0x1038 0x0E 0 5 8
+no_record_found : (whole (attempt (disk_of data_bytes []) 0x18 (search ++ ccw 0x06 0x1060 0 4 ++ none) (record_number 9))).place.state ≡
+    status 0x1038 0x0E 0 5 8
 unfolding after step steps_within chain_within parts_from
 no_record_found = refl
 
@@ -108,7 +111,8 @@ short_search_argument : (alone (ccw 0x31 0x1050 0 5) (record_number 0)).place.st
 unfolding after step steps_within chain_within parts_from
 short_search_argument = refl
 
-empty_data_is_unit_exception : (whole (attempt (disk_of [] []) 0x18 (search ++ ccw 0x06 0x1060 0 4 ++ none) (record_number 1))).place.state ≡ status 0x1048 0x0D 0 4 0
+empty_data_is_unit_exception : (whole (attempt (disk_of [] []) 0x18 (search ++ ccw 0x06 0x1060 0 4 ++ none) (record_number 1))).place.state
+    ≡ status 0x1048 0x0D 0 4 0
 unfolding after step steps_within chain_within parts_from
 empty_data_is_unit_exception = refl
 
@@ -116,7 +120,9 @@ seek_is_file_protected : (alone (ccw 0x07 0x1050 0 6) (record_number 0)).place.s
 unfolding after step steps_within chain_within parts_from
 seek_is_file_protected = refl
 
-input_dcb_inhibits_writes : (whole (attempt (disk_of data_bytes []) 0x58 (search ++ ccw 0x05 0x1060 0 4 ++ none) (record_number 1))).place.state ≡ status 0x1048 0x0E 0 4 0x8000
+input_dcb_inhibits_writes :
+    (whole (attempt (disk_of data_bytes []) 0x58 (search ++ ccw 0x05 0x1060 0 4 ++ none) (record_number 1))).place.state ≡ status 0x1048
+    0x0E 0 4 0x8000
 unfolding after step steps_within chain_within parts_from
 input_dcb_inhibits_writes = refl
 
@@ -124,7 +130,9 @@ skip_leaves_storage : buffer (behind_search (ccw 0x06 0x1060 0x90 2) (ccw 0 0x10
 unfolding after step steps_within chain_within parts_from
 skip_leaves_storage = refl
 
-words_of_an_address_list : (whole (attempt (disk_of data_bytes []) 0x18 (search ++ ccw 0x06 0x1058 4 4 ++ none) (0 ∷ 0 ∷ 0 ∷ 0 ∷ 1 ∷ 0 ∷ 0 ∷ 0 ∷ 0 ∷ 0 ∷ 0x10 ∷ 0x60 ∷ replicate 12 0))).place.state ≡ status 0x1048 0x0C 0 0 0
+words_of_an_address_list :
+    (whole (attempt (disk_of data_bytes []) 0x18 (search ++ ccw 0x06 0x1058 4 4 ++ none)
+    (0 ∷ 0 ∷ 0 ∷ 0 ∷ 1 ∷ 0 ∷ 0 ∷ 0 ∷ 0 ∷ 0 ∷ 0x10 ∷ 0x60 ∷ replicate 12 0))).place.state ≡ status 0x1048 0x0C 0 0 0
 unfolding after step steps_within chain_within parts_from
 words_of_an_address_list = refl
 
@@ -133,6 +141,7 @@ unfolding after step steps_within chain_within parts_from
 overwrites_its_next_command = refl
 
 -- a program that never ends by itself: no-operation and a transfer back, up to the fetch limit
-fetch_limit_ends_a_loop : length_of disk (attempt (disk_of data_bytes []) 0x18 (ccw 0x03 0 0x60 1 ++ ccw 0x08 0x1030 0 0 ++ replicate 16 0) (record_number 0)) ≡ 2049
+fetch_limit_ends_a_loop : length_of disk
+    (attempt (disk_of data_bytes []) 0x18 (ccw 0x03 0 0x60 1 ++ ccw 0x08 0x1030 0 0 ++ replicate 16 0) (record_number 0)) ≡ 2049
 unfolding steps_within step chain_within parts_from
 fetch_limit_ends_a_loop = refl

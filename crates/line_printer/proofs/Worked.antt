@@ -38,7 +38,8 @@ moves_behind_a_line :
     ((after fixture 0x11 four).at ≡ at 1 3) × ((after fixture 0x19 four).at ≡ at 1 4) × ((after fixture 0x89 four).at ≡ at 2 1)
 moves_behind_a_line = (refl, refl, refl)
 
-moves_at_once : ((after fixture 0x0B []).at ≡ at 1 2) × ((after fixture 0x13 []).at ≡ at 1 3) × ((after fixture 0x1B []).at ≡ at 1 4) × ((after fixture 0x8B []).at ≡ at 2 1)
+moves_at_once : ((after fixture 0x0B []).at ≡ at 1 2) × ((after fixture 0x13 []).at ≡ at 1 3) × ((after fixture 0x1B []).at ≡ at 1 4)
+    × ((after fixture 0x8B []).at ≡ at 2 1)
 moves_at_once = (refl, refl, refl, refl)
 
 -- the third line of the page's last ones comes on the next page
@@ -47,13 +48,15 @@ spaces_over_the_page = refl
 
 wants_paper :
     let last = after fixture 0x8B [] in
-    (ends fixture 0x8B [] ≡ normal_end 0) × (ends last 0x8B [] ≡ unit_check 0x4000) × (ends last 0x89 four ≡ unit_check 0x4000) × ((after last 0x89 four).printed ≡ [])
+    (ends fixture 0x8B [] ≡ normal_end 0) × (ends last 0x8B [] ≡ unit_check 0x4000) × (ends last 0x89 four ≡ unit_check 0x4000)
+    × ((after last 0x89 four).printed ≡ [])
 wants_paper = (refl, refl, refl, refl)
 
 -- two lines at one place, and no third one
 overprints :
     let two = after (after fixture 0x01 four) 0x01 four in
-    (two.printed ≡ record { at = at 1 1; bytes = four } ∷ record { at = at 1 1; bytes = four } ∷ []) × (ends two 0x01 four ≡ unit_check 0x4000) × (ends two 0x0B [] ≡ normal_end 0)
+    (two.printed ≡ record { at = at 1 1; bytes = four } ∷ record { at = at 1 1; bytes = four } ∷ [])
+    × (ends two 0x01 four ≡ unit_check 0x4000) × (ends two 0x0B [] ≡ normal_end 0)
 overprints = (refl, refl, refl)
 
 -- a fault at the first command, and none at the second

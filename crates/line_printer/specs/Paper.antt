@@ -9,7 +9,7 @@ pub record Line : Type 0 where
   pub at : Position
   pub bytes : List ℕ
 
--- SPACE: so many lines down, over the end of the page to the next one
+-- SPACE: `count` lines down, over the end of the page to the next one
 abbrev pub spaced : ℕ → Position → Position
 spaced lines at =
     if nat_le (at.line + lines) 66 then record { page = at.page; line = at.line + lines }

@@ -68,7 +68,7 @@ abbrev pub act_by : Option Fault → PrinterState → ℕ → List ℕ → Outco
 act_by None printer code given = command_on printer (command_of code) given
 act_by (Some fault) printer code given = faulted printer fault
 
--- EVERY COMMAND uses up a number, and meets the fault that stands there or else does what its code says
+-- EVERY COMMAND uses up a number, and meets the fault of the script with that number, or else does what its code says
 abbrev pub act : PrinterState → ℕ → List ℕ → Outcome PrinterState
 act printer code given = act_by (fault_met printer.ordinals) (record printer { ordinals = counted printer.ordinals }) code given
 

@@ -15,7 +15,8 @@ either_wants : (past : Bool) (x y : Outcome PrinterState) → x.acted.want ≡ 0
 either_wants true x y a b = a
 either_wants false x y a b = b
 
-command_gives : (p : PrinterState) (command : Option Command) (given : List ℕ) → GivesWhatItWants (flow_of command) (command_on p command given)
+command_gives : (p : PrinterState) (command : Option Command) (given : List ℕ) →
+    GivesWhatItWants (flow_of command) (command_on p command given)
 command_gives p None given = refl
 command_gives p (Some NoOperation) given = refl
 command_gives p (Some Sense) given = refl

@@ -25,7 +25,7 @@ impl Model for Listing {
 }
 
 impl Listing {
-    /// No line, with room for so many.
+    /// No line, with room for `room` of them.
     pub fn new(alloc: Global, room: usize) -> Result<Self, AllocError>
         ensures { IfOk result (λ l. l ≡ record { room = room; lines = [] }) }
     {

@@ -45,7 +45,7 @@ impl Position {
         }
     }
 
-    /// So many lines down.
+    /// This many lines down.
     fn spaced(self, lines: u8) -> Self
         requires on_page { IsOnPage self }
         requires small { self.page < 2 ^ 15 }

@@ -30,7 +30,7 @@ impl Model for PrintedLine {
 }
 
 impl PrintedLine {
-    /// A line of the first bytes that a program gives, as many as there are columns.
+    /// A line of the first bytes that a program gives, up to the number of columns.
     pub(crate) fn new(position: Position, given: &Given<'_>) -> Self
         ensures { result ≡ record { at = position; bytes = columns_of given.now } }
     {

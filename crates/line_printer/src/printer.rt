@@ -51,11 +51,14 @@ impl Printer {
     ghost use Rattle.line_printer.specs.Printer.{print, move};
     ghost use Rattle.line_printer.specs.Mount.{Mounts};
 
-    /// A printer that has room for so many lines and paper of so many pages, at line 1 of page 1, that meets these
-    /// faults (profile).
+    /// A printer with room for `lines` lines and paper of `pages` pages, at line 1 of page 1, that meets these faults
+    /// (profile).
     ///
-    /// Refused in this order: `BadGeometry` where `lines` is not 1 to 100,000 or `pages` not 1 to 10,000;
-    /// `BadMedium` where the faults are no fault script; `NoMemory`.
+    /// Errors, in this order:
+    ///
+    /// - `BadGeometry`: `lines` is not 1 to 100,000, or `pages` not 1 to 10,000.
+    /// - `BadMedium`: the faults are no fault script.
+    /// - `NoMemory`.
     pub fn mount(
         alloc: Global,
         lines: u64,
@@ -137,7 +140,7 @@ impl Printer {
     }
 }
 
-/// Whether a printer may have so many lines and pages.
+/// Whether a printer may have these numbers of lines and pages.
 fn is_paper(lines: u64, pages: u64) -> bool
     ensures { result ≡ is_paper lines pages }
 {

@@ -23,7 +23,8 @@ use Rattle.post_ledger.specs.Report.{AreIdle, AreLegal, PostedOnce, Received, Re
 use Rattle.post_ledger.specs.Work.{list_of, lists_of}
 use Rattle.post_ledger.proofs.Pairs.{all_get, all_map, all_weaker, get_map}
 
-module _ {D : Type 0} (meaning : Meaning D) (units : List (Locked D)) (tasks : List TaskState) (report : ReportState D) (are : report.books ≡ map book_of units) where
+module _ {D : Type 0} (meaning : Meaning D) (units : List (Locked D)) (tasks : List TaskState) (report : ReportState D)
+    (are : report.books ≡ map book_of units) where
   -- the unit that a book of the report is of
   unit_at : (u : ℕ) (b : Book D) → slice_get report.books u ≡ Some b → (v : Locked D) × (slice_get units u ≡ Some v) × (b ≡ v.book)
   unit_at u b e = get_map book_of units u b (ap (λ l. slice_get l u) (sym are) ∙ e)
@@ -32,7 +33,8 @@ module _ {D : Type 0} (meaning : Meaning D) (units : List (Locked D)) (tasks : L
   are_legal sound =
       subst (All (λ (b : Book D). Legal meaning b.mounted b.trace)) (sym are)
       (all_map book_of (λ (b : Book D). Legal meaning b.mounted b.trace) units
-      (all_weaker (λ (v : Locked D). BookKeeps meaning v.book) (λ (v : Locked D). Legal meaning v.book.mounted v.book.trace) units (λ v s. s.legal) sound))
+      (all_weaker (λ (v : Locked D). BookKeeps meaning v.book) (λ (v : Locked D). Legal meaning v.book.mounted v.book.trace) units
+      (λ v s. s.legal) sound))
 
   pub are_idle : All (λ (v : Locked D). IsIdle v.book.trace) units → AreIdle report
   are_idle idle = subst (All (λ (b : Book D). IsIdle b.trace)) (sym are) (all_map book_of (λ (b : Book D). IsIdle b.trace) units idle)
@@ -46,13 +48,16 @@ module _ {D : Type 0} (meaning : Meaning D) (units : List (Locked D)) (tasks : L
         let i = all_get (λ (x : Book D). IsIdle x.trace) report.books u b idle e in
         let l = all_get (λ (x : Book D). Legal meaning x.mounted x.trace) report.books u b legal e in
         subst (Each (λ r. posts_of r.name b.trace ≡ 1)) (received u t b w e e')
-        (Each-filter (λ r. posts_of r.name b.trace ≡ 1) (λ (r : Piece). r.name.task == t) (arrivals b.trace) (law b.mounted b.trace l i.none_waits i.none_active))
+        (Each-filter (λ r. posts_of r.name b.trace ≡ 1) (λ (r : Piece). r.name.task == t) (arrivals b.trace)
+        (law b.mounted b.trace l i.none_waits i.none_active))
 
     -- nothing is out, so that all that was posted was given
-    all_given : (v : Locked D) → BookKeeps meaning v.book → v.book.out ≡ [] → given meaning v.book ≡ posted meaning v.book.mounted v.book.trace
+    all_given : (v : Locked D) → BookKeeps meaning v.book → v.book.out ≡ [] →
+        given meaning v.book ≡ posted meaning v.book.mounted v.book.trace
     all_given v sound none = sym (append-nil (given meaning v.book)) ∙ (ap (λ l. given meaning v.book ++ l) (sym none) ∙ sound.given)
 
-    pub returned_rest : (lists : List (List (List PostedState))) → report.lists ≡ lists → All (λ (v : Locked D). BookKeeps meaning v.book) units → Drained meaning units tasks → ReturnedRest meaning lists report tasks
+    pub returned_rest : (lists : List (List (List PostedState))) → report.lists ≡ lists →
+        All (λ (v : Locked D). BookKeeps meaning v.book) units → Drained meaning units tasks → ReturnedRest meaning lists report tasks
     returned_rest lists same sound drained u t b w e e' before got =
         let v = unit_at u b e in
         let s = all_get (λ (x : Locked D). BookKeeps meaning x.book) units u v.0 sound v.1 in

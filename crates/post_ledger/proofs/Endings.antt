@@ -18,18 +18,22 @@ use Rattle.post_ledger.specs.Work.{CollectsAll, Gathers, Grew, Works, list_of, l
 use Rattle.post_ledger.proofs.Pairs.{get_map, get_there}
 
 -- a task that has collected has sent what it had sent
-module _ {D : Type 0} (units : ℕ) (first tasks : List TaskState) (before after : List (List (List PostedState))) (c : CollectsAll units first tasks before after) (report : ReportState D) where
-  later : (t : ℕ) (w : TaskState) → slice_get first t ≡ Some w → (v : TaskState) × (slice_get tasks t ≡ Some v) × Gathers units w v (lists_of before t) (lists_of after t)
+module _ {D : Type 0} (units : ℕ) (first tasks : List TaskState) (before after : List (List (List PostedState)))
+    (c : CollectsAll units first tasks before after) (report : ReportState D) where
+  later : (t : ℕ) (w : TaskState) → slice_get first t ≡ Some w → (v : TaskState) × (slice_get tasks t ≡ Some v)
+      × Gathers units w v (lists_of before t) (lists_of after t)
   later t w e = let v = get_there tasks first t w (sym c.count) e in (v.0, v.1, c.each t w v.0 e v.1)
 
   pub received_first : Received report tasks → Received report first
   received_first r u t b w e e' = let v = later t w e' in r u t b v.0 e v.1 ∙ ap (λ (x : TaskState). sent_by x u) v.2.task
 
   pub posted_first : PostedOnce report tasks → PostedOnce report first
-  posted_first p u t b w e e' = let v = later t w e' in subst (λ (x : TaskState). Each (λ r. posts_of r.name b.trace ≡ 1) (sent_by x u)) v.2.task (p u t b v.0 e v.1)
+  posted_first p u t b w e e' = let v = later t w e' in subst (λ (x : TaskState). Each (λ r. posts_of r.name b.trace ≡ 1) (sent_by x u))
+      v.2.task (p u t b v.0 e v.1)
 
   -- what was collected stands in its lists
-  pub returned_first : (meaning : Meaning D) → length report.books ≡ units → ReturnedRest meaning after report tasks → ReturnedRest meaning before report first
+  pub returned_first : (meaning : Meaning D) → length report.books ≡ units → ReturnedRest meaning after report tasks →
+      ReturnedRest meaning before report first
   returned_first meaning count r u t b w e e' front got =
       let v = later t w e' in
       let lt : u < units = omega (arith, slice_get_within report.books u b e, count) in
@@ -41,7 +45,8 @@ module _ {D : Type 0} (units : ℕ) (first tasks : List TaskState) (before after
       ∙ (append_assoc front (list_of (lists_of before t) u) more
       ∙ ap (λ l. front ++ l) (sym (v.2.lists u lt))))))
 
-pub grew_into : {D : Type 0} (first units : List (Locked D)) (books : List (Book D)) → books ≡ map book_of units → Paired Works first units → Paired (λ (v : Locked D) b. Grew v.book b) first books
+pub grew_into : {D : Type 0} (first units : List (Locked D)) (books : List (Book D)) → books ≡ map book_of units →
+    Paired Works first units → Paired (λ (v : Locked D) b. Grew v.book b) first books
 grew_into first units books are works = record {
   count = ap length are ∙ (length-map units book_of ∙ works.count);
   each = λ k v b e e'.

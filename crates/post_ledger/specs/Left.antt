@@ -25,7 +25,7 @@ abbrev pub free_states : {L X A : Type 0} → Units L (Vec X A) → Option (List
 free_states (LockedUnits system) = None
 free_states (Free units) = Some units.items
 
--- for some of so many tasks, each of them from the first on, a list for each unit
+-- for some of `tasks` tasks, each of them from the first on, a list for each unit
 pub record AreLists (units tasks : ℕ) (lists : List (List (List PostedState))) : Type 0 where
   pub few : length lists ≤ tasks
   pub each : All (λ of_units. length of_units ≡ units) lists
@@ -34,7 +34,7 @@ pub record AreLists (units tasks : ℕ) (lists : List (List (List PostedState)))
 abbrev pub AreMixed : {D : Type 0} → List (Locked D) → Type 0
 AreMixed {D} units = (k : ℕ) × (v : Locked D) × (slice_get units k ≡ Some v) × (v.unit ≢ k)
 
--- the cause is that units are mixed up where they are, and want of memory elsewhere
+-- the cause is that units are mixed up, if they are, and else that memory ran out
 abbrev pub IsCause : {D : Type 0} → ℕ → Cause → Option (List (Locked D)) → Type 0
 IsCause count Mixed None = ⊥
 IsCause count Mixed (Some units) = AreMixed units

@@ -25,7 +25,7 @@ pub record ReportState (D : Type 0) : Type 0 where
 abbrev pub list_at : {D : Type 0} → ReportState D → ℕ → ℕ → List PostedState
 list_at report task unit = list_of (lists_of report.lists task) unit
 
--- so many units, and for each of so many tasks a list for each unit
+-- `units` units, and for each of `tasks` tasks a list for each unit
 pub record IsFor {D : Type 0} (units tasks : ℕ) (report : ReportState D) : Type 0 where
   pub of_units : length report.books ≡ units
   pub of_tasks : length report.lists ≡ tasks

@@ -41,7 +41,7 @@ list_of lists unit = slice_index_or lists unit []
 abbrev pub lists_of : List (List (List PostedState)) → ℕ → List (List PostedState)
 lists_of posts task = slice_index_or posts task []
 
--- a task has collected these values, and those of each unit stand behind what was in the unit's list
+-- a task has collected these values, and those of each unit come after what was in the unit's list
 pub record Gathers (units : ℕ) (old new : TaskState) (before after : List (List PostedState)) : Type 0 where
   pub values : List PostedState
   pub task : new ≡ record old { got = old.got ++ values }

@@ -9,9 +9,10 @@ ghost use Rattle.post_ledger.specs.Work.{CollectsAll, Works};
 
 use crate::posts::Posts;
 use device_port::Device;
-use excp_system::{Delivery, Intake, Site, Task, UnitState, drained};
+use excp_system::{Site, Task, UnitState, drained};
 use std::alloc::AllocError;
 use std::sync::Wait;
+use unit_book::{Delivery, Intake};
 
 /// Lets what is in flight to a unit arrive, as far as its book has room.
 fn receive<S: Site, D: Device, R: Wait>(

@@ -1,9 +1,9 @@
-//! The end of a run: what is under way is brought to its end, the ends of each row come together, and each task gets an
-//! account of all that it sent.
+//! The end of a run: what is under way is brought to its end, the ends of each row come together, and each task gets
+//! an account of all that it sent.
 //!
-//! [`finish`] says of every run, whatever its threads did, that each unit received what its tasks sent, once and in
-//! order, and has posted each request of it just once, and that what a task had collected and what the [`Report`]
-//! lists for it is all that was posted for it.
+//! [`finish`] holds for every run, whatever its threads did. Each unit received what its tasks sent, once and in
+//! order, and has posted each request of it just once. What a task had collected, and what the [`Report`] lists for
+//! it, is all that was posted for it.
 //!
 //! Tests: system_tests (`endings`), tests/mutants/post_ledger.
 #![tactic(auto)]

@@ -27,7 +27,7 @@ impl Model for Posts {
 }
 
 impl Posts {
-    /// An empty list for each of so many units.
+    /// An empty list for each of `units` units.
     fn new(alloc: Global, units: usize) -> Result<Posts, AllocError>
         ensures { IfOk result (λ posts. posts ≡ replicate units []) }
     {
@@ -94,7 +94,7 @@ fn make_room(lists: &mut Vec<Vec<Posted>>) -> Result<(), AllocError>
     Ok(())
 }
 
-/// Makes the lists that are missing, for so many tasks and units. Where there is no memory, some stay missing.
+/// Makes the lists that are missing, for these numbers of tasks and units. If memory runs out, some stay missing.
 pub(crate) fn make_lists(
     alloc: Global,
     posts: &mut Vec<Posts>,

@@ -100,17 +100,20 @@ impl<'r, S: Site, D: Device> Unfinished<'r, S, D> {
     }
 }
 
-/// Brings a run to its end, once its workers have ended: takes the locks off, lets units and tasks do all that is
+/// Brings a run to its end, once its workers have ended. It takes the locks off, lets units and tasks do all that is
 /// left to do until nothing is on its way between them, and joins the ends of each row. The tasks are all tasks of
 /// the system, each at the place of its number.
 ///
-/// Whatever the threads of the run did, for each unit of the report, with the trace of its book: the trace is
-/// legal, nothing waits and nothing is active; what arrived of each task is what `excp` accepted of it there, in
-/// order; each of these requests has just one post; and what the task had collected of the unit, and then its list
-/// in the report, is what the unit posted for it, in order, each value as its trace gives it. The device of the
-/// book is that of its trace on the device as it was mounted ([`unit_book::UnitBook::device`]).
+/// Whatever the threads of the run did, this holds of each unit of the report, with the trace of its book:
 ///
-/// Where there is no memory, or a unit's state is not under its own lock, nothing is lost: see [`Unfinished`].
+/// - The trace is legal, nothing waits and nothing is active.
+/// - What arrived of each task is what `excp` accepted of it there, in order.
+/// - Each of these requests has just one post.
+/// - What the task had collected of the unit, and then its list in the report, is what the unit posted for it, in
+///   order, each value as its trace gives it.
+/// - The device of the book is that of its trace on the device as it was mounted ([`unit_book::UnitBook::device`]).
+///
+/// If memory runs out, or a unit's state is not under its own lock, nothing is lost: see [`Unfinished`].
 pub fn finish<'r, S: Site, D: Device, R: Wait>(
     rt: &R,
     alloc: Global,

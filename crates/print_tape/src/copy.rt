@@ -15,11 +15,11 @@ pub const TAPE: u16 = 0;
 
 pub const PRINTER: u16 = 1;
 
-/// The most bytes that are read: one more than a line has, so that a block that does not fit it is told.
+/// The most bytes that are read: one more than a line has, so that a block that does not fit it shows.
 const MOST: u16 = 133;
 
-/// Prints the blocks of the tape up to its mark. All requests are related, so the error at the mark dooms the read that
-/// waits behind it too.
+/// Prints the blocks of the tape up to its mark. All requests are related, so the error at the mark also dooms the
+/// read that waits after it.
 pub struct CopyTape;
 
 impl TaskProgram<AnyDevice> for CopyTape {
@@ -83,8 +83,8 @@ fn issue<S: Site, R: Wait>(
     )
 }
 
-/// Where a buffer has the IOB of the request to a unit. Its ECB is X'28' behind it, its channel program X'30'; the block
-/// is behind both requests, at X'1080'.
+/// Where a buffer has the IOB of the request to a unit. Its ECB is at X'28' from there, its channel program at X'30'.
+/// The block comes after both requests, at X'1080'.
 fn iob_of(unit: u16) -> u32
     ensures { result ≤ 0x800000 }
 {

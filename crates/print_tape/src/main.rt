@@ -1,5 +1,5 @@
-//! `print_tape` copies a tape to a printer as an access method does, with no script: it has two buffers, both units are
-//! served by workers, and what stands on the paper in the end is printed.
+//! `print_tape` copies a tape to a printer as an access method does, with no script. It has two buffers, and workers
+//! serve both units. In the end it prints what is on the paper.
 //!
 //! Tests: crates/print_tape/stdout, the group refusals of tests/run.
 #![tactic(auto)]

@@ -3,7 +3,8 @@
 use Rattle.std.specs.Prelude.{ℕ, ◌+◌, ◌==◌, nat_le, not, Bool, true, false, ◌&&◌, ◌||◌, if◌then◌else◌}
 use Rattle.io_images.specs.declared.code.Code.TheVariants.{Ended, PermanentError}
 use Rattle.io_images.specs.declared.csw.Csw.{Csw}
-use Rattle.io_images.specs.Bits.{is_on, is_off, check_or_exception, unit_check_bit, unit_exception_bit, normal_end_status, modifier_end_status, channel_data_check_bit, interface_control_check_bit}
+use Rattle.io_images.specs.Bits.{is_on, is_off, check_or_exception, unit_check_bit, unit_exception_bit, normal_end_status}
+use Rattle.io_images.specs.Bits.{modifier_end_status, channel_data_check_bit, interface_control_check_bit}
 use Rattle.device_port.specs.declared.kind.Kind.{Kind}
 use Rattle.device_port.specs.declared.kind.Kind.TheVariants.{Disk, Tape, Printer}
 use Rattle.recovery.specs.declared.answer.Verdict.{Verdict}
@@ -39,9 +40,10 @@ is_passing_error csw sense =
 abbrev pub is_channel_error : Csw → Bool
 is_channel_error csw =
     is_off check_or_exception csw.unit.0
-    && ((csw.sub.0 == channel_data_check_bit) || (csw.sub.0 == interface_control_check_bit) || (csw.sub.0 == channel_data_check_bit + interface_control_check_bit))
+    && ((csw.sub.0 == channel_data_check_bit) || (csw.sub.0 == interface_control_check_bit)
+    || (csw.sub.0 == channel_data_check_bit + interface_control_check_bit))
 
--- the verdict after so many starts: at most ten times a program is started again
+-- the verdict after a number of starts: a program is started again at most ten times
 abbrev pub verdict : Kind → Csw → ℕ → ℕ → Verdict
 verdict kind csw sense attempt =
     if is_success csw then Final Ended

@@ -31,9 +31,9 @@ impl Model for Posted {
 }
 
 impl Posted {
-    /// Posts a request: writes, last of all, IOBSENS0 and IOBSENS1, IOBECBCC, the CSW, IOBIOERR and
-    /// the ECB (DFSMSdfp Advanced Services, "Input/Output Block Fields" and "Event Control Block
-    /// Fields"; that IOBIOERR is on for every code but 7F is the profile's).
+    /// Posts a request (DFSMSdfp Advanced Services, "Input/Output Block Fields" and "Event Control Block Fields";
+    /// that IOBIOERR is on for every code but 7F is the profile's). Last of all it writes IOBSENS0 and IOBSENS1,
+    /// IOBECBCC, the CSW, IOBIOERR and the ECB.
     pub fn new(piece: Box<Piece>, code: Code, csw: Csw, sense: u16) -> Posted
         requires { Placed piece.value }
         ensures { result ≡ posted_of piece.value code csw sense }

@@ -39,10 +39,15 @@ impl Model for Request {
 }
 
 impl Request {
-    /// The request that the IOB at `iob` of the area describes. It is refused, and the area given
-    /// back, for the first reason that applies: the IOB is not on a fullword in the area; nor is the
-    /// ECB, or it overlaps the IOB; the channel program is not on a doubleword in the area; the IOB
-    /// names another DCB; there is no memory (profile).
+    /// The request that the IOB at `iob` of the area describes.
+    ///
+    /// Errors, which give the area back, in this order (profile):
+    ///
+    /// - The IOB is not on a fullword boundary, or not in the area.
+    /// - The ECB is not on a fullword boundary, or not in the area, or it overlaps the IOB.
+    /// - The channel program is not on a doubleword boundary, or not in the area.
+    /// - The IOB names another DCB.
+    /// - Memory runs out.
     pub fn new(
         alloc: Global,
         name: Name,

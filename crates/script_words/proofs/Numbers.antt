@@ -1,5 +1,6 @@
 -- What a word of digits says.
-use Rattle.std.proofs.Common.{◌≡◌, ◌<◌, ◌≤◌, ◌≢◌, ◌+◌, ◌-◌, ◌*◌, ◌^◌, ℕ, true, false, List, [], ◌∷◌, length, take, drop, get_or, refl, sym, ap, ◌∙◌, arith, inl, inr, Option, Some, None, ◌++◌, append_assoc, length-take, length-drop, set, add-zero}
+use Rattle.std.proofs.Common.{◌≡◌, ◌<◌, ◌≤◌, ◌≢◌, ◌+◌, ◌-◌, ◌*◌, ◌^◌, ℕ, true, false, List, [], ◌∷◌, length, take, drop, get_or, refl, sym}
+use Rattle.std.proofs.Common.{ap, ◌∙◌, arith, inl, inr, Option, Some, None, ◌++◌, append_assoc, length-take, length-drop, set, add-zero}
 use Rattle.std.specs.Char.{digit_value}
 use Rattle.std.specs.Option.{option_map}
 use Rattle.std.specs.Str.Parse.{digits_value, AllDigits}
@@ -116,7 +117,8 @@ pair_more front rest new high low whole e long ish isl h l n =
     rw left (pair_next front rest new high low whole e long ish isl h l n)
 
 -- no pair is left, or one digit
-pub pairs_end : (front rest : List ℕ) (whole : Option (List ℕ)) → put_after front (pairs rest) ≡ whole → length rest ≡ 0 → whole ≡ Some front
+pub pairs_end : (front rest : List ℕ) (whole : Option (List ℕ)) → put_after front (pairs rest) ≡ whole → length rest ≡ 0 →
+    whole ≡ Some front
 unfolding pairs
 pairs_end front [] whole e none = sym e ∙ ap (λ (bytes : List ℕ). Some bytes) (append-nil front)
 pairs_end front (a ∷ more) whole e none = absurd (omega arith)

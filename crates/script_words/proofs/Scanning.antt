@@ -1,5 +1,6 @@
 -- The first place that passes, and the first word of a line.
-use Rattle.std.proofs.Common.{◌≡◌, ◌<◌, ◌≤◌, ℕ, suc, Bool, true, false, not, List, [], ◌∷◌, length, take, drop, get_or, refl, sym, add-zero, length-drop, ap, ◌∙◌, eqb, arith, inl, inr}
+use Rattle.std.proofs.Common.{◌≡◌, ◌<◌, ◌≤◌, ℕ, suc, Bool, true, false, not, List, [], ◌∷◌, length, take, drop, get_or, refl, sym, add-zero}
+use Rattle.std.proofs.Common.{length-drop, ap, ◌∙◌, eqb, arith, inl, inr}
 use Rattle.std.proofs.Math.Numerals.{one-add}
 use Rattle.std.specs.List.{position_or_len, slice_split, onto_first, filter}
 use Rattle.std.proofs.lemmas.Bool.{cases_Bool, true≢false, eqb-true, eqb-false}

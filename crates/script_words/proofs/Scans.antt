@@ -1,8 +1,11 @@
 -- One pass over the bytes of a line.
-use Rattle.std.proofs.Common.{◌≡◌, ◌<◌, ◌≤◌, ◌≢◌, ◌+◌, ◌-◌, ℕ, Bool, true, false, List, [], ◌∷◌, ◌++◌, length, take, drop, get_or, set, refl, sym, ap, ◌∙◌, append_assoc, arith, length-drop, length-take, inl, inr, ◌⊎◌, ◌&&◌}
+use Rattle.std.proofs.Common.{◌≡◌, ◌<◌, ◌≤◌, ◌≢◌, ◌+◌, ◌-◌, ℕ, Bool, true, false, List, [], ◌∷◌, ◌++◌, length, take, drop, get_or, set}
+use Rattle.std.proofs.Common.{refl, sym, ap, ◌∙◌, append_assoc, arith, length-drop, length-take, inl, inr, ◌⊎◌, ◌&&◌}
 use Rattle.std.specs.List.{All, position_or_len}
 use Rattle.std.proofs.lemmas.Bool.{cases_lt, le-leb, lt-leb}
-use Rattle.std.proofs.lemmas.List.{append-nil, take_all, take_more, get_or-drop, drop-take, take-append-drop, take-append-le, length-take-le, length-set, get_or_push, get_or_append_left, get_or-set_same, get_or-set_other, length_push}
+use Rattle.std.proofs.lemmas.List.{append-nil, take_all, take_more, get_or-drop, drop-take, take-append-drop, take-append-le}
+use Rattle.std.proofs.lemmas.List.{length-take-le, length-set, get_or_push, get_or_append_left, get_or-set_same, get_or-set_other}
+use Rattle.std.proofs.lemmas.List.{length_push}
 use Rattle.std.proofs.lemmas.List.Elements.{All-nil, All-push, All-from_get_or}
 use Rattle.std.proofs.lemmas.List.Splits.{slice_split_at, slice_split_first, slice_split_none}
 use Rattle.std.proofs.lemmas.List.Folds.{list_all_more}

@@ -1,5 +1,6 @@
 -- THE FORMS OF WORDS: what a word says, if it is of a form (profile).
-use Rattle.std.specs.Prelude.{◌≡◌, ℕ, Bool, List, [], ◌∷◌, ◌++◌, length, Option, Some, None, Result, Ok, Err, ◌==◌, ◌&&◌, nat_le, ◌+◌, ◌*◌, codes, if◌then◌else◌}
+use Rattle.std.specs.Prelude.{◌≡◌, ℕ, Bool, List, [], ◌∷◌, ◌++◌, length, Option, Some, None, Result, Ok, Err, ◌==◌, ◌&&◌, nat_le, ◌+◌, ◌*◌}
+use Rattle.std.specs.Prelude.{codes, if◌then◌else◌}
 use Rattle.std.specs.List.{concat, list_all}
 use Rattle.std.specs.Option.{option_map}
 use Rattle.std.specs.Char.{is_digit, digit_value}
@@ -25,7 +26,7 @@ in_range least most (Some n) = if nat_le least n && nat_le n most then Some n el
 unfoldable pub decimal_in : ℕ → ℕ → List ℕ → Option ℕ
 decimal_in least most word = in_range least most (decimal word)
 
--- a number of so many hexadecimal digits
+-- a number of `count` hexadecimal digits
 unfoldable pub hexadecimal : ℕ → List ℕ → Option ℕ
 hexadecimal digits word = if length word == digits && all_digits 16 word then Some (digits_value 16 word) else None
 
@@ -42,7 +43,7 @@ pairs (high ∷ low ∷ more) =
 unfoldable pub hex_bytes : List ℕ → Option (List ℕ)
 hex_bytes word = if bytes_eq word (codes "-") then Some [] else pairs word
 
--- so many bytes of two hexadecimal digits each
+-- `count` bytes of two hexadecimal digits each
 unfoldable pub sized_pairs : ℕ → List ℕ → Option (List ℕ)
 sized_pairs size word = if length word == 2 * size then pairs word else None
 

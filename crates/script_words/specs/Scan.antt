@@ -28,7 +28,7 @@ pub record Scanned (text starts ends : List ℕ) (count start place : ℕ) : Typ
   pub before : start ≤ place
   pub word : All (λ byte. is_space byte ≡ false) (piece text start place)
 
--- the bytes before a place are so many words
+-- the bytes before a place are `count` words
 pub record Closed (text starts ends : List ℕ) (count place : ℕ) : Type 0 where
   pub counted : length (words (take place text)) ≡ count
   pub kept : Keeps text starts ends (words (take place text)) place

@@ -8,7 +8,7 @@ use Rattle.subchannel.specs.Subchannel.{Phase, Absent, Idle, Running, Pending, C
 abbrev pub phase_told : PhaseField → Phase
 phase_told field.Idle = Idle
 phase_told (field.Running place) = Running place
-phase_told (field.Pending csw sense) = Pending csw sense
+phase_told (field.Pending status) = Pending status
 
 -- without a device the subchannel is not operational
 abbrev pub phase_with : {D : Type 0} → Option D → PhaseField → Phase
@@ -22,4 +22,4 @@ channel_of isc device phase = record { isc = isc; device = device; phase = phase
 abbrev pub IsRunning : PhaseField → Type 0
 IsRunning field.Idle = Unit {0}
 IsRunning (field.Running place) = place.state ≡ state.Running
-IsRunning (field.Pending csw sense) = Unit {0}
+IsRunning (field.Pending status) = Unit {0}

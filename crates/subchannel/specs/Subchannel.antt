@@ -10,13 +10,18 @@ use Rattle.ccw_programs.specs.declared.context.State.TheVariants as state
 use Rattle.ccw_programs.specs.declared.context.Burst.{Burst}
 use Rattle.ccw_programs.specs.Place.{Place, halted, start_place}
 use Rattle.ccw_programs.specs.Step.{Program, program, after, length_of}
+use Rattle.subchannel.specs.declared.Status.{Status}
+
+-- the status of what was never started (profile)
+abbrev pub empty_status : Status
+empty_status = record { csw = no_status; sense = 0 }
 
 -- no device, idle, running a channel program, or status pending
 pub data Phase : Type 0 where
   Absent : Phase
   Idle : Phase
   Running : Place → Phase
-  Pending : Csw → ℕ → Phase
+  Pending : Status → Phase
 
 -- a subchannel: its interruption subclass, its device if there is one, and its phase
 pub record Channel (D : Type 0) : Type 0 where
@@ -30,50 +35,53 @@ abbrev pub ssch_code : Phase → ℕ
 ssch_code Absent = 3
 ssch_code Idle = 0
 ssch_code (Running place) = 2
-ssch_code (Pending csw sense) = 1
+ssch_code (Pending status) = 1
 
 abbrev pub hsch_code : Phase → ℕ
 hsch_code Absent = 3
 hsch_code Idle = 0
 hsch_code (Running place) = 0
-hsch_code (Pending csw sense) = 1
+hsch_code (Pending status) = 1
 
 abbrev pub tsch_code : Phase → ℕ
 tsch_code Absent = 3
 tsch_code Idle = 1
 tsch_code (Running place) = 1
-tsch_code (Pending csw sense) = 0
+tsch_code (Pending status) = 0
 
--- the status that TSCH stores, and the phase after it
-abbrev pub status_of : Phase → Option (Csw × ℕ)
+-- the status that is pending; what TSCH stores of it; and the phase after TSCH
+abbrev pub status_of : Phase → Option Status
 status_of Absent = None
 status_of Idle = None
 status_of (Running place) = None
-status_of (Pending csw sense) = Some (csw, sense)
+status_of (Pending status) = Some status
+
+abbrev pub stored_pair : Status → Csw × ℕ
+stored_pair status = (status.csw, status.sense)
 
 abbrev pub tested_phase : Phase → Phase
 tested_phase Absent = Absent
 tested_phase Idle = Idle
 tested_phase (Running place) = Running place
-tested_phase (Pending csw sense) = Idle
+tested_phase (Pending status) = Idle
 
 abbrev pub is_pending : Phase → Bool
 is_pending Absent = false
 is_pending Idle = false
 is_pending (Running place) = false
-is_pending (Pending csw sense) = true
+is_pending (Pending status) = true
 
 -- an idle subchannel that is halted shows the empty status (profile)
 abbrev pub halted_phase : Phase → Phase
 halted_phase Absent = Absent
-halted_phase Idle = Pending no_status 0
-halted_phase (Running place) = Pending (halted place) 0
-halted_phase (Pending csw sense) = Pending csw sense
+halted_phase Idle = Pending empty_status
+halted_phase (Running place) = Pending (record { csw = halted place; sense = 0 })
+halted_phase (Pending status) = Pending status
 
--- the phase of a program that stands there
+-- the phase of a program at a place
 abbrev pub phase_of : Place → State → Phase
 phase_of place state.Running = Running place
-phase_of place (state.Ended csw sense) = Pending csw sense
+phase_of place (state.Ended csw sense) = Pending (record { csw = csw; sense = sense })
 
 -- the device takes the seek, if there is a device
 abbrev pub TakesSeek : {D : Type 0} → Meaning D → Option D → Seek → Type 0
@@ -90,11 +98,15 @@ module _ {D : Type 0} (meaning : Meaning D) where
   after_ssch c start seek mask Idle = record { isc = c.isc; device = prefixed c.device seek mask; phase = Running (start_place start) }
   after_ssch c start seek mask Absent = c
   after_ssch c start seek mask (Running place) = c
-  after_ssch c start seek mask (Pending csw sense) = c
+  after_ssch c start seek mask (Pending status) = c
 
-  -- as many command steps of this program as the answer says, which are `max` or as many as it has left
+  -- the answer counts the command steps of this program: `max`, or all that it has left
   pub record RunsFrom (p : Program D) (isc max : ℕ) (b : Burst) (new : Channel D) (n : Storage) : Type 0 where
-    pub channel : new ≡ record { isc = isc; device = Some (after meaning b.commands p).device; phase = phase_of (after meaning b.commands p).place (after meaning b.commands p).place.state }
+    pub channel : new ≡ record {
+      isc = isc;
+      device = Some (after meaning b.commands p).device;
+      phase = phase_of (after meaning b.commands p).place (after meaning b.commands p).place.state;
+    }
     pub area : n ≡ (after meaning b.commands p).area
     pub commands : b.commands ≡ min max (length_of meaning p)
     pub state : b.state ≡ (after meaning b.commands p).place.state
@@ -105,7 +117,7 @@ running_program None phase m = None
 running_program (Some d) Absent m = None
 running_program (Some d) Idle m = None
 running_program (Some d) (Running place) m = Some (program place d m)
-running_program (Some d) (Pending csw sense) m = None
+running_program (Some d) (Pending status) m = None
 
 -- `run` answers None where no program runs, and changes nothing
 abbrev pub RunsAs : {D : Type 0} → Meaning D → Channel D → Storage → ℕ → Option (Program D) → Option Burst → Channel D → Storage → Type 0

@@ -5,10 +5,10 @@
 //! Tests: component_tests (`subchannels`).
 #![tactic(auto)]
 
-ghost use Rattle.std.specs.Prelude.{◌≡◌, ◌≤◌, Some, None, MatchOption, min};
+ghost use Rattle.std.specs.Prelude.{◌≡◌, ◌≤◌, Some, None, MatchOption, min, option_map};
 ghost use Rattle.io_area.specs.Storage.{SamePlace};
 ghost use Rattle.ccw_programs.specs.Step.{program};
-ghost use Rattle.subchannel.specs.Subchannel.{Channel, Absent, Idle, TakesSeek, after_ssch, ssch_code, hsch_code, tsch_code, halted_phase, running_program, RunsAs, status_of, tested_phase, is_pending};
+ghost use Rattle.subchannel.specs.Subchannel.{Channel, Absent, Idle, TakesSeek, after_ssch, ssch_code, hsch_code, tsch_code, halted_phase, running_program, RunsAs, empty_status, status_of, stored_pair, tested_phase, is_pending};
 
 use ccw_programs::{Burst, Context, State, Workspace, burst};
 use device_port::Device;
@@ -16,12 +16,31 @@ use io_area::Area;
 use io_images::{Address, Csw, Seek};
 use std::marker::Model;
 
+/// The status of a channel program, with its two sense bytes.
+#[derive(Clone, Copy, PartialEq, Eq, Debug)]
+pub struct Status {
+    pub csw: Csw,
+    pub sense: u16,
+}
+
+impl Status {
+    /// The status of what was never started (profile).
+    pub fn empty() -> Self
+        ensures { result ≡ empty_status }
+    {
+        Status {
+            csw: Csw::empty(),
+            sense: 0,
+        }
+    }
+}
+
 /// What a subchannel that has a device is doing.
 #[derive(Drop)]
 enum Phase {
     Idle,
     Running(Context),
-    Pending(Csw, u16),
+    Pending(Status),
 }
 
 /// A subchannel with its interruption subclass and its device, if there is one.
@@ -106,7 +125,7 @@ impl<D: Device> Subchannel<D> {
                 0
             }
             Phase::Running(_) => 2,
-            Phase::Pending(_, _) => 1,
+            Phase::Pending(_) => 1,
         }
     }
 
@@ -114,29 +133,29 @@ impl<D: Device> Subchannel<D> {
     /// status pending, 3 not operational.
     pub fn tsch(&mut self) -> (u8, Option<(Csw, u16)>)
         ensures code { result.0 ≡ tsch_code self.old.phase }
-        ensures status { result.1 ≡ status_of self.old.phase }
+        ensures status { result.1 ≡ option_map stored_pair (status_of self.old.phase) }
         ensures state { self.new ≡ record self.old { phase = tested_phase self.old.phase } }
     {
         if self.device.is_none() {
             return (3, None);
         }
-        let Phase::Pending(csw, sense) = &self.phase else {
+        let Phase::Pending(status) = &self.phase else {
             return (1, None);
         };
-        let status = (*csw, *sense);
+        let stored = (status.csw, status.sense);
         self.phase = Phase::Idle;
-        (0, Some(status))
+        (0, Some(stored))
     }
 
     /// The status that is pending, which stays so.
-    pub fn status(&self) -> Option<(Csw, u16)>
+    pub fn status(&self) -> Option<Status>
         ensures { result ≡ status_of self.now.phase }
     {
         if self.device.is_none() {
             return None;
         }
         match &self.phase {
-            Phase::Pending(csw, sense) => Some((*csw, *sense)),
+            Phase::Pending(status) => Some(*status),
             Phase::Idle | Phase::Running(_) => None,
         }
     }
@@ -151,11 +170,14 @@ impl<D: Device> Subchannel<D> {
             return 3;
         }
         let status = match &self.phase {
-            Phase::Idle => Csw::empty(),
-            Phase::Running(context) => context.halted(),
-            Phase::Pending(_, _) => return 1,
+            Phase::Idle => Status::empty(),
+            Phase::Running(context) => Status {
+                csw: context.halted(),
+                sense: 0,
+            },
+            Phase::Pending(_) => return 1,
         };
-        self.phase = Phase::Pending(status, 0);
+        self.phase = Phase::Pending(status);
         0
     }
 
@@ -175,7 +197,7 @@ impl<D: Device> Subchannel<D> {
         let done = burst(context, device, area, &mut self.workspace, max);
         let state = done.state;
         if let State::Ended(csw, sense) = state {
-            self.phase = Phase::Pending(csw, sense);
+            self.phase = Phase::Pending(Status { csw, sense });
         }
         Some(done)
     }
@@ -184,6 +206,6 @@ impl<D: Device> Subchannel<D> {
     pub fn pending(&self) -> bool
         ensures { result ≡ is_pending self.now.phase }
     {
-        self.device.is_some() && matches!(&self.phase, Phase::Pending(_, _))
+        self.device.is_some() && matches!(&self.phase, Phase::Pending(_))
     }
 }

@@ -61,7 +61,7 @@ pub fn disk(alloc: Global, faults: &[Fault]) -> Result<Disk, AllocError> {
     Disk::mount(alloc, geometry, &records, faults).map_err(|_| AllocError)
 }
 
-/// The book of a disk that meets these faults, for so many requests, whose DCB 1 is open.
+/// The book of a disk that meets these faults, for `capacity` requests, whose DCB 1 is open.
 pub fn disk_book(
     alloc: Global,
     faults: &[Fault],

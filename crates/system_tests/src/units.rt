@@ -26,7 +26,7 @@ mod without_memory;
 /// How often a thread looks before it gives up.
 const LOOKS: u32 = 1_000_000;
 
-/// The next posted value of the task, if it comes within so many looks.
+/// The next posted value of the task, if it comes within a number of looks.
 fn awaited<S: Site, R: Wait>(rt: &R, task: &mut Task<'_, S>) -> Option<Posted>
     ensures { task.new.number ≡ task.old.number }
 {

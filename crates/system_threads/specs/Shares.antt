@@ -11,8 +11,9 @@ below (suc n) = below n ++ n ∷ []
 abbrev pub share_of : {A : Type 0} → (A → ℕ) → ℕ → ℕ → List A → List A
 share_of number count remainder all = filter (λ x. (number x % count) == remainder) all
 
--- the first so many workers of `count`, each with its share
-pub record AreSharedSoFar {A W : Type 0} (held : W → List A) (number : A → ℕ) (count made : ℕ) (all : List A) (workers : List W) : Type 0 where
+-- the first `made` workers of `count`, each with its share
+pub record AreSharedSoFar {A W : Type 0} (held : W → List A) (number : A → ℕ) (count made : ℕ) (all : List A)
+    (workers : List W) : Type 0 where
   pub count_is : length workers ≡ made
   pub each : (k : ℕ) (w : W) → slice_get workers k ≡ Some w → held w ≡ share_of number count k all
 

@@ -2,6 +2,7 @@
 
 ghost use Rattle.excp_system.specs.Drained.{ArePlaced};
 
+use crate::refusals::Refusals;
 use crate::runner::Runner;
 use crossbeam_utils::sync::Unparker;
 use excp_system::{Gate, Point, Site};
@@ -9,16 +10,17 @@ use request_piece::Name;
 use std::alloc::{AllocError, Global};
 use std::sync::atomic::{AtomicBool, Ordering};
 
-/// Wakes a task that sleeps when a post is there for it, and all tasks when a worker met want of memory. It is a gate
-/// that holds nobody up.
+/// Wakes a task that sleeps when a post is there for it, and all tasks when a call of a worker runs out of memory in
+/// [`LASTING_TURNS`](crate::LASTING_TURNS) turns in a row. It is a gate that holds nobody up.
 #[derive(Drop)]
 pub struct Alarm {
     tasks: Vec<Unparker>,
+    refusals: Refusals,
     raised: AtomicBool,
 }
 
 impl Alarm {
-    /// Wakes the clients of these runners, which are those of all tasks, in order of number. No worker met want of
+    /// Wakes the clients of these runners, which are those of all tasks, in order of number. No worker ran out of
     /// memory.
     pub fn of<'r, S: Site, O: Drop>(
         alloc: Global,
@@ -32,23 +34,28 @@ impl Alarm {
         }
         Ok(Alarm {
             tasks,
+            refusals: Refusals::none(alloc)?,
             raised: AtomicBool::new(false),
         })
     }
 
-    /// Whether a worker met want of memory.
+    /// Whether a worker ran out of memory for good.
     pub(crate) fn raised(&self) -> bool {
         self.raised.load(Ordering::SeqCst)
     }
 }
 
 impl Gate for Alarm {
-    fn pass(&self, _unit: u16, _point: Point) {}
+    fn pass(&self, unit: u16, point: Point) {
+        self.refusals.begin(unit, point);
+    }
 
-    fn lack_memory(&self, _unit: u16, _point: Point) {
-        self.raised.store(true, Ordering::SeqCst);
-        for task in &self.tasks {
-            task.unpark();
+    fn lack_memory(&self, unit: u16, point: Point) {
+        if self.refusals.refuse(unit, point) {
+            self.raised.store(true, Ordering::SeqCst);
+            for task in &self.tasks {
+                task.unpark();
+            }
         }
     }
 

@@ -131,9 +131,12 @@ impl<'r, S: Site> Client<'r, S> {
         }
     }
 
-    /// Collects the next post of its requests, and sleeps until there is one. Where there was none at one moment of the
-    /// call it ends for want of memory if a worker met that, as a post may never come, even where none is awaited; else
-    /// it answers none where none is awaited. The alarm is to be that of the run. It takes no memory.
+    /// Collects the next post of its requests, and sleeps until there is one. Takes no memory. The alarm is that of
+    /// the run.
+    ///
+    /// If a call of a worker ran out of memory in [`LASTING_TURNS`](crate::LASTING_TURNS) turns in a row, a post may
+    /// never come. So if there was none at one moment of the call, it then returns an error, whether a post is awaited
+    /// or not. Else it returns none if none is awaited.
     pub fn next_post<R: Wait>(
         &mut self,
         rt: &R,

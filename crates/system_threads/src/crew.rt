@@ -63,8 +63,8 @@ pub struct Crew<'r, S: Site> {
 }
 
 impl<'r, S: Site> Crew<'r, S> {
-    /// So many channel workers and handlers: worker c serves the units u with u mod channels = c, and handler h the
-    /// subclasses i with i mod handlers = h.
+    /// These numbers of channel workers and handlers. Worker c serves the units u with u mod channels = c, and
+    /// handler h the subclasses i with i mod handlers = h.
     pub fn new(
         alloc: Global,
         units: u16,
@@ -81,7 +81,7 @@ impl<'r, S: Site> Crew<'r, S> {
     }
 }
 
-/// So many channel workers, with their units.
+/// `count` channel workers, with their units.
 fn channel_workers<S: Site>(
     alloc: Global,
     units: u16,
@@ -98,7 +98,7 @@ fn channel_workers<S: Site>(
     Ok(channels)
 }
 
-/// The ends of the notice rows that each of so many handlers serves.
+/// The ends of the notice rows that each of `count` handlers serves.
 fn handlers_of<'r, S: Site>(
     alloc: Global,
     takers: Vec<IscTaker<'r, S>>,

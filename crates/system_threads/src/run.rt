@@ -23,13 +23,16 @@ use unit_book::UnitBook;
 /// The most tasks of a system, each of which has a thread of its own (profile).
 const MOST_TASKS: usize = 64;
 
-/// Runs the tasks of a system of these rows and books by a program, beside so many workers, and brings the run to its
-/// end. Answers the account of the run, which holds all posts that the tasks have not collected, and, in order of tasks,
-/// what each has left behind.
+/// Runs the tasks of a system of these rows and books by a program, beside these workers, and brings the run to its
+/// end. Returns the report of the run, which holds all posts that the tasks have not collected. With it, in order of
+/// tasks, it returns what each has left behind.
 ///
-/// A worker that meets want of memory goes on, and wakes the tasks, whose [`Client::next_post`](crate::Client::next_post)
-/// tells them of it. The run returns an error, and is dropped, if memory runs out for its parts, if no thread can be made
-/// for a worker, or if its end runs out of memory twice: the end is tried once more from where it stopped.
+/// A worker that runs out of memory tries the call again at its next turn, and nothing is lost. If the same call on a
+/// unit runs out of memory in [`LASTING_TURNS`](crate::LASTING_TURNS) turns in a row, the tasks are woken, and their
+/// [`Client::next_post`](crate::Client::next_post) returns an error.
+///
+/// The run returns an error, and is dropped, if memory runs out for its parts, if no thread can be made for a worker,
+/// or if its end runs out of memory twice. The end is tried once more from where it stopped.
 pub fn run_program<D: Device + Send + Sync, P: TaskProgram<D>, R: Threads + Wait + Sync>(
     rt: &R,
     alloc: Global,
@@ -122,9 +125,9 @@ fn brought_to_end<'r, S: Site, D: Device, R: Wait>(
 }
 
 /// Runs all tasks by the program beside the workers, which pass this gate, and stops and joins these. The gate has to
-/// hand on to the alarm what it is told of posts and of want of memory, since the tasks sleep until they are woken by
-/// it; the alarm has to be [`Alarm::of`] these runners. If no thread can be made for a worker, no task runs, and the
-/// answer is [`RunError::NoThread`].
+/// hand on each of its calls to the alarm, which counts the turns without memory and wakes the tasks; the alarm has to
+/// be [`Alarm::of`] these runners. If no thread can be made for a worker, no task runs, and the answer is
+/// [`RunError::NoThread`].
 pub fn run_beside<
     'r,
     S: Site + Send + Sync,
@@ -180,7 +183,7 @@ pub fn run_beside<
     )
 }
 
-/// Runs all tasks by the program in at most so many threads.
+/// Runs all tasks by the program in at most `threads` threads.
 fn run_each<
     'r,
     S: Site + Send + Sync,

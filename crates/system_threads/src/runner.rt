@@ -1,4 +1,4 @@
-//! The tasks of a system before a run and behind it.
+//! The tasks of a system before a run and after it.
 
 ghost use Rattle.std.specs.Prelude.{◌≡◌, All, IfOk, is_some, length, true};
 ghost use Rattle.excp_system.specs.Drained.{ArePlaced};

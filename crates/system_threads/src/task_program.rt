@@ -9,8 +9,8 @@ use excp_system::{Site, System};
 use std::alloc::Global;
 use std::sync::Wait;
 
-/// What the tasks of a run do: each of them calls `run` with its client, on a thread of its own (where none can be made,
-/// behind another, so a task must not wait for what another task does).
+/// What the tasks of a run do. Each of them calls `run` with its client, on a thread of its own. If no thread can be
+/// made, it runs after another task, so a task must not wait for what another task does.
 pub trait TaskProgram<D: Device>: Sync {
     /// What a task leaves behind when it has ended.
     type Outcome: Send + Drop;

@@ -1,5 +1,6 @@
 -- Blocks and tape marks that were written are read back.
-use Rattle.std.proofs.Common.{◌≡◌, ℕ, ◌+◌, ◌*◌, ◌-◌, ◌≤◌, true, List, [], ◌∷◌, ◌++◌, length, take, drop, replicate, refl, ap, ◌∙◌, append_assoc, arith}
+use Rattle.std.proofs.Common.{◌≡◌, ℕ, ◌+◌, ◌*◌, ◌-◌, ◌≤◌, true, List, [], ◌∷◌, ◌++◌, length, take, drop, replicate, refl, ap, ◌∙◌}
+use Rattle.std.proofs.Common.{append_assoc, arith}
 use Rattle.std.proofs.lemmas.Bool.Decides.{nat_tests}
 use Rattle.std.proofs.lemmas.List.{take_at, drop_at, length-append, append-nil}
 use Rattle.std.proofs.lemmas.List.Concat.{flat_map-cons}
@@ -22,7 +23,8 @@ pub block_fits : (bytes : List ℕ) → 1 ≤ length bytes → length bytes ≤ 
 block_fits bytes some short = grind (arith, nat_tests)
 
 pub length-packed : (x : Item) → length (packed x) ≡ size_of x
-length-packed x = length-append (big_bytes 4 (length (content_of x))) (content_of x) ∙ omega (arith, length-bytes_high_first 4 (length (content_of x)))
+length-packed x = length-append (big_bytes 4 (length (content_of x))) (content_of x)
+    ∙ omega (arith, length-bytes_high_first 4 (length (content_of x)))
 
 -- an item is what its data says
 pub item_with-content : (x : Item) → is_item x ≡ true → item_with (content_of x) ≡ x
@@ -43,7 +45,8 @@ length_at-packed x rest fits =
 pub drop-length_word : (x : Item) (rest : List ℕ) → drop 4 (packed x ++ rest) ≡ content_of x ++ rest
 drop-length_word x rest =
     let n = length (content_of x) in
-    ap (drop 4) (append_assoc (big_bytes 4 n) (content_of x) rest) ∙ drop_at (big_bytes 4 n) (content_of x ++ rest) 4 (length-bytes_high_first 4 n)
+    ap (drop 4) (append_assoc (big_bytes 4 n) (content_of x) rest) ∙ drop_at (big_bytes 4 n) (content_of x ++ rest) 4
+    (length-bytes_high_first 4 n)
 
 item_at-packed : (x : Item) (rest : List ℕ) → is_item x ≡ true → item_at (packed x ++ rest) ≡ x
 unfolding item_at
@@ -60,16 +63,24 @@ reads = record { item = item_at-packed; size = λ x rest fits. omega (arith, len
 -- an item takes four bytes at least
 pub wide : (items : List Item) → 4 * length items ≤ bytes_of items
 wide [] = omega arith
-wide (x ∷ items) = omega (arith, ap length (flat_map-cons packed x items), length-append (packed x) (image_of on_tape items), length-packed x, wide items)
+wide (x ∷ items) = omega (
+  arith,
+  ap length (flat_map-cons packed x items),
+  length-append (packed x) (image_of on_tape items),
+  length-packed x,
+  wide items,
+)
 
 -- ---- an item written behind its length word
 
-pub item_written : (image first second : List ℕ) (at : ℕ) (bytes : List ℕ) → at + (4 + length bytes) ≤ length image → first ≡ written image at (big_bytes 4 (length bytes)) → second ≡ written first (at + 4) bytes
+pub item_written : (image first second : List ℕ) (at : ℕ) (bytes : List ℕ) → at + (4 + length bytes) ≤ length image →
+    first ≡ written image at (big_bytes 4 (length bytes)) → second ≡ written first (at + 4) bytes
     → second ≡ written image at (big_bytes 4 (length bytes) ++ bytes)
 item_written image first second at bytes room e1 e2 =
     let word = big_bytes 4 (length bytes) in
     let len = length-bytes_high_first 4 (length bytes) in
-    e2 ∙ ap (λ (l : List ℕ). written l (at + 4) bytes) e1 ∙ written-written image at (at + 4) word bytes (omega (arith, len)) (omega (arith, len))
+    e2 ∙ ap (λ (l : List ℕ). written l (at + 4) bytes) e1 ∙ written-written image at (at + 4) word bytes (omega (arith, len))
+    (omega (arith, len))
 
 pub packed-item_with : (bytes : List ℕ) → packed (item_with bytes) ≡ big_bytes 4 (length bytes) ++ bytes
 packed-item_with bytes = ap (λ (l : List ℕ). big_bytes 4 (length l) ++ l) (content_of-item_with bytes)

@@ -17,13 +17,15 @@ with_block t given n = record t { reel = with_item_at t.reel t.place (block (tak
 block_len : (given : List ℕ) (len : ℕ) → len ≡ min (length given) longest → length (take longest given) ≡ len
 block_len given len is = length-take longest given ∙ omega arith
 
-pub write_full : (t : TapeState) (given : List ℕ) (len : ℕ) → len ≡ min (length given) longest → has_room_at t.reel t.place len ≡ false → write t given ≡ checked t 0x1000
+pub write_full : (t : TapeState) (given : List ℕ) (len : ℕ) → len ≡ min (length given) longest → has_room_at t.reel t.place len ≡ false →
+    write t given ≡ checked t 0x1000
 write_full t given len is full =
     let bytes = take longest given in
     let fits : has_room_at t.reel t.place (length bytes) ≡ false = ap (has_room_at t.reel t.place) (block_len given len is) ∙ full in
     ap (λ (b : Bool). cond b (unchanged (with_block t given longest) (normal_end (length bytes))) (checked t 0x1000)) fits
 
-pub write_fits : (t : TapeState) (given : List ℕ) (len : ℕ) → len ≡ min (length given) longest → has_room_at t.reel t.place len ≡ true → write t given ≡ unchanged (with_block t given len) (normal_end len)
+pub write_fits : (t : TapeState) (given : List ℕ) (len : ℕ) → len ≡ min (length given) longest → has_room_at t.reel t.place len ≡ true →
+    write t given ≡ unchanged (with_block t given len) (normal_end len)
 write_fits t given len is room =
     let bytes = take longest given in
     let long = block_len given len is in

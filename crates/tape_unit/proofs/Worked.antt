@@ -8,7 +8,8 @@ use Rattle.tape_unit.specs.Tape.{TapeState, act}
 
 -- a tape of so many bytes at its load point
 abbrev mounted : ℕ → List Item → List Fault → TapeState
-mounted size items faults = record { reel = record { size = size; items = items }; place = 0; ordinals = record { script = faults; done = 0 } }
+mounted size items faults =
+    record { reel = record { size = size; items = items }; place = 0; ordinals = record { script = faults; done = 0 } }
 
 abbrev three : List ℕ
 three = 0xC1 ∷ 0xC2 ∷ 0xC3 ∷ []
@@ -62,7 +63,8 @@ backspaces_not_past_the_load_point = (refl, refl)
 
 spaces_over_files :
     let end = after fixture 0x3F in
-    (ends fixture 0x3F ≡ normal_end 0) × (end.place ≡ 2) × (ends end 0x3F ≡ unit_check 0x1000) × (ends end 0x2F ≡ normal_end 0) × ((after end 0x2F).place ≡ 1) × (ends (after end 0x2F) 0x2F ≡ rejected)
+    (ends fixture 0x3F ≡ normal_end 0) × (end.place ≡ 2) × (ends end 0x3F ≡ unit_check 0x1000) × (ends end 0x2F ≡ normal_end 0)
+    × ((after end 0x2F).place ≡ 1) × (ends (after end 0x2F) 0x2F ≡ rejected)
     × ((after (after end 0x2F) 0x2F).place ≡ 0) × ((after end 0x07).place ≡ 0)
 spaces_over_files = (refl, refl, refl, refl, refl, refl, refl, refl)
 

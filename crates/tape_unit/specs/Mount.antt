@@ -15,7 +15,7 @@ use Rattle.tape_unit.specs.Tape.{TapeState}
 abbrev pub is_size : ℕ → Bool
 is_size bytes = nat_le 4 bytes && nat_le bytes 16_777_216
 
--- an item that is handed in, as it stands on the tape
+-- an item that is handed in, as it is on the tape
 abbrev pub initial : InitialItem → Item
 initial initially.Mark = tape_mark
 initial (initially.Block bytes) = block bytes.items

@@ -22,11 +22,11 @@ bytes_before items place = offset_of on_tape items place
 abbrev pub has_room_at : ReelState → ℕ → ℕ → Bool
 has_room_at reel place len = nat_le (bytes_before reel.items place + (4 + len)) reel.size
 
--- the reel with an item at a place, and nothing behind it
+-- the reel with an item at a place, and none after it
 abbrev pub with_item_at : ReelState → ℕ → Item → ReelState
 with_item_at reel place x = record { size = reel.size; items = take place reel.items ++ x ∷ [] }
 
--- what the code keeps of a reel beside its items: where each begins, with room for as many as the medium holds
+-- what the code keeps of a reel beside its items: where each begins, with room for the most that the medium holds
 pub record Index : Type 0 where
   pub room : ℕ
   pub offsets : List ℕ

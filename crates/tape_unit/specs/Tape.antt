@@ -58,7 +58,8 @@ read tape = read_first tape (ahead tape)
 -- 0C READ BACKWARD: the last byte first
 abbrev pub read_backward_first : TapeState → List Item → Outcome TapeState
 read_backward_first tape [] = checked tape command_reject
-read_backward_first tape (x ∷ rest) = record { acted = read_ended x; device = moved_to tape (tape.place - 1); bytes = reverse (content_of x) }
+read_backward_first tape (x ∷ rest) =
+    record { acted = read_ended x; device = moved_to tape (tape.place - 1); bytes = reverse (content_of x) }
 
 abbrev pub read_backward : TapeState → Outcome TapeState
 read_backward tape = read_backward_first tape (items_after tape)
@@ -101,7 +102,7 @@ backspace_file tape = backspace_over tape (position is_mark (items_after tape))
 abbrev pub rewind : TapeState → Outcome TapeState
 rewind tape = unchanged (moved_to tape 0) (normal_end 0)
 
--- ---- writes: what stood at the place and behind it is erased
+-- ---- writes: what was at the place and after it is erased
 
 abbrev pub put : TapeState → Item → Acted → Outcome TapeState
 put tape x ended =
@@ -142,7 +143,7 @@ abbrev pub act_by : Option Fault → TapeState → ℕ → List ℕ → Outcome 
 act_by None tape code given = command_on tape (command_of code) given
 act_by (Some fault) tape code given = faulted tape fault
 
--- EVERY COMMAND uses up a number, and meets the fault that stands there or else does what its code says
+-- EVERY COMMAND uses up a number, and meets the fault of the script with that number, or else does what its code says
 abbrev pub act : TapeState → ℕ → List ℕ → Outcome TapeState
 act tape code given = act_by (fault_met tape.ordinals) (record tape { ordinals = counted tape.ordinals }) code given
 

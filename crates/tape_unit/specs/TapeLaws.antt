@@ -14,7 +14,8 @@ use Rattle.tape_unit.specs.declared.command.Control.TheVariants as control
 use Rattle.tape_unit.specs.Item.{Item, tape_mark, block, is_mark, content_of}
 use Rattle.tape_unit.specs.Reel.{has_room_at}
 use Rattle.tape_unit.specs.Command.{command_of, flow_of}
-use Rattle.tape_unit.specs.Tape.{TapeState, tape, ahead, items_after, read_ended, read_first, read_backward_first, forward_space_first, backspace_first, forward_space_over, backspace_over, command_on, act_by}
+use Rattle.tape_unit.specs.Tape.{TapeState, tape, ahead, items_after, read_ended, read_first, read_backward_first, forward_space_first}
+use Rattle.tape_unit.specs.Tape.{backspace_first, forward_space_over, backspace_over, command_on, act_by}
 
 -- a read gives the bytes that it wants
 want-read : (x : Item) → length (content_of x) ≡ (read_ended x).want
@@ -25,7 +26,8 @@ read_gives : (t : TapeState) (items : List Item) → length (read_first t items)
 read_gives t [] = refl
 read_gives t (x ∷ items) = want-read x
 
-read_backward_gives : (t : TapeState) (items : List Item) → length (read_backward_first t items).bytes ≡ (read_backward_first t items).acted.want
+read_backward_gives : (t : TapeState) (items : List Item) →
+    length (read_backward_first t items).bytes ≡ (read_backward_first t items).acted.want
 read_backward_gives t [] = refl
 read_backward_gives t (x ∷ items) = length-reverse (content_of x) ∙ want-read x
 
@@ -52,7 +54,8 @@ either_wants : (fits : Bool) (x y : Outcome TapeState) → x.acted.want ≡ 0 �
 either_wants true x y a b = a
 either_wants false x y a b = b
 
-command_gives : (t : TapeState) (command : Option Command) (given : List ℕ) → GivesWhatItWants (flow_of command) (command_on t command given)
+command_gives : (t : TapeState) (command : Option Command) (given : List ℕ) →
+    GivesWhatItWants (flow_of command) (command_on t command given)
 command_gives t None given = refl
 command_gives t (Some (Control control.NoOperation)) given = refl
 command_gives t (Some (Control control.Rewind)) given = refl

@@ -5,7 +5,7 @@ ghost use Rattle.std.specs.Prelude.{◌≡◌, ◌<◌, ◌≤◌, ◌^◌, ◌+
 use std::alloc::{AllocError, Global};
 use std::marker::Model;
 
-/// Where the items of a tape begin: an offset for each, in a table with room for as many as the medium holds.
+/// Where the items of a tape begin: an offset for each, in a table with room for the most that the medium holds.
 #[derive(Debug, Drop)]
 pub struct Index {
     offsets: Vec<u32>,
@@ -24,7 +24,7 @@ impl Model for Index {
 }
 
 impl Index {
-    /// An index of no item, with room for so many.
+    /// An index of no item, with room for `room` of them.
     pub fn new(alloc: Global, room: usize) -> Result<Self, AllocError>
         ensures { IfOk result (λ i. i ≡ record { room = room; offsets = [] }) }
     {
@@ -59,7 +59,7 @@ impl Index {
         self.offsets[place] as usize
     }
 
-    /// Notes where the item at a place begins, and forgets those behind it.
+    /// Notes where the item at a place begins, and forgets those after it.
     pub fn put(&mut self, place: usize, offset: usize)
         requires place { place ≤ length self.old.offsets }
         requires room { place < self.old.room }

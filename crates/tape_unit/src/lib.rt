@@ -1,9 +1,9 @@
 //! A magnetic tape of blocks and tape marks: its mounting, its commands, and a reader of its medium.
 //!
-//! A tape is seen as the list of its items from the load point on; in the code it is one buffer of the medium's
-//! size with the items packed in order, each behind a length word, so no command takes memory. Where each item
-//! begins is kept in an index, so no command walks from the load point: a command costs time in the bytes that
-//! it moves, and one that spaces over a file in the items that go by.
+//! A tape is seen as the list of its items from the load point on. In the code it is one buffer of the medium's size,
+//! with the items packed in order, each after a length word. So no command takes memory. An index has the place where
+//! each item begins, so no command walks from the load point. A command costs time in the bytes that it moves, and
+//! one that spaces over a file in the items that go by.
 //!
 //! Tests: component_tests (`tapes`), tests/cases/scripts.
 #![tactic(auto)]

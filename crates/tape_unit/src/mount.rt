@@ -43,7 +43,7 @@ impl InitialItem {
     }
 }
 
-/// Whether a tape may have so many bytes.
+/// Whether a tape may have this many bytes.
 pub fn is_size(bytes: u64) -> bool
     ensures { result ≡ is_size bytes }
 {
@@ -57,7 +57,7 @@ pub fn are_items(items: &[InitialItem]) -> bool
     items.iter().all(|item| item.is_item())
 }
 
-/// Whether the items take no more than so many bytes.
+/// Whether the items take at most `bytes` bytes.
 pub fn fit(items: &[InitialItem], bytes: u64) -> bool
     requires size { is_size bytes ≡ true }
     requires items { list_all is_initial items.now ≡ true }
@@ -73,7 +73,7 @@ pub fn fit(items: &[InitialItem], bytes: u64) -> bool
     true
 }
 
-/// A reel of so many bytes with these items.
+/// A reel of `bytes` bytes with these items.
 pub fn loaded(alloc: Global, items: &[InitialItem], bytes: u64) -> Result<Reel, AllocError>
     requires size { is_size bytes ≡ true }
     requires items { list_all is_initial items.now ≡ true }

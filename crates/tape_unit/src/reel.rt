@@ -147,8 +147,8 @@ impl Reel {
         self.offset(place) + LENGTH_WORD + len <= self.bytes.len()
     }
 
-    /// Writes a block of the first bytes given at a place, erases what stood there and behind it, and answers
-    /// the place behind.
+    /// Writes a block of the first bytes given at a place, erases what was there and after it, and returns the place
+    /// after the block.
     pub fn put_given(&mut self, place: usize, given: &Given<'_>, len: usize) -> usize
         requires place { place ≤ length self.old.items }
         requires some { 1 ≤ len }
@@ -165,7 +165,7 @@ impl Reel {
         place + 1
     }
 
-    /// Writes an item at a place, erases what stood there and behind it, and answers the place behind. An item
+    /// Writes an item at a place, erases what was there and after it, and returns the place after the item. An item
     /// without data is a tape mark.
     pub fn put(&mut self, place: usize, content: &[u8]) -> usize
         requires place { place ≤ length self.old.items }

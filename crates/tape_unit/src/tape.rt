@@ -48,11 +48,14 @@ impl Tape {
     ghost use Rattle.tape_unit.specs.Tape.{control_on, read, read_backward, forward_space_block, backspace_block, forward_space_file, backspace_file, rewind, write, write_tape_mark};
     ghost use Rattle.tape_unit.specs.Mount.{Mounts};
 
-    /// A tape of so many bytes with these items, at its load point, that meets these faults (profile).
+    /// A tape of `bytes` bytes with these items, at its load point, that meets these faults (profile).
     ///
-    /// Refused in this order: `BadGeometry` where `bytes` is not 4 to 16,777,216; `BadMedium` where a block is
-    /// empty or over 65,535 bytes, where the items take more than `bytes`, each four bytes beside its data, or
-    /// where the faults are no fault script; `NoMemory`.
+    /// Errors, in this order:
+    ///
+    /// - `BadGeometry`: `bytes` is not 4 to 16,777,216.
+    /// - `BadMedium`: a block is empty or over 65,535 bytes; the items take more than `bytes`, each four bytes beside
+    ///   its data; or the faults are no fault script.
+    /// - `NoMemory`.
     pub fn mount(
         alloc: Global,
         items: &[InitialItem],

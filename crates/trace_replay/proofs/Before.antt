@@ -1,5 +1,6 @@
 -- The entries before a place of a trace, newest first.
-use Rattle.std.proofs.Common.{◌≡◌, ℕ, suc, ◌+◌, Bool, true, Some, List, [], ◌∷◌, ◌++◌, refl, sym, ap, ◌∙◌, arith, eqb, inl, inr, subst, take, drop, reverse}
+use Rattle.std.proofs.Common.{◌≡◌, ℕ, suc, ◌+◌, Bool, true, Some, List, [], ◌∷◌, ◌++◌, refl, sym, ap, ◌∙◌, arith, eqb, inl, inr, subst}
+use Rattle.std.proofs.Common.{take, drop, reverse}
 use Rattle.std.proofs.lemmas.Bool.{cases_Bool, eqb-true}
 use Rattle.std.proofs.lemmas.List.{reverse-append, take-append-drop}
 use Rattle.std.proofs.lemmas.Option.{get_or_from_slice_get, slice_get_within}
@@ -20,10 +21,12 @@ abbrev pub before : List Entry → ℕ → List Entry
 before entries done = reverse (take done entries)
 
 -- behind one more entry
-pub before-next : (entries : List Entry) (done : ℕ) (e : Entry) → slice_get entries done ≡ Some e → before entries (done + 1) ≡ e ∷ before entries done
+pub before-next : (entries : List Entry) (done : ℕ) (e : Entry) → slice_get entries done ≡ Some e →
+    before entries (done + 1) ≡ e ∷ before entries done
 before-next entries done e h =
     let n : done + 1 ≡ suc done = omega arith in
-    rw (n, take-suc entries done e (slice_get_within entries done e h), get_or_from_slice_get entries done e e h) (reverse-append (take done entries) (e ∷ []))
+    rw (n, take-suc entries done e (slice_get_within entries done e h), get_or_from_slice_get entries done e e h)
+    (reverse-append (take done entries) (e ∷ []))
 
 module _ {D : Type 0} (meaning : Meaning D) (mounted : D) where
   legal-behind : (later earlier : List Entry) → Legal meaning mounted (later ++ earlier) → Legal meaning mounted earlier
@@ -34,11 +37,13 @@ module _ {D : Type 0} (meaning : Meaning D) (mounted : D) where
   parted : (entries : List Entry) (done : ℕ) → reverse entries ≡ reverse (drop done entries) ++ before entries done
   parted entries done = ap reverse (sym (take-append-drop done entries)) ∙ reverse-append (take done entries) (drop done entries)
 
-  pub legal-before : (entries : List Entry) (done : ℕ) → Legal meaning mounted (reverse entries) → Legal meaning mounted (before entries done)
+  pub legal-before : (entries : List Entry) (done : ℕ) → Legal meaning mounted (reverse entries) →
+      Legal meaning mounted (before entries done)
   legal-before entries done l =
       legal-behind (reverse (drop done entries)) (before entries done) (subst (Legal meaning mounted) (parted entries done) l)
 
-  free-open : (d : ℕ) (method : ProcessingMethod) (x : List Extent) (H : List Entry) (k : Due) → FitsBy meaning mounted k (Opened d method x) H → OpenFits meaning mounted d x H
+  free-open : (d : ℕ) (method : ProcessingMethod) (x : List Extent) (H : List Entry) (k : Due) →
+      FitsBy meaning mounted k (Opened d method x) H → OpenFits meaning mounted d x H
   free-open d method x H (ToHalt n) f = absurd cc
   free-open d method x H (ToPost n) f = absurd cc
   free-open d method x H Free f = f
@@ -65,7 +70,8 @@ module _ {D : Type 0} (meaning : Meaning D) (mounted : D) where
   input-stays d (Reset c ∷ later) H l o = input-stays d later H l.1 o
   input-stays d (Post n c s k ∷ later) H l o = input-stays d later H l.1 o
 
-  pub mask-before : (d : ℕ) (entries : List Entry) (done : ℕ) → Legal meaning mounted (reverse entries) → is_opened d (before entries done) ≡ true →
+  pub mask-before : (d : ℕ) (entries : List Entry) (done : ℕ) → Legal meaning mounted (reverse entries) →
+      is_opened d (before entries done) ≡ true →
       mask_of d (reverse entries) ≡ mask_of d (before entries done)
   mask-before d entries done l o =
       let p = parted entries done in

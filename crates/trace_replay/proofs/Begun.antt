@@ -1,5 +1,6 @@
 -- A start, and a post.
-use Rattle.std.proofs.Common.{◌≡◌, ℕ, zero, suc, ◌+◌, append_assoc, Bool, true, false, ◌||◌, Option, Some, None, List, [], ◌∷◌, ◌++◌, refl, sym, ap, ◌∙◌, subst, reverse, take}
+use Rattle.std.proofs.Common.{◌≡◌, ℕ, zero, suc, ◌+◌, append_assoc, Bool, true, false, ◌||◌, Option, Some, None, List, [], ◌∷◌, ◌++◌, refl}
+use Rattle.std.proofs.Common.{sym, ap, ◌∙◌, subst, reverse, take}
 use Rattle.std.proofs.lemmas.List.{reverse-append}
 use Rattle.std.proofs.lemmas.List.Folds.{list_any-append}
 use Rattle.std.specs.List.{list_any}
@@ -21,13 +22,15 @@ use Rattle.trace_replay.specs.declared.attempt.Attempt.{Attempt}
 use Rattle.trace_replay.specs.Replayed.{IsPost}
 use Rattle.trace_replay.specs.Ties.{ArrivesAt, IsWithin, ReplayTies}
 use Rattle.trace_replay.proofs.Before.{before, mask-before}
-use Rattle.trace_replay.proofs.Entries.{Stands, again-area, again-named, first-area, first-start, post-active, post-none, post-other, start-opened, start-seeks, start-stands}
+use Rattle.trace_replay.proofs.Entries.{Stands, again-area, again-named, first-area, first-start, post-active, post-none, post-other}
+use Rattle.trace_replay.proofs.Entries.{start-opened, start-seeks, start-stands}
 use Rattle.trace_replay.proofs.Steps.{legal-here, post-entry, stands-before, ties-behind, whole-none}
 
 any-reverse : (p : Entry → Bool) (xs : List Entry) → list_any p (reverse xs) ≡ list_any p xs
 any-reverse p [] = refl
 any-reverse p (x ∷ xs) =
-    let e : list_any p (reverse (x ∷ xs)) ≡ (list_any p (reverse xs) || list_any p (x ∷ [])) = ap (list_any p) (reverse-append (x ∷ []) xs) ∙ list_any-append p (reverse xs) (x ∷ []) in
+    let e : list_any p (reverse (x ∷ xs)) ≡ (list_any p (reverse xs) || list_any p (x ∷ [])) =
+    ap (list_any p) (reverse-append (x ∷ []) xs) ∙ list_any-append p (reverse xs) (x ∷ []) in
     e ∙ by_bools (list_any p (reverse xs)) (p x) ∙ ap (λ b. p x || b) (any-reverse p xs) where
       by_bools : (a b : Bool) → (a || (b || false)) ≡ (b || a)
       by_bools true true = refl
@@ -80,21 +83,26 @@ module _ {D : Type 0} (meaning : Meaning D) (mounted : D) (entries : List Entry)
         let e = post-entry n (slice_get entries done) entry in
         let h = legal-here meaning mounted entries done (Post n e.0 e.1 e.2) e.3 l in
         ties-behind meaning mounted entries done (Post n e.0 e.1 e.2) e.3 l ran (whole-post t) now None
-        (post-none meaning mounted n e.0 e.1 e.2 (before entries done) h now (stands-before meaning mounted entries done (Post n e.0 e.1 e.2) e.3 l ran (whole-post t) t))
+        (post-none meaning mounted n e.0 e.1 e.2 (before entries done) h now
+        (stands-before meaning mounted entries done (Post n e.0 e.1 e.2) e.3 l ran (whole-post t) t))
 
-    pub posted-other : (a : Attempt) → (a.issued.now.name ≡ n → ⊥) → ReplayTies meaning mounted entries done ran now (Some a) → ReplayTies meaning mounted entries (done + 1) ran now (Some a)
+    pub posted-other : (a : Attempt) → (a.issued.now.name ≡ n → ⊥) → ReplayTies meaning mounted entries done ran now (Some a) →
+        ReplayTies meaning mounted entries (done + 1) ran now (Some a)
     posted-other a other t =
         let e = post-entry n (slice_get entries done) entry in
         let h = legal-here meaning mounted entries done (Post n e.0 e.1 e.2) e.3 l in
         ties-behind meaning mounted entries done (Post n e.0 e.1 e.2) e.3 l ran (whole-post t) now (Some a)
-        (post-other meaning mounted n e.0 e.1 e.2 (before entries done) h now a other (stands-before meaning mounted entries done (Post n e.0 e.1 e.2) e.3 l ran (whole-post t) t))
+        (post-other meaning mounted n e.0 e.1 e.2 (before entries done) h now a other
+        (stands-before meaning mounted entries done (Post n e.0 e.1 e.2) e.3 l ran (whole-post t) t))
 
-    pub posted-active : (a : Attempt) → a.issued.now.name ≡ n → ReplayTies meaning mounted entries done ran now (Some a) → ReplayTies meaning mounted entries (done + 1) ran now None
+    pub posted-active : (a : Attempt) → a.issued.now.name ≡ n → ReplayTies meaning mounted entries done ran now (Some a) →
+        ReplayTies meaning mounted entries (done + 1) ran now None
     posted-active a named t =
         let e = post-entry n (slice_get entries done) entry in
         let h = legal-here meaning mounted entries done (Post n e.0 e.1 e.2) e.3 l in
         ties-behind meaning mounted entries done (Post n e.0 e.1 e.2) e.3 l ran (whole-post t) now None
-        (post-active meaning mounted n e.0 e.1 e.2 (before entries done) h now a named (stands-before meaning mounted entries done (Post n e.0 e.1 e.2) e.3 l ran (whole-post t) t))
+        (post-active meaning mounted n e.0 e.1 e.2 (before entries done) h now a named
+        (stands-before meaning mounted entries done (Post n e.0 e.1 e.2) e.3 l ran (whole-post t) t))
 
   -- A START
   module _ (here : slice_get entries done ≡ Some (Start n)) where
@@ -126,7 +134,8 @@ module _ {D : Type 0} (meaning : Meaning D) (mounted : D) (entries : List Entry)
       pub area_is : a.area ≡ area meaning mounted (request_named n H) H
       pub context : a.context ≡ start_place a.issued.now.start
 
-    pub begins-again : (a b : Attempt) → ReplayTies meaning mounted entries done ran now (Some a) → b ≡ record a { context = start_place a.issued.now.start } → Begins b
+    pub begins-again : (a b : Attempt) → ReplayTies meaning mounted entries done ran now (Some a) →
+        b ≡ record a { context = start_place a.issued.now.start } → Begins b
     begins-again a b t e =
         let s = (standing t).1 in
         let named = again-named meaning mounted n H legal a.issued.now.name s.is in
@@ -137,12 +146,14 @@ module _ {D : Type 0} (meaning : Meaning D) (mounted : D) (entries : List Entry)
           context = refl;
         })
 
-    pub begins-first : (a : Attempt) (k : ℕ) → ReplayTies meaning mounted entries done ran now None → ArrivesAt (take done entries) n k a.issued.now → a.area ≡ a.issued.now.area →
+    pub begins-first : (a : Attempt) (k : ℕ) → ReplayTies meaning mounted entries done ran now None →
+        ArrivesAt (take done entries) n k a.issued.now → a.area ≡ a.issued.now.area →
         a.context ≡ start_place a.issued.now.start → Begins a
     begins-first a k t at m p =
         let r = a.issued.now in
         let o = parts-at (take done entries) k (Arrive r) at.0 in
-        let rev : before entries done ≡ reverse o.1 ++ Arrive r ∷ reverse o.0 = ap reverse o.2 ∙ reverse-append o.0 (Arrive r ∷ o.1) ∙ behind-one (reverse o.1) (Arrive r) o.1 (reverse o.0) refl in
+        let rev : before entries done ≡ reverse o.1 ++ Arrive r ∷ reverse o.0 = ap reverse o.2 ∙ reverse-append o.0 (Arrive r ∷ o.1)
+        ∙ behind-one (reverse o.1) (Arrive r) o.1 (reverse o.0) refl in
         let f = facts meaning mounted H (earlier-legal legal) in
         let known = known-in (Known H) r (reverse o.1) (reverse o.0) (subst (λ x. Each (Known H) (arrivals x)) rev f.6) in
         let is : r ≡ request_named n H = sym (subst (λ (x : Name). request_named x H ≡ r) at.1 known.0) in
@@ -154,21 +165,26 @@ module _ {D : Type 0} (meaning : Meaning D) (mounted : D) (entries : List Entry)
         }
 
     -- its seek fits the device
-    pub begun-seeks : Lawful meaning → {attempt : Option Attempt} → ReplayTies meaning mounted entries done ran now attempt → (a : Attempt) → Begins a → fits meaning now a.issued.now.seek ≡ true
+    pub begun-seeks : Lawful meaning → {attempt : Option Attempt} → ReplayTies meaning mounted entries done ran now attempt →
+        (a : Attempt) → Begins a → fits meaning now a.issued.now.seek ≡ true
     begun-seeks law t a b =
         let k = start-seeks meaning mounted n H legal law in
         let d = (standing t).0 in let i = b.issued in
         rw (d, i) k
 
     -- and what stands behind the start
-    pub begun : {attempt : Option Attempt} → ReplayTies meaning mounted entries done ran now attempt → (a : Attempt) → Begins a → (mask : ℕ) → mask ≡ mask_of a.issued.now.dcb (reverse entries) →
-        (after_now : D) → after_now ≡ meaning.prefix now a.issued.now.seek mask → ReplayTies meaning mounted entries (done + 1) ran after_now (Some a)
+    pub begun : {attempt : Option Attempt} → ReplayTies meaning mounted entries done ran now attempt → (a : Attempt) → Begins a →
+        (mask : ℕ) → mask ≡ mask_of a.issued.now.dcb (reverse entries) →
+        (after_now : D) → after_now ≡ meaning.prefix now a.issued.now.seek mask →
+        ReplayTies meaning mounted entries (done + 1) ran after_now (Some a)
     begun t a b mask mask_is after_now d =
         let i = b.issued in
         let opened = start-opened meaning mounted n H legal in
-        let stays : mask ≡ mask_of (request_named n H).dcb H = mask_is ∙ ap (λ (r : Piece). mask_of r.dcb (reverse entries)) i ∙ mask-before meaning mounted (request_named n H).dcb entries done l opened in
+        let stays : mask ≡ mask_of (request_named n H).dcb H = mask_is ∙ ap (λ (r : Piece). mask_of r.dcb (reverse entries)) i
+        ∙ mask-before meaning mounted (request_named n H).dcb entries done l opened in
         let moved : after_now ≡ meaning.prefix (device meaning mounted H) (request_named n H).seek (mask_of (request_named n H).dcb H) =
-        d ∙ ap (λ x. meaning.prefix x a.issued.now.seek mask) (standing t).0 ∙ ap (λ (r : Piece). meaning.prefix (device meaning mounted H) r.seek mask) i
+        d ∙ ap (λ x. meaning.prefix x a.issued.now.seek mask) (standing t).0
+        ∙ ap (λ (r : Piece). meaning.prefix (device meaning mounted H) r.seek mask) i
         ∙ ap (meaning.prefix (device meaning mounted H) (request_named n H).seek) stays in
         ties-behind meaning mounted entries done (Start n) here l ran (whole-start t) after_now (Some a)
         (start-stands meaning mounted n H legal after_now a b.issued b.named b.area_is b.context moved)

@@ -1,5 +1,6 @@
 -- What a replay keeps over each kind of entry.
-use Rattle.std.proofs.Common.{◌≡◌, ℕ, zero, suc, ◌+◌, ◌≤◌, ◌<◌, true, false, Option, Some, None, List, ◌∷◌, refl, sym, ap, ◌∙◌, arith, inl, inr, subst}
+use Rattle.std.proofs.Common.{◌≡◌, ℕ, zero, suc, ◌+◌, ◌≤◌, ◌<◌, true, false, Option, Some, None, List, ◌∷◌, refl, sym, ap, ◌∙◌, arith, inl}
+use Rattle.std.proofs.Common.{inr, subst}
 use Rattle.std.proofs.lemmas.Bool.{cases_Bool, or_left}
 use Rattle.io_images.specs.declared.code.Code.{Code}
 use Rattle.io_images.specs.declared.csw.Csw.{Csw}
@@ -16,7 +17,8 @@ use Rattle.unit_book.specs.Dcbs.{is_opened, mask_of}
 use Rattle.unit_book.specs.Legal.{Again, First, Legal, StartFits, due}
 use Rattle.unit_book.specs.Media.{area, attempts, current, device, newest, stand}
 use Rattle.unit_book.proofs.ActivePosts.{area-current}
-use Rattle.unit_book.proofs.Facts.{NewestIs, active-is, active-post, active-post_waiting, active-start, fits-arrive, fits-ran, fits-start, fresh, post-whom}
+use Rattle.unit_book.proofs.Facts.{NewestIs, active-is, active-post, active-post_waiting, active-start, fits-arrive, fits-ran, fits-start}
+use Rattle.unit_book.proofs.Facts.{fresh, post-whom}
 use Rattle.unit_book.proofs.LegalFacts.{facts, first-waits, newest-ran}
 use Rattle.unit_book.proofs.Lists.{no_both, same-refl, same-true}
 use Rattle.unit_book.proofs.Opens.{started-opened}
@@ -54,16 +56,18 @@ module _ {D : Type 0} (meaning : Meaning D) (mounted : D) where
   )
 
   -- over these entries nothing moves
-  pub silent : (e : Entry) (H : List Entry) (now : D) (attempt : Option Attempt) → IsSilent e → Legal meaning mounted (e ∷ H) → Stands H now attempt → Stands (e ∷ H) now attempt
+  pub silent : (e : Entry) (H : List Entry) (now : D) (attempt : Option Attempt) → IsSilent e → Legal meaning mounted (e ∷ H) →
+      Stands H now attempt → Stands (e ∷ H) now attempt
   unfolding Legal active started attempts request_named
   silent (Opened d i x) H now attempt k l s = unmoved H (Opened d i x ∷ H) now attempt refl refl (λ n a. refl) s
   silent (Arrive r) H now attempt k l s = unmoved H (Arrive r ∷ H) now attempt refl refl other s where
     other : (n : Name) → active H ≡ Some n → request_named n (Arrive r ∷ H) ≡ request_named n H
     other n a =
         let f = facts meaning mounted H l.1 in
-        let new = fresh meaning mounted r H f (fits-arrive meaning mounted r H (due meaning mounted H) l.0) in
+        let new = fresh r H f (fits-arrive meaning mounted r H (due meaning mounted H) l.0) in
         elim (cases_Bool (same r.name n)) [
-          | inl e ↦ no_both (has_arrived n H) (f.0 n (active-is n H a).0) (subst (λ (x : Name). has_arrived x H ≡ false) (same-true r.name n e) new)
+          | inl e ↦ no_both (has_arrived n H) (f.0 n (active-is n H a).0)
+              (subst (λ (x : Name). has_arrived x H ≡ false) (same-true r.name n e) new)
           | inr e ↦ rw e refl
         ]
   silent (Start n) H now attempt k l s = absurd k
@@ -119,7 +123,7 @@ module _ {D : Type 0} (meaning : Meaning D) (mounted : D) where
 
       by_start : StartFits meaning mounted n H → IsFirst
       by_start (First s) =
-          let w = first-waits meaning mounted s.request H (facts meaning mounted H earlier) s.first in
+          let w = first-waits s.request H (facts meaning mounted H earlier) s.first in
           let e = s.name in
           record {
             arrived = subst (λ (x : Name). has_arrived x H ≡ true) e w.known.1;
@@ -129,8 +133,10 @@ module _ {D : Type 0} (meaning : Meaning D) (mounted : D) where
       by_start (Again s) = absurd (clash a s.active)
 
     -- the attempt that begins, on a request of this name with its storage as it stands
-    pub start-stands : (now : D) (a : Attempt) → a.issued.now ≡ request_named n H → a.issued.now.name ≡ n → a.area ≡ area meaning mounted (request_named n H) H →
-        a.context ≡ start_place a.issued.now.start → now ≡ meaning.prefix (device meaning mounted H) (request_named n H).seek (mask_of (request_named n H).dcb H) →
+    pub start-stands : (now : D) (a : Attempt) → a.issued.now ≡ request_named n H → a.issued.now.name ≡ n →
+        a.area ≡ area meaning mounted (request_named n H) H →
+        a.context ≡ start_place a.issued.now.start → now ≡ meaning.prefix (device meaning mounted H) (request_named n H).seek
+        (mask_of (request_named n H).dcb H) →
         Stands (Start n ∷ H) now (Some a)
     unfolding request_named
     start-stands now a r e m p d =
@@ -138,7 +144,7 @@ module _ {D : Type 0} (meaning : Meaning D) (mounted : D) where
         let c = current-start meaning mounted n H in (
           d ∙ sym (device-start meaning mounted n H),
           record {
-            is = active-start meaning mounted n H unposted ∙ ap Some (sym e);
+            is = active-start n H unposted ∙ ap Some (sym e);
             request = r ∙ ap (λ (x : Name). request_named x H) (sym e);
             area = m ∙ sym (ap (λ (q : Program D). q.area) c);
             place = p ∙ ap (λ (q : Piece). start_place q.start) r ∙ sym (ap (λ (q : Program D). q.place) c);
@@ -163,20 +169,22 @@ module _ {D : Type 0} (meaning : Meaning D) (mounted : D) where
     waits-on other =
         elim (post-whom meaning mounted n csw sense code H (facts meaning mounted H l.1) l.0) [
           | inl a ↦ absurd (other a)
-          | inr w ↦ active-post_waiting meaning mounted n csw sense code H (subst (λ (x : Name). has_started x H ≡ false) w.2 w.1.unstarted)
+          | inr w ↦ active-post_waiting n csw sense code H (subst (λ (x : Name). has_started x H ≡ false) w.2 w.1.unstarted)
         ]
 
     pub post-none : (now : D) → Stands H now None → Stands (Post n csw sense code ∷ H) now None
     unfolding attempts
     post-none now s = (s.0, waits-on (λ a. let k = sym s.1 ∙ a in cc) ∙ s.1)
 
-    pub post-other : (now : D) (a : Attempt) → (a.issued.now.name ≡ n → ⊥) → Stands H now (Some a) → Stands (Post n csw sense code ∷ H) now (Some a)
+    pub post-other : (now : D) (a : Attempt) → (a.issued.now.name ≡ n → ⊥) → Stands H now (Some a) →
+        Stands (Post n csw sense code ∷ H) now (Some a)
     unfolding attempts request_named
-    post-other now a other s = unmoved H (Post n csw sense code ∷ H) now (Some a) (waits-on (λ h. other (let k : Some a.issued.now.name ≡ Some n = sym s.1.is ∙ h in cc))) refl (λ m h. refl) s
+    post-other now a other s = unmoved H (Post n csw sense code ∷ H) now (Some a)
+        (waits-on (λ h. other (let k : Some a.issued.now.name ≡ Some n = sym s.1.is ∙ h in cc))) refl (λ m h. refl) s
 
     pub post-active : (now : D) (a : Attempt) → a.issued.now.name ≡ n → Stands H now (Some a) → Stands (Post n csw sense code ∷ H) now None
     unfolding Legal attempts
-    post-active now a e s = (s.0, active-post meaning mounted n csw sense code H (facts meaning mounted H l.1) (s.1.is ∙ ap Some e))
+    post-active now a e s = (s.0, active-post n csw sense code H (facts meaning mounted H l.1) (s.1.is ∙ ap Some e))
 
   -- COMMANDS
   module _ (n : Name) (j : ℕ) (H : List Entry) (l : Legal meaning mounted (Ran n j ∷ H)) (k : ℕ) (few : k < j) (now : D) (a : Attempt)
@@ -191,7 +199,8 @@ module _ {D : Type 0} (meaning : Meaning D) (mounted : D) where
     newest-here : (c : ℕ) → NewestIs n (partly c (Some (Ran n j)) H)
     unfolding Legal
     newest-here zero = newest-is
-    newest-here (suc c) = newest-ran meaning mounted n (suc c) H (fits-ran meaning mounted n j H (due meaning mounted H) l.0).active newest-is
+    newest-here (suc c) = newest-ran n (suc c) H (fits-ran meaning mounted n j H (due meaning mounted H) l.0).active
+        newest-is
 
     current-here : (c : ℕ) → current meaning mounted (partly c (Some (Ran n j)) H) ≡ after meaning c (current meaning mounted H)
     unfolding after
@@ -210,7 +219,8 @@ module _ {D : Type 0} (meaning : Meaning D) (mounted : D) where
     runs =
         let f = fits-ran meaning mounted n j H (due meaning mounted H) l.0 in
         let left = f.left in
-        subst (λ (p : Program D). is_running p.place.state ≡ true) (sym program-is) (runs-before meaning 4097 k (current meaning mounted H) (omega (arith, few, left)))
+        subst (λ (p : Program D). is_running p.place.state ≡ true) (sym program-is)
+        (runs-before meaning 4097 k (current meaning mounted H) (omega (arith, few, left)))
 
     pub has-left : 1 ≤ length_of meaning (program a.context now a.area)
     has-left = length-some meaning (program a.context now a.area) runs
@@ -220,20 +230,23 @@ module _ {D : Type 0} (meaning : Meaning D) (mounted : D) where
     moved-active zero t = t.1.is
     moved-active (suc c) t = t.1.is
 
-    moved-request : (c : ℕ) → Stands (partly c (Some (Ran n j)) H) now (Some a) → a.issued.now ≡ request_named a.issued.now.name (Ran n (suc k) ∷ H)
+    moved-request : (c : ℕ) → Stands (partly c (Some (Ran n j)) H) now (Some a) →
+        a.issued.now ≡ request_named a.issued.now.name (Ran n (suc k) ∷ H)
     unfolding request_named
     moved-request zero t = t.1.request
     moved-request (suc c) t = t.1.request
 
     -- behind one more command
-    pub run-stands : (now_after : D) (b : Attempt) → b.issued ≡ a.issued → program b.context now_after b.area ≡ after meaning 1 (program a.context now a.area) →
+    pub run-stands : (now_after : D) (b : Attempt) → b.issued ≡ a.issued →
+        program b.context now_after b.area ≡ after meaning 1 (program a.context now a.area) →
         Stands (Ran n (suc k) ∷ H) now_after (Some b)
     unfolding Legal
     run-stands now_after b same_request stepped =
         let G = Ran n (suc k) ∷ H in
         let one = after-add meaning k 1 (current meaning mounted H) in
         let more : k + 1 ≡ suc k = omega arith in
-        let c : program b.context now_after b.area ≡ current meaning mounted G = stepped ∙ ap (after meaning 1) program-is ∙ sym one ∙ ap (λ x. after meaning x (current meaning mounted H)) more ∙ sym (current-here (suc k)) in
+        let c : program b.context now_after b.area ≡ current meaning mounted G = stepped ∙ ap (after meaning 1) program-is ∙ sym one
+        ∙ ap (λ x. after meaning x (current meaning mounted H)) more ∙ sym (current-here (suc k)) in
         let active_is = (fits-ran meaning mounted n j H (due meaning mounted H) l.0).active in (
           ap (λ (p : Program D). p.device) c ∙ sym (device-current meaning mounted n G (newest-here (suc k))),
           record {

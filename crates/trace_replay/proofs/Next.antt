@@ -15,13 +15,15 @@ use Rattle.trace_replay.proofs.Entries.{IsSilent}
 use Rattle.trace_replay.proofs.Steps.{IsWhole}
 
 -- the entry that was read is the one at the place
-pub entry-at : (entries trace : List Entry) (done : ℕ) (e : Entry) → reverse entries ≡ trace → done < length entries → e ≡ slice_index_or entries done e → slice_get (reverse trace) done ≡ Some e
+pub entry-at : (entries trace : List Entry) (done : ℕ) (e : Entry) → reverse entries ≡ trace → done < length entries →
+    e ≡ slice_index_or entries done e → slice_get (reverse trace) done ≡ Some e
 entry-at entries trace done e r few is =
     let k : reverse trace ≡ entries = ap reverse (sym r) ∙ reverse-reverse entries in
     rw k (slice_get_read entries (length entries) done e refl few is)
 
 -- what is none of these is silent
-pub silent-is : {D : Type 0} (meaning : Meaning D) (mounted : D) (e : Entry) → ((n : Name) → e ≡ Start n → ⊥) → ((n : Name) (j : ℕ) → e ≡ Ran n j → ⊥) →
+pub silent-is : {D : Type 0} (meaning : Meaning D) (mounted : D) (e : Entry) → ((n : Name) → e ≡ Start n → ⊥) →
+    ((n : Name) (j : ℕ) → e ≡ Ran n j → ⊥) →
     ((n : Name) (csw : Csw) (sense : ℕ) (code : Code) → e ≡ Post n csw sense code → ⊥) → IsSilent meaning mounted e × IsWhole e
 silent-is meaning mounted (Opened d i x) s r p = (tt, tt)
 silent-is meaning mounted (Arrive q) s r p = (tt, tt)
@@ -34,7 +36,8 @@ silent-is meaning mounted (Reset d) s r p = (tt, tt)
 silent-is meaning mounted (Post n c k q) s r p = absurd (p n c k q refl)
 
 -- behind an entry that is done as a whole
-pub behind-whole : {D : Type 0} (e : Entry) (p : ReplayPlace D) → IsWhole e → place_after (Some e) p ≡ record p { done = p.done + 1; ran = 0 }
+pub behind-whole : {D : Type 0} (e : Entry) (p : ReplayPlace D) → IsWhole e →
+    place_after (Some e) p ≡ record p { done = p.done + 1; ran = 0 }
 behind-whole (Opened d i x) p w = refl
 behind-whole (Arrive q) p w = refl
 behind-whole (Start n) p w = refl

@@ -1,5 +1,6 @@
 -- The fields of a replay, behind each kind of step.
-use Rattle.std.proofs.Common.{◌≡◌, ℕ, zero, suc, ◌+◌, ◌≤◌, ◌<◌, true, Option, Some, None, List, ◌∷◌, refl, sym, ap, ◌∙◌, arith, subst, reverse}
+use Rattle.std.proofs.Common.{◌≡◌, ℕ, zero, suc, ◌+◌, ◌≤◌, ◌<◌, true, Option, Some, None, List, ◌∷◌, refl, sym, ap, ◌∙◌, arith, subst}
+use Rattle.std.proofs.Common.{reverse}
 use Rattle.std.proofs.lemmas.List.{reverse-reverse}
 use Rattle.std.proofs.lemmas.Option.{slice_get_within}
 use Rattle.std.specs.Prelude.{slice_get}
@@ -83,7 +84,8 @@ module _ {D : Type 0} (meaning : Meaning D) (mounted : D) where
   pub legal-reversed : (trace : List Entry) → Legal meaning mounted trace → Legal meaning mounted (reverse (reverse trace))
   legal-reversed trace l = subst (Legal meaning mounted) (sym (reverse-reverse trace)) l
 
-  newest-at : (ran : ℕ) (o : Option Entry) (H : List Entry) → Legal meaning mounted H → ((e : Entry) → o ≡ Some e → Legal meaning mounted (e ∷ H)) → IsWithin ran o →
+  newest-at : (ran : ℕ) (o : Option Entry) (H : List Entry) → Legal meaning mounted H →
+      ((e : Entry) → o ≡ Some e → Legal meaning mounted (e ∷ H)) → IsWithin ran o →
       (m : Name) → active (partly ran o H) ≡ Some m → NewestIs m (partly ran o H)
   unfolding Legal active started
   newest-at zero o H l next w m a = (facts meaning mounted H l).4 m a
@@ -95,20 +97,23 @@ module _ {D : Type 0} (meaning : Meaning D) (mounted : D) where
       let running = (fits-ran meaning mounted n j H (due meaning mounted H) (next (Ran n j) refl).0).active in
       let named : Some n ≡ Some m = sym running ∙ a in
       let e : n ≡ m = cc in
-      subst (λ x. NewestIs x (Ran n (suc k) ∷ H)) e (newest-ran meaning mounted n (suc k) H running ((facts meaning mounted H l).4 n running))
+      subst (λ x. NewestIs x (Ran n (suc k) ∷ H)) e
+      (newest-ran n (suc k) H running ((facts meaning mounted H l).4 n running))
   newest-at (suc k) (Some (Halted n)) H l next w m a = absurd w
   newest-at (suc k) (Some (Purge s q)) H l next w m a = absurd w
   newest-at (suc k) (Some (Close d)) H l next w m a = absurd w
   newest-at (suc k) (Some (Reset d)) H l next w m a = absurd w
   newest-at (suc k) (Some (Post n c s q)) H l next w m a = absurd w
 
-  module _ (entries : List Entry) (done : ℕ) (e : Entry) (here : slice_get entries done ≡ Some e) (l : Legal meaning mounted (reverse entries)) where
+  module _ (entries : List Entry) (done : ℕ) (e : Entry) (here : slice_get entries done ≡ Some e)
+      (l : Legal meaning mounted (reverse entries)) where
     -- the trace up to the next entry is legal
     pub legal-here : Legal meaning mounted (e ∷ before entries done)
     legal-here = subst (Legal meaning mounted) (before-next entries done e here) (legal-before meaning mounted entries (done + 1) l)
 
     -- what stands behind the entry is what stands behind the whole of it
-    pub ties-behind : (ran : ℕ) → ran ≡ 0 → (now : D) (attempt : Option Attempt) → Stands meaning mounted (e ∷ before entries done) now attempt → ReplayTies meaning mounted entries (done + 1) ran now attempt
+    pub ties-behind : (ran : ℕ) → ran ≡ 0 → (now : D) (attempt : Option Attempt) →
+        Stands meaning mounted (e ∷ before entries done) now attempt → ReplayTies meaning mounted entries (done + 1) ran now attempt
     ties-behind ran zero_is now attempt s =
         let b : replayed entries (done + 1) 0 ≡ e ∷ before entries done = before-next entries done e here in
         let t = subst (λ x. Stands meaning mounted x now attempt) (sym b) s in
@@ -116,33 +121,44 @@ module _ {D : Type 0} (meaning : Meaning D) (mounted : D) where
         rw zero_is (record { few = omega (arith, w); within = tt; device_is = t.0; attempt_is = t.1 })
 
     -- before an entry of which nothing is done
-    pub stands-before : (ran : ℕ) → ran ≡ 0 → {now : D} {attempt : Option Attempt} → ReplayTies meaning mounted entries done ran now attempt → Stands meaning mounted (before entries done) now attempt
+    pub stands-before : (ran : ℕ) → ran ≡ 0 → {now : D} {attempt : Option Attempt} →
+        ReplayTies meaning mounted entries done ran now attempt → Stands meaning mounted (before entries done) now attempt
     stands-before ran zero_is {now} {attempt} t =
         let s : Stands meaning mounted (replayed entries done ran) now attempt = (t.device_is, t.attempt_is) in
         subst (λ x. Stands meaning mounted (replayed entries done x) now attempt) zero_is s
 
-    pub ties-silent : IsSilent meaning mounted e → IsWhole e → {ran : ℕ} {now : D} {attempt : Option Attempt} → ReplayTies meaning mounted entries done ran now attempt → ReplayTies meaning mounted entries (done + 1) ran now attempt
+    pub ties-silent : IsSilent meaning mounted e → IsWhole e → {ran : ℕ} {now : D} {attempt : Option Attempt} →
+        ReplayTies meaning mounted entries done ran now attempt → ReplayTies meaning mounted entries (done + 1) ran now attempt
     ties-silent q w {ran} {now} {attempt} t =
         let z = whole-none ran e w (subst (IsWithin ran) here t.within) in
         ties-behind ran z now attempt (silent meaning mounted e (before entries done) now attempt q legal-here (stands-before ran z t))
 
   module _ (entries : List Entry) (done : ℕ) (n : Name) (j : ℕ) (here : slice_get entries done ≡ Some (Ran n j)) where
     -- in an entry of commands
-    pub stands-within : {ran : ℕ} {now : D} {attempt : Option Attempt} → ReplayTies meaning mounted entries done ran now attempt → Stands meaning mounted (partly ran (Some (Ran n j)) (before entries done)) now attempt
+    pub stands-within : {ran : ℕ} {now : D} {attempt : Option Attempt} → ReplayTies meaning mounted entries done ran now attempt →
+        Stands meaning mounted (partly ran (Some (Ran n j)) (before entries done)) now attempt
     stands-within {ran} {now} {attempt} t =
         let s : Stands meaning mounted (replayed entries done ran) now attempt = (t.device_is, t.attempt_is) in
         subst (λ x. Stands meaning mounted (partly ran x (before entries done)) now attempt) here s
 
     -- behind one more command that is not the last
-    pub ties-within : (ran : ℕ) {now : D} {attempt : Option Attempt} → ran + 1 < j → Stands meaning mounted (Ran n (suc ran) ∷ before entries done) now attempt → ReplayTies meaning mounted entries done (ran + 1) now attempt
+    pub ties-within : (ran : ℕ) {now : D} {attempt : Option Attempt} → ran + 1 < j →
+        Stands meaning mounted (Ran n (suc ran) ∷ before entries done) now attempt →
+        ReplayTies meaning mounted entries done (ran + 1) now attempt
     ties-within ran {now} {attempt} few s =
         let more : ran + 1 ≡ suc ran = omega arith in
         let w = slice_get_within entries done (Ran n j) here in
         let t = subst (λ x. Stands meaning mounted (partly (suc ran) x (before entries done)) now attempt) (sym here) s in
-        rw more (record { few = omega (arith, w); within = subst (IsWithin (suc ran)) (sym here) (omega (arith, few, more)); device_is = t.0; attempt_is = t.1 })
+        rw more (record {
+          few = omega (arith, w);
+          within = subst (IsWithin (suc ran)) (sym here) (omega (arith, few, more));
+          device_is = t.0;
+          attempt_is = t.1;
+        })
 
   -- the storage of the active request
-  pub area-shown : (entries : List Entry) (done ran : ℕ) {now : D} (a : Attempt) → Legal meaning mounted (reverse entries) → ReplayTies meaning mounted entries done ran now (Some a) →
+  pub area-shown : (entries : List Entry) (done ran : ℕ) {now : D} (a : Attempt) → Legal meaning mounted (reverse entries) →
+      ReplayTies meaning mounted entries done ran now (Some a) →
       a.area ≡ area meaning mounted (request_named a.issued.now.name (replayed entries done ran)) (replayed entries done ran)
   area-shown entries done ran a l t =
       let n = a.issued.now.name in

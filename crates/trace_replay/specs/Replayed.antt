@@ -1,5 +1,6 @@
 -- THE PLACE OF A REPLAY in the trace of a book, and what was replayed up to there (profile).
-use Rattle.std.specs.Prelude.{◌≡◌, ◌⊎◌, false, IsSome, ℕ, zero, suc, ◌+◌, ◌==◌, if◌then◌else◌, Option, Some, None, List, ◌∷◌, reverse, slice_get, take}
+use Rattle.std.specs.Prelude.{◌≡◌, ◌⊎◌, false, IsSome, ℕ, zero, suc, ◌+◌, ◌==◌, if◌then◌else◌, Option, Some, None, List, ◌∷◌, reverse}
+use Rattle.std.specs.Prelude.{slice_get, take}
 use Rattle.device_port.specs.Meaning.{Meaning}
 use Rattle.device_port.specs.declared.chain.Segment.{Segment}
 use Rattle.device_port.specs.declared.kind.Flow.{Flow}
@@ -24,7 +25,7 @@ pub record ReplayPlace (D : Type 0) : Type 0 where
   pub done : ℕ
   pub ran : ℕ
 
--- a trace, newest entry first, with so many commands of the entry that comes next
+-- a trace, newest entry first, with a number of commands of the entry that comes next
 abbrev pub partly : ℕ → Option Entry → List Entry → List Entry
 partly zero next H = H
 partly (suc k) (Some (Ran n j)) H = Ran n (suc k) ∷ H
@@ -38,7 +39,7 @@ replayed entries done ran = partly ran (slice_get entries done) (reverse (take d
 abbrev pub so_far : {D : Type 0} → ReplayPlace D → List Entry
 so_far p = replayed (reverse p.book.trace) p.done p.ran
 
--- the place behind one more command of an entry that has so many
+-- the place after one more of the commands of an entry
 abbrev pub behind_command : {D : Type 0} → ℕ → ReplayPlace D → ReplayPlace D
 behind_command commands p = if p.ran + 1 == commands then record p { done = p.done + 1; ran = 0 } else record p { ran = p.ran + 1 }
 
@@ -52,7 +53,7 @@ place_after _ p = record p { done = p.done + 1; ran = 0 }
 abbrev pub next_place : {D : Type 0} → ReplayPlace D → ReplayPlace D
 next_place p = place_after (slice_get (reverse p.book.trace) p.done) p
 
--- an entry of so many commands that ran
+-- an entry says that this many commands ran
 abbrev pub IsRan : ℕ → Option Entry → Type 0
 IsRan j (Some (Ran n k)) = k ≡ j
 IsRan j _ = ⊥
@@ -65,7 +66,8 @@ IsPost n _ = ⊥
 -- this is the storage of the active request, if there is one
 abbrev pub ShowsArea : {D : Type 0} → Meaning D → ReplayPlace D → Option Storage → Type 0
 ShowsArea meaning p None = active (so_far p) ≡ None
-ShowsArea meaning p (Some m) = (n : Name) × (active (so_far p) ≡ Some n) × (m ≡ area meaning p.book.mounted (request_named n (so_far p)) (so_far p))
+ShowsArea meaning p (Some m) = (n : Name) × (active (so_far p) ≡ Some n)
+    × (m ≡ area meaning p.book.mounted (request_named n (so_far p)) (so_far p))
 
 -- this is where the program of the active request stands, if there is one
 abbrev pub ShowsContext : {D : Type 0} → Meaning D → ReplayPlace D → Option Standing → Type 0

@@ -10,7 +10,7 @@ use io_area::Area;
 use request_piece::Issued;
 use std::alloc::AllocError;
 
-/// The active request as it was issued, its storage as it stands, and where its channel program stands.
+/// The active request: the request as issued, its storage now, and the position of its channel program.
 #[derive(Drop)]
 pub(crate) struct Attempt<'t> {
     pub issued: &'t Issued,

@@ -17,8 +17,8 @@ use std::alloc::AllocError;
 use std::marker::Model;
 use unit_book::{Entry, UnitBook};
 
-/// A replay of the trace of a book, and its place there: behind so many entries, oldest first, and so many commands of
-/// the next one.
+/// A replay of the trace of a book, and its place there: after a number of entries, oldest first, and a number of
+/// commands of the next one.
 #[derive(Drop)]
 pub struct Replay<'t, D: Device> {
     book: &'t UnitBook<D>,
@@ -75,14 +75,14 @@ impl<'t, D: Device> Replay<'t, D> {
         self.done
     }
 
-    /// The device with its medium as it stands at this place.
+    /// The device with its medium at this place.
     pub fn device(&self) -> &D
         ensures { result.now ≡ device D.meaning self.now.book.mounted (so_far self.now) }
     {
         &self.device
     }
 
-    /// The storage of the active request as it stands at this place.
+    /// The storage of the active request at this place.
     pub fn area(&self) -> Option<&Area>
         ensures { ShowsArea D.meaning self.now (option_copied result) }
     {
@@ -144,7 +144,7 @@ impl<'t, D: Device> Replay<'t, D> {
         Ok(Step::Entry)
     }
 
-    /// Does one more command of an entry that has so many.
+    /// Does one more of the `commands` commands of an entry.
     fn run(&mut self, commands: u32, next: usize)
         requires next { next ≡ self.old.done + 1 }
         requires legal { Legal D.meaning self.old.book.mounted self.old.book.trace }
@@ -187,7 +187,7 @@ impl<'t, D: Device> Replay<'t, D> {
         Ok(())
     }
 
-    /// The request with this name is posted: where it is the active one, nothing is active behind it.
+    /// The request with this name is posted. If it is the active one, nothing is active after that.
     fn post(&mut self, name: Name, next: usize)
         requires next { next ≡ self.old.done + 1 }
         requires legal { Legal D.meaning self.old.book.mounted self.old.book.trace }

@@ -1,6 +1,6 @@
 -- What the calls of a book come to, one step of its entries after another.
 use Rattle.unit_book.proofs.Names.{◌≡◌, ◌+◌, ℕ, Bool, true, false, Ok, Err, List, [], ◌∷◌, ◌++◌, append_assoc, length, refl, sym, ap, ◌∙◌}
-use Rattle.unit_book.proofs.Names.{subst, OnOk, OnErr, drop, Csw, Code, Extent, Meaning, Name, Scope, Mode, Entry, Opened, Purge, Close}
+use Rattle.unit_book.proofs.Names.{subst, OnOk, OnErr, drop, Status, Code, Extent, Meaning, Name, Scope, Mode, Entry, Opened, Purge, Close}
 use Rattle.unit_book.proofs.Names.{Post, request_named, opened_count, doomed, area, posted, posted_value, posted_since, PurgesBy}
 use Rattle.unit_book.proofs.Names.{covers_awaiting, halted_by, after_halt, after_dooms, Book, Adds, Extends, RunsBook, Due, ToHalt, ToPost}
 use Rattle.unit_book.proofs.Names.{Free, due, doomed_first, not, ◌&&◌, ◌||◌, Option, Some, None, and_parts, is_some, ExtentViolated, Purged}
@@ -14,7 +14,8 @@ use Rattle.std.proofs.Common.{Result}
 use Rattle.std.specs.declared.alloc.AllocError.{AllocError}
 use Rattle.unit_book.specs.declared.answer.Running.{Running}
 use Rattle.unit_book.specs.declared.answer.Running.TheVariants.{Quiet, Ran}
-use Rattle.unit_book.specs.Answers.{ExtendsByPost, pending_after}
+use Rattle.unit_book.specs.Answers.{PostsOne, RunsOn, pending_after}
+use Rattle.unit_queue.specs.declared.selection.Selection.{Selection}
 use Rattle.unit_book.specs.Legal.{Settled}
 use Rattle.unit_book.specs.Book.{running_name, is_pending, pending_by}
 use Rattle.unit_book.specs.Controls.{ClosesBy, halts_program}
@@ -26,56 +27,65 @@ use Rattle.unit_book.proofs.LegalFacts.{facts}
 use Rattle.unit_book.proofs.Same.{phase-same, fits-free}
 use Rattle.unit_book.proofs.Settling.{first-unposted, still-none, posts-none}
 use Rattle.unit_book.proofs.WorldBooks.{running-is}
-use Rattle.unit_book.proofs.WorldTraces.{grows-purge}
+use Rattle.unit_book.proofs.WorldTraces.{SoundTrace, grows-purge}
+use Rattle.std.proofs.Math.Bool.{and-false, or-false}
 
--- `run` keeps a book settled
-pub run-settled : {D : Type 0} (meaning : Meaning D) (old new : Book D) (max : ℕ) (answer : Running) →
-    Settled meaning old.mounted old.trace → RunsBook meaning old max answer new → Settled meaning new.mounted new.trace
-run-settled meaning old new max Quiet s r = let e = r.1 in rw e s
-run-settled meaning old new max (Ran c pending) s r = let e = r.adds in rw e (settled-ran meaning old.mounted r.name c old.trace s)
+-- what a call of `run` did, and that it keeps a book settled
+pub record RunCall {D : Type 0} (meaning : Meaning D) (old new : Book D) (answer : Running) : Type 0 where
+  pub max : ℕ
+  pub runs : RunsBook meaning old max answer new
 
--- `open` keeps a book settled
-pub open-settled : {D : Type 0} (meaning : Meaning D) (old new : Book D) (method : ProcessingMethod) (extents : List Extent)
-    (result : Result ℕ AllocError) → Settled meaning old.mounted old.trace →
-    OnOk result (Adds old (Opened (opened_count old.trace + 1) method extents) new) → OnErr result (new ≡ old) →
-    Settled meaning new.mounted new.trace
-open-settled meaning old new method extents (Ok d) s a b = let e = a in rw e
-    (settled-open meaning old.mounted (opened_count old.trace + 1) method extents old.trace s)
-open-settled meaning old new method extents (Err x) s a b = let e = b in rw e s
+pub run-settled : {D : Type 0} (meaning : Meaning D) {old new : Book D} (answer : Running) → RunCall meaning old new answer →
+    Settled meaning old.mounted old.trace → Settled meaning new.mounted new.trace
+run-settled meaning Quiet r s = let e = r.runs.1 in rw e s
+run-settled meaning {old = old} (Ran c pending) r s =
+    let e = r.runs.adds in rw e (settled-ran meaning old.mounted r.runs.name c old.trace s)
+
+-- what a call of `open` did, and that it keeps a book settled
+pub record OpenCall {D : Type 0} (old new : Book D) (result : Result ℕ AllocError) : Type 0 where
+  pub method : ProcessingMethod
+  pub extents : List Extent
+  pub ok : OnOk result (Adds old (Opened (opened_count old.trace + 1) method extents) new)
+  pub err : OnErr result (new ≡ old)
+
+pub open-settled : {D : Type 0} (meaning : Meaning D) {old new : Book D} (result : Result ℕ AllocError) → OpenCall old new result →
+    Settled meaning old.mounted old.trace → Settled meaning new.mounted new.trace
+open-settled meaning {old = old} (Ok d) o s =
+    let e = o.ok in rw e (settled-open meaning old.mounted (opened_count old.trace + 1) o.method o.extents old.trace s)
+open-settled meaning (Err x) o s = let e = o.err in rw e s
 
 -- a post and what it dooms, as one step
-module _ {D : Type 0} (meaning : Meaning D) (old mid posting new : Book D) (n : Name) (csw : Csw) (sense : ℕ) (code : Code) where
-  pub post-then-sweep : mid ≡ record old { spare = mid.spare } → ExtendsByPost meaning mid n csw sense code posting →
-      Extends meaning posting (after_dooms posting.trace) posting.awaits new →
-      Extends meaning old (after_dooms (Post n csw sense code ∷ old.trace)) false new
-  post-then-sweep m p s =
-      let v = posted_value (request_named n old.trace) csw sense code (area meaning old.mounted (request_named n old.trace) old.trace) in
-      let since = since-post meaning old.mounted n csw sense code old.trace in
-      let q : posting
-      ≡ record old {
-        trace = Post n csw sense code ∷ old.trace;
-        awaits = false;
-        out = old.out ++ v ∷ [];
-        spare = posting.spare;
-      } = rw m at p in
+module _ {D : Type 0} (meaning : Meaning D) {old posting : Book D} {n : Name} {status : Status} {code : Code} {doom : Option Selection}
+    (p : PostsOne meaning old n status code doom posting) where
+  abbrev H : List Entry
+  H = old.trace
+
+  abbrev G : List Entry
+  G = Post n status.csw status.sense code ∷ H
+
+  pub post-then-sweep : {new : Book D} → Extends meaning posting (after_dooms posting.trace) posting.awaits new →
+      Extends meaning old (after_dooms G) false new
+  post-then-sweep {new} s =
+      let v = posted_value (request_named n H) status.csw status.sense code (area meaning old.mounted (request_named n H) H) in
+      let q = p.extends in
       let r = rw q at s in
-      let G = Post n csw sense code ∷ old.trace in
       let out : old.out ++ v ∷ [] ++ posted_since meaning old.mounted G (after_dooms G)
-      ≡ old.out ++ posted_since meaning old.mounted old.trace (after_dooms G)
-      = append_assoc old.out (v ∷ []) (posted_since meaning old.mounted G (after_dooms G)) ∙ ap (λ x. old.out ++ x) (sym since) in
+      ≡ old.out ++ posted_since meaning old.mounted H (after_dooms G)
+      = append_assoc old.out (v ∷ []) (posted_since meaning old.mounted G (after_dooms G))
+      ∙ ap (λ x. old.out ++ x) (sym (since-post meaning old.mounted n status code H)) in
       r ∙ ap (λ o. record old { trace = after_dooms G; awaits = false; out = o; spare = new.spare }) out
 
   -- only the dooms are due after a post
-  pub sweep-due : ExtendsByPost meaning mid n csw sense code posting →
-      due meaning posting.mounted posting.trace ≡ doomed_first (doomed posting.trace)
-  sweep-due p = rw p (due-no_halt meaning mid.mounted (Post n csw sense code ∷ mid.trace) (λ n a. refl))
+  pub sweep-due : due meaning posting.mounted posting.trace ≡ doomed_first (doomed posting.trace)
+  sweep-due = let q = p.extends in rw q (due-no_halt meaning old.mounted G (λ n a. refl))
 
 -- entries that post nothing, and what they doom, as one step
 module _ {D : Type 0} (meaning : Meaning D) where
-  pub add-then-sweep : (old adding new : Book D) (G : List Entry) → posted meaning old.mounted G ≡ posted meaning old.mounted old.trace →
+  pub add-then-sweep : {adding new : Book D} (old : Book D) (G : List Entry) → posted meaning old.mounted G
+      ≡ posted meaning old.mounted old.trace →
       adding ≡ record old { trace = G; spare = adding.spare } →
       Extends meaning adding (after_dooms adding.trace) adding.awaits new → Extends meaning old (after_dooms G) old.awaits new
-  add-then-sweep old adding new G p a s =
+  add-then-sweep {new = new} old G p a s =
       let r = rw a at s in
       let out : posted_since meaning old.mounted G (after_dooms G) ≡ posted_since meaning old.mounted old.trace
       (after_dooms G) = ap (λ x. drop (length x) (posted meaning old.mounted (after_dooms G))) p in
@@ -95,33 +105,43 @@ module _ {D : Type 0} (meaning : Meaning D) where
     by_due Free = refl
 
   -- a purge of a book in which room was made
-  purge-by : (awaiting : Bool) (old mid new : Book D) (scope : Scope) (mode : Mode) → mid ≡ record old { spare = mid.spare } →
-      PurgesBy meaning awaiting mid scope mode new → PurgesBy meaning awaiting old scope mode new
-  purge-by false old mid new scope mode m p = rw m at p
-  purge-by true old mid new scope mode m p = record {
-    name = p.name;
-    csw = p.csw;
-    sense = p.sense;
-    fits = rw m at p.fits;
-    extends = rw m at p.extends;
-  }
-
-  pub purge-reserved : (old mid new : Book D) (scope : Scope) (mode : Mode) → mid ≡ record old { spare = mid.spare } →
-      PurgesBy meaning (covers_awaiting mid scope mode) mid scope mode new →
+  pub purge-reserved : (old : Book D) {mid : Book D} (new : Book D) (scope : Scope) (mode : Mode) →
+      mid ≡ record old { spare = mid.spare } → PurgesBy meaning (covers_awaiting mid scope mode) mid scope mode new →
       PurgesBy meaning (covers_awaiting old scope mode) old scope mode new
-  purge-reserved old mid new scope mode m p =
+  purge-reserved old {mid} new scope mode m p =
       let same : covers_awaiting mid scope mode ≡ covers_awaiting old scope mode = rw m refl in
-      subst (λ b. PurgesBy meaning b old scope mode new) same (purge-by (covers_awaiting mid scope mode) old mid new scope mode m p)
+      subst (λ b. PurgesBy meaning b old scope mode new) same (by_test (covers_awaiting mid scope mode) p) where
+        by_test : (awaiting : Bool) → PurgesBy meaning awaiting mid scope mode new → PurgesBy meaning awaiting old scope mode new
+        by_test false q = rw m at q
+        by_test true q = record {
+          name = q.name;
+          status = q.status;
+          fits = rw m at q.fits;
+          extends = rw m at q.extends;
+        }
 
 -- When a status is pending: what each call of a book makes of it.
 
-or-false : (b : Bool) → (b || false) ≡ b
-or-false true = refl
-or-false false = refl
+dooms-attempts : (rs : List Piece) (H : List Entry) → attempts (all_posted rs H) ≡ attempts H
+unfolding attempts
+dooms-attempts [] H = refl
+dooms-attempts (r ∷ rs) H = dooms-attempts rs (Post r.name no_status 0 Purged ∷ H)
 
-and-false : (b : Bool) → (b && false) ≡ false
-and-false true = refl
-and-false false = refl
+dooms-halted : (rs : List Piece) (H : List Entry) (n : Name) → is_halted n (all_posted rs H) ≡ is_halted n H
+dooms-halted [] H n = refl
+dooms-halted (r ∷ rs) H n = dooms-halted rs (Post r.name no_status 0 Purged ∷ H) n
+
+-- A PURGE
+purged-facts : (d : Due) (scope : Scope) (mode : Mode) (H : List Entry) → Facts H → Facts (halted_by d (Purge scope mode ∷ H))
+unfolding arrivals active started attempts request_named
+purged-facts (ToHalt n) scope mode H f = f
+purged-facts _ scope mode H f = f
+
+-- THE DOOMS leave it
+dooms-active : (rs : List Piece) (H : List Entry) → Each (λ r. has_started r.name H ≡ false) rs → active (all_posted rs H) ≡ active H
+dooms-active [] H e = refl
+dooms-active (r ∷ rs) H e = dooms-active rs (Post r.name no_status 0 Purged ∷ H) e.1
+    ∙ active-post_waiting r.name no_status 0 Purged H e.0
 
 module _ {D : Type 0} (meaning : Meaning D) (mounted : D) where
   -- nothing is active, or what is active awaits its restart
@@ -141,33 +161,12 @@ module _ {D : Type 0} (meaning : Meaning D) (mounted : D) where
     by_active None = refl
     by_active (Some n) = ap (λ s. not again && not (still_runs s)) (phase-same meaning mounted H G n t (h n))
 
-  -- THE DOOMS leave it
-  dooms-active : (rs : List Piece) (H : List Entry) → Each (λ r. has_started r.name H ≡ false) rs → active (all_posted rs H) ≡ active H
-  dooms-active [] H e = refl
-  dooms-active (r ∷ rs) H e = dooms-active rs (Post r.name no_status 0 Purged ∷ H) e.1
-      ∙ active-post_waiting meaning mounted r.name no_status 0 Purged H e.0
-
-  dooms-attempts : (rs : List Piece) (H : List Entry) → attempts (all_posted rs H) ≡ attempts H
-  unfolding attempts
-  dooms-attempts [] H = refl
-  dooms-attempts (r ∷ rs) H = dooms-attempts rs (Post r.name no_status 0 Purged ∷ H)
-
-  dooms-halted : (rs : List Piece) (H : List Entry) (n : Name) → is_halted n (all_posted rs H) ≡ is_halted n H
-  dooms-halted [] H n = refl
-  dooms-halted (r ∷ rs) H n = dooms-halted rs (Post r.name no_status 0 Purged ∷ H) n
-
   pub pending-dooms : (H : List Entry) (again : Bool) → Facts H → pending_by meaning mounted (after_dooms H) again (active (after_dooms H))
       ≡ pending_by meaning mounted H again (active H)
   pending-dooms H again f =
       let all = Each-filter (WaitsAmong H) (is_doomed H) (waiting H) (waits H f) in
       let e = Each-weaker (WaitsAmong H) (λ r. has_started r.name H ≡ false) (λ r w. w.unstarted) (doomed H) all in
       pending-same H (after_dooms H) again (dooms-active (doomed H) H e) (dooms-attempts (doomed H) H) (dooms-halted (doomed H) H)
-
-  -- A PURGE
-  purged-facts : (d : Due) (scope : Scope) (mode : Mode) (H : List Entry) → Facts H → Facts (halted_by d (Purge scope mode ∷ H))
-  unfolding arrivals active started attempts request_named
-  purged-facts (ToHalt n) scope mode H f = f
-  purged-facts _ scope mode H f = f
 
   -- the purge halts no program
   unhalted : (scope : Scope) (mode : Mode) (H : List Entry) (n : Name) (again : Bool) → is_to_halt meaning mounted (Purge scope mode ∷ H) n
@@ -217,24 +216,24 @@ module _ {D : Type 0} (meaning : Meaning D) where
       ap (is_pending meaning) p
       ∙ pending-dooms meaning old.mounted G again f
 
-  pub pending-arrive : (old new : Book D) (r : Piece) → Legal meaning old.mounted old.trace → due meaning old.mounted old.trace ≡ Free →
+  pub pending-arrive : (old : Book D) {new : Book D} (r : Piece) → SoundTrace meaning old.mounted old.trace →
       r.name.seq ≡ arrived_of r.name.task old.trace + 1 → Extends meaning old (after_dooms (Arrive r ∷ old.trace)) old.awaits new →
       is_pending meaning new ≡ is_pending meaning old
   unfolding Legal active started attempts
-  pending-arrive old new r l s n p =
+  pending-arrive old {new} r s n p =
       pending-posts old new (Arrive r ∷ old.trace) old.awaits
-      (facts meaning old.mounted (Arrive r ∷ old.trace) (fits-free meaning old.mounted (Arrive r) old.trace s n, l)) p
+      (facts meaning old.mounted (Arrive r ∷ old.trace) (fits-free meaning old.mounted (Arrive r) old.trace s.settled n, s.legal)) p
 
-  pub pending-open : (old new : Book D) (dcb : ℕ) (method : ProcessingMethod) (extents : List Extent) → Adds old (Opened dcb method extents) new →
+  pub pending-open : (old new : Book D) (dcb : ℕ) (method : ProcessingMethod) (extents : List Extent) →
+      Adds old (Opened dcb method extents) new →
       is_pending meaning new ≡ is_pending meaning old
   unfolding active started attempts
   pending-open old new dcb method extents p = rw p refl
 
-  pub pending-opening : (old new : Book D) (method : ProcessingMethod) (extents : List Extent) (result : Result ℕ AllocError) →
-      OnOk result (Adds old (Opened (opened_count old.trace + 1) method extents) new) →
-      OnErr result (new ≡ old) → is_pending meaning new ≡ is_pending meaning old
-  pending-opening old new method extents (Ok d) a b = pending-open old new (opened_count old.trace + 1) method extents a
-  pending-opening old new method extents (Err x) a b = ap (is_pending meaning) b
+  pub pending-opening : {old new : Book D} (result : Result ℕ AllocError) → OpenCall old new result →
+      is_pending meaning new ≡ is_pending meaning old
+  pending-opening {old} {new} (Ok d) o = pending-open old new (opened_count old.trace + 1) o.method o.extents o.ok
+  pending-opening (Err x) o = ap (is_pending meaning) o.err
 
   pub pending-reset : (old new : Book D) (dcb : ℕ) → Adds old (Reset dcb) new → is_pending meaning new ≡ is_pending meaning old
   unfolding active started attempts
@@ -260,7 +259,7 @@ module _ {D : Type 0} (meaning : Meaning D) where
 
     runs-now : is_posted n old.trace ≡ false → is_pending meaning new ≡ false
     runs-now u =
-        let is = active-start meaning old.mounted n old.trace u in
+        let is = active-start n old.trace u in
         let s = same-refl n in
         ap (is_pending meaning) h.1
         ∙ rw is (rw s refl)
@@ -272,15 +271,14 @@ module _ {D : Type 0} (meaning : Meaning D) where
       ∙ sym (pending-none meaning old.mounted old.trace old.awaits (active old.trace) h.0.none)
   pending-start old new _ h = ap (is_pending meaning) h.2
 
-  pub pending-run : (old new : Book D) (max : ℕ) (answer : Running) → (old.awaits ≡ true → running_name meaning old ≡ None) →
-      RunsBook meaning old max answer new →
-      is_pending meaning new ≡ pending_after (is_pending meaning old) answer
+  pub pending-run : {old new : Book D} (answer : Running) → RunCall meaning old new answer →
+      (old.awaits ≡ true → running_name meaning old ≡ None) → is_pending meaning new ≡ pending_after (is_pending meaning old) answer
   unfolding active started
-  pending-run old new max NothingRuns k h = ap (is_pending meaning) h.1
-  pending-run old new max (RanSome commands pending) k h = by_again old.awaits refl where
-    by_again : (b : Bool) → old.awaits ≡ b → is_pending meaning new ≡ pending
-    by_again true e = let q = sym h.running ∙ k e in absurd cc
-    by_again false e =
+  pending-run NothingRuns r k = ap (is_pending meaning) r.runs.1
+  pending-run {old} {new} (RanSome commands pending) r k = by_again r.runs old.awaits refl where
+    by_again : {max : ℕ} → RunsOn meaning old max commands pending new → (b : Bool) → old.awaits ≡ b → is_pending meaning new ≡ pending
+    by_again h true e = let q = sym h.running ∙ k e in absurd cc
+    by_again h false e =
         let a = (running-is meaning old.mounted old.trace h.name h.running).0 in
         let t = ap (λ (b : Book D). b.trace) h.adds in
         let p = rw t at h.pending_is in
@@ -295,18 +293,23 @@ module _ {D : Type 0} (meaning : Meaning D) where
   pending-interrupt old new (WasPosted n code) l h =
       let H = old.trace in
       let p = h.1.extends in
-      let G = Post n h.1.csw h.1.sense code ∷ H in
+      let G = Post n h.1.status.csw h.1.status.sense code ∷ H in
       let none = posts-none (doomed G) G
-      (active-post meaning old.mounted n h.1.csw h.1.sense code H (facts meaning old.mounted H l) h.1.fits.active) in
+      (active-post n h.1.status.csw h.1.status.sense code H (facts meaning old.mounted H l) h.1.fits.active) in
       ap (is_pending meaning) p
       ∙ pending-none meaning old.mounted (after_dooms G) false (active (after_dooms G)) none
 
-  pub pending-purge : (old new : Book D) (scope : Scope) (mode : Mode) → Legal meaning old.mounted old.trace →
-      due meaning old.mounted old.trace ≡ Free → CanPurge meaning old.mounted scope old.trace →
-      (old.awaits ≡ true → running_name meaning old ≡ None) → PurgesBy meaning (covers_awaiting old scope mode) old scope mode new →
+  -- what a purge finds: the scope may be purged, and what awaits its restart does not run
+  pub record FoundByPurge (old : Book D) (scope : Scope) : Type 0 where
+    pub sound : SoundTrace meaning old.mounted old.trace
+    pub can : CanPurge meaning old.mounted scope old.trace
+    pub quiet : old.awaits ≡ true → running_name meaning old ≡ None
+
+  pub pending-purge : (old new : Book D) (scope : Scope) (mode : Mode) → FoundByPurge old scope →
+      PurgesBy meaning (covers_awaiting old scope mode) old scope mode new →
       is_pending meaning new ≡ (is_pending meaning old || halts_program meaning old scope mode)
   unfolding due active started
-  pending-purge old new scope mode l s can k p = by_test (covers_awaiting old scope mode) refl p where
+  pending-purge old new scope mode found p = by_test (covers_awaiting old scope mode) refl p where
     H : List Entry
     H = old.trace
 
@@ -315,10 +318,10 @@ module _ {D : Type 0} (meaning : Meaning D) where
     by_test false e q =
         let G = after_halt meaning old.mounted (Purge scope mode ∷ H) in
         pending-posts old new G old.awaits
-        (purged-facts meaning old.mounted (due meaning old.mounted (Purge scope mode ∷ H)) scope mode H (facts meaning old.mounted H l))
+        (purged-facts (due meaning old.mounted (Purge scope mode ∷ H)) scope mode H (facts meaning old.mounted H found.sound.legal))
         q
         ∙ ap (pending_by meaning old.mounted G old.awaits) (same-active (due meaning old.mounted (Purge scope mode ∷ H)))
-        ∙ purge-active meaning old.mounted scope mode H old.awaits (active H) k where
+        ∙ purge-active meaning old.mounted scope mode H old.awaits (active H) found.quiet where
           same-active : (d : Due) → active (halted_by d (Purge scope mode ∷ H)) ≡ active H
           same-active (ToHalt n) = refl
           same-active (ToPost n) = refl
@@ -326,10 +329,10 @@ module _ {D : Type 0} (meaning : Meaning D) where
     by_test true e q =
         let K = after_purge meaning old.mounted scope mode H in
         let awaits : old.awaits ≡ true = (and_parts (is_halt mode) old.awaits (and_parts (is_halt mode && old.awaits) _ e).0).1 in
-        let f = facts meaning old.mounted K (grows-purge meaning old.mounted scope mode H l s can).legal in
-        let none = active-post meaning old.mounted q.name q.csw q.sense Purged K f q.fits.active in
-        let quiet = k awaits in
+        let f = facts meaning old.mounted K (grows-purge scope mode found.sound found.can).legal in
+        let none = active-post q.name q.status.csw q.status.sense Purged K f q.fits.active in
+        let quiet = found.quiet awaits in
         ap (is_pending meaning) q.extends
-        ∙ pending-none meaning old.mounted (Post q.name q.csw q.sense Purged ∷ K) false _ none
+        ∙ pending-none meaning old.mounted (Post q.name q.status.csw q.status.sense Purged ∷ K) false _ none
         ∙ sym (rw (awaits, quiet)
         (ap (λ b. b || (is_halt mode && false)) (pending-awaits meaning old.mounted H (active H)) ∙ and-false (is_halt mode)))

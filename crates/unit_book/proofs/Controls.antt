@@ -1,7 +1,8 @@
 -- A purge, a halt, a close and a reset: what they doom, and that the fields stay those of the trace.
-use Rattle.unit_book.proofs.Names.{◌≡◌, ℕ, ◌≤◌, Bool, true, false, not, ◌&&◌, ◌||◌, Option, Some, None, List, [], ◌∷◌, length, refl, sym}
-use Rattle.unit_book.proofs.Names.{ap, ◌∙◌, eqb, if◌then◌else◌, is_some, Storage, Meaning, Channel, Phase, Idle, Running, Pending}
-use Rattle.unit_book.proofs.Names.{PostedState, Name, Piece, covers, Scope, Active, Standing, OnChannel, AwaitsRestart, Mode, Entry, Halted}
+use Rattle.unit_book.proofs.Names.{BookFields, ◌≡◌, ℕ, ◌≤◌, Bool, true, false, not, ◌&&◌, ◌||◌, Option, Some, None, List, [], ◌∷◌, length}
+use Rattle.unit_book.proofs.Names.{refl, sym}
+use Rattle.unit_book.proofs.Names.{ap, ◌∙◌, eqb, if◌then◌else◌, is_some, Storage, Meaning, Phase, Idle, Running, Pending}
+use Rattle.unit_book.proofs.Names.{Name, Piece, covers, Scope, Active, Standing, OnChannel, AwaitsRestart, Mode, Entry, Halted}
 use Rattle.unit_book.proofs.Names.{Purge, Close, Reset, waiting, arrivals, active, started, request_named, is_halt, is_covered, doomed}
 use Rattle.unit_book.proofs.Names.{is_doomed, is_open, is_opened, is_closed, flag, extents_of, attempts, current, Legal, Free, due}
 use Rattle.unit_book.proofs.Names.{doomed_first, CanPurge, posted, DoomedBy, active_of, covered_by, awaits_by, ActivityTies, StandingTies}
@@ -21,51 +22,84 @@ use Rattle.unit_book.proofs.Lists.{same-refl}
 use Rattle.unit_book.proofs.Runs.{not-over}
 use Rattle.unit_book.proofs.Facts.{due-halt}
 
+-- WHAT A PURGE DOOMS: what it covers of that which waits
+purged-by : (covered shut purged flagged : Bool) → not (shut || purged || flagged) ≡ true →
+    (shut || (covered || purged) || flagged) ≡ covered
+purged-by true false purged flagged h = refl
+purged-by false false false false h = refl
+purged-by _ _ _ _ h = absurd cc
+
+pub doomed-purge : (scope : Scope) (mode : Mode) (H : List Entry) → doomed H ≡ [] →
+    DoomedBy (Some (selection.Scope scope)) (Purge scope mode ∷ H)
+unfolding waiting arrivals flag
+doomed-purge scope mode H e =
+    let G = Purge scope mode ∷ H in
+    filter-agree (is_doomed G) (is_selected (Some (selection.Scope scope))) (λ r. not (is_doomed H r))
+    (λ r h. purged-by (covers scope r) (not (is_open r.dcb H)) (is_purged r H) (r.related && flag r.dcb H) h) (waiting H)
+    (none-pass (is_doomed H) (waiting H) e)
+
+-- a Halted dooms nothing
+pub doomed-halted : (n : Name) (H : List Entry) → doomed (Halted n ∷ H) ≡ doomed H
+unfolding waiting arrivals flag
+doomed-halted n H = refl
+
+-- A CLOSE DOOMS what waits of its DCB
+closed-by : (here opened closed purged flagged : Bool) → not (not (opened && not closed) || purged || flagged) ≡ true →
+    (not (opened && not (here || closed)) || purged || flagged) ≡ here
+closed-by true true false false false h = refl
+closed-by false true false false false h = refl
+closed-by here _ _ _ _ h = absurd cc
+
+pub doomed-close : (d : ℕ) (H : List Entry) → doomed H ≡ [] → DoomedBy (Some (selection.Scope (Dcb d))) (Close d ∷ H)
+unfolding waiting arrivals flag
+doomed-close d H e =
+    let G = Close d ∷ H in
+    filter-agree (is_doomed G) (is_selected (Some (selection.Scope (Dcb d)))) (λ r. not (is_doomed H r))
+    (λ r h. closed-by (eqb d r.dcb) (is_opened r.dcb H) (is_closed r.dcb H) (is_purged r H) (r.related && flag r.dcb H) h) (waiting H)
+    (none-pass (is_doomed H) (waiting H) e)
+
+-- A RESET DOOMS nothing
+reset-spares : (here shut purged related flagged : Bool) → not (shut || purged || (related && flagged)) ≡ true →
+    (shut || purged || (related && (if here then false else flagged))) ≡ false
+reset-spares true false false true flagged h = refl
+reset-spares false false false true false h = refl
+reset-spares here false false false flagged h = refl
+reset-spares _ _ _ _ _ h = absurd cc
+
+-- as many are doomed as wait, at most
+pub doomed-some : (H : List Entry) → length (doomed H) ≤ length (waiting H)
+doomed-some H = length-filter_le (is_doomed H) (waiting H)
+
+-- A PURGE: the fields stay those of the trace
+covers-area : (scope : Scope) (r : Piece) (m : Storage) → covers scope (record r { area = m }) ≡ covers scope r
+covers-area (Dcb d) r m = refl
+covers-area (Task t) r m = refl
+
+some-covers : (n : Name) (b : Bool) → b ≡ is_some (if b then Some n else None)
+some-covers n true = refl
+some-covers n false = refl
+
+-- at most what waited is doomed
+pub doomed-close_few : (d : ℕ) (H : List Entry) → length (doomed (Close d ∷ H)) ≤ length (waiting H)
+unfolding waiting arrivals
+doomed-close_few d H = doomed-some (Close d ∷ H)
+
+pub doomed-purge_few : (scope : Scope) (mode : Mode) (H : List Entry) → length (doomed (Purge scope mode ∷ H)) ≤ length (waiting H)
+unfolding waiting arrivals
+doomed-purge_few scope mode H = doomed-some (Purge scope mode ∷ H)
+
+pub dooms-halted : (n : Name) (scope : Scope) (mode : Mode) (H : List Entry) →
+    DoomedBy (Some (selection.Scope scope)) (Purge scope mode ∷ H) →
+    DoomedBy (Some (selection.Scope scope)) (Halted n ∷ Purge scope mode ∷ H)
+unfolding waiting arrivals
+dooms-halted n scope mode H d = doomed-halted n (Purge scope mode ∷ H) ∙ d
+
+pub doomed-halted_few : (n : Name) (scope : Scope) (mode : Mode) (H : List Entry) →
+    length (doomed (Halted n ∷ Purge scope mode ∷ H)) ≤ length (waiting H)
+unfolding waiting arrivals
+doomed-halted_few n scope mode H = doomed-some (Halted n ∷ Purge scope mode ∷ H)
+
 module _ {D : Type 0} (meaning : Meaning D) (mounted : D) where
-  -- WHAT A PURGE DOOMS: what it covers of that which waits
-  purged-by : (covered shut purged flagged : Bool) → not (shut || purged || flagged) ≡ true →
-      (shut || (covered || purged) || flagged) ≡ covered
-  purged-by true false purged flagged h = refl
-  purged-by false false false false h = refl
-  purged-by _ _ _ _ h = absurd cc
-
-  pub doomed-purge : (scope : Scope) (mode : Mode) (H : List Entry) → doomed H ≡ [] →
-      DoomedBy (Some (selection.Scope scope)) (Purge scope mode ∷ H)
-  unfolding waiting arrivals flag
-  doomed-purge scope mode H e =
-      let G = Purge scope mode ∷ H in
-      filter-agree (is_doomed G) (is_selected (Some (selection.Scope scope))) (λ r. not (is_doomed H r))
-      (λ r h. purged-by (covers scope r) (not (is_open r.dcb H)) (is_purged r H) (r.related && flag r.dcb H) h) (waiting H)
-      (none-pass (is_doomed H) (waiting H) e)
-
-  -- a Halted dooms nothing
-  pub doomed-halted : (n : Name) (H : List Entry) → doomed (Halted n ∷ H) ≡ doomed H
-  unfolding waiting arrivals flag
-  doomed-halted n H = refl
-
-  -- A CLOSE DOOMS what waits of its DCB
-  closed-by : (here opened closed purged flagged : Bool) → not (not (opened && not closed) || purged || flagged) ≡ true →
-      (not (opened && not (here || closed)) || purged || flagged) ≡ here
-  closed-by true true false false false h = refl
-  closed-by false true false false false h = refl
-  closed-by here _ _ _ _ h = absurd cc
-
-  pub doomed-close : (d : ℕ) (H : List Entry) → doomed H ≡ [] → DoomedBy (Some (selection.Scope (Dcb d))) (Close d ∷ H)
-  unfolding waiting arrivals flag
-  doomed-close d H e =
-      let G = Close d ∷ H in
-      filter-agree (is_doomed G) (is_selected (Some (selection.Scope (Dcb d)))) (λ r. not (is_doomed H r))
-      (λ r h. closed-by (eqb d r.dcb) (is_opened r.dcb H) (is_closed r.dcb H) (is_purged r H) (r.related && flag r.dcb H) h) (waiting H)
-      (none-pass (is_doomed H) (waiting H) e)
-
-  -- A RESET DOOMS nothing
-  reset-spares : (here shut purged related flagged : Bool) → not (shut || purged || (related && flagged)) ≡ true →
-      (shut || purged || (related && (if here then false else flagged))) ≡ false
-  reset-spares true false false true flagged h = refl
-  reset-spares false false false true false h = refl
-  reset-spares here false false false flagged h = refl
-  reset-spares _ _ _ _ _ h = absurd cc
-
   pub settled-reset : (d : ℕ) (H : List Entry) → due meaning mounted H ≡ Free → due meaning mounted (Reset d ∷ H) ≡ Free
   unfolding waiting arrivals flag
   settled-reset d H h =
@@ -74,19 +108,6 @@ module _ {D : Type 0} (meaning : Meaning D) (mounted : D) where
       let same = filter-agree (is_doomed G) (λ r. false) (λ r. not (is_doomed H r))
       (λ r k. reset-spares (eqb d r.dcb) (not (is_open r.dcb H)) (is_purged r H) r.related (flag r.dcb H) k) (waiting H) all in
       due-no_halt meaning mounted G (λ n a. refl) ∙ ap doomed_first (same ∙ filter-never (waiting H))
-
-  -- as many are doomed as wait, at most
-  pub doomed-some : (H : List Entry) → length (doomed H) ≤ length (waiting H)
-  doomed-some H = length-filter_le (is_doomed H) (waiting H)
-
-  -- A PURGE: the fields stay those of the trace
-  covers-area : (scope : Scope) (r : Piece) (m : Storage) → covers scope (record r { area = m }) ≡ covers scope r
-  covers-area (Dcb d) r m = refl
-  covers-area (Task t) r m = refl
-
-  some-covers : (n : Name) (b : Bool) → b ≡ is_some (if b then Some n else None)
-  some-covers n true = refl
-  some-covers n false = refl
 
   module _ {H : List Entry} (scope : Scope) (mode : Mode) where
     -- the purge covers the active request as its piece tells
@@ -103,10 +124,11 @@ module _ {D : Type 0} (meaning : Meaning D) (mounted : D) where
         (covers-same t ∙ some-covers a.piece.value.name (covers scope (request_named a.piece.value.name H))
         ∙ sym (ap (λ o. is_some (covered_by scope H o)) t.is))
 
-    uncovered : (phase : Phase) (a : Active) (standing : Standing) → ActiveTies meaning mounted H phase a →
+    uncovered : {phase : Phase} {a : Active} (standing : Standing) → ActiveTies meaning mounted H phase a →
         is_halt mode && awaits_by standing && is_some (covered_by scope H (Some a.piece.value.name)) ≡ false →
         awaits_by standing ≡ true → covers scope a.piece.value && is_halt mode ≡ false
-    uncovered phase a standing t h e = by_bools (is_halt mode) (covers scope (request_named a.piece.value.name H)) (covers scope a.piece.value)
+    uncovered {a = a} standing t h e = by_bools (is_halt mode) (covers scope (request_named a.piece.value.name H))
+        (covers scope a.piece.value)
         (covers-same t) (rw e at h) where
           by_bools : (halts c d : Bool) → d ≡ c → halts && true && is_some (if c then Some a.piece.value.name else None) ≡ false →
               d && halts ≡ false
@@ -120,18 +142,18 @@ module _ {D : Type 0} (meaning : Meaning D) (mounted : D) where
         StandingTies meaning mounted H phase a standing →
         StandingTies meaning mounted (Purge scope mode ∷ H) phase (after_cover scope mode a) standing
     unfolding attempts request_named
-    standing-purge Idle a (AwaitsRestart csw sense) t u d =
+    standing-purge Idle a (AwaitsRestart status) t u d =
         let e = ap (λ b. b && is_halt mode) (sym (covers-same t)) ∙ u refl in
         (d.0, d.1, rw e d.2)
     standing-purge (Running place) a OnChannel t u d = d
-    standing-purge (Pending csw sense) a OnChannel t u d = d
+    standing-purge (Pending status) a OnChannel t u d = d
     standing-purge _ a _ t u d = absurd d
 
-    active-purge : (phase : Phase) (a : Active) → ActiveTies meaning mounted H phase a →
+    active-purge : {phase : Phase} {a : Active} → ActiveTies meaning mounted H phase a →
         (awaits_by a.standing ≡ true → covers scope a.piece.value && is_halt mode ≡ false) →
         ActiveTies meaning mounted (Purge scope mode ∷ H) phase (after_cover scope mode a)
     unfolding attempts request_named active started
-    active-purge phase a t u = record {
+    active-purge {phase} {a} t u = record {
       is = t.is;
       request = t.request;
       placed = t.placed;
@@ -142,57 +164,47 @@ module _ {D : Type 0} (meaning : Meaning D) (mounted : D) where
       standing = standing-purge phase a a.standing t u t.standing;
     }
 
-    module _ {channel : Channel D} {waiters : List Piece} {table : List Row} {left : List PostedState}
-        (settled : due meaning mounted H ≡ Free)
-        (can : CanPurge meaning mounted scope H) where
-      with-activity : {old new : Option Active} → Ties meaning mounted H channel old waiters table left →
-          ActivityTies meaning mounted (Purge scope mode ∷ H) channel.phase new →
-          Ties meaning mounted (Purge scope mode ∷ H) channel new waiters table left
-      unfolding Legal waiting arrivals request_named attempts extents_of flag posted
-      with-activity t k = record {
-        legal = (fits-free meaning mounted (Purge scope mode) H settled can, t.legal);
-        queue = t.queue;
-        placed = t.placed;
-        device = t.device;
-        activity = k;
-        count = t.count;
-        dcbs = t.dcbs;
-        out = t.out;
-      }
+module _ {D : Type 0} {meaning : Meaning D} {mounted : D} (scope : Scope) (mode : Mode) {held : BookFields D}
+    (settled : due meaning mounted held.trace ≡ Free)
+    (can : CanPurge meaning mounted scope held.trace) where
+  with-activity : {old new : Option Active} → Ties meaning mounted held old →
+      ActivityTies meaning mounted (Purge scope mode ∷ held.trace) held.channel.phase new →
+      Ties meaning mounted (record held { trace = Purge scope mode ∷ held.trace }) new
+  unfolding Legal waiting arrivals request_named attempts extents_of flag posted
+  with-activity t k = record {
+    legal = (fits-free meaning mounted (Purge scope mode) held.trace settled can, t.legal);
+    queue = t.queue;
+    placed = t.placed;
+    device = t.device;
+    activity = k;
+    count = t.count;
+    dcbs = t.dcbs;
+    out = t.out;
+  }
 
-      pub ties-purge_none : Ties meaning mounted H channel None waiters table left →
-          Ties meaning mounted (Purge scope mode ∷ H) channel None waiters table left
-      unfolding active started
-      ties-purge_none t = with-activity t t.activity
+  pub ties-purge_none : Ties meaning mounted held None →
+      Ties meaning mounted (record held { trace = Purge scope mode ∷ held.trace }) None
+  unfolding active started
+  ties-purge_none t = with-activity t t.activity
 
-      pub ties-purge : {a : Active} → is_halt mode && awaits_by a.standing && is_some (active_of scope H) ≡ false →
-          Ties meaning mounted H channel (Some a) waiters table left →
-          Ties meaning mounted (Purge scope mode ∷ H) channel (Some (after_cover scope mode a)) waiters table left
-      ties-purge {a} h t =
-          let h' = rw t.activity.is at h in
-          with-activity t (active-purge channel.phase a t.activity (λ e. uncovered channel.phase a a.standing t.activity h' e))
-
-  -- at most what waited is doomed
-  pub doomed-close_few : (d : ℕ) (H : List Entry) → length (doomed (Close d ∷ H)) ≤ length (waiting H)
-  unfolding waiting arrivals
-  doomed-close_few d H = doomed-some (Close d ∷ H)
-
-  pub doomed-purge_few : (scope : Scope) (mode : Mode) (H : List Entry) → length (doomed (Purge scope mode ∷ H)) ≤ length (waiting H)
-  unfolding waiting arrivals
-  doomed-purge_few scope mode H = doomed-some (Purge scope mode ∷ H)
-
-  pub dooms-halted : (n : Name) (scope : Scope) (mode : Mode) (H : List Entry) →
-      DoomedBy (Some (selection.Scope scope)) (Purge scope mode ∷ H) →
-      DoomedBy (Some (selection.Scope scope)) (Halted n ∷ Purge scope mode ∷ H)
-  unfolding waiting arrivals
-  dooms-halted n scope mode H d = doomed-halted n (Purge scope mode ∷ H) ∙ d
-
-  pub doomed-halted_few : (n : Name) (scope : Scope) (mode : Mode) (H : List Entry) →
-      length (doomed (Halted n ∷ Purge scope mode ∷ H)) ≤ length (waiting H)
-  unfolding waiting arrivals
-  doomed-halted_few n scope mode H = doomed-some (Halted n ∷ Purge scope mode ∷ H)
+  pub ties-purge : {a : Active} → is_halt mode && awaits_by a.standing && is_some (active_of scope held.trace) ≡ false →
+      Ties meaning mounted held (Some a) →
+      Ties meaning mounted (record held { trace = Purge scope mode ∷ held.trace }) (Some (after_cover scope mode a))
+  ties-purge {a} h t =
+      let h' = rw t.activity.is at h in
+      with-activity t (active-purge meaning mounted scope mode t.activity
+      (λ e. uncovered meaning mounted scope mode a.standing t.activity h' e))
 
 -- A halt, a close and a reset: the fields stay those of the trace.
+
+-- A CLOSE AND A RESET
+dcb-closed : (c : ℕ) (H : List Entry) (d : ℕ) → shut (eqb c d) (dcb_of d H) ≡ dcb_of d (Close c ∷ H)
+unfolding flag extents_of
+dcb-closed c H d = elim (cases_Bool (is_opened d H)) [ inl i ↦ rw i refl | inr i ↦ rw i refl ]
+
+dcb-reset : (c : ℕ) (H : List Entry) (d : ℕ) → unflagged (eqb c d) (dcb_of d H) ≡ dcb_of d (Reset c ∷ H)
+unfolding flag extents_of
+dcb-reset c H d = elim (cases_Bool (is_opened d H)) [ inl i ↦ rw i refl | inr i ↦ rw i refl ]
 
 module _ {D : Type 0} (meaning : Meaning D) (mounted : D) where
   -- WHOM A PURGE HALTS
@@ -241,26 +253,26 @@ module _ {D : Type 0} (meaning : Meaning D) (mounted : D) where
   halt-runs n H h = to-halt H n (due-halt meaning mounted H n h).1
 
   -- A HALT
-  module _ {H : List Entry} {channel : Channel D} {a : Active} {waiters : List Piece} {table : List Row} {left : List PostedState}
-      (d : due meaning mounted H ≡ ToHalt a.piece.value.name) (t : Ties meaning mounted H channel (Some a) waiters table left) where
+  module _ {held : BookFields D} {a : Active}
+      (d : due meaning mounted held.trace ≡ ToHalt a.piece.value.name) (t : Ties meaning mounted held (Some a)) where
     abbrev n : Name
     n = a.piece.value.name
 
     abbrev G : List Entry
-    G = Halted n ∷ H
+    G = Halted n ∷ held.trace
 
     -- where a program goes
     record Going (phase : Phase) (standing : Standing) : Type 0 where
       place : Place
       phase_is : phase ≡ Running place
-      place_is : place ≡ (current meaning mounted H).place
+      place_is : place ≡ (current meaning mounted held.trace).place
       standing_is : standing ≡ OnChannel
 
-    runs : (phase : Phase) (standing : Standing) → still_runs (active_phase meaning mounted n H) ≡ true →
-        StandingTies meaning mounted H phase a standing → Going phase standing
-    runs Idle (AwaitsRestart csw sense) g k = absurd (not-over (active_phase meaning mounted n H) g false csw sense k.0)
+    runs : (phase : Phase) (standing : Standing) → still_runs (active_phase meaning mounted n held.trace) ≡ true →
+        StandingTies meaning mounted held.trace phase a standing → Going phase standing
+    runs Idle (AwaitsRestart status) g k = absurd (not-over (active_phase meaning mounted n held.trace) g false status k.0)
     runs (Running place) OnChannel g k = record { place = place; phase_is = refl; place_is = k.0; standing_is = refl }
-    runs (Pending csw sense) OnChannel g k = absurd (not-over (active_phase meaning mounted n H) g a.halted csw sense k)
+    runs (Pending status) OnChannel g k = absurd (not-over (active_phase meaning mounted n held.trace) g a.halted status k)
     runs _ _ g k = absurd k
 
     stopped : Active
@@ -276,11 +288,13 @@ module _ {D : Type 0} (meaning : Meaning D) (mounted : D) where
         let s = same-refl n in
         rw (e, i, p, s) refl
 
-    pub ties-halt : Ties meaning mounted G (record channel { phase = halted_phase channel.phase })
-        (Some (record a { halted = true })) waiters table left
+    pub ties-halt : Ties meaning mounted (record held {
+      trace = G;
+      channel = record held.channel { phase = halted_phase held.channel.phase };
+    }) (Some (record a { halted = true }))
     unfolding Legal waiting arrivals active started request_named attempts extents_of flag posted
     ties-halt =
-        let fits : Fits meaning mounted (Halted n) H = subst (λ x. FitsBy meaning mounted x (Halted n) H) (sym d) refl in
+        let fits : Fits meaning mounted (Halted n) held.trace = subst (λ x. FitsBy meaning mounted x (Halted n) held.trace) (sym d) refl in
         let s = same-refl n in
         record {
           legal = (fits, t.legal);
@@ -294,51 +308,43 @@ module _ {D : Type 0} (meaning : Meaning D) (mounted : D) where
             starts = t.activity.starts;
             halted = rw s refl;
             covered = t.activity.covered;
-            standing = standing-halt channel.phase a.standing (runs channel.phase a.standing (halt-runs n H d) t.activity.standing);
+            standing = standing-halt held.channel.phase a.standing
+                (runs held.channel.phase a.standing (halt-runs n held.trace d) t.activity.standing);
           };
           count = t.count;
           dcbs = t.dcbs;
           out = t.out;
         }
 
-  -- A CLOSE AND A RESET
-  dcb-closed : (c : ℕ) (H : List Entry) (d : ℕ) → shut (eqb c d) (dcb_of d H) ≡ dcb_of d (Close c ∷ H)
-  unfolding flag extents_of
-  dcb-closed c H d = elim (cases_Bool (is_opened d H)) [ inl i ↦ rw i refl | inr i ↦ rw i refl ]
+module _ {D : Type 0} {meaning : Meaning D} {mounted : D} {held : BookFields D} {o : Option Active} {c : ℕ}
+    (settled : due meaning mounted held.trace ≡ Free) (opened : is_open c held.trace ≡ true) (t : Ties meaning mounted held o) where
+  pub ties-close : {new : List Row} → ((d : ℕ) → dcb_at new d ≡ shut (eqb c d) (dcb_at held.dcbs d)) → length new ≡ length held.dcbs →
+      Ties meaning mounted (record held { trace = Close c ∷ held.trace; dcbs = new }) o
+  unfolding Legal waiting arrivals active started request_named attempts extents_of flag posted
+  ties-close rows count = record {
+    legal = (fits-free meaning mounted (Close c) held.trace settled opened, t.legal);
+    queue = t.queue;
+    placed = t.placed;
+    device = t.device;
+    activity = activity-same meaning mounted (Close c ∷ held.trace) t refl
+        (λ m e. record { active = refl; request = refl; starts = refl; attempts = refl; halted = refl; covered = refl });
+    count = count ∙ t.count;
+    dcbs = λ d. rows d ∙ ap (shut (eqb c d)) (t.dcbs d) ∙ dcb-closed c held.trace d;
+    out = t.out;
+  }
 
-  dcb-reset : (c : ℕ) (H : List Entry) (d : ℕ) → unflagged (eqb c d) (dcb_of d H) ≡ dcb_of d (Reset c ∷ H)
-  unfolding flag extents_of
-  dcb-reset c H d = elim (cases_Bool (is_opened d H)) [ inl i ↦ rw i refl | inr i ↦ rw i refl ]
-
-  module _ {H : List Entry} {channel : Channel D} {o : Option Active} {waiters : List Piece} {table : List Row} {left : List PostedState}
-      {c : ℕ}
-      (settled : due meaning mounted H ≡ Free) (opened : is_open c H ≡ true) (t : Ties meaning mounted H channel o waiters table left) where
-    pub ties-close : {new : List Row} → ((d : ℕ) → dcb_at new d ≡ shut (eqb c d) (dcb_at table d)) → length new ≡ length table →
-        Ties meaning mounted (Close c ∷ H) channel o waiters new left
-    unfolding Legal waiting arrivals active started request_named attempts extents_of flag posted
-    ties-close rows count = record {
-      legal = (fits-free meaning mounted (Close c) H settled opened, t.legal);
-      queue = t.queue;
-      placed = t.placed;
-      device = t.device;
-      activity = activity-same meaning mounted H (Close c ∷ H) channel.phase o refl
-          (λ m e. record { active = refl; request = refl; starts = refl; attempts = refl; halted = refl; covered = refl }) t.activity;
-      count = count ∙ t.count;
-      dcbs = λ d. rows d ∙ ap (shut (eqb c d)) (t.dcbs d) ∙ dcb-closed c H d;
-      out = t.out;
-    }
-
-    pub ties-reset : {new : List Row} → ((d : ℕ) → dcb_at new d ≡ unflagged (eqb c d) (dcb_at table d)) → length new ≡ length table →
-        Ties meaning mounted (Reset c ∷ H) channel o waiters new left
-    unfolding Legal waiting arrivals active started request_named attempts extents_of flag posted
-    ties-reset rows count = record {
-      legal = (fits-free meaning mounted (Reset c) H settled opened, t.legal);
-      queue = t.queue;
-      placed = t.placed;
-      device = t.device;
-      activity = activity-same meaning mounted H (Reset c ∷ H) channel.phase o refl
-          (λ m e. record { active = refl; request = refl; starts = refl; attempts = refl; halted = refl; covered = refl }) t.activity;
-      count = count ∙ t.count;
-      dcbs = λ d. rows d ∙ ap (unflagged (eqb c d)) (t.dcbs d) ∙ dcb-reset c H d;
-      out = t.out;
-    }
+  pub ties-reset : {new : List Row} → ((d : ℕ) → dcb_at new d ≡ unflagged (eqb c d) (dcb_at held.dcbs d)) → length new
+      ≡ length held.dcbs →
+      Ties meaning mounted (record held { trace = Reset c ∷ held.trace; dcbs = new }) o
+  unfolding Legal waiting arrivals active started request_named attempts extents_of flag posted
+  ties-reset rows count = record {
+    legal = (fits-free meaning mounted (Reset c) held.trace settled opened, t.legal);
+    queue = t.queue;
+    placed = t.placed;
+    device = t.device;
+    activity = activity-same meaning mounted (Reset c ∷ held.trace) t refl
+        (λ m e. record { active = refl; request = refl; starts = refl; attempts = refl; halted = refl; covered = refl });
+    count = count ∙ t.count;
+    dcbs = λ d. rows d ∙ ap (unflagged (eqb c d)) (t.dcbs d) ∙ dcb-reset c held.trace d;
+    out = t.out;
+  }

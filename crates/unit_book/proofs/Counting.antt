@@ -52,7 +52,7 @@ module _ {D : Type 0} (meaning : Meaning D) where
   interrupts-keep old NothingPending new h = ap (λ (b : Book D). arrivals b.trace) h.1
   interrupts-keep old (TriedAgain n) new h = ap (λ (b : Book D). arrivals b.trace) h.2
   interrupts-keep old (WasPosted n code) new h = ap (λ (b : Book D). arrivals b.trace) h.1.extends
-      ∙ arrivals-after_dooms (Post n h.1.csw h.1.sense code ∷ old.trace)
+      ∙ arrivals-after_dooms (Post n h.1.status.csw h.1.status.sense code ∷ old.trace)
 
   pub opens-keep : (old : Book D) (dcb : ℕ) (method : ProcessingMethod) (extents : List Extent) (new : Book D) →
       OpensBook meaning old dcb method extents new → arrivals new.trace ≡ arrivals old.trace

@@ -1,17 +1,17 @@
 -- Nothing doomed is started.
 use Rattle.unit_book.proofs.Names.{◌≡◌, ℕ, ◌⊎◌, Bool, true, false, not, ◌&&◌, ◌||◌, Some, List, [], ◌∷◌, ◌++◌, refl, sym, ap, ◌∙◌, eqb, inl}
 use Rattle.unit_book.proofs.Names.{inr, subst, cases_Bool, or_left, or_right, eq-eqb, list_any, slice_get, Meaning, Name, Piece, Entry}
-use Rattle.unit_book.proofs.Names.{Opened, Arrive, Start, Ran, Halted, Purge, Close, Reset, Post, same, starts, arrivals, waiting, active}
+use Rattle.unit_book.proofs.Names.{Arrive, Start, Halted, Close, same, starts, arrivals, waiting, active}
 use Rattle.unit_book.proofs.Names.{has_arrived, has_started, is_posted, is_covered, request_named, doomed, is_doomed, is_open, is_opened}
 use Rattle.unit_book.proofs.Names.{is_closed, flag, Due, ToHalt, ToPost, Free, due, Fits, FitsBy, Legal, StartFits, First, Again}
 use Rattle.std.proofs.lemmas.Bool.{or_from}
 use Rattle.unit_book.specs.Laws.{NoDoomedStarts, is_of_name}
-use Rattle.unit_book.proofs.Lists.{same-true, no_both, without}
+use Rattle.unit_book.proofs.Lists.{all-at, same-true, no_both, without}
 use Rattle.unit_book.proofs.Facts.{Facts, active-is, fits-arrive, fits-start, fresh}
-use Rattle.unit_book.proofs.LegalFacts.{facts, first-waits, first-request}
+use Rattle.unit_book.proofs.LegalFacts.{facts, first-waits, first-request, request-named}
 use Rattle.unit_book.proofs.Dooms.{doomed-purged, due-doomed, none-pass}
-use Rattle.unit_book.proofs.Seeks.{free-start, all-at}
-use Rattle.unit_book.proofs.TraceLaws.{not-of, start-unposted}
+use Rattle.unit_book.proofs.Seeks.{free-start}
+use Rattle.unit_book.proofs.TraceLaws.{any-later, not-of, start-unposted}
 
 -- one of the name is doomed
 abbrev dooms : Name → List Entry → Bool
@@ -35,33 +35,39 @@ starts-of : (n : Name) (e : Entry) → is_of_name n e ≡ false → starts n e �
 starts-of n (Start m) h = h
 starts-of n _ h = refl
 
--- the request of a name that arrived has the name
-request-named : (n : Name) (H : List Entry) → has_arrived n H ≡ true → (request_named n H).name ≡ n
-unfolding request_named
-request-named n [] h = absurd cc
-request-named n (Arrive r ∷ H) h =
-    let ih : has_arrived n H ≡ true → (request_named n H).name ≡ n = λ k. request-named n H k in
-    elim (cases_Bool (same r.name n)) [ inl e ↦ rw e (same-true r.name n e) | inr e ↦ rw e (ih (rw e at h)) ]
-request-named n (_ ∷ H) h = request-named n H h
+-- WHAT WAS DOOMED stays so or is posted, and is not started
+abbrev Gone : Name → List Entry → Type 0
+Gone n G = (dooms n G ≡ true) ⊎ (is_posted n G ≡ true)
 
--- what an older part has, the whole has
-any-later : (p : Entry → Bool) (later earlier : List Entry) → list_any p earlier ≡ true → list_any p (later ++ earlier) ≡ true
-any-later p [] earlier h = h
-any-later p (e ∷ later) earlier h = or_right (p e) (list_any p (later ++ earlier)) (any-later p later earlier h)
+dooms-halted : (n m : Name) (G : List Entry) → dooms n (Halted m ∷ G) ≡ dooms n G
+unfolding waiting arrivals flag
+dooms-halted n m G = refl
+
+abbrev Covered : Piece → List Entry → Type 0
+Covered r G = (has_started r.name G ≡ true) × (request_named r.name G ≡ r) × (is_covered r G ≡ true)
+
+-- A FIRST START is of a request that is not doomed
+first-spared : (r : Piece) (H : List Entry) → doomed H ≡ [] → slice_get (waiting H) 0 ≡ Some r → not (is_doomed H r) ≡ true
+first-spared r H d s = all-at (λ q. not (is_doomed H q)) (waiting H) 0 r (none-pass (is_doomed H) (waiting H) d) s
+
+-- a request of a closed DCB, one with the flag
+doomed-closed : (opened closed purged related flagged : Bool) → closed ≡ true →
+    (not (opened && not closed) || purged || (related && flagged)) ≡ true
+doomed-closed true closed purged related flagged h = rw h refl
+doomed-closed false closed purged related flagged h = refl
+
+doomed-flagged : (shut purged related flagged : Bool) → related ≡ true → flagged ≡ true → (shut || purged || (related && flagged)) ≡ true
+doomed-flagged false false related flagged h k = rw (h, k) refl
+doomed-flagged _ _ related flagged h k = refl
+
+closed-later : (d : ℕ) (later earlier : List Entry) → is_closed d (later ++ Close d ∷ earlier) ≡ true
+closed-later d later earlier = any-later _ later (Close d ∷ earlier) (or_left (eqb d d) (is_closed d earlier) (eq-eqb d d refl))
 
 module _ {D : Type 0} (meaning : Meaning D) (mounted : D) where
   legal-tail : (later earlier : List Entry) → Legal meaning mounted (later ++ earlier) → Legal meaning mounted earlier
   unfolding Legal
   legal-tail [] earlier l = l
   legal-tail (e ∷ later) earlier l = legal-tail later earlier l.1
-
-  -- WHAT WAS DOOMED stays so or is posted, and is not started
-  abbrev Gone : Name → List Entry → Type 0
-  Gone n G = (dooms n G ≡ true) ⊎ (is_posted n G ≡ true)
-
-  dooms-halted : (n m : Name) (G : List Entry) → dooms n (Halted m ∷ G) ≡ dooms n G
-  unfolding waiting arrivals flag
-  dooms-halted n m G = refl
 
   gone-step : (n : Name) (e : Entry) (G : List Entry) → Facts G → Fits meaning mounted e G → Gone n G →
       (starts n e ≡ false) × Gone n (e ∷ G)
@@ -74,7 +80,7 @@ module _ {D : Type 0} (meaning : Meaning D) (mounted : D) where
           | inl s ↦ rw i (refl, inr (or_left (same m n) (is_posted n G) s))
           | inr s ↦ rw i (
             refl,
-            inl (ap (list_any (λ (r : Piece). same r.name n)) (doomed-purged meaning mounted m _ _ G)
+            inl (ap (list_any (λ (r : Piece). same r.name n)) (doomed-purged m _ _ G)
                 ∙ any-without m n s (doomed G) d),
           )
         ]
@@ -90,34 +96,31 @@ module _ {D : Type 0} (meaning : Meaning D) (mounted : D) where
       (or_from (starts n e) (list_any (starts n) later) s.0 ih.0, s.1)
 
   -- WHAT WAS STARTED AND COVERED stays covered, and is not started
-  covered-start : (r : Piece) (m : Name) (G : List Entry) → Legal meaning mounted G → Fits meaning mounted (Start m) G →
-      has_started r.name G ≡ true → request_named r.name G ≡ r → is_covered r G ≡ true → same m r.name ≡ false
-  covered-start r m G l h s q c =
+  covered-start : (r : Piece) (m : Name) (G : List Entry) → Legal meaning mounted G → Fits meaning mounted (Start m) G → Covered r G →
+      same m r.name ≡ false
+  covered-start r m G l h c =
       elim (cases_Bool (same m r.name)) [
         | inl e ↦ absurd (none (fits-start meaning mounted m G (due meaning mounted G) h) (same-true m r.name e))
         | inr e ↦ e
       ] where
         none : StartFits meaning mounted m G → m ≡ r.name → ⊥
         none (First k) i =
-            let u = (first-waits meaning mounted k.request G (facts meaning mounted G l) k.first).unstarted in
-            no_both (has_started r.name G) s (subst (λ (x : Name). has_started x G ≡ false) (k.name ∙ i) u)
-        none (Again k) i = no_both (is_covered r G) c
-            (subst (λ (x : Piece). is_covered x G ≡ false) (ap (λ (x : Name). request_named x G) i ∙ q) k.free)
+            let u = (first-waits k.request G (facts meaning mounted G l) k.first).unstarted in
+            no_both (has_started r.name G) c.0 (subst (λ (x : Name). has_started x G ≡ false) (k.name ∙ i) u)
+        none (Again k) i = no_both (is_covered r G) c.2
+            (subst (λ (x : Piece). is_covered x G ≡ false) (ap (λ (x : Name). request_named x G) i ∙ c.1) k.free)
 
   -- the request of a name stays the one that arrived
   request-stays : (n : Name) (e : Entry) (G : List Entry) → Facts G → Fits meaning mounted e G → has_arrived n G ≡ true →
       request_named n (e ∷ G) ≡ request_named n G
   unfolding request_named
   request-stays n (Arrive r) G f h a =
-      let new = fresh meaning mounted r G f (fits-arrive meaning mounted r G (due meaning mounted G) h) in
+      let new = fresh r G f (fits-arrive meaning mounted r G (due meaning mounted G) h) in
       elim (cases_Bool (same r.name n)) [
         | inl s ↦ no_both (has_arrived n G) a (subst (λ (x : Name). has_arrived x G ≡ false) (same-true r.name n s) new)
         | inr s ↦ rw s refl
       ]
   request-stays n _ G f h a = refl
-
-  abbrev Covered : Piece → List Entry → Type 0
-  Covered r G = (has_started r.name G ≡ true) × (request_named r.name G ≡ r) × (is_covered r G ≡ true)
 
   covered-step : (r : Piece) (e : Entry) (G : List Entry) → Legal meaning mounted G → Fits meaning mounted e G → Covered r G →
       (starts r.name e ≡ false) × Covered r (e ∷ G)
@@ -127,15 +130,8 @@ module _ {D : Type 0} (meaning : Meaning D) (mounted : D) where
       let s = unstarted e h in
       (s, (or_right (starts r.name e) (has_started r.name G) c.0, q, rw s (or_right _ (is_covered r G) c.2))) where
         unstarted : (e : Entry) → Fits meaning mounted e G → starts r.name e ≡ false
-        unstarted (Start m) i = covered-start r m G l i c.0 c.1 c.2
-        unstarted (Opened d j x) i = refl
-        unstarted (Arrive p) i = refl
-        unstarted (Ran m j) i = refl
-        unstarted (Halted m) i = refl
-        unstarted (Purge s m) i = refl
-        unstarted (Close d) i = refl
-        unstarted (Reset d) i = refl
-        unstarted (Post m csw sense code) i = refl
+        unstarted (Start m) i = covered-start r m G l i c
+        unstarted _ i = refl
 
   covered-stays : (r : Piece) (later earlier : List Entry) → Legal meaning mounted (later ++ earlier) → Covered r earlier →
       (list_any (starts r.name) later ≡ false) × Covered r (later ++ earlier)
@@ -155,14 +151,10 @@ module _ {D : Type 0} (meaning : Meaning D) (mounted : D) where
       let k : Covered r earlier = (rw q s, ap (λ (x : Name). request_named x earlier) q, c) in
       subst (λ (x : Name). list_any (starts x) later ≡ false) q (covered-stays r later earlier l k).0
 
-  -- A FIRST START is of a request that is not doomed
-  first-spared : (r : Piece) (H : List Entry) → doomed H ≡ [] → slice_get (waiting H) 0 ≡ Some r → not (is_doomed H r) ≡ true
-  first-spared r H d s = all-at (λ q. not (is_doomed H q)) (waiting H) 0 r (none-pass (is_doomed H) (waiting H) d) s
-
   not-first : (n : Name) (H : List Entry) → Legal meaning mounted H → due meaning mounted H ≡ Free → StartFits meaning mounted n H →
       is_doomed H (request_named n H) ≡ true → has_started n H ≡ true
   not-first n H l d (First s) b =
-      let q = first-request meaning mounted H (facts meaning mounted H l) s.first s.name in
+      let q = first-request H (facts meaning mounted H l) s.first s.name in
       let k = first-spared s.request H (due-doomed meaning mounted H d) s.first in
       let b' : is_doomed H s.request ≡ true = subst (λ (x : Piece). is_doomed H x ≡ true) q b in
       let k' = rw b' at k in absurd cc
@@ -173,16 +165,6 @@ module _ {D : Type 0} (meaning : Meaning D) (mounted : D) where
   unfolding Legal
   doomed-starts n H l b = not-first n H l.1 (free-start meaning mounted n H (due meaning mounted H) l.0)
       (fits-start meaning mounted n H (due meaning mounted H) l.0) b
-
-  -- a request of a closed DCB, one with the flag
-  doomed-closed : (opened closed purged related flagged : Bool) → closed ≡ true →
-      (not (opened && not closed) || purged || (related && flagged)) ≡ true
-  doomed-closed true closed purged related flagged h = rw h refl
-  doomed-closed false closed purged related flagged h = refl
-
-  doomed-flagged : (shut purged related flagged : Bool) → related ≡ true → flagged ≡ true → (shut || purged || (related && flagged)) ≡ true
-  doomed-flagged false false related flagged h k = rw (h, k) refl
-  doomed-flagged _ _ related flagged h k = refl
 
   of-closed : (n : Name) (H : List Entry) → Legal meaning mounted (Start n ∷ H) → is_closed (request_named n H).dcb H ≡ true →
       has_started n H ≡ true
@@ -196,20 +178,18 @@ module _ {D : Type 0} (meaning : Meaning D) (mounted : D) where
       let r = request_named n H in
       doomed-starts n H l (doomed-flagged (not (is_open r.dcb H)) _ r.related (flag r.dcb H) a b)
 
-  closed-later : (d : ℕ) (later earlier : List Entry) → is_closed d (later ++ Close d ∷ earlier) ≡ true
-  closed-later d later earlier = any-later _ later (Close d ∷ earlier) (or_left (eqb d d) (is_closed d earlier) (eq-eqb d d refl))
-
   -- WHAT IS STARTED AFTER A CLOSE was started before it
-  before-close : (n : Name) (d : ℕ) (later earlier : List Entry) → Legal meaning mounted (later ++ Close d ∷ earlier) →
-      (request_named n (later ++ Close d ∷ earlier)).dcb ≡ d → has_started n (later ++ Close d ∷ earlier) ≡ true → has_started n earlier ≡ true
+  before-close : (n : Name) {d : ℕ} (later earlier : List Entry) → Legal meaning mounted (later ++ Close d ∷ earlier) →
+      (request_named n (later ++ Close d ∷ earlier)).dcb ≡ d → has_started n (later ++ Close d ∷ earlier) ≡ true →
+      has_started n earlier ≡ true
   unfolding Legal request_named
-  before-close n d [] earlier l q s = s
-  before-close n d (e ∷ later) earlier l q s =
+  before-close n [] earlier l q s = s
+  before-close n {d} (e ∷ later) earlier l q s =
       let G = later ++ Close d ∷ earlier in
       let f = facts meaning mounted G l.1 in
       let h = started_before e l s q in
       let stays = request-stays n e G f l.0 (f.0 n h) in
-      before-close n d later earlier l.1 (sym (ap (λ (r : Piece). r.dcb) stays) ∙ q) h where
+      before-close n later earlier l.1 (sym (ap (λ (r : Piece). r.dcb) stays) ∙ q) h where
         own : (m : Name) → Legal meaning mounted (Start m ∷ later ++ Close d ∷ earlier) → m ≡ n →
             (request_named m (later ++ Close d ∷ earlier)).dcb ≡ d → has_started m (later ++ Close d ∷ earlier) ≡ true
         own m k i b = of-closed m (later ++ Close d ∷ earlier) k (rw b (closed-later d later earlier))
@@ -223,14 +203,7 @@ module _ {D : Type 0} (meaning : Meaning D) (mounted : D) where
                   (own m k j (subst (λ (x : Name). (request_named x (later ++ Close d ∷ earlier)).dcb ≡ d) (sym j) b))
               | inr i ↦ rw i at t
             ]
-        started_before (Opened c i x) k t b = t
-        started_before (Arrive p) k t b = t
-        started_before (Ran m j) k t b = t
-        started_before (Halted m) k t b = t
-        started_before (Purge s m) k t b = t
-        started_before (Close c) k t b = t
-        started_before (Reset c) k t b = t
-        started_before (Post m csw sense code) k t b = t
+        started_before _ k t b = t
 
   of-closing : (n : Name) (d : ℕ) (later earlier : List Entry) → Legal meaning mounted (Start n ∷ later ++ Close d ∷ earlier) →
       (request_named n (later ++ Close d ∷ earlier)).dcb ≡ d → active earlier ≡ Some n
@@ -239,7 +212,7 @@ module _ {D : Type 0} (meaning : Meaning D) (mounted : D) where
       let G = later ++ Close d ∷ earlier in
       let f = facts meaning mounted G l.1 in
       let s = of-closed n G l (rw q (closed-later d later earlier)) in
-      let b = before-close n d later earlier l.1 q s in
+      let b = before-close n later earlier l.1 q s in
       let u = start-unposted meaning mounted n G f (fits-start meaning mounted n G (due meaning mounted G) l.0) in
       let old = legal-tail later (Close d ∷ earlier) l.1 in
       (facts meaning mounted earlier old.1).3 n b (unposted_before u) where

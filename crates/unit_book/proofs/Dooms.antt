@@ -1,11 +1,13 @@
 -- What is doomed, entry by entry, and that the dooms settle a trace.
-use Rattle.unit_book.proofs.Names.{◌≡◌, ◌≤◌, ℕ, Bool, true, false, not, ◌&&◌, ◌||◌, Some, List, [], ◌∷◌, length, arith, refl, sym, ap, ◌∙◌}
-use Rattle.unit_book.proofs.Names.{eqb, inl, inr, subst, if◌then◌else◌, cases_Bool, and_parts, filter, list_all, is_error, Csw, Extent}
+use Rattle.unit_book.proofs.Names.{BookFields, ◌≡◌, ◌≤◌, ℕ, Bool, true, false, not, ◌&&◌, ◌||◌, Some, List, [], ◌∷◌, length, arith, refl}
+use Rattle.unit_book.proofs.Names.{sym, ap, ◌∙◌}
+use Rattle.unit_book.proofs.Names.{eqb, inl, inr, subst, if◌then◌else◌, cases_Bool, and_parts, filter, list_all, is_error, Csw, Status}
+use Rattle.unit_book.proofs.Names.{Extent}
 use Rattle.unit_book.proofs.Names.{Code, Purged, Meaning, no_status, Name, Piece, Entry, Opened, Start, Ran, Post, same, waiting, arrivals}
 use Rattle.unit_book.proofs.Names.{active, started, request_named, doomed, is_doomed, is_open, is_opened, is_closed, flag, Free, due}
 use Rattle.unit_book.proofs.Names.{doomed_first, is_to_halt, Fits, FitsBy, Legal, all_posted, after_dooms, doomed_by_post, DoomedBy}
-use Rattle.unit_book.proofs.Names.{halted_by, ◌+◌, Option, ◌++◌, append_assoc, map, append-nil, drop, Channel, PostedState, Placed, Active}
-use Rattle.unit_book.proofs.Names.{Dcb, Arrive, extents_of, attempts, area, purged, posted, posted_since, posted_value, Ties, Each}
+use Rattle.unit_book.proofs.Names.{halted_by, ◌+◌, Option, ◌++◌, append_assoc, map, append-nil, drop, PostedState, Placed, Active}
+use Rattle.unit_book.proofs.Names.{Arrive, extents_of, attempts, area, purged, posted, posted_since, posted_value, Ties, Each}
 use Rattle.unit_book.proofs.Names.{ProcessingMethod}
 use Rattle.unit_book.specs.Trace.{is_purged}
 use Rattle.unit_book.specs.Selected.{is_selected}
@@ -16,6 +18,7 @@ use Rattle.unit_book.proofs.Facts.{active-post_waiting}
 use Rattle.unit_book.proofs.LegalFacts.{facts}
 use Rattle.unit_book.proofs.Same.{activity-same}
 use Rattle.unit_book.proofs.Starts.{as-issued}
+use Rattle.std.proofs.lemmas.List.Filters.{length-filter_both}
 
 module _ {X : Type 0} where
   -- what is never picked leaves nothing
@@ -60,56 +63,72 @@ pub halted-first : (rs : List Piece) (H : List Entry) → halted_by (doomed_firs
 halted-first [] H = refl
 halted-first (r ∷ rs) H = refl
 
+-- a Start takes its name away, a post as purged likewise
+pub doomed-start : (n : Name) (H : List Entry) → doomed (Start n ∷ H) ≡ without n (doomed H)
+unfolding without flag
+doomed-start n H = ap (filter (is_doomed H)) (waiting-start n H) ∙ filters-commute (is_doomed H)
+    (λ (r : Piece). not (same n r.name)) (waiting H)
+
+pub doomed-purged : (n : Name) (csw : Csw) (sense : ℕ) (H : List Entry) → doomed (Post n csw sense Purged ∷ H) ≡ without n (doomed H)
+unfolding without flag
+doomed-purged n csw sense H = ap (filter (is_doomed H)) (waiting-post n csw sense Purged H)
+    ∙ filters-commute (is_doomed H) (λ (r : Piece). not (same n r.name)) (waiting H)
+
+pub doomed-ran : (n : Name) (j : ℕ) (H : List Entry) → doomed (Ran n j ∷ H) ≡ doomed H
+unfolding waiting arrivals flag
+doomed-ran n j H = refl
+
+-- a post dooms the related requests of its DCB, if it is of a related request and has an error
+doomed-by : (q r : Piece) (code : Code) (gone f : Bool) → not (gone || (r.related && f)) ≡ true →
+    (gone || (r.related && (if is_error code && q.related && eqb q.dcb r.dcb then true else f)))
+    ≡ is_selected (doomed_by_post q code) r
+doomed-by q r code false f h =
+    elim (cases_Bool (is_error code)) [
+      | inl e ↦ elim (cases_Bool q.related) [
+        | inl i ↦ rw (e, i) (by_bools r.related (eqb q.dcb r.dcb) f h)
+        | inr i ↦ rw (e, i) (nothing r.related f h)
+      ]
+      | inr e ↦ rw e (nothing r.related f h)
+    ] where
+      nothing : (a f : Bool) → not (a && f) ≡ true → (a && f) ≡ false
+      nothing true true h = absurd cc
+      nothing true false h = refl
+      nothing false f h = refl
+
+      by_bools : (a d f : Bool) → not (a && f) ≡ true → (a && (if d then true else f)) ≡ (a && d)
+      by_bools true true f h = refl
+      by_bools true false true h = absurd cc
+      by_bools true false false h = refl
+      by_bools false d f h = refl
+doomed-by q r code _ f h = absurd cc
+
+pub doomed-post : (n : Name) (csw : Csw) (sense : ℕ) (code : Code) (H : List Entry) → doomed H ≡ [] →
+    DoomedBy (doomed_by_post (request_named n H) code) (Post n csw sense code ∷ H)
+unfolding flag without
+doomed-post n csw sense code H e =
+    let G = Post n csw sense code ∷ H in
+    let all = all-kept (λ r. not (is_doomed H r)) (λ r. not (same n r.name)) (waiting H) (none-pass (is_doomed H) (waiting H) e) in
+    let there = subst (λ ws. list_all (λ r. not (is_doomed H r)) ws ≡ true) (sym (waiting-post n csw sense code H)) all in
+    filter-agree (is_doomed G) (is_selected (doomed_by_post (request_named n H) code)) (λ r. not (is_doomed H r))
+    (λ r h. doomed-by (request_named n H) r code (not (is_open r.dcb H) || is_purged r H) (flag r.dcb H) h) (waiting G) there
+
+-- an opened DCB dooms nothing
+open-spares : (opened now shut purged flagged : Bool) → not (not (opened && not shut) || purged || flagged) ≡ true →
+    (not ((now || opened) && not shut) || purged || flagged) ≡ false
+open-spares true true false false false h = refl
+open-spares true false false false false h = refl
+open-spares _ now _ _ _ h = absurd cc
+
+-- a post dooms at most what waited
+pub doomed-few : (n : Name) (csw : Csw) (sense : ℕ) (code : Code) (H : List Entry) →
+    length (doomed (Post n csw sense code ∷ H)) ≤ length (waiting H)
+unfolding without
+doomed-few n csw sense code H =
+    let G = Post n csw sense code ∷ H in
+    let w = ap length (waiting-post n csw sense code H) in
+    omega (arith, w, length-filter_le (is_doomed G) (waiting G), length-filter_le (λ (r : Piece). not (same n r.name)) (waiting H))
+
 module _ {D : Type 0} (meaning : Meaning D) (mounted : D) where
-  -- a Start takes its name away, a post as purged likewise
-  pub doomed-start : (n : Name) (H : List Entry) → doomed (Start n ∷ H) ≡ without n (doomed H)
-  unfolding without flag
-  doomed-start n H = ap (filter (is_doomed H)) (waiting-start meaning mounted n H) ∙ filters-commute (is_doomed H)
-      (λ (r : Piece). not (same n r.name)) (waiting H)
-
-  pub doomed-purged : (n : Name) (csw : Csw) (sense : ℕ) (H : List Entry) → doomed (Post n csw sense Purged ∷ H) ≡ without n (doomed H)
-  unfolding without flag
-  doomed-purged n csw sense H = ap (filter (is_doomed H)) (waiting-post meaning mounted n csw sense Purged H)
-      ∙ filters-commute (is_doomed H) (λ (r : Piece). not (same n r.name)) (waiting H)
-
-  pub doomed-ran : (n : Name) (j : ℕ) (H : List Entry) → doomed (Ran n j ∷ H) ≡ doomed H
-  unfolding waiting arrivals flag
-  doomed-ran n j H = refl
-
-  -- a post dooms the related requests of its DCB, if it is of a related request and has an error
-  doomed-by : (q r : Piece) (code : Code) (shut purged f : Bool) → not (shut || purged || (r.related && f)) ≡ true →
-      (shut || purged || (r.related && (if is_error code && q.related && eqb q.dcb r.dcb then true else f)))
-      ≡ is_selected (doomed_by_post q code) r
-  doomed-by q r code false false f h =
-      elim (cases_Bool (is_error code)) [
-        | inl e ↦ elim (cases_Bool q.related) [
-          | inl i ↦ rw (e, i) (by_bools r.related (eqb q.dcb r.dcb) f h)
-          | inr i ↦ rw (e, i) (nothing r.related f h)
-        ]
-        | inr e ↦ rw e (nothing r.related f h)
-      ] where
-        nothing : (a f : Bool) → not (a && f) ≡ true → (a && f) ≡ false
-        nothing true true h = absurd cc
-        nothing true false h = refl
-        nothing false f h = refl
-
-        by_bools : (a d f : Bool) → not (a && f) ≡ true → (a && (if d then true else f)) ≡ (a && d)
-        by_bools true true f h = refl
-        by_bools true false true h = absurd cc
-        by_bools true false false h = refl
-        by_bools false d f h = refl
-  doomed-by q r code _ _ f h = absurd cc
-
-  pub doomed-post : (n : Name) (csw : Csw) (sense : ℕ) (code : Code) (H : List Entry) → doomed H ≡ [] →
-      DoomedBy (doomed_by_post (request_named n H) code) (Post n csw sense code ∷ H)
-  unfolding flag without
-  doomed-post n csw sense code H e =
-      let G = Post n csw sense code ∷ H in
-      let all = all-kept (λ r. not (is_doomed H r)) (λ r. not (same n r.name)) (waiting H) (none-pass (is_doomed H) (waiting H) e) in
-      let there = subst (λ ws. list_all (λ r. not (is_doomed H r)) ws ≡ true) (sym (waiting-post meaning mounted n csw sense code H)) all in
-      filter-agree (is_doomed G) (is_selected (doomed_by_post (request_named n H) code)) (λ r. not (is_doomed H r))
-      (λ r h. doomed-by (request_named n H) r code (not (is_open r.dcb H)) (is_purged r H) (flag r.dcb H) h) (waiting G) there
-
   -- no Halted is due
   abbrev pub NoHalt : List Entry → Type 0
   NoHalt H = (n : Name) → active H ≡ Some n → is_to_halt meaning mounted H n ≡ false
@@ -127,7 +146,7 @@ module _ {D : Type 0} (meaning : Meaning D) (mounted : D) where
       let G = Post r.name no_status 0 Purged ∷ H in
       let fits : Fits meaning mounted
       (Post r.name no_status 0 Purged) H = subst (λ x. FitsBy meaning mounted x (Post r.name no_status 0 Purged) H) (sym d) refl in
-      let apart = subst Apart e (Apart-filter (is_doomed H) (waiting H) (waiting-apart meaning mounted H f)) in
+      let apart = subst Apart e (Apart-filter (is_doomed H) (waiting H) (waiting-apart H f)) in
       let next : doomed G ≡ rs = doomed-purged r.name no_status 0 H ∙ ap (without r.name) e ∙ without-first r rs apart in
       dooms-by rs G next (due-no_halt G (λ n a. refl) ∙ ap doomed_first next) (fits, l)
 
@@ -151,13 +170,6 @@ module _ {D : Type 0} (meaning : Meaning D) (mounted : D) where
   unfolding without
   settled-start n H h = due-no_halt (Start n ∷ H) (λ m a. refl) ∙ ap doomed_first (doomed-start n H ∙ ap (without n) (due-doomed H h))
 
-  -- an opened DCB dooms nothing
-  open-spares : (opened now shut purged flagged : Bool) → not (not (opened && not shut) || purged || flagged) ≡ true →
-      (not ((now || opened) && not shut) || purged || flagged) ≡ false
-  open-spares true true false false false h = refl
-  open-spares true false false false false h = refl
-  open-spares _ now _ _ _ h = absurd cc
-
   pub settled-open : (d : ℕ) (method : ProcessingMethod) (x : List Extent) (H : List Entry) → due meaning mounted H ≡ Free →
       due meaning mounted (Opened d method x ∷ H) ≡ Free
   unfolding waiting arrivals flag
@@ -173,15 +185,6 @@ module _ {D : Type 0} (meaning : Meaning D) (mounted : D) where
   pub settled-new : due meaning mounted [] ≡ Free
   unfolding due waiting arrivals active started
   settled-new = refl
-
-  -- a post dooms at most what waited
-  pub doomed-few : (n : Name) (csw : Csw) (sense : ℕ) (code : Code) (H : List Entry) →
-      length (doomed (Post n csw sense code ∷ H)) ≤ length (waiting H)
-  unfolding without
-  doomed-few n csw sense code H =
-      let G = Post n csw sense code ∷ H in
-      let w = ap length (waiting-post meaning mounted n csw sense code H) in
-      omega (arith, w, length-filter_le (is_doomed G) (waiting G), length-filter_le (λ (r : Piece). not (same n r.name)) (waiting H))
 
 -- The posts of the doomed requests: the fields stay those of the trace.
 
@@ -222,82 +225,92 @@ all_posted-push [] r H = refl
 all_posted-push (q ∷ rs) r H = all_posted-push rs r (Post q.name no_status 0 Purged ∷ H)
 
 module _ {D : Type 0} (meaning : Meaning D) (mounted : D) where
-  module _ {r : Piece} {H : List Entry} {channel : Channel D} {o : Option Active} {waiters : List Piece} {table : List Dcb}
-      {left : List PostedState}
-      (fits : Fits meaning mounted (Post r.name no_status 0 Purged) H) (t : Ties meaning mounted H channel o waiters table left)
-      (w : WaitsAmong H r) where
-    posted-one : posted meaning mounted (Post r.name no_status 0 Purged ∷ H) ≡ posted meaning mounted H ++ purged r ∷ []
+  module _ {r : Piece} {held : BookFields D} {o : Option Active}
+      (fits : Fits meaning mounted (Post r.name no_status 0 Purged) held.trace) (t : Ties meaning mounted held o)
+      (w : WaitsAmong held.trace r) where
+    posted-one : posted meaning mounted (Post r.name no_status 0 Purged ∷ held.trace) ≡ posted meaning mounted held.trace ++ purged r ∷ []
     unfolding posted
     posted-one =
         let q = w.known.0 in
-        let issued : area meaning mounted r H ≡ r.area = as-issued meaning mounted r H t.legal w.unstarted in
+        let issued : area meaning mounted r held.trace ≡ r.area = as-issued meaning mounted r held.trace t.legal w.unstarted in
         rw (q, issued) refl
 
-    ties-purged : Ties meaning mounted (Post r.name no_status 0 Purged ∷ H) channel o (without r.name waiters) table (left ++ purged r ∷ [])
+    ties-purged : Ties meaning mounted (record held {
+      trace = Post r.name no_status 0 Purged ∷ held.trace;
+      waiting = without r.name held.waiting;
+      out = held.out ++ purged r ∷ [];
+    }) o
     unfolding Legal attempts flag extents_of request_named without
     ties-purged =
         let n = r.name in
-        let a = active-post_waiting meaning mounted n no_status 0 Purged H w.unstarted in
+        let a = active-post_waiting n no_status 0 Purged held.trace w.unstarted in
         record {
           legal = (fits, t.legal);
-          queue = ap (without n) t.queue ∙ sym (waiting-post meaning mounted n no_status 0 Purged H);
-          placed = Each-filter Placed (λ q. not (same n q.name)) waiters t.placed;
+          queue = ap (without n) t.queue ∙ sym (waiting-post n no_status 0 Purged held.trace);
+          placed = Each-filter Placed (λ q. not (same n q.name)) held.waiting t.placed;
           device = t.device;
-          activity = activity-same meaning mounted H (Post n no_status 0 Purged ∷ H) channel.phase o a
-              (λ m e. record { active = a; request = refl; starts = refl; attempts = refl; halted = refl; covered = refl }) t.activity;
+          activity = activity-same meaning mounted (Post n no_status 0 Purged ∷ held.trace) t a
+              (λ m e. record { active = a; request = refl; starts = refl; attempts = refl; halted = refl; covered = refl });
           count = t.count;
           dcbs = t.dcbs;
-          out = (t.out.0, sym (append_assoc t.out.0 left (purged r ∷ [])) ∙ ap (λ x. x ++ purged r ∷ []) t.out.1 ∙ sym posted-one);
+          out = (t.out.0, sym (append_assoc t.out.0 held.out (purged r ∷ [])) ∙ ap (λ x. x ++ purged r ∷ []) t.out.1 ∙ sym posted-one);
         }
 
   -- the posts of all that are doomed
-  pub record Swept (rs : List Piece) (H : List Entry) (channel : Channel D) (o : Option Active) (waiters : List Piece) (table : List Dcb)
-      (left : List PostedState) : Type 0 where
-    pub ties : Ties meaning mounted (all_posted rs H) channel o (without_all rs waiters) table (left ++ map purged rs)
-    pub posted_is : posted meaning mounted (all_posted rs H) ≡ posted meaning mounted H ++ map purged rs
-    pub settled : due meaning mounted (all_posted rs H) ≡ doomed_first []
+  pub record Swept (rs : List Piece) (held : BookFields D) (o : Option Active) : Type 0 where
+    pub ties : Ties meaning mounted (record held {
+      trace = all_posted rs held.trace;
+      waiting = without_all rs held.waiting;
+      out = held.out ++ map purged rs;
+    }) o
+    pub posted_is : posted meaning mounted (all_posted rs held.trace) ≡ posted meaning mounted held.trace ++ map purged rs
+    pub settled : due meaning mounted (all_posted rs held.trace) ≡ doomed_first []
 
-  pub ties-dooms_by : (rs : List Piece) {H : List Entry} {channel : Channel D} {o : Option Active} {waiters : List Piece} {table : List Dcb}
-      {left : List PostedState} →
-      doomed H ≡ rs → due meaning mounted H ≡ doomed_first rs → Ties meaning mounted H channel o waiters table left →
-      Swept rs H channel o waiters table left
-  ties-dooms_by [] {H} {channel} {o} {waiters} {table} {left} e d t = record {
-    ties = subst (λ x. Ties meaning mounted H channel o waiters table x) (sym (append-nil left)) t;
-    posted_is = sym (append-nil (posted meaning mounted H));
+  pub ties-dooms_by : (rs : List Piece) {held : BookFields D} {o : Option Active} →
+      doomed held.trace ≡ rs → due meaning mounted held.trace ≡ doomed_first rs → Ties meaning mounted held o →
+      Swept rs held o
+  ties-dooms_by [] {held} {o} e d t = record {
+    ties = subst (λ x. Ties meaning mounted (record held { out = x }) o) (sym (append-nil held.out)) t;
+    posted_is = sym (append-nil (posted meaning mounted held.trace));
     settled = d;
   }
-  ties-dooms_by (r ∷ rs) {H} {channel} {o} {waiters} {table} {left} e d t =
-      let f = facts meaning mounted H t.legal in
-      let G = Post r.name no_status 0 Purged ∷ H in
-      let all : Each (WaitsAmong H) (doomed H) = Each-filter (WaitsAmong H) (is_doomed H) (waiting H) (waits H f) in
-      let w = (subst (Each (WaitsAmong H)) e all).0 in
+  ties-dooms_by (r ∷ rs) {held} {o} e d t =
+      let f = facts meaning mounted held.trace t.legal in
+      let G = Post r.name no_status 0 Purged ∷ held.trace in
+      let all : Each (WaitsAmong held.trace) (doomed held.trace) =
+      Each-filter (WaitsAmong held.trace) (is_doomed held.trace) (waiting held.trace) (waits held.trace f) in
+      let w = (subst (Each (WaitsAmong held.trace)) e all).0 in
       let fits : Fits meaning mounted
-      (Post r.name no_status 0 Purged) H = subst (λ x. FitsBy meaning mounted x (Post r.name no_status 0 Purged) H) (sym d) refl in
-      let apart = subst Apart e (Apart-filter (is_doomed H) (waiting H) (waiting-apart meaning mounted H f)) in
-      let next : doomed G ≡ rs = doomed-purged meaning mounted r.name no_status 0 H ∙ ap (without r.name) e ∙ without-first r rs apart in
+      (Post r.name no_status 0 Purged) held.trace = subst (λ x. FitsBy meaning mounted x (Post r.name no_status 0 Purged) held.trace)
+      (sym d) refl in
+      let apart = subst Apart e (Apart-filter (is_doomed held.trace) (waiting held.trace) (waiting-apart held.trace f)) in
+      let next : doomed G ≡ rs = doomed-purged r.name no_status 0 held.trace ∙ ap (without r.name) e ∙ without-first r rs apart in
       let k = ties-purged fits t w in
       let s = ties-dooms_by rs next (due-no_halt meaning mounted G (λ n a. refl) ∙ ap doomed_first next) k in
       record {
-        ties = subst (λ x. Ties meaning mounted (all_posted rs G) channel o (without_all rs (without r.name waiters)) table x)
-            (append_assoc left (purged r ∷ []) (map purged rs)) s.ties;
-        posted_is = s.posted_is ∙ ap (λ x. x ++ map purged rs) (posted-one fits t w) ∙ append_assoc (posted meaning mounted H)
+        ties = subst (λ x. Ties meaning mounted (record held {
+          trace = all_posted rs G;
+          waiting = without_all rs (without r.name held.waiting);
+          out = x;
+        }) o)
+            (append_assoc held.out (purged r ∷ []) (map purged rs)) s.ties;
+        posted_is = s.posted_is ∙ ap (λ x. x ++ map purged rs) (posted-one fits t w) ∙ append_assoc (posted meaning mounted held.trace)
             (purged r ∷ []) (map purged rs);
         settled = s.settled;
       }
 
   -- THE SWEEP of a queue by a test that picks what is doomed
-  pub ties-dooms : (p : Piece → Bool) {H : List Entry} {channel : Channel D} {o : Option Active} {waiters : List Piece} {table : List Dcb}
-      {left : List PostedState} →
-      doomed H ≡ filter p (waiting H) → due meaning mounted H ≡ doomed_first (doomed H) →
-      Ties meaning mounted H channel o waiters table left →
-      Swept (filter p waiters) H channel o waiters table left × (without_all (filter p waiters) waiters ≡ filter (λ r. not (p r)) waiters)
-      × (all_posted (filter p waiters) H ≡ after_dooms H)
-  ties-dooms p {H} {waiters = waiters} e d t =
-      let q : doomed H ≡ filter p waiters = e ∙ ap (filter p) (sym t.queue) in
-      let apart = subst Apart (sym t.queue) (waiting-apart meaning mounted H (facts meaning mounted H t.legal)) in (
-        ties-dooms_by (filter p waiters) q (d ∙ ap doomed_first q) t,
-        without-picked p waiters apart,
-        ap (λ x. all_posted x H) (sym q),
+  pub ties-dooms : (p : Piece → Bool) {held : BookFields D} {o : Option Active} →
+      doomed held.trace ≡ filter p (waiting held.trace) → due meaning mounted held.trace ≡ doomed_first (doomed held.trace) →
+      Ties meaning mounted held o →
+      Swept (filter p held.waiting) held o × (without_all (filter p held.waiting) held.waiting ≡ filter (λ r. not (p r)) held.waiting)
+      × (all_posted (filter p held.waiting) held.trace ≡ after_dooms held.trace)
+  ties-dooms p {held} e d t =
+      let q : doomed held.trace ≡ filter p held.waiting = e ∙ ap (filter p) (sym t.queue) in
+      let apart = subst Apart (sym t.queue) (waiting-apart held.trace (facts meaning mounted held.trace t.legal)) in (
+        ties-dooms_by (filter p held.waiting) q (d ∙ ap doomed_first q) t,
+        without-picked p held.waiting apart,
+        ap (λ x. all_posted x held.trace) (sym q),
       )
 
   -- what was posted since, where it is known what was
@@ -326,14 +339,14 @@ module _ {D : Type 0} (meaning : Meaning D) (mounted : D) where
       (v ∷ m.0, m.1 ∙ append_assoc (posted meaning mounted G) (v ∷ []) m.0)
 
   -- a post and what it dooms
-  pub since-post : (n : Name) (csw : Csw) (sense : ℕ) (code : Code) (H : List Entry) →
-      let G = Post n csw sense code ∷ H in
-      posted_since meaning mounted H (after_dooms G) ≡ posted_value (request_named n H) csw sense code
+  pub since-post : (n : Name) (status : Status) (code : Code) (H : List Entry) →
+      let G = Post n status.csw status.sense code ∷ H in
+      posted_since meaning mounted H (after_dooms G) ≡ posted_value (request_named n H) status.csw status.sense code
       (area meaning mounted (request_named n H) H) ∷ posted_since meaning mounted G (after_dooms G)
   unfolding posted
-  since-post n csw sense code H =
-      let G = Post n csw sense code ∷ H in
-      let v = posted_value (request_named n H) csw sense code (area meaning mounted (request_named n H) H) in
+  since-post n status code H =
+      let G = Post n status.csw status.sense code ∷ H in
+      let v = posted_value (request_named n H) status.csw status.sense code (area meaning mounted (request_named n H) H) in
       let m = posted-more (doomed G) G in
       let own = since-is meaning mounted G (after_dooms G) m.0 m.1 in
       let all = since-is meaning mounted H (after_dooms G) (v ∷ m.0) (m.1 ∙ append_assoc (posted meaning mounted H) (v ∷ []) m.0) in
@@ -341,10 +354,7 @@ module _ {D : Type 0} (meaning : Meaning D) (mounted : D) where
 
 -- those that are picked and those that are not are all
 pub length-filters : {X : Type 0} (p : X → Bool) (xs : List X) → length (filter p xs) + length (filter (λ x. not (p x)) xs) ≡ length xs
-length-filters p [] = refl
-length-filters p (x ∷ xs) =
-    let ih = length-filters p xs in
-    elim (cases_Bool (p x)) [ inl e ↦ rw e (omega (arith, ih)) | inr e ↦ rw e (omega (arith, ih)) ]
+length-filters p xs = length-filter_both p (λ x. not (p x)) (λ x. refl) xs
 
 -- where nothing is doomed there are no dooms
 pub dooms-none : (H : List Entry) → doomed H ≡ [] → after_dooms H ≡ H

@@ -8,6 +8,7 @@ use Rattle.unit_book.proofs.Names.{due_by, doomed_first, is_to_halt, Fits, FitsB
 use Rattle.unit_book.specs.Legal.{FitsFree}
 use Rattle.unit_book.proofs.Lists.{same-refl, same-true, same-is, filter-all, same-not-sym, no_both, filter-filter, all-weaker, find-passes}
 use Rattle.unit_book.proofs.Lists.{find-any, find-agree, find-none, without, Apart, Apart-filter}
+use Rattle.unit_book.proofs.Lists.{not-so}
 
 -- THE FACTS
 abbrev pub ArrivedStart : List Entry → Type 0
@@ -23,7 +24,8 @@ abbrev pub One : List Entry → Type 0
 One H = (n : Name) → has_started n H ≡ true → is_posted n H ≡ false → active H ≡ Some n
 
 abbrev pub NewestIs : Name → List Entry → Type 0
-NewestIs n H = (a : Attempt) × (rest : List Attempt) × (attempts H ≡ a ∷ rest) × (a.request ≡ request_named n H) × ((request_named n H).name ≡ n)
+NewestIs n H = (a : Attempt) × (rest : List Attempt) × (attempts H ≡ a ∷ rest) × (a.request ≡ request_named n H)
+    × ((request_named n H).name ≡ n)
 
 abbrev pub Newest : List Entry → Type 0
 Newest H = (n : Name) → active H ≡ Some n → NewestIs n H
@@ -107,6 +109,106 @@ waits H f = by_list (arrivals H) f.6 where
             (record { known = h.0; unstarted = p.0; unposted = p.1 }, ih)
       ]
 
+doomed-first-post : (ds : List Piece) (n : Name) → doomed_first ds ≡ ToPost n → (r : Piece) × (rest : List Piece) × (ds ≡ r ∷ rest)
+    × (r.name ≡ n)
+doomed-first-post [] n h = absurd cc
+doomed-first-post (r ∷ rs) n h = (r, rs, refl, cc)
+
+first-no_halt : (ds : List Piece) (n : Name) → doomed_first ds ≡ ToHalt n → ⊥
+first-no_halt [] n h = cc
+first-no_halt (r ∷ rs) n h = cc
+
+-- a new name is in no entry
+pub fresh : (r : Piece) (H : List Entry) → Facts H → r.name.seq ≡ arrived_of r.name.task H + 1 → has_arrived r.name H ≡ false
+fresh r H f e =
+    elim (cases_Bool (has_arrived r.name H)) [
+      | inl a ↦ let le = f.2 r.name a in absurd (omega (arith, le, e))
+      | inr a ↦ a
+    ]
+
+pub fresh-start : (n : Name) (H : List Entry) → Facts H → has_arrived n H ≡ false → has_started n H ≡ false
+fresh-start n H f h = not-so (has_started n H) (has_arrived n H) (f.0 n) h
+
+pub fresh-post : (n : Name) (H : List Entry) → Facts H → has_arrived n H ≡ false → is_posted n H ≡ false
+fresh-post n H f h = not-so (is_posted n H) (has_arrived n H) (f.1 n) h
+
+-- ACTIVE, entry by entry
+pub active-start : (n : Name) (H : List Entry) → is_posted n H ≡ false → active (Start n ∷ H) ≡ Some n
+unfolding active started
+active-start n H h = rw h refl
+
+pub active-post : (n : Name) (csw : Csw) (sense : ℕ) (code : Code) (H : List Entry) → Facts H → active H ≡ Some n →
+    active (Post n csw sense code ∷ H) ≡ None
+unfolding active started
+active-post n csw sense code H f h =
+    find-none (λ k. not (same n k || is_posted k H)) (started H)
+    (all-weaker (λ k. has_started k H) (λ k. not (not (same n k || is_posted k H))) only (started H) (all-self H)) where
+      only : (k : Name) → has_started k H ≡ true → not (not (same n k || is_posted k H)) ≡ true
+      only k s =
+          elim (cases_Bool (is_posted k H)) [
+            | inl p ↦ let q = or_right (same n k) (is_posted k H) p in rw q refl
+            | inr p ↦
+                let a = f.3 k s p in
+                let e : n ≡ k = cc in
+                let q = or_left (same n k) (is_posted k H) (same-is n k e) in rw q refl
+          ]
+
+pub active-post_waiting : (n : Name) (csw : Csw) (sense : ℕ) (code : Code) (H : List Entry) → has_started n H ≡ false →
+    active (Post n csw sense code ∷ H) ≡ active H
+unfolding active started
+active-post_waiting n csw sense code H h =
+    find-agree (λ k. not (same n k || is_posted k H)) (λ k. not (is_posted k H)) (λ k. not (same k n)) other (started H)
+    (any-none (λ k. same k n) (started H) (started-any n H ∙ h)) where
+      other : (k : Name) → not (same k n) ≡ true → not (same n k || is_posted k H) ≡ not (is_posted k H)
+      other k e = let s = same-not-sym k n (not-true (same k n) e) in rw s refl
+
+-- WAITING, entry by entry
+pub waiting-arrive : (r : Piece) (H : List Entry) → Facts H → has_arrived r.name H ≡ false → waiting (Arrive r ∷ H) ≡ waiting H ++ r ∷ []
+unfolding waiting arrivals
+waiting-arrive r H f h =
+    let s = fresh-start r.name H f h in
+    let p = fresh-post r.name H f h in
+    filter-append (λ (q : Piece). not (has_started q.name H || is_posted q.name H)) (arrivals H) (r ∷ []) ∙ rw (s, p) refl
+
+pub waiting-start : (n : Name) (H : List Entry) → waiting (Start n ∷ H) ≡ without n (waiting H)
+unfolding waiting arrivals without
+waiting-start n H =
+    filter-filter (λ (r : Piece). not (has_started r.name H || is_posted r.name H)) (λ r. not (same n r.name))
+    (λ r. not ((same n r.name || has_started r.name H) || is_posted r.name H))
+    (λ r. by_bools (same n r.name) (has_started r.name H) (is_posted r.name H)) (arrivals H) where
+      by_bools : (a b c : Bool) → not ((a || b) || c) ≡ (not a && not (b || c))
+      by_bools true b c = refl
+      by_bools false b c = refl
+
+pub waiting-post : (n : Name) (csw : Csw) (sense : ℕ) (code : Code) (H : List Entry) →
+    waiting (Post n csw sense code ∷ H) ≡ without n (waiting H)
+unfolding waiting arrivals without
+waiting-post n csw sense code H =
+    filter-filter (λ (r : Piece). not (has_started r.name H || is_posted r.name H)) (λ r. not (same n r.name))
+    (λ r. not (has_started r.name H || (same n r.name || is_posted r.name H)))
+    (λ r. by_bools (same n r.name) (has_started r.name H) (is_posted r.name H)) (arrivals H) where
+      by_bools : (a b c : Bool) → not (b || (a || c)) ≡ (not a && not (b || c))
+      by_bools true true c = refl
+      by_bools true false c = refl
+      by_bools false b c = refl
+
+pub waiting-apart : (H : List Entry) → Facts H → Apart (waiting H)
+unfolding waiting
+waiting-apart H f = Apart-filter (λ r. not (has_started r.name H || is_posted r.name H)) (arrivals H) f.5
+
+-- what was started does not wait
+pub without-started : (n : Name) (H : List Entry) → Facts H → has_started n H ≡ true → without n (waiting H) ≡ waiting H
+unfolding without
+without-started n H f s = filter-all (λ (r : Piece). not (same n r.name)) (waiting H) (none (waiting H) (waits H f)) where
+  none : (rs : List Piece) → Each (WaitsAmong H) rs → list_all (λ (r : Piece). not (same n r.name)) rs ≡ true
+  none [] e = refl
+  none (r ∷ rs) e =
+      let ih = none rs e.1 in
+      elim (cases_Bool (same n r.name)) [
+        | inl k ↦ no_both (has_started n H) s (subst (λ (x : Name). has_started x H ≡ false) (sym (same-true n r.name k)) e.0.unstarted)
+        | inr k ↦ rw k ih
+      ]
+
 -- what fits where it is neither a Halted nor a Post fits freely
 module _ {D : Type 0} (meaning : Meaning D) (mounted : D) where
   pub fits-arrive : (r : Piece) (H : List Entry) (d : Due) → FitsBy meaning mounted d (Arrive r) H → FitsFree meaning mounted (Arrive r) H
@@ -135,19 +237,10 @@ module _ {D : Type 0} (meaning : Meaning D) (mounted : D) where
         let d = ap (due_by meaning mounted H) e in
         elim (cases_Bool (is_to_halt meaning mounted H n)) [ inl b ↦ Halts n (d ∙ rw b refl) e b | inr b ↦ Dooms (d ∙ rw b refl) ]
 
-  doomed-first-post : (ds : List Piece) (n : Name) → doomed_first ds ≡ ToPost n → (r : Piece) × (rest : List Piece) × (ds ≡ r ∷ rest)
-      × (r.name ≡ n)
-  doomed-first-post [] n h = absurd cc
-  doomed-first-post (r ∷ rs) n h = (r, rs, refl, cc)
-
   -- what must be posted is the first of the doomed
   pub due-post : (H : List Entry) (n : Name) → due meaning mounted H ≡ ToPost n → (r : Piece) × (rest : List Piece) × (doomed H ≡ r ∷ rest)
       × (r.name ≡ n)
   due-post H n h = elim (due-is H) [ Halts m d a b ↦ let k = sym d ∙ h in absurd cc | Dooms d ↦ doomed-first-post (doomed H) n (sym d ∙ h) ]
-
-  first-no_halt : (ds : List Piece) (n : Name) → doomed_first ds ≡ ToHalt n → ⊥
-  first-no_halt [] n h = cc
-  first-no_halt (r ∷ rs) n h = cc
 
   -- who must be halted is active, and is to be
   pub due-halt : (H : List Entry) (n : Name) → due meaning mounted H ≡ ToHalt n →
@@ -165,7 +258,8 @@ module _ {D : Type 0} (meaning : Meaning D) (mounted : D) where
       Fits meaning mounted (Post n csw sense code) H →
       (active H ≡ Some n) ⊎ ((r : Piece) × WaitsAmong H r × (r.name ≡ n))
   post-whom n csw sense code H f h = by_due (due meaning mounted H) refl h where
-    free_post : PostFits meaning mounted n csw sense code H → (active H ≡ Some n) ⊎ ((r : Piece) × WaitsAmong H r × (r.name ≡ n))
+    free_post : PostFits meaning mounted n (record { csw = csw; sense = sense }) code H →
+        (active H ≡ Some n) ⊎ ((r : Piece) × WaitsAmong H r × (r.name ≡ n))
     free_post (OfActive p) = inl p.active
     free_post (OfFirst p) = inr (
       p.fails.request,
@@ -183,98 +277,3 @@ module _ {D : Type 0} (meaning : Meaning D) (mounted : D) where
         let w' = rw p.2 at w in
         inr (p.0, w'.0, p.3 ∙ q)
     by_due Free e k = free_post k
-
-  -- a new name is in no entry
-  pub fresh : (r : Piece) (H : List Entry) → Facts H → r.name.seq ≡ arrived_of r.name.task H + 1 → has_arrived r.name H ≡ false
-  fresh r H f e =
-      elim (cases_Bool (has_arrived r.name H)) [
-        | inl a ↦ let le = f.2 r.name a in absurd (omega (arith, le, e))
-        | inr a ↦ a
-      ]
-
-  none-of : (n : Name) (H : List Entry) (b : Bool) → (b ≡ true → has_arrived n H ≡ true) → has_arrived n H ≡ false → b ≡ false
-  none-of n H true h k = no_both (has_arrived n H) (h refl) k
-  none-of n H false h k = refl
-
-  pub fresh-start : (n : Name) (H : List Entry) → Facts H → has_arrived n H ≡ false → has_started n H ≡ false
-  fresh-start n H f h = none-of n H (has_started n H) (f.0 n) h
-
-  pub fresh-post : (n : Name) (H : List Entry) → Facts H → has_arrived n H ≡ false → is_posted n H ≡ false
-  fresh-post n H f h = none-of n H (is_posted n H) (f.1 n) h
-
-  -- ACTIVE, entry by entry
-  pub active-start : (n : Name) (H : List Entry) → is_posted n H ≡ false → active (Start n ∷ H) ≡ Some n
-  unfolding active started
-  active-start n H h = rw h refl
-
-  pub active-post : (n : Name) (csw : Csw) (sense : ℕ) (code : Code) (H : List Entry) → Facts H → active H ≡ Some n →
-      active (Post n csw sense code ∷ H) ≡ None
-  unfolding active started
-  active-post n csw sense code H f h =
-      find-none (λ k. not (same n k || is_posted k H)) (started H)
-      (all-weaker (λ k. has_started k H) (λ k. not (not (same n k || is_posted k H))) only (started H) (all-self H)) where
-        only : (k : Name) → has_started k H ≡ true → not (not (same n k || is_posted k H)) ≡ true
-        only k s =
-            elim (cases_Bool (is_posted k H)) [
-              | inl p ↦ let q = or_right (same n k) (is_posted k H) p in rw q refl
-              | inr p ↦
-                  let a = f.3 k s p in
-                  let e : n ≡ k = cc in
-                  let q = or_left (same n k) (is_posted k H) (same-is n k e) in rw q refl
-            ]
-
-  pub active-post_waiting : (n : Name) (csw : Csw) (sense : ℕ) (code : Code) (H : List Entry) → has_started n H ≡ false →
-      active (Post n csw sense code ∷ H) ≡ active H
-  unfolding active started
-  active-post_waiting n csw sense code H h =
-      find-agree (λ k. not (same n k || is_posted k H)) (λ k. not (is_posted k H)) (λ k. not (same k n)) other (started H)
-      (any-none (λ k. same k n) (started H) (started-any n H ∙ h)) where
-        other : (k : Name) → not (same k n) ≡ true → not (same n k || is_posted k H) ≡ not (is_posted k H)
-        other k e = let s = same-not-sym k n (not-true (same k n) e) in rw s refl
-
-  -- WAITING, entry by entry
-  pub waiting-arrive : (r : Piece) (H : List Entry) → Facts H → has_arrived r.name H ≡ false → waiting (Arrive r ∷ H) ≡ waiting H ++ r ∷ []
-  unfolding waiting arrivals
-  waiting-arrive r H f h =
-      let s = fresh-start r.name H f h in
-      let p = fresh-post r.name H f h in
-      filter-append (λ (q : Piece). not (has_started q.name H || is_posted q.name H)) (arrivals H) (r ∷ []) ∙ rw (s, p) refl
-
-  pub waiting-start : (n : Name) (H : List Entry) → waiting (Start n ∷ H) ≡ without n (waiting H)
-  unfolding waiting arrivals without
-  waiting-start n H =
-      filter-filter (λ (r : Piece). not (has_started r.name H || is_posted r.name H)) (λ r. not (same n r.name))
-      (λ r. not ((same n r.name || has_started r.name H) || is_posted r.name H))
-      (λ r. by_bools (same n r.name) (has_started r.name H) (is_posted r.name H)) (arrivals H) where
-        by_bools : (a b c : Bool) → not ((a || b) || c) ≡ (not a && not (b || c))
-        by_bools true b c = refl
-        by_bools false b c = refl
-
-  pub waiting-post : (n : Name) (csw : Csw) (sense : ℕ) (code : Code) (H : List Entry) →
-      waiting (Post n csw sense code ∷ H) ≡ without n (waiting H)
-  unfolding waiting arrivals without
-  waiting-post n csw sense code H =
-      filter-filter (λ (r : Piece). not (has_started r.name H || is_posted r.name H)) (λ r. not (same n r.name))
-      (λ r. not (has_started r.name H || (same n r.name || is_posted r.name H)))
-      (λ r. by_bools (same n r.name) (has_started r.name H) (is_posted r.name H)) (arrivals H) where
-        by_bools : (a b c : Bool) → not (b || (a || c)) ≡ (not a && not (b || c))
-        by_bools true true c = refl
-        by_bools true false c = refl
-        by_bools false b c = refl
-
-  pub waiting-apart : (H : List Entry) → Facts H → Apart (waiting H)
-  unfolding waiting
-  waiting-apart H f = Apart-filter (λ r. not (has_started r.name H || is_posted r.name H)) (arrivals H) f.5
-
-  -- what was started does not wait
-  pub without-started : (n : Name) (H : List Entry) → Facts H → has_started n H ≡ true → without n (waiting H) ≡ waiting H
-  unfolding without
-  without-started n H f s = filter-all (λ (r : Piece). not (same n r.name)) (waiting H) (none (waiting H) (waits H f)) where
-    none : (rs : List Piece) → Each (WaitsAmong H) rs → list_all (λ (r : Piece). not (same n r.name)) rs ≡ true
-    none [] e = refl
-    none (r ∷ rs) e =
-        let ih = none rs e.1 in
-        elim (cases_Bool (same n r.name)) [
-          | inl k ↦ no_both (has_started n H) s (subst (λ (x : Name). has_started x H ≡ false) (sym (same-true n r.name k)) e.0.unstarted)
-          | inr k ↦ rw k ih
-        ]

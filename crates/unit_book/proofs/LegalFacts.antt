@@ -8,169 +8,177 @@ use Rattle.unit_book.proofs.Facts.{ArrivedPost, ArrivedStart, Each-behind, Each-
 use Rattle.unit_book.proofs.Facts.{WaitsAmong, active-is, active-post, active-post_waiting, active-start, fits-arrive, fits-ran, fits-start}
 use Rattle.unit_book.proofs.Facts.{fresh, post-whom, waits, Each-at}
 
-module _ {D : Type 0} (meaning : Meaning D) (mounted : D) where
-  pub newest-ran : (n : Name) (j : ℕ) (H : List Entry) → active H ≡ Some n → NewestIs n H → NewestIs n (Ran n j ∷ H)
-  unfolding attempts request_named
-  newest-ran n j H a w =
-      let e = w.2 in
-      let s : same w.0.request.name n ≡ true = same-is w.0.request.name n (ap (λ (r : Piece). r.name) w.3 ∙ w.4) in
-      (record { request = w.0.request; mask = w.0.mask; commands = w.0.commands + j }, w.1, rw e (rw s refl), w.3, w.4)
+pub newest-ran : (n : Name) (j : ℕ) (H : List Entry) → active H ≡ Some n → NewestIs n H → NewestIs n (Ran n j ∷ H)
+unfolding attempts request_named
+newest-ran n j H a w =
+    let e = w.2 in
+    let s : same w.0.request.name n ≡ true = same-is w.0.request.name n (ap (λ (r : Piece). r.name) w.3 ∙ w.4) in
+    (record { request = w.0.request; mask = w.0.mask; commands = w.0.commands + j }, w.1, rw e (rw s refl), w.3, w.4)
 
-  arrived-of-push : (t : ℕ) (r : Piece) (rs : List Piece) →
-      length (filter (λ (q : Piece). eqb q.name.task t) rs) ≤ length (filter (λ (q : Piece). eqb q.name.task t) (rs ++ r ∷ []))
-  arrived-of-push t r [] = omega arith
-  arrived-of-push t r (q ∷ rs) =
-      let ih = arrived-of-push t r rs in
-      elim (cases_Bool (eqb q.name.task t)) [ inl e ↦ rw e (omega (arith, ih)) | inr e ↦ rw e ih ]
+arrived-of-push : (t : ℕ) (r : Piece) (rs : List Piece) →
+    length (filter (λ (q : Piece). eqb q.name.task t) rs) ≤ length (filter (λ (q : Piece). eqb q.name.task t) (rs ++ r ∷ []))
+arrived-of-push t r [] = omega arith
+arrived-of-push t r (q ∷ rs) =
+    let ih = arrived-of-push t r rs in
+    elim (cases_Bool (eqb q.name.task t)) [ inl e ↦ rw e (omega (arith, ih)) | inr e ↦ rw e ih ]
 
-  arrived-of-push_same : (r : Piece) (rs : List Piece) → length (filter (λ (q : Piece). eqb q.name.task r.name.task) (rs ++ r ∷ []))
-      ≡ length (filter (λ (q : Piece). eqb q.name.task r.name.task) rs) + 1
-  arrived-of-push_same r [] = let e = eq-eqb r.name.task r.name.task refl in rw e refl
-  arrived-of-push_same r (q ∷ rs) =
-      let ih = arrived-of-push_same r rs in
-      elim (cases_Bool (eqb q.name.task r.name.task)) [ inl e ↦ rw e (omega (arith, ih)) | inr e ↦ rw e ih ]
+arrived-of-push_same : (r : Piece) (rs : List Piece) → length (filter (λ (q : Piece). eqb q.name.task r.name.task) (rs ++ r ∷ []))
+    ≡ length (filter (λ (q : Piece). eqb q.name.task r.name.task) rs) + 1
+arrived-of-push_same r [] = let e = eq-eqb r.name.task r.name.task refl in rw e refl
+arrived-of-push_same r (q ∷ rs) =
+    let ih = arrived-of-push_same r rs in
+    elim (cases_Bool (eqb q.name.task r.name.task)) [ inl e ↦ rw e (omega (arith, ih)) | inr e ↦ rw e ih ]
 
-  pub none-named : (n : Name) (H : List Entry) → has_arrived n H ≡ false → (rs : List Piece) → Each (Known H) rs → none_named n rs ≡ true
-  none-named n H h [] k = refl
-  none-named n H h (r ∷ rs) k =
-      let ih = none-named n H h rs k.1 in
-      elim (cases_Bool (same n r.name)) [
-        | inl e ↦ no_both (has_arrived n H) (rw (same-true n r.name e) k.0.1) h
-        | inr e ↦ rw e ih
+pub none-named : (n : Name) (H : List Entry) → has_arrived n H ≡ false → (rs : List Piece) → Each (Known H) rs → none_named n rs ≡ true
+none-named n H h [] k = refl
+none-named n H h (r ∷ rs) k =
+    let ih = none-named n H h rs k.1 in
+    elim (cases_Bool (same n r.name)) [
+      | inl e ↦ no_both (has_arrived n H) (rw (same-true n r.name e) k.0.1) h
+      | inr e ↦ rw e ih
+    ]
+
+facts-arrive : (r : Piece) (H : List Entry) → Facts H → r.name.seq ≡ arrived_of r.name.task H + 1 → Facts (Arrive r ∷ H)
+unfolding arrivals active started attempts request_named
+facts-arrive r H f e = (starts', posts', numbers, f.3, newest', apart', known') where
+  new : has_arrived r.name H ≡ false
+  new = fresh r H f e
+
+  starts' : ArrivedStart (Arrive r ∷ H)
+  starts' n h = or_right (same r.name n) (has_arrived n H) (f.0 n h)
+
+  posts' : ArrivedPost (Arrive r ∷ H)
+  posts' n h = or_right (same r.name n) (has_arrived n H) (f.1 n h)
+
+  numbers : Numbered (Arrive r ∷ H)
+  numbers n h =
+      elim (cases_Bool (same r.name n)) [
+        | inl s ↦ let k : n ≡ r.name = sym (same-true r.name n s) in rw k (omega (arith, e, arrived-of-push_same r (arrivals H)))
+        | inr s ↦ let a : has_arrived n H ≡ true = rw s at h in omega (arith, f.2 n a, arrived-of-push n.task r (arrivals H))
       ]
 
-  facts-arrive : (r : Piece) (H : List Entry) → Facts H → r.name.seq ≡ arrived_of r.name.task H + 1 → Facts (Arrive r ∷ H)
-  unfolding arrivals active started attempts request_named
-  facts-arrive r H f e = (starts', posts', numbers, f.3, newest', apart', known') where
-    new : has_arrived r.name H ≡ false
-    new = fresh meaning mounted r H f e
+  other : (n : Name) → has_arrived n H ≡ true → same r.name n ≡ false
+  other n a = elim (cases_Bool (same r.name n)) [ inl s ↦ no_both (has_arrived n H) a (rw (same-true r.name n s) at new) | inr s ↦ s ]
 
-    starts' : ArrivedStart (Arrive r ∷ H)
-    starts' n h = or_right (same r.name n) (has_arrived n H) (f.0 n h)
+  newest' : Newest (Arrive r ∷ H)
+  newest' n a =
+      let w = f.4 n a in
+      let s = other n (f.0 n (active-is n H a).0) in
+      (w.0, w.1, w.2, rw s w.3, rw s w.4)
 
-    posts' : ArrivedPost (Arrive r ∷ H)
-    posts' n h = or_right (same r.name n) (has_arrived n H) (f.1 n h)
+  apart' : Apart (arrivals H ++ r ∷ [])
+  apart' = Apart-push (arrivals H) r f.5 (none-named r.name H new (arrivals H) f.6)
 
-    numbers : Numbered (Arrive r ∷ H)
-    numbers n h =
-        elim (cases_Bool (same r.name n)) [
-          | inl s ↦ let k : n ≡ r.name = sym (same-true r.name n s) in rw k (omega (arith, e, arrived-of-push_same r (arrivals H)))
-          | inr s ↦ let a : has_arrived n H ≡ true = rw s at h in omega (arith, f.2 n a, arrived-of-push n.task r (arrivals H))
-        ]
+  still : (q : Piece) → Known H q → Known (Arrive r ∷ H) q
+  still q k = let s = other q.name k.1 in (rw s k.0, or_right (same r.name q.name) (has_arrived q.name H) k.1)
 
-    other : (n : Name) → has_arrived n H ≡ true → same r.name n ≡ false
-    other n a = elim (cases_Bool (same r.name n)) [ inl s ↦ no_both (has_arrived n H) a (rw (same-true r.name n s) at new) | inr s ↦ s ]
+  known' : Each (Known (Arrive r ∷ H)) (arrivals H ++ r ∷ [])
+  known' = let s = same-refl r.name in Each-behind (Known (Arrive r ∷ H)) (arrivals H) r
+      (Each-weaker (Known H) (Known (Arrive r ∷ H)) still (arrivals H) f.6)
+      (rw s refl, or_left (same r.name r.name) (has_arrived r.name H) s)
 
-    newest' : Newest (Arrive r ∷ H)
-    newest' n a =
-        let w = f.4 n a in
-        let s = other n (f.0 n (active-is n H a).0) in
-        (w.0, w.1, w.2, rw s w.3, rw s w.4)
+-- the request of a name that arrived has the name
+pub request-named : (n : Name) (H : List Entry) → has_arrived n H ≡ true → (request_named n H).name ≡ n
+unfolding request_named
+request-named n [] h = absurd cc
+request-named n (Arrive r ∷ H) h =
+    let ih : has_arrived n H ≡ true → (request_named n H).name ≡ n = λ k. request-named n H k in
+    elim (cases_Bool (same r.name n)) [ inl e ↦ rw e (same-true r.name n e) | inr e ↦ rw e (ih (rw e at h)) ]
+request-named n (_ ∷ H) h = request-named n H h
 
-    apart' : Apart (arrivals H ++ r ∷ [])
-    apart' = Apart-push (arrivals H) r f.5 (none-named r.name H new (arrivals H) f.6)
+-- a Start of a name that arrived, has no Post, and is active or nothing is
+facts-start : (n : Name) (H : List Entry) → Facts H → has_arrived n H ≡ true → is_posted n H ≡ false →
+    ((m : Name) → active H ≡ Some m → m ≡ n) → Facts (Start n ∷ H)
+unfolding arrivals attempts request_named
+facts-start n H f here p only = (starts', f.1, f.2, one', newest', f.5, f.6) where
+  starts' : ArrivedStart (Start n ∷ H)
+  starts' m h =
+      elim (cases_Bool (same n m)) [
+        | inl s ↦ subst (λ (x : Name). has_arrived x H ≡ true) (same-true n m s) here
+        | inr s ↦ f.0 m (rw s at h)
+      ]
 
-    still : (q : Piece) → Known H q → Known (Arrive r ∷ H) q
-    still q k = let s = other q.name k.1 in (rw s k.0, or_right (same r.name q.name) (has_arrived q.name H) k.1)
+  one' : One (Start n ∷ H)
+  one' m h q =
+      let a = active-start n H p in
+      elim (cases_Bool (same n m)) [
+        | inl s ↦ a ∙ ap Some (same-true n m s)
+        | inr s ↦ a ∙ ap Some (sym (only m (f.3 m (rw s at h) q)))
+      ]
 
-    known' : Each (Known (Arrive r ∷ H)) (arrivals H ++ r ∷ [])
-    known' = let s = same-refl r.name in Each-behind (Known (Arrive r ∷ H)) (arrivals H) r
-        (Each-weaker (Known H) (Known (Arrive r ∷ H)) still (arrivals H) f.6)
-        (rw s refl, or_left (same r.name r.name) (has_arrived r.name H) s)
+  newest' : Newest (Start n ∷ H)
+  newest' m h = let a = active-start n H p in let i : n ≡ m = cc in subst (λ (x : Name). NewestIs x (Start n ∷ H)) i
+      (_, attempts H, refl, refl, request-named n H here)
 
-  -- a Start of a name that arrived, has no Post, and is active or nothing is
-  facts-start : (n : Name) (H : List Entry) → Facts H → Known H (request_named n H) → (request_named n H).name ≡ n → is_posted n H ≡ false →
-      ((m : Name) → active H ≡ Some m → m ≡ n) → Facts (Start n ∷ H)
-  unfolding arrivals attempts request_named
-  facts-start n H f k e p only = (starts', f.1, f.2, one', newest', f.5, f.6) where
-    starts' : ArrivedStart (Start n ∷ H)
-    starts' m h =
-        elim (cases_Bool (same n m)) [
-          | inl s ↦ subst (λ (x : Name). has_arrived x H ≡ true) (e ∙ same-true n m s) k.1
-          | inr s ↦ f.0 m (rw s at h)
-        ]
+facts-post : {n : Name} (csw : Csw) (sense : ℕ) (code : Code) (H : List Entry) → Facts H →
+    ((active H ≡ Some n) ⊎ ((r : Piece) × WaitsAmong H r × (r.name ≡ n))) → Facts (Post n csw sense code ∷ H)
+unfolding arrivals attempts request_named
+facts-post {n} csw sense code H f whom = (f.0, posts', f.2, one', newest', f.5, f.6) where
+  arrived : (active H ≡ Some n) ⊎ ((r : Piece) × WaitsAmong H r × (r.name ≡ n)) → has_arrived n H ≡ true
+  arrived (inl a) = f.0 n (active-is n H a).0
+  arrived (inr w) = subst (λ (x : Name). has_arrived x H ≡ true) w.2 w.1.known.1
 
-    one' : One (Start n ∷ H)
-    one' m h q =
-        let a = active-start meaning mounted n H p in
-        elim (cases_Bool (same n m)) [
-          | inl s ↦ a ∙ ap Some (same-true n m s)
-          | inr s ↦ a ∙ ap Some (sym (only m (f.3 m (rw s at h) q)))
-        ]
+  posts' : ArrivedPost (Post n csw sense code ∷ H)
+  posts' m h = elim (cases_Bool (same n m))
+      [ inl s ↦ subst (λ (x : Name). has_arrived x H ≡ true) (same-true n m s) (arrived whom) | inr s ↦ f.1 m (rw s at h) ]
 
-    newest' : Newest (Start n ∷ H)
-    newest' m h = let a = active-start meaning mounted n H p in let i : n ≡ m = cc in subst (λ (x : Name). NewestIs x (Start n ∷ H)) i
-        (_, attempts H, refl, refl, e)
+  one_by : (active H ≡ Some n) ⊎ ((r : Piece) × WaitsAmong H r × (r.name ≡ n)) → One (Post n csw sense code ∷ H)
+  one_by (inl a) m h q =
+      let b = or_parts (same n m) (is_posted m H) q in
+      let c = f.3 m h b.1 in
+      let i : n ≡ m = cc in
+      no_both (same n m) (same-is n m i) b.0
+  one_by (inr w) m h q =
+      let b = or_parts (same n m) (is_posted m H) q in
+      active-post_waiting n csw sense code H (subst (λ (x : Name). has_started x H ≡ false) w.2 w.1.unstarted)
+      ∙ f.3 m h b.1
 
-  facts-post : (n : Name) (csw : Csw) (sense : ℕ) (code : Code) (H : List Entry) → Facts H →
-      ((active H ≡ Some n) ⊎ ((r : Piece) × WaitsAmong H r × (r.name ≡ n))) → Facts (Post n csw sense code ∷ H)
-  unfolding arrivals attempts request_named
-  facts-post n csw sense code H f whom = (f.0, posts', f.2, one', newest', f.5, f.6) where
-    arrived : (active H ≡ Some n) ⊎ ((r : Piece) × WaitsAmong H r × (r.name ≡ n)) → has_arrived n H ≡ true
-    arrived (inl a) = f.0 n (active-is n H a).0
-    arrived (inr w) = subst (λ (x : Name). has_arrived x H ≡ true) w.2 w.1.known.1
+  one' : One (Post n csw sense code ∷ H)
+  one' = one_by whom
 
-    posts' : ArrivedPost (Post n csw sense code ∷ H)
-    posts' m h = elim (cases_Bool (same n m))
-        [ inl s ↦ subst (λ (x : Name). has_arrived x H ≡ true) (same-true n m s) (arrived whom) | inr s ↦ f.1 m (rw s at h) ]
+  newest_by : (active H ≡ Some n) ⊎ ((r : Piece) × WaitsAmong H r × (r.name ≡ n)) → Newest (Post n csw sense code ∷ H)
+  newest_by (inl a) m h = let b = active-post n csw sense code H f a in let k = sym b ∙ h in absurd cc
+  newest_by (inr w) m h = f.4 m
+      (sym (active-post_waiting n csw sense code H (subst (λ (x : Name). has_started x H ≡ false) w.2 w.1.unstarted)) ∙ h)
 
-    one_by : (active H ≡ Some n) ⊎ ((r : Piece) × WaitsAmong H r × (r.name ≡ n)) → One (Post n csw sense code ∷ H)
-    one_by (inl a) m h q =
-        let b = or_parts (same n m) (is_posted m H) q in
-        let c = f.3 m h b.1 in
-        let i : n ≡ m = cc in
-        no_both (same n m) (same-is n m i) b.0
-    one_by (inr w) m h q =
-        let b = or_parts (same n m) (is_posted m H) q in
-        active-post_waiting meaning mounted n csw sense code H (subst (λ (x : Name). has_started x H ≡ false) w.2 w.1.unstarted)
-        ∙ f.3 m h b.1
+  newest' : Newest (Post n csw sense code ∷ H)
+  newest' = newest_by whom
 
-    one' : One (Post n csw sense code ∷ H)
-    one' = one_by whom
+-- who waits at a place
+pub waits-at : (r : Piece) (at : ℕ) (H : List Entry) → Facts H → slice_get (waiting H) at ≡ Some r → WaitsAmong H r
+waits-at r at H f h = Each-at (WaitsAmong H) (waiting H) at r (waits H f) h
 
-    newest_by : (active H ≡ Some n) ⊎ ((r : Piece) × WaitsAmong H r × (r.name ≡ n)) → Newest (Post n csw sense code ∷ H)
-    newest_by (inl a) m h = let b = active-post meaning mounted n csw sense code H f a in let k = sym b ∙ h in absurd cc
-    newest_by (inr w) m h = f.4 m
-        (sym (active-post_waiting meaning mounted n csw sense code H (subst (λ (x : Name). has_started x H ≡ false) w.2 w.1.unstarted)) ∙ h)
+pub first-waits : (r : Piece) (H : List Entry) → Facts H → slice_get (waiting H) 0 ≡ Some r → WaitsAmong H r
+first-waits r H f h = waits-at r 0 H f h
 
-    newest' : Newest (Post n csw sense code ∷ H)
-    newest' = newest_by whom
+-- the request of the name of the first that waits
+pub first-request : {r : Piece} {n : Name} (H : List Entry) → Facts H → slice_get (waiting H) 0 ≡ Some r → r.name ≡ n →
+    request_named n H ≡ r
+first-request {r} H f h e = subst (λ (x : Name). request_named x H ≡ r) e (first-waits r H f h).known.0
 
-  -- who waits at a place
-  pub waits-at : (r : Piece) (at : ℕ) (H : List Entry) → Facts H → slice_get (waiting H) at ≡ Some r → WaitsAmong H r
-  waits-at r at H f h = Each-at (WaitsAmong H) (waiting H) at r (waits H f) h
+facts-ran : (n : Name) (j : ℕ) (H : List Entry) → Facts H → active H ≡ Some n → Facts (Ran n j ∷ H)
+unfolding arrivals active started request_named attempts
+facts-ran n j H f a = (f.0, f.1, f.2, f.3, newest', f.5, f.6) where
+  newest' : Newest (Ran n j ∷ H)
+  newest' m b = let i : n ≡ m = cc in subst (λ (x : Name). NewestIs x (Ran n j ∷ H)) i (newest-ran n j H a (f.4 n a))
 
-  pub first-waits : (r : Piece) (H : List Entry) → Facts H → slice_get (waiting H) 0 ≡ Some r → WaitsAmong H r
-  first-waits r H f h = waits-at r 0 H f h
+no-facts : Facts []
+unfolding arrivals active started Apart
+no-facts = ((λ n h. absurd cc), (λ n h. absurd cc), (λ n h. absurd cc), (λ n h. absurd cc), (λ n h. absurd cc), tt, tt)
 
-  -- the request of the name of the first that waits
-  pub first-request : {r : Piece} {n : Name} (H : List Entry) → Facts H → slice_get (waiting H) 0 ≡ Some r → r.name ≡ n → request_named n H ≡ r
-  first-request {r} H f h e = subst (λ (x : Name). request_named x H ≡ r) e (first-waits r H f h).known.0
-
+module _ {D : Type 0} (meaning : Meaning D) (mounted : D) where
   facts-start_by : (n : Name) (H : List Entry) → Facts H → StartFits meaning mounted n H → Facts (Start n ∷ H)
   facts-start_by n H f (First s) =
       let w = first-waits s.request H f s.first in
-      let q : request_named n H ≡ s.request = subst (λ (x : Name). request_named x H ≡ s.request) s.name w.known.0 in
-      facts-start n H f (rw q w.known) (rw q s.name) (subst (λ (x : Name). is_posted x H ≡ false) s.name w.unposted)
+      facts-start n H f (subst (λ (x : Name). has_arrived x H ≡ true) s.name w.known.1)
+      (subst (λ (x : Name). is_posted x H ≡ false) s.name w.unposted)
       (λ m a. let k = sym s.none ∙ a in absurd cc)
   facts-start_by n H f (Again s) =
       let b = active-is n H s.active in
-      let w = f.4 n s.active in
-      let e = w.4 in
-      facts-start n H f (ap (λ x. request_named x H) e, subst (λ (x : Name). has_arrived x H ≡ true) (sym e) (f.0 n b.0)) e b.1
+      facts-start n H f (f.0 n b.0) b.1
       (λ m a. some-is (sym a ∙ s.active)) where
         some-is : {o p : Name} → Some o ≡ Some p → o ≡ p
         some-is k = cc
-
-  facts-ran : (n : Name) (j : ℕ) (H : List Entry) → Facts H → active H ≡ Some n → Facts (Ran n j ∷ H)
-  unfolding arrivals active started request_named attempts
-  facts-ran n j H f a = (f.0, f.1, f.2, f.3, newest', f.5, f.6) where
-    newest' : Newest (Ran n j ∷ H)
-    newest' m b = let i : n ≡ m = cc in subst (λ (x : Name). NewestIs x (Ran n j ∷ H)) i (newest-ran n j H a (f.4 n a))
-
-  no-facts : Facts []
-  unfolding arrivals active started Apart
-  no-facts = ((λ n h. absurd cc), (λ n h. absurd cc), (λ n h. absurd cc), (λ n h. absurd cc), (λ n h. absurd cc), tt, tt)
 
   -- THE FACTS HOLD of every legal trace
   pub facts : (H : List Entry) → Legal meaning mounted H → Facts H
@@ -179,6 +187,6 @@ module _ {D : Type 0} (meaning : Meaning D) (mounted : D) where
   facts (Arrive r ∷ H) l = facts-arrive r H (facts H l.1) (fits-arrive meaning mounted r H (due meaning mounted H) l.0)
   facts (Start n ∷ H) l = facts-start_by n H (facts H l.1) (fits-start meaning mounted n H (due meaning mounted H) l.0)
   facts (Ran n j ∷ H) l = facts-ran n j H (facts H l.1) (fits-ran meaning mounted n j H (due meaning mounted H) l.0).active
-  facts (Post n csw sense code ∷ H) l = facts-post n csw sense code H (facts H l.1)
+  facts (Post n csw sense code ∷ H) l = facts-post csw sense code H (facts H l.1)
       (post-whom meaning mounted n csw sense code H (facts H l.1) l.0)
   facts (_ ∷ H) l = facts H l.1

@@ -3,8 +3,9 @@ use Rattle.unit_book.proofs.Names.{◌≡◌, ℕ, Bool, true, false, not, ◌&&
 use Rattle.unit_book.proofs.Names.{eqb-true, eq-eqb, and_parts, and_from, or_left, or_right, cases_Bool, filter, list_any, list_all, Name}
 use Rattle.unit_book.proofs.Names.{Piece, same, slice_get, drop}
 use Rattle.std.specs.List.{find}
+use Rattle.unit_book.proofs.Names.{zero, suc, length, arith, ◌⊎◌}
 
-name-is : (a b : Name) → a.task ≡ b.task → a.seq ≡ b.seq → a ≡ b
+pub name-is : (a b : Name) → a.task ≡ b.task → a.seq ≡ b.seq → a ≡ b
 name-is a b t s =
     let f : ℕ → ℕ → Name = λ x y. record { task = x; seq = y } in
     ap (λ x. f x a.seq) t ∙ ap (λ y. f b.task y) s
@@ -27,6 +28,11 @@ pub no_both : {C : Type 0} (b : Bool) → b ≡ true → b ≡ false → C
 no_both b h k = absurd (clash (sym h ∙ k)) where
   clash : true ≡ false → ⊥
   clash e = cc
+
+-- what would follow is not so
+pub not-so : (a b : Bool) → (a ≡ true → b ≡ true) → b ≡ false → a ≡ false
+not-so true b f h = no_both b (f refl) h
+not-so false b f h = refl
 
 pub same-not-sym : (a b : Name) → same a b ≡ false → same b a ≡ false
 same-not-sym a b h = elim (cases_Bool (same b a)) [ inl e ↦ no_both (same a b) (same-sym b a e) h | inr e ↦ e ]
@@ -107,6 +113,19 @@ module _ {X : Type 0} where
       let k = and_parts (not (p x)) (list_all (λ y. not (p y)) xs) h in
       let ih = find-none p xs k.1 in
       elim (cases_Bool (p x)) [ inl e ↦ no_both (not (p x)) k.0 (rw e refl) | inr e ↦ rw e ih ]
+
+  -- all of a list pass, so the one at a place does
+  pub all-at : (p : X → Bool) (xs : List X) (i : ℕ) (x : X) → list_all p xs ≡ true → slice_get xs i ≡ Some x → p x ≡ true
+  all-at p [] i x h s = absurd cc
+  all-at p (y ∷ ys) zero x h s = let e : y ≡ x = cc in rw (← e) (and_parts (p y) (list_all p ys) h).0
+  all-at p (y ∷ ys) (suc i) x h s = all-at p ys i x (and_parts (p y) (list_all p ys) h).1 s
+
+  -- what is at a place of a list with one more item
+  pub at-push : (xs : List X) (x : X) (k : ℕ) → slice_get (xs ++ x ∷ []) k ≡ slice_get xs k
+      ⊎ ((k ≡ length xs) × (slice_get (xs ++ x ∷ []) k ≡ Some x))
+  at-push [] x zero = inr (refl, refl)
+  at-push (y ∷ ys) x (suc k) = elim (at-push ys x k) [ inl e ↦ inl e | inr e ↦ inr (omega (arith, e.0), e.1) ]
+  at-push _ x _ = inl refl
 
 -- REQUESTS WITH NAMES APART
 unfoldable pub without : Name → List Piece → List Piece

@@ -1,6 +1,6 @@
 -- A name that arrived has one place; at most one request is active.
-use Rattle.unit_book.proofs.Names.{◌≡◌, ◌≤◌, ◌+◌, Bool, true, false, not, ◌&&◌, ◌||◌, Option, Some, None, List, [], ◌∷◌, ◌++◌, length, refl}
-use Rattle.unit_book.proofs.Names.{sym, ap, ◌∙◌, arith, inl, inr, subst, cases_Bool, filter, list_any, Meaning, Name, Piece, Entry, Arrive}
+use Rattle.unit_book.proofs.Names.{◌≡◌, ◌≤◌, ◌+◌, Bool, true, false, not, ◌&&◌, ◌||◌, Option, Some, None, List, [], ◌∷◌, length, refl}
+use Rattle.unit_book.proofs.Names.{sym, ap, ◌∙◌, arith, inl, inr, subst, cases_Bool, filter, list_any, Meaning, Name, Entry, Arrive}
 use Rattle.unit_book.proofs.Names.{Start, same, starts, arrivals, has_arrived, has_started, is_posted, waiting, active, starts_of, due}
 use Rattle.unit_book.proofs.Names.{Legal, StartFits, First, Again}
 use Rattle.unit_book.specs.Laws.{OnePlace, FewStarts, waits, is_one, is_active, times}
@@ -9,20 +9,17 @@ use Rattle.unit_book.proofs.Facts.{Facts, active-is, fits-start}
 use Rattle.unit_book.proofs.LegalFacts.{facts, first-waits}
 use Rattle.unit_book.proofs.Restarts.{retry-few}
 use Rattle.unit_book.proofs.Starts.{no-starts}
-
-any-append : {X : Type 0} (p : X → Bool) (xs ys : List X) → list_any p (xs ++ ys) ≡ (list_any p xs || list_any p ys)
-any-append p [] ys = refl
-any-append p (x ∷ xs) ys = ap (λ b. p x || b) (any-append p xs ys) ∙ assoc (p x) (list_any p xs) (list_any p ys) where
-  assoc : (a b c : Bool) → (a || (b || c)) ≡ ((a || b) || c)
-  assoc true b c = refl
-  assoc false b c = refl
+use Rattle.std.proofs.Math.Bool.{and_comm}
+use Rattle.std.proofs.lemmas.List.Folds.{list_any-append}
+use Rattle.std.proofs.lemmas.Map.Views.{any-filter_same}
 
 -- who has arrived is among the arrivals
 pub arrived-any : (n : Name) (H : List Entry) → has_arrived n H ≡ list_any (λ r. same r.name n) (arrivals H)
 unfolding arrivals
 arrived-any n [] = refl
 arrived-any n (Arrive r ∷ H) = ap (λ b. same r.name n || b) (arrived-any n H)
-    ∙ flip (same r.name n) (list_any (λ r. same r.name n) (arrivals H)) ∙ sym (any-append (λ r. same r.name n) (arrivals H) (r ∷ [])) where
+    ∙ flip (same r.name n) (list_any (λ r. same r.name n) (arrivals H))
+    ∙ sym (list_any-append (λ r. same r.name n) (arrivals H) (r ∷ [])) where
       flip : (a b : Bool) → (a || b) ≡ (b || (a || false))
       flip true true = refl
       flip true false = refl
@@ -30,51 +27,37 @@ arrived-any n (Arrive r ∷ H) = ap (λ b. same r.name n || b) (arrived-any n H)
       flip false false = refl
 arrived-any n (_ ∷ H) = arrived-any n H
 
--- one of a name passes a test that depends on the name alone
-any-filter : (n : Name) (b : Bool) (p : Piece → Bool) → ((r : Piece) → same r.name n ≡ true → p r ≡ b) → (rs : List Piece) →
-    list_any (λ r. same r.name n) (filter p rs) ≡ (list_any (λ r. same r.name n) rs && b)
-any-filter n b p h [] = refl
-any-filter n b p h (r ∷ rs) =
-    let ih = any-filter n b p h rs in
-    elim (cases_Bool (same r.name n)) [
-      | inl s ↦ let e = h r s in elim (cases_Bool b)
-          [ inl t ↦ rw (e, t, s) refl | inr t ↦ rw (e, t, s) (ih ∙ rw t (none (list_any (λ r. same r.name n) rs))) ]
-      | inr s ↦ elim (cases_Bool (p r)) [ inl t ↦ rw (t, s) ih | inr t ↦ rw (t, s) ih ]
-    ] where
-      none : (c : Bool) → (c && false) ≡ false
-      none true = refl
-      none false = refl
+-- a name waits if it arrived and was neither started nor posted
+waits-is : (n : Name) (H : List Entry) → waits n H ≡ (has_arrived n H && not (has_started n H || is_posted n H))
+unfolding waiting
+waits-is n H =
+    any-filter_same (λ r. same r.name n) (λ r. not (has_started r.name H || is_posted r.name H)) (not (has_started n H || is_posted n H))
+    (λ r s. ap (λ (x : Name). not (has_started x H || is_posted x H)) (same-true r.name n s)) (arrivals H)
+    ∙ and_comm (not (has_started n H || is_posted n H)) (list_any (λ r. same r.name n) (arrivals H))
+    ∙ ap (λ b. b && not (has_started n H || is_posted n H)) (sym (arrived-any n H))
+
+-- a name is active if it was started and not posted
+active-one : (n : Name) (H : List Entry) → Facts H → is_active n H ≡ (has_started n H && not (is_posted n H))
+active-one n H f = by_active (active H) refl where
+  by_active : (o : Option Name) → active H ≡ o → is_one n o ≡ (has_started n H && not (is_posted n H))
+  by_active None e = elim (cases_Bool (has_started n H)) [
+    | inl s ↦ elim (cases_Bool (is_posted n H)) [ inl p ↦ rw (s, p) refl | inr p ↦ let k = sym e ∙ f.3 n s p in absurd cc ]
+    | inr s ↦ rw s refl
+  ]
+  by_active (Some m) e =
+      elim (cases_Bool (same m n)) [
+        | inl s ↦ let a = subst (λ (x : Name). (has_started x H ≡ true) × (is_posted x H ≡ false)) (same-true m n s)
+            (active-is m H e) in let p = a.0 in let q = a.1 in rw (s, p, q) refl
+        | inr s ↦ elim (cases_Bool (has_started n H)) [
+          | inl t ↦ elim (cases_Bool (is_posted n H)) [
+            | inl p ↦ rw (s, t, p) refl
+            | inr p ↦ let k : Some m ≡ Some n = sym e ∙ f.3 n t p in let i : m ≡ n = cc in no_both (same m n) (rw i (same-refl n)) s
+          ]
+          | inr t ↦ rw (s, t) refl
+        ]
+      ]
 
 module _ {D : Type 0} (meaning : Meaning D) where
-  -- a name waits if it arrived and was neither started nor posted
-  waits-is : (n : Name) (H : List Entry) → waits n H ≡ (has_arrived n H && not (has_started n H || is_posted n H))
-  unfolding waiting
-  waits-is n H =
-      any-filter n (not (has_started n H || is_posted n H)) (λ r. not (has_started r.name H || is_posted r.name H))
-      (λ r s. ap (λ (x : Name). not (has_started x H || is_posted x H)) (same-true r.name n s)) (arrivals H)
-      ∙ ap (λ b. b && not (has_started n H || is_posted n H)) (sym (arrived-any n H))
-
-  -- a name is active if it was started and not posted
-  active-one : (n : Name) (H : List Entry) → Facts H → is_active n H ≡ (has_started n H && not (is_posted n H))
-  active-one n H f = by_active (active H) refl where
-    by_active : (o : Option Name) → active H ≡ o → is_one n o ≡ (has_started n H && not (is_posted n H))
-    by_active None e = elim (cases_Bool (has_started n H)) [
-      | inl s ↦ elim (cases_Bool (is_posted n H)) [ inl p ↦ rw (s, p) refl | inr p ↦ let k = sym e ∙ f.3 n s p in absurd cc ]
-      | inr s ↦ rw s refl
-    ]
-    by_active (Some m) e =
-        elim (cases_Bool (same m n)) [
-          | inl s ↦ let a = subst (λ (x : Name). (has_started x H ≡ true) × (is_posted x H ≡ false)) (same-true m n s)
-              (active-is m H e) in let p = a.0 in let q = a.1 in rw (s, p, q) refl
-          | inr s ↦ elim (cases_Bool (has_started n H)) [
-            | inl t ↦ elim (cases_Bool (is_posted n H)) [
-              | inl p ↦ rw (s, t, p) refl
-              | inr p ↦ let k : Some m ≡ Some n = sym e ∙ f.3 n t p in let i : m ≡ n = cc in no_both (same m n) (rw i (same-refl n)) s
-            ]
-            | inr t ↦ rw (s, t) refl
-          ]
-        ]
-
   pub one-place : OnePlace meaning
   one-place mounted n H l a =
       let f = facts meaning mounted H l in
@@ -90,10 +73,10 @@ module _ {D : Type 0} (meaning : Meaning D) where
   module _ (mounted : D) where
     start-few : (n : Name) (H : List Entry) → Facts H → StartFits meaning mounted n H → length (filter (starts n) H) ≤ 10
     start-few n H f (First s) =
-        let w = first-waits meaning mounted s.request H f s.first in
+        let w = first-waits s.request H f s.first in
         let u = subst (λ (x : Name). has_started x H ≡ false) s.name w.unstarted in
         omega (arith, no-starts n H u)
-    start-few n H f (Again s) = retry-few (meaning.kind mounted) s.csw s.sense (starts_of n H) s.retry
+    start-few n H f (Again s) = retry-few (meaning.kind mounted) s.status.csw s.status.sense (starts_of n H) s.retry
 
     few : (n : Name) (H : List Entry) → Legal meaning mounted H → starts_of n H ≤ 11
     unfolding Legal
@@ -109,11 +92,10 @@ module _ {D : Type 0} (meaning : Meaning D) where
         ]
     few n (_ ∷ H) l = few n H l.1
 
-    one : (n m : Name) (H : List Entry) → Legal meaning mounted H → has_started n H ≡ true → is_posted n H ≡ false →
-        has_started m H ≡ true → is_posted m H ≡ false → n ≡ m
-    one n m H l a b c d =
-        let f = facts meaning mounted H l in
-        let k : Some n ≡ Some m = sym (f.3 n a b) ∙ f.3 m c d in cc
-
   pub few-starts : FewStarts meaning
-  few-starts = record { one_active = one; eleven_starts = few }
+  few-starts = record {
+    one_active = λ mounted n m H l a b c d.
+        let f = facts meaning mounted H l in
+        let k : Some n ≡ Some m = sym (f.3 n a b) ∙ f.3 m c d in cc;
+    eleven_starts = few;
+  }

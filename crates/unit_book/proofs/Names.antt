@@ -23,7 +23,8 @@ pub use Rattle.ccw_programs.specs.Place.{Place}
 pub use Rattle.ccw_programs.specs.Step.{Program, length_of, is_running}
 unfoldable pub use Rattle.ccw_programs.specs.Step.{after}
 pub use Rattle.ccw_programs.specs.declared.context.State.{State}
-pub use Rattle.subchannel.specs.Subchannel.{Channel, Phase, Absent, Idle, Running, Pending, after_ssch as ssch_started}
+pub use Rattle.subchannel.specs.declared.Status.{Status}
+pub use Rattle.subchannel.specs.Subchannel.{Channel, empty_status, Phase, Absent, Idle, Running, Pending, after_ssch as ssch_started}
 pub use Rattle.recovery.specs.Verdict.{verdict}
 pub use Rattle.recovery.specs.declared.answer.Verdict.TheVariants.{Retry, Final}
 pub use Rattle.request_piece.specs.Places.{Placed}
@@ -55,7 +56,8 @@ pub use Rattle.unit_book.specs.Dcbs.{is_opened, doomed, opened_count, is_doomed,
 unfoldable pub use Rattle.unit_book.specs.Dcbs.{extents_of, flag}
 pub use Rattle.unit_book.specs.Dooms.{all_posted, after_dooms, purged}
 pub use Rattle.unit_book.specs.Extents.{passes_check}
-pub use Rattle.unit_book.specs.Fields.{StandingTies, Ties, dcb_at, dcb_of, noted, awaits_by, pending_phase, ActivityTies, mask_at}
+pub use Rattle.unit_book.specs.Fields.{StandingTies, Ties, BookFields, dcb_at, dcb_of, noted, awaits_by, pending_phase, ActivityTies}
+pub use Rattle.unit_book.specs.Fields.{mask_at}
 pub use Rattle.unit_book.specs.Legal.{Free, PostsActive, WithVerdict, OfActive, Fits, doomed_first, CanPurge, Due, ToHalt, ToPost}
 pub use Rattle.unit_book.specs.Legal.{StartsAgain, FitsBy, StartFits, First, Again, is_to_halt, due_by, PostFits, OfFirst, StartsFirst}
 unfoldable pub use Rattle.unit_book.specs.Legal.{Legal, due}

@@ -1,17 +1,18 @@
 -- A DCB is opened: the fields stay those of the trace.
-use Rattle.unit_book.proofs.Names.{◌≡◌, ℕ, zero, suc, ◌+◌, ◌-◌, ◌≤◌, ◌⊎◌, Bool, true, false, not, ◌&&◌, ◌||◌, Option, Some, None, List, []}
+use Rattle.unit_book.proofs.Names.{BookFields, ◌≡◌, ℕ, zero, suc, ◌+◌, ◌-◌, ◌≤◌, Bool, true, false, not, ◌&&◌, ◌||◌, Option, Some, None}
+use Rattle.unit_book.proofs.Names.{List, []}
 use Rattle.unit_book.proofs.Names.{◌∷◌, ◌++◌, length, length-append, refl, sym, ap, ◌∙◌, arith, eqb, inl, inr, subst, if◌then◌else◌}
-use Rattle.unit_book.proofs.Names.{cases_Bool, and_parts, or_right, eqb-true, eq-eqb, slice_get-append_right, slice_get, is_error, Csw}
-use Rattle.unit_book.proofs.Names.{Code, Purged, Extent, Meaning, Channel, Idle, PostedState, Name, Piece, Active, Dcb, Entry, Opened}
+use Rattle.unit_book.proofs.Names.{cases_Bool, and_parts, or_right, eqb-true, eq-eqb, slice_get-append_right, slice_get, is_error, Status}
+use Rattle.unit_book.proofs.Names.{Code, Purged, Extent, Meaning, Idle, Name, Piece, Active, Dcb, Entry, Opened}
 use Rattle.unit_book.proofs.Names.{Arrive, Start, Close, Reset, Post, same, has_arrived, has_started, waiting, arrivals, active, started}
 use Rattle.unit_book.proofs.Names.{request_named, is_open, is_opened, is_closed, opened_count, extents_of, flag, attempts, stand, Due}
-use Rattle.unit_book.proofs.Names.{ToHalt, ToPost, Free, due, Fits, FitsBy, Legal, StartFits, First, Again, PostFits, OfActive, OfFirst}
+use Rattle.unit_book.proofs.Names.{ToHalt, ToPost, Free, due, FitsBy, Legal, StartFits, First, Again, PostFits, OfActive, OfFirst}
 use Rattle.unit_book.proofs.Names.{posted, Ties, dcb_at, dcb_of}
 use Rattle.unit_book.specs.Trace.{opens}
 use Rattle.unit_book.proofs.Names.{ProcessingMethod, Input, Output}
 use Rattle.unit_book.specs.Trace.{is_input}
 use Rattle.unit_book.specs.Legal.{OpenFits}
-use Rattle.unit_book.specs.Fields.{HasRow}
+use Rattle.unit_book.specs.Fields.{HasRow, fields_of}
 use Rattle.unit_book.proofs.Lists.{same-true, no_both}
 use Rattle.unit_book.proofs.Facts.{fits-arrive, fits-start, fresh, active-is}
 use Rattle.unit_book.proofs.LegalFacts.{facts, first-request}
@@ -19,12 +20,21 @@ use Rattle.unit_book.proofs.Dooms.{due-doomed}
 use Rattle.unit_book.proofs.Same.{activity-same, fits-free}
 use Rattle.unit_book.proofs.Seeks.{free-start, waits-open}
 use Rattle.unit_book.proofs.Starts.{no-input}
+use Rattle.unit_book.proofs.Lists.{not-so}
+use Rattle.unit_book.proofs.Lists.{at-push}
 
 more : (d : ℕ) (H : List Entry) (e : Entry) → is_opened d H ≡ true → is_opened d (e ∷ H) ≡ true
 more d H e h = or_right (opens d e) (is_opened d H) h
 
+-- what it says of the others stays
+dcb-other : (c d : ℕ) (method : ProcessingMethod) (x : List Extent) (H : List Entry) → eqb d c ≡ false →
+    dcb_of c (Opened d method x ∷ H) ≡ dcb_of c H
+unfolding extents_of flag
+dcb-other c d method x H e = rw e refl
+
 module _ {D : Type 0} (meaning : Meaning D) (mounted : D) where
-  free-open : (d : ℕ) (method : ProcessingMethod) (x : List Extent) (H : List Entry) (k : Due) → FitsBy meaning mounted k (Opened d method x) H →
+  free-open : (d : ℕ) (method : ProcessingMethod) (x : List Extent) (H : List Entry) (k : Due) →
+      FitsBy meaning mounted k (Opened d method x) H →
       OpenFits meaning mounted d x H
   free-open d method x H Free f = f
   free-open d method x H _ f = absurd cc
@@ -63,21 +73,21 @@ module _ {D : Type 0} (meaning : Meaning D) (mounted : D) where
   pub first-opened : (r : Piece) (H : List Entry) → due meaning mounted H ≡ Free → slice_get (waiting H) 0 ≡ Some r →
       is_opened r.dcb H ≡ true
   first-opened r H d s =
-      (and_parts (is_opened r.dcb H) (not (is_closed r.dcb H)) (waits-open meaning mounted r H (due-doomed meaning mounted H d) s)).0
+      (and_parts (is_opened r.dcb H) (not (is_closed r.dcb H)) (waits-open r H (due-doomed meaning mounted H d) s)).0
 
   -- the table of DCBs has the row of an opened one
-  pub opened-row : (d : ℕ) (H : List Entry) (table : List Dcb) → Legal meaning mounted H → length table ≡ opened_count H →
-      is_opened d H ≡ true → HasRow table d
-  opened-row d H table l count o = let few = opened-few d H l o in (few.0, rw count few.1)
+  pub opened-row : (d : ℕ) {held : BookFields D} {o : Option Active} → Ties meaning mounted held o → is_opened d held.trace ≡ true →
+      HasRow held.dcbs d
+  opened-row d {held} t h = let few = opened-few d held.trace t.legal h in let count = t.count in (few.0, rw count few.1)
 
-  pub open-row : (d : ℕ) (H : List Entry) (table : List Dcb) → Legal meaning mounted H → length table ≡ opened_count H →
-      is_open d H ≡ true → HasRow table d
-  open-row d H table l count o = opened-row d H table l count (and_parts (is_opened d H) (not (is_closed d H)) o).0
+  pub open-row : (d : ℕ) {held : BookFields D} {o : Option Active} → Ties meaning mounted held o → is_open d held.trace ≡ true →
+      HasRow held.dcbs d
+  open-row d {held} t h = opened-row d t (and_parts (is_opened d held.trace) (not (is_closed d held.trace)) h).0
 
   start-opened : (n : Name) (H : List Entry) → Legal meaning mounted H → due meaning mounted H ≡ Free → StartFits meaning mounted n H →
       (has_started n H ≡ true → is_opened (request_named n H).dcb H ≡ true) → is_opened (request_named n H).dcb H ≡ true
   start-opened n H l d (First s) ih =
-      let q = first-request meaning mounted H (facts meaning mounted H l) s.first s.name in
+      let q = first-request H (facts meaning mounted H l) s.first s.name in
       rw q (first-opened s.request H d s.first)
   start-opened n H l d (Again s) ih = ih (active-is n H s.active).0
 
@@ -89,7 +99,7 @@ module _ {D : Type 0} (meaning : Meaning D) (mounted : D) where
   started-opened n (Opened d i x ∷ H) l h = more (request_named n H).dcb H (Opened d i x) (started-opened n H l.1 h)
   started-opened n (Arrive r ∷ H) l h =
       let f = facts meaning mounted H l.1 in
-      let new = fresh meaning mounted r H f (fits-arrive meaning mounted r H (due meaning mounted H) l.0) in
+      let new = fresh r H f (fits-arrive meaning mounted r H (due meaning mounted H) l.0) in
       let ih = started-opened n H l.1 h in
       elim (cases_Bool (same r.name n)) [
         | inl s ↦ no_both (has_arrived n H) (f.0 n h) (subst (λ (x : Name). has_arrived x H ≡ false) (same-true r.name n s) new)
@@ -109,16 +119,18 @@ module _ {D : Type 0} (meaning : Meaning D) (mounted : D) where
   started-opened n (_ ∷ H) l h = started-opened n H l.1 h
 
   -- whose post has an error was of an opened DCB
-  error-opened : (n : Name) (csw : Csw) (sense : ℕ) (code : Code) (H : List Entry) → Legal meaning mounted H →
-      Fits meaning mounted (Post n csw sense code) H → is_error code ≡ true → is_opened (request_named n H).dcb H ≡ true
-  error-opened n csw sense code H l f e = by_due (due meaning mounted H) refl f where
-    free : due meaning mounted H ≡ Free → PostFits meaning mounted n csw sense code H → is_opened (request_named n H).dcb H ≡ true
-    free d (OfActive p) = started-opened n H l (active-is n H p.active).0
+  error-opened : (n : Name) (status : Status) (code : Code) (H : List Entry) →
+      Legal meaning mounted (Post n status.csw status.sense code ∷ H) → is_error code ≡ true → is_opened (request_named n H).dcb H ≡ true
+  unfolding Legal
+  error-opened n status code H l e = by_due (due meaning mounted H) refl l.0 where
+    free : due meaning mounted H ≡ Free → PostFits meaning mounted n status code H →
+        is_opened (request_named n H).dcb H ≡ true
+    free d (OfActive p) = started-opened n H l.1 (active-is n H p.active).0
     free d (OfFirst p) =
-        let q = first-request meaning mounted H (facts meaning mounted H l) p.fails.first p.fails.name in
+        let q = first-request H (facts meaning mounted H l.1) p.fails.first p.fails.name in
         rw q (first-opened p.fails.request H d p.fails.first)
 
-    by_due : (k : Due) → due meaning mounted H ≡ k → FitsBy meaning mounted k (Post n csw sense code) H →
+    by_due : (k : Due) → due meaning mounted H ≡ k → FitsBy meaning mounted k (Post n status.csw status.sense code) H →
         is_opened (request_named n H).dcb H ≡ true
     by_due (ToHalt m) d g = absurd cc
     by_due (ToPost m) d g = let p : code ≡ Purged = cc in let k = ap is_error (sym p) ∙ e in absurd cc
@@ -138,14 +150,11 @@ module _ {D : Type 0} (meaning : Meaning D) (mounted : D) where
         | inl e ↦
             let a = and_parts (is_error k && (request_named n H).related) (eqb (request_named n H).dcb d) e in
             let b = and_parts (is_error k) (request_named n H).related a.0 in
-            subst (λ (x : ℕ). is_opened x H ≡ true) (eqb-true (request_named n H).dcb d a.1) (error-opened n c s k H l.1 l.0 b.0)
+            subst (λ (x : ℕ). is_opened x H ≡ true) (eqb-true (request_named n H).dcb d a.1)
+            (error-opened n (record { csw = c; sense = s }) k H l b.0)
         | inr e ↦ ih (rw e at h)
       ]
   flag-opened d (_ ∷ H) l h = flag-opened d H l.1 h
-
-  not-so : (a b : Bool) → (a ≡ true → b ≡ true) → b ≡ false → a ≡ false
-  not-so true b f h = no_both b (f refl) h
-  not-so false b f h = refl
 
   -- what a trace says of a DCB that is opened next
   pub dcb-new : (d : ℕ) (method : ProcessingMethod) (x : List Extent) (H : List Entry) → Legal meaning mounted H → d ≡ opened_count H + 1 →
@@ -166,39 +175,30 @@ module _ {D : Type 0} (meaning : Meaning D) (mounted : D) where
         by_method Input = refl
         by_method Output = refl
 
-  -- what it says of the others stays
-  dcb-other : (c d : ℕ) (method : ProcessingMethod) (x : List Extent) (H : List Entry) → eqb d c ≡ false → dcb_of c (Opened d method x ∷ H) ≡ dcb_of c H
-  unfolding extents_of flag
-  dcb-other c d method x H e = rw e refl
-
-at-push : (table : List Dcb) (row : Dcb) (k : ℕ) → slice_get (table ++ row ∷ []) k ≡ slice_get table k
-    ⊎ ((k ≡ length table) × (slice_get (table ++ row ∷ []) k ≡ Some row))
-at-push [] row zero = inr (refl, refl)
-at-push (r ∷ rs) row (suc k) = elim (at-push rs row k) [ inl e ↦ inl e | inr e ↦ inr (omega (arith, e.0), e.1) ]
-at-push _ row _ = inl refl
-
 module _ {D : Type 0} (meaning : Meaning D) (mounted : D) where
-  pub ties-open : {d : ℕ} (method : ProcessingMethod) {x : List Extent} {H : List Entry} {channel : Channel D} {o : Option Active} {waiters : List Piece}
-      {table : List Dcb} {left : List PostedState} →
-      due meaning mounted H ≡ Free → OpenFits meaning mounted d x H → Ties meaning mounted H channel o waiters table left →
-      Ties meaning mounted (Opened d method x ∷ H) channel o waiters
-      (table ++ record { method = method; extents = x; closed = false; in_error = false } ∷ []) left
+  pub ties-open : {d : ℕ} (method : ProcessingMethod) {x : List Extent} {held : BookFields D} {o : Option Active} →
+      due meaning mounted held.trace ≡ Free → OpenFits meaning mounted d x held.trace → Ties meaning mounted held o →
+      Ties meaning mounted (record held {
+        trace = Opened d method x ∷ held.trace;
+        dcbs = held.dcbs
+            ++ record { method = method; extents = x; closed = false; in_error = false } ∷ [];
+      }) o
   unfolding Legal waiting arrivals active started request_named attempts posted
-  ties-open {d} method {x} {H} {channel} {o} {waiters} {table} settled f t = record {
-    legal = (fits-free meaning mounted (Opened d method x) H settled f, t.legal);
+  ties-open {d} method {x} {held} {o} settled f t = record {
+    legal = (fits-free meaning mounted (Opened d method x) held.trace settled f, t.legal);
     queue = t.queue;
     placed = t.placed;
     device = t.device;
-    activity = activity-same meaning mounted H (Opened d method x ∷ H) channel.phase o refl
-        (λ n a. record { active = refl; request = refl; starts = refl; attempts = refl; halted = refl; covered = refl }) t.activity;
-    count = omega (arith, length-append table (row ∷ []), t.count);
+    activity = activity-same meaning mounted (Opened d method x ∷ held.trace) t refl
+        (λ n a. record { active = refl; request = refl; starts = refl; attempts = refl; halted = refl; covered = refl });
+    count = omega (arith, length-append held.dcbs (row ∷ []), t.count);
     dcbs = at;
     out = t.out;
   } where
     row : Dcb
     row = record { method = method; extents = x; closed = false; in_error = false }
 
-    place : d ≡ length table + 1
+    place : d ≡ length held.dcbs + 1
     place = omega (arith, f.next, t.count)
 
     -- a number that is not 0 is one more than a place
@@ -206,29 +206,29 @@ module _ {D : Type 0} (meaning : Meaning D) (mounted : D) where
     positive zero z = absurd cc
     positive (suc c) z = omega arith
 
-    other : (c : ℕ) → eqb d c ≡ false → eqb c 0 ≡ false → slice_get (table ++ row ∷ []) (c - 1) ≡ slice_get table (c - 1)
-    other c e z = elim (at-push table row (c - 1)) [
+    other : (c : ℕ) → eqb d c ≡ false → eqb c 0 ≡ false → slice_get (held.dcbs ++ row ∷ []) (c - 1) ≡ slice_get held.dcbs (c - 1)
+    other c e z = elim (at-push held.dcbs row (c - 1)) [
       | inl k ↦ k
       | inr k ↦ no_both (eqb d c) (eq-eqb d c (omega (arith, place, k.0, positive c z))) e
     ]
 
-    same_at : (c : ℕ) → eqb d c ≡ false → dcb_at (table ++ row ∷ []) c ≡ dcb_at table c
+    same_at : (c : ℕ) → eqb d c ≡ false → dcb_at (held.dcbs ++ row ∷ []) c ≡ dcb_at held.dcbs c
     same_at c e = elim (cases_Bool (eqb c 0)) [ inl z ↦ rw z refl | inr z ↦ let k = other c e z in rw z k ]
 
-    new_at : dcb_at (table ++ row ∷ []) d ≡ Some row
+    new_at : dcb_at (held.dcbs ++ row ∷ []) d ≡ Some row
     new_at =
         let z : eqb d 0 ≡ false = elim (cases_Bool (eqb d 0)) [ inl z ↦ absurd (omega (arith, place, eqb-true d 0 z)) | inr z ↦ z ] in
-        rw z (slice_get-append_right table (row ∷ []) (d - 1) 0 (omega (arith, place)))
+        rw z (slice_get-append_right held.dcbs (row ∷ []) (d - 1) 0 (omega (arith, place)))
 
-    at : (c : ℕ) → dcb_at (table ++ row ∷ []) c ≡ dcb_of c (Opened d method x ∷ H)
+    at : (c : ℕ) → dcb_at (held.dcbs ++ row ∷ []) c ≡ dcb_of c (Opened d method x ∷ held.trace)
     at c = elim (cases_Bool (eqb d c)) [
-      | inl e ↦ subst (λ (y : ℕ). dcb_at (table ++ row ∷ []) y ≡ dcb_of y (Opened d method x ∷ H)) (eqb-true d c e)
-          (new_at ∙ sym (dcb-new meaning mounted d method x H t.legal f.next))
-      | inr e ↦ same_at c e ∙ t.dcbs c ∙ sym (dcb-other meaning mounted c d method x H e)
+      | inl e ↦ subst (λ (y : ℕ). dcb_at (held.dcbs ++ row ∷ []) y ≡ dcb_of y (Opened d method x ∷ held.trace)) (eqb-true d c e)
+          (new_at ∙ sym (dcb-new meaning mounted d method x held.trace t.legal f.next))
+      | inr e ↦ same_at c e ∙ t.dcbs c ∙ sym (dcb-other c d method x held.trace e)
     ]
 
   -- a trace without entries
-  pub ties-new : (isc : ℕ) → Ties meaning mounted [] (record { isc = isc; device = Some mounted; phase = Idle }) None [] [] []
+  pub ties-new : (isc : ℕ) → Ties meaning mounted (fields_of [] (record { isc = isc; device = Some mounted; phase = Idle }) [] [] []) None
   unfolding Legal waiting arrivals active started attempts stand posted
   ties-new isc = record {
     legal = tt;
@@ -248,7 +248,7 @@ module _ {D : Type 0} (meaning : Meaning D) (mounted : D) where
   pub no-flag : (d : ℕ) (H : List Entry) → Legal meaning mounted H → dcb_of d H ≡ None → flag d H ≡ false
   no-flag d H l h = elim (cases_Bool (is_opened d H)) [
     | inl o ↦ let k = rw o at h in absurd cc
-    | inr o ↦ not-so meaning mounted (flag d H) (is_opened d H) (flag-opened meaning mounted d H l) o
+    | inr o ↦ not-so (flag d H) (is_opened d H) (flag-opened meaning mounted d H l) o
   ]
 
   -- at most 65,535 DCBs are opened

@@ -1,8 +1,8 @@
 -- The first Starts are a subsequence of the arrivals.
-use Rattle.unit_book.proofs.Names.{◌≡◌, ℕ, ◌⊎◌, Bool, true, false, not, ◌&&◌, ◌||◌, Some, List, [], ◌∷◌, ◌++◌, append_assoc, map, refl, sym}
+use Rattle.unit_book.proofs.Names.{◌≡◌, ◌⊎◌, Bool, true, false, not, ◌&&◌, ◌||◌, Some, List, [], ◌∷◌, ◌++◌, append_assoc, map, refl, sym}
 use Rattle.unit_book.proofs.Names.{ap, ◌∙◌, inl, inr, subst, cases_Bool, and_parts, or_right, append-nil, filter-append, filter, list_all}
-use Rattle.unit_book.proofs.Names.{slice_get, drop, Csw, Code, Meaning, Name, Piece, Entry, Opened, Arrive, Start, Ran, Halted, Purge}
-use Rattle.unit_book.proofs.Names.{Close, Reset, Post, same, arrivals, has_arrived, has_started, is_posted, waiting, active, due, Fits}
+use Rattle.unit_book.proofs.Names.{slice_get, drop, Status, Code, Meaning, Name, Piece, Entry, Arrive, Start}
+use Rattle.unit_book.proofs.Names.{Post, same, arrivals, has_arrived, has_started, is_posted, waiting, active, due}
 use Rattle.unit_book.proofs.Names.{Legal, StartFits, First, Again, Each}
 use Rattle.unit_book.specs.Laws.{first_starts, StartsInOrder}
 use Rattle.unit_book.proofs.Lists.{same-true, same-refl, no_both, filter-filter, filter-all, without, none_named, Apart, without-first}
@@ -10,6 +10,7 @@ use Rattle.unit_book.proofs.Lists.{first-rest}
 use Rattle.unit_book.proofs.Facts.{Facts, active-is, fits-arrive, fits-start, fresh, fresh-start, fresh-post, post-whom, waiting-arrive}
 use Rattle.unit_book.proofs.Facts.{waiting-start, waiting-post, waiting-apart, waits, WaitsAmong, without-started}
 use Rattle.unit_book.proofs.LegalFacts.{facts, first-waits}
+use Rattle.std.proofs.lemmas.List.{map-append}
 
 -- the arrivals that were started, and those that were started or are not posted
 abbrev begun : List Entry → List Piece
@@ -22,132 +23,139 @@ in_play H = filter (λ r. has_started r.name H || not (is_posted r.name H)) (arr
 abbrev Ordered : List Entry → Type 0
 Ordered H = in_play H ≡ begun H ++ waiting H
 
-module _ {D : Type 0} (meaning : Meaning D) (mounted : D) where
-  -- those of the arrivals that were started are in play
-  begun-is : (H : List Entry) → begun H ≡ filter (λ r. has_started r.name H) (in_play H)
-  begun-is H = filter-filter (λ (r : Piece). has_started r.name H || not (is_posted r.name H)) (λ r. has_started r.name H)
-      (λ r. has_started r.name H) (λ r. by_bools (has_started r.name H) (is_posted r.name H)) (arrivals H) where
-        by_bools : (s p : Bool) → s ≡ (s && (s || not p))
-        by_bools true p = refl
-        by_bools false p = refl
+-- those of the arrivals that were started are in play
+begun-is : (H : List Entry) → begun H ≡ filter (λ r. has_started r.name H) (in_play H)
+begun-is H = filter-filter (λ (r : Piece). has_started r.name H || not (is_posted r.name H)) (λ r. has_started r.name H)
+    (λ r. has_started r.name H) (λ r. by_bools (has_started r.name H) (is_posted r.name H)) (arrivals H) where
+      by_bools : (s p : Bool) → s ≡ (s && (s || not p))
+      by_bools true p = refl
+      by_bools false p = refl
 
-  -- none of the name, if it was not started
-  begun-none : (n : Name) (H : List Entry) → has_started n H ≡ false → (rs : List Piece) →
-      none_named n (filter (λ r. has_started r.name H) rs) ≡ true
-  begun-none n H u [] = refl
-  begun-none n H u (r ∷ rs) =
-      let ih = begun-none n H u rs in
-      elim (cases_Bool (has_started r.name H)) [
-        | inl s ↦ elim (cases_Bool (same n r.name)) [
-          | inl e ↦ no_both (has_started r.name H) s (subst (λ (x : Name). has_started x H ≡ false) (same-true n r.name e) u)
-          | inr e ↦ rw (s, e) ih
-        ]
-        | inr s ↦ rw s ih
+-- none of the name, if it was not started
+begun-none : (n : Name) (H : List Entry) → has_started n H ≡ false → (rs : List Piece) →
+    none_named n (filter (λ r. has_started r.name H) rs) ≡ true
+begun-none n H u [] = refl
+begun-none n H u (r ∷ rs) =
+    let ih = begun-none n H u rs in
+    elim (cases_Bool (has_started r.name H)) [
+      | inl s ↦ elim (cases_Bool (same n r.name)) [
+        | inl e ↦ no_both (has_started r.name H) s (subst (λ (x : Name). has_started x H ≡ false) (same-true n r.name e) u)
+        | inr e ↦ rw (s, e) ih
       ]
+      | inr s ↦ rw s ih
+    ]
 
-  ordered-arrive : (r : Piece) (H : List Entry) → Facts H → has_arrived r.name H ≡ false → Ordered H → Ordered (Arrive r ∷ H)
-  unfolding arrivals
-  ordered-arrive r H f new o =
-      let s = fresh-start meaning mounted r.name H f new in
-      let p = fresh-post meaning mounted r.name H f new in
-      let play : in_play (Arrive r ∷ H) ≡ in_play H ++ r ∷ [] = filter-append
-      (λ (q : Piece). has_started q.name H || not (is_posted q.name H)) (arrivals H) (r ∷ []) ∙ rw (s, p) refl in
-      let begun_is : begun (Arrive r ∷ H) ≡ begun H = filter-append (λ (q : Piece). has_started q.name H) (arrivals H) (r ∷ [])
-      ∙ rw s (append-nil (begun H)) in
-      let waits_is = waiting-arrive meaning mounted r H f new in
-      play ∙ ap (λ x. x ++ r ∷ []) o ∙ append_assoc (begun H) (waiting H) (r ∷ []) ∙ ap (λ x. begun H ++ x) (sym waits_is)
-      ∙ ap (λ x. x ++ waiting (Arrive r ∷ H)) (sym begun_is)
+-- a name that has a Start already
+started-same : (n : Name) (H : List Entry) → has_started n H ≡ true → (m : Name) → (same n m || has_started m H) ≡ has_started m H
+started-same n H s m = elim (cases_Bool (same n m)) [
+  | inl e ↦ let k : has_started m H ≡ true = subst (λ (x : Name). has_started x H ≡ true) (same-true n m e) s in rw (e, k) refl
+  | inr e ↦ rw e refl
+]
 
-  -- a name that has a Start already
-  started-same : (n : Name) (H : List Entry) → has_started n H ≡ true → (m : Name) → (same n m || has_started m H) ≡ has_started m H
-  started-same n H s m = elim (cases_Bool (same n m)) [
-    | inl e ↦ let k : has_started m H ≡ true = subst (λ (x : Name). has_started x H ≡ true) (same-true n m e) s in rw (e, k) refl
-    | inr e ↦ rw e refl
-  ]
+filter-same : {X : Type 0} (p q : X → Bool) → ((x : X) → p x ≡ q x) → (xs : List X) → filter p xs ≡ filter q xs
+filter-same p q h [] = refl
+filter-same p q h (x ∷ xs) = let e = h x in let ih = filter-same p q h xs in elim (cases_Bool (q x))
+    [ inl b ↦ rw (e, b) (ap (λ t. x ∷ t) ih) | inr b ↦ rw (e, b) ih ]
 
-  filter-same : {X : Type 0} (p q : X → Bool) → ((x : X) → p x ≡ q x) → (xs : List X) → filter p xs ≡ filter q xs
-  filter-same p q h [] = refl
-  filter-same p q h (x ∷ xs) = let e = h x in let ih = filter-same p q h xs in elim (cases_Bool (q x))
-      [ inl b ↦ rw (e, b) (ap (λ t. x ∷ t) ih) | inr b ↦ rw (e, b) ih ]
+-- the tail of what waits has no Start, whatever name but its first gets one
+rest-unstarted : (n : Name) (H : List Entry) (rs : List Piece) → none_named n rs ≡ true → Each (WaitsAmong H) rs →
+    filter (λ (r : Piece). same n r.name || has_started r.name H) rs ≡ []
+rest-unstarted n H [] a e = refl
+rest-unstarted n H (r ∷ rs) a e =
+    let k = and_parts (not (same n r.name)) (none_named n rs) a in
+    let ih = rest-unstarted n H rs k.1 e.1 in
+    let u = e.0.unstarted in
+    elim (cases_Bool (same n r.name)) [ inl s ↦ no_both (not (same n r.name)) k.0 (rw s refl) | inr s ↦ rw (s, u) ih ]
 
-  ordered-again : (n : Name) (H : List Entry) → Facts H → has_started n H ≡ true → Ordered H →
-      Ordered (Start n ∷ H) × (begun (Start n ∷ H) ≡ begun H)
-  unfolding arrivals
-  ordered-again n H f s o =
-      let play = filter-same (λ (r : Piece). (same n r.name || has_started r.name H) || not (is_posted r.name H))
-      (λ r. has_started r.name H || not (is_posted r.name H))
-      (λ r. ap (λ b. b || not (is_posted r.name H)) (started-same n H s r.name)) (arrivals H) in
-      let begun_is = filter-same (λ (r : Piece). same n r.name || has_started r.name H) (λ r. has_started r.name H)
-      (λ r. started-same n H s r.name) (arrivals H) in
-      let waits_is = waiting-start meaning mounted n H ∙ without-started meaning mounted n H f s in
-      (play ∙ o ∙ ap (λ x. begun H ++ x) (sym waits_is) ∙ ap (λ x. x ++ waiting (Start n ∷ H)) (sym begun_is), begun_is)
+-- both together, by induction
+abbrev InOrder : List Entry → Type 0
+InOrder H = Ordered H × (first_starts H ≡ map (λ (r : Piece). r.name) (begun H))
 
-  -- the tail of what waits has no Start, whatever name but its first gets one
-  rest-unstarted : (n : Name) (H : List Entry) (rs : List Piece) → none_named n rs ≡ true → Each (WaitsAmong H) rs →
-      filter (λ (r : Piece). same n r.name || has_started r.name H) rs ≡ []
-  rest-unstarted n H [] a e = refl
-  rest-unstarted n H (r ∷ rs) a e =
-      let k = and_parts (not (same n r.name)) (none_named n rs) a in
-      let ih = rest-unstarted n H rs k.1 e.1 in
-      let u = e.0.unstarted in
-      elim (cases_Bool (same n r.name)) [ inl s ↦ no_both (not (same n r.name)) k.0 (rw s refl) | inr s ↦ rw (s, u) ih ]
+ordered-arrive : (r : Piece) (H : List Entry) → Facts H → has_arrived r.name H ≡ false → Ordered H → Ordered (Arrive r ∷ H)
+unfolding arrivals
+ordered-arrive r H f new o =
+    let s = fresh-start r.name H f new in
+    let p = fresh-post r.name H f new in
+    let play : in_play (Arrive r ∷ H) ≡ in_play H ++ r ∷ [] = filter-append
+    (λ (q : Piece). has_started q.name H || not (is_posted q.name H)) (arrivals H) (r ∷ []) ∙ rw (s, p) refl in
+    let begun_is : begun (Arrive r ∷ H) ≡ begun H = filter-append (λ (q : Piece). has_started q.name H) (arrivals H) (r ∷ [])
+    ∙ rw s (append-nil (begun H)) in
+    let waits_is = waiting-arrive r H f new in
+    play ∙ ap (λ x. x ++ r ∷ []) o ∙ append_assoc (begun H) (waiting H) (r ∷ []) ∙ ap (λ x. begun H ++ x) (sym waits_is)
+    ∙ ap (λ x. x ++ waiting (Arrive r ∷ H)) (sym begun_is)
 
-  ordered-first : (r : Piece) (H : List Entry) → Facts H → slice_get (waiting H) 0 ≡ Some r → Ordered H →
-      Ordered (Start r.name ∷ H) × (begun (Start r.name ∷ H) ≡ begun H ++ r ∷ [])
-  unfolding arrivals Apart
-  ordered-first r H f first o =
-      let n = r.name in
-      let G = Start n ∷ H in
-      let w = first-waits meaning mounted r H f first in
-      let z = first-rest (waiting H) r first in
-      let rest = drop 1 (waiting H) in
-      let apart = subst Apart z (waiting-apart meaning mounted H f) in
-      let each = (subst (Each (WaitsAmong H)) z (waits H f)).1 in
-      let self = same-refl n in
-      let play : in_play G ≡ in_play H = filter-same (λ (q : Piece). (same n q.name || has_started q.name H) || not (is_posted q.name H))
-      (λ q. has_started q.name H || not (is_posted q.name H))
-      (λ q. play_at q.name w.unposted) (arrivals H) in
-      let whole : in_play G ≡ begun H ++ r ∷ rest = play ∙ o ∙ ap (λ x. begun H ++ x) z in
-      let old : filter (λ (q : Piece). same n q.name || has_started q.name H) (begun H)
-      ≡ begun H = filter-all (λ (q : Piece). same n q.name || has_started q.name H) (begun H) (all-more n H (arrivals H)) in
-      let begun_is : begun G ≡ begun H ++ r ∷ [] =
-      begun-is G ∙ ap (filter (λ (q : Piece). same n q.name || has_started q.name H)) whole
-      ∙ filter-append (λ (q : Piece). same n q.name || has_started q.name H) (begun H) (r ∷ rest)
-      ∙ ap (λ x. x ++ filter (λ (q : Piece). same n q.name || has_started q.name H) (r ∷ rest)) old
-      ∙ ap (λ x. begun H ++ x) (rw self (ap (λ x. r ∷ x) (rest-unstarted n H rest apart.0 each))) in
-      let waits_is : waiting G ≡ rest = waiting-start meaning mounted n H ∙ ap (without n) z ∙ without-first r rest apart in (
-        whole ∙ sym (append_assoc (begun H) (r ∷ []) rest) ∙ ap (λ x. (begun H ++ r ∷ []) ++ x) (sym waits_is)
-            ∙ ap (λ x. x ++ waiting G) (sym begun_is),
-        begun_is,
-      ) where
-        play_at : (m : Name) → is_posted r.name H ≡ false → ((same r.name m || has_started m H) || not (is_posted m H))
-            ≡ (has_started m H || not (is_posted m H))
-        play_at m u = elim (cases_Bool (same r.name m)) [
-          | inl s ↦ let p : is_posted m H ≡ false = subst (λ (x : Name). is_posted x H ≡ false) (same-true r.name m s) u in rw (s, p)
-              (by_bool (has_started m H))
-          | inr s ↦ rw s refl
-        ] where
-          by_bool : (b : Bool) → true ≡ (b || true)
-          by_bool true = refl
-          by_bool false = refl
+ordered-again : (n : Name) (H : List Entry) → Facts H → has_started n H ≡ true → Ordered H →
+    Ordered (Start n ∷ H) × (begun (Start n ∷ H) ≡ begun H)
+unfolding arrivals
+ordered-again n H f s o =
+    let play = filter-same (λ (r : Piece). (same n r.name || has_started r.name H) || not (is_posted r.name H))
+    (λ r. has_started r.name H || not (is_posted r.name H))
+    (λ r. ap (λ b. b || not (is_posted r.name H)) (started-same n H s r.name)) (arrivals H) in
+    let begun_is = filter-same (λ (r : Piece). same n r.name || has_started r.name H) (λ r. has_started r.name H)
+    (λ r. started-same n H s r.name) (arrivals H) in
+    let waits_is = waiting-start n H ∙ without-started n H f s in
+    (play ∙ o ∙ ap (λ x. begun H ++ x) (sym waits_is) ∙ ap (λ x. x ++ waiting (Start n ∷ H)) (sym begun_is), begun_is)
 
-        all-more : (n : Name) (H : List Entry) (rs : List Piece) →
-            list_all (λ (q : Piece). same n q.name || has_started q.name H) (filter (λ q. has_started q.name H) rs) ≡ true
-        all-more n H [] = refl
-        all-more n H (q ∷ rs) =
-            let ih = all-more n H rs in
-            elim (cases_Bool (has_started q.name H))
-            [ inl s ↦ let k = or_right (same n q.name) (has_started q.name H) s in rw s (rw k ih) | inr s ↦ rw s ih ]
+ordered-first : (r : Piece) (H : List Entry) → Facts H → slice_get (waiting H) 0 ≡ Some r → Ordered H →
+    Ordered (Start r.name ∷ H) × (begun (Start r.name ∷ H) ≡ begun H ++ r ∷ [])
+unfolding arrivals Apart
+ordered-first r H f first o =
+    let n = r.name in
+    let G = Start n ∷ H in
+    let w = first-waits r H f first in
+    let z = first-rest (waiting H) r first in
+    let rest = drop 1 (waiting H) in
+    let apart = subst Apart z (waiting-apart H f) in
+    let each = (subst (Each (WaitsAmong H)) z (waits H f)).1 in
+    let self = same-refl n in
+    let play : in_play G ≡ in_play H = filter-same (λ (q : Piece). (same n q.name || has_started q.name H) || not (is_posted q.name H))
+    (λ q. has_started q.name H || not (is_posted q.name H))
+    (λ q. play_at q.name w.unposted) (arrivals H) in
+    let whole : in_play G ≡ begun H ++ r ∷ rest = play ∙ o ∙ ap (λ x. begun H ++ x) z in
+    let old : filter (λ (q : Piece). same n q.name || has_started q.name H) (begun H)
+    ≡ begun H = filter-all (λ (q : Piece). same n q.name || has_started q.name H) (begun H) (all-more n H (arrivals H)) in
+    let begun_is : begun G ≡ begun H ++ r ∷ [] =
+    begun-is G ∙ ap (filter (λ (q : Piece). same n q.name || has_started q.name H)) whole
+    ∙ filter-append (λ (q : Piece). same n q.name || has_started q.name H) (begun H) (r ∷ rest)
+    ∙ ap (λ x. x ++ filter (λ (q : Piece). same n q.name || has_started q.name H) (r ∷ rest)) old
+    ∙ ap (λ x. begun H ++ x) (rw self (ap (λ x. r ∷ x) (rest-unstarted n H rest apart.0 each))) in
+    let waits_is : waiting G ≡ rest = waiting-start n H ∙ ap (without n) z ∙ without-first r rest apart in (
+      whole ∙ sym (append_assoc (begun H) (r ∷ []) rest) ∙ ap (λ x. (begun H ++ r ∷ []) ++ x) (sym waits_is)
+          ∙ ap (λ x. x ++ waiting G) (sym begun_is),
+      begun_is,
+    ) where
+      play_at : (m : Name) → is_posted r.name H ≡ false → ((same r.name m || has_started m H) || not (is_posted m H))
+          ≡ (has_started m H || not (is_posted m H))
+      play_at m u = elim (cases_Bool (same r.name m)) [
+        | inl s ↦ let p : is_posted m H ≡ false = subst (λ (x : Name). is_posted x H ≡ false) (same-true r.name m s) u in rw (s, p)
+            (by_bool (has_started m H))
+        | inr s ↦ rw s refl
+      ] where
+        by_bool : (b : Bool) → true ≡ (b || true)
+        by_bool true = refl
+        by_bool false = refl
 
-  ordered-post : (n : Name) (csw : Csw) (sense : ℕ) (code : Code) (H : List Entry) → Facts H →
-      Fits meaning mounted (Post n csw sense code) H → Ordered H → Ordered (Post n csw sense code ∷ H)
-  unfolding arrivals without
-  ordered-post n csw sense code H f h o = by_whom (post-whom meaning mounted n csw sense code H f h) where
-    of_started : has_started n H ≡ true → Ordered (Post n csw sense code ∷ H)
+      all-more : (n : Name) (H : List Entry) (rs : List Piece) →
+          list_all (λ (q : Piece). same n q.name || has_started q.name H) (filter (λ q. has_started q.name H) rs) ≡ true
+      all-more n H [] = refl
+      all-more n H (q ∷ rs) =
+          let ih = all-more n H rs in
+          elim (cases_Bool (has_started q.name H))
+          [ inl s ↦ let k = or_right (same n q.name) (has_started q.name H) s in rw s (rw k ih) | inr s ↦ rw s ih ]
+
+module _ {D : Type 0} (meaning : Meaning D) (mounted : D) where
+  ordered-post : (n : Name) (status : Status) (code : Code) (H : List Entry) →
+      Legal meaning mounted (Post n status.csw status.sense code ∷ H) → Ordered H → Ordered (Post n status.csw status.sense code ∷ H)
+  unfolding Legal arrivals without
+  ordered-post n status code H l o = by_whom (post-whom meaning mounted n status.csw status.sense code H f l.0) where
+    f : Facts H
+    f = facts meaning mounted H l.1
+
+    of_started : has_started n H ≡ true → Ordered (Post n status.csw status.sense code ∷ H)
     of_started s =
         let play = filter-same (λ (r : Piece). has_started r.name H || not (same n r.name || is_posted r.name H))
         (λ r. has_started r.name H || not (is_posted r.name H)) at (arrivals H) in
-        let waits_is = waiting-post meaning mounted n csw sense code H ∙ without-started meaning mounted n H f s in
+        let waits_is = waiting-post n status.csw status.sense code H ∙ without-started n H f s in
         play ∙ o ∙ ap (λ x. begun H ++ x) (sym waits_is) where
           at : (r : Piece) → (has_started r.name H || not (same n r.name || is_posted r.name H))
               ≡ (has_started r.name H || not (is_posted r.name H))
@@ -157,14 +165,14 @@ module _ {D : Type 0} (meaning : Meaning D) (mounted : D) where
             | inr e ↦ rw e refl
           ]
 
-    of_waiting : has_started n H ≡ false → Ordered (Post n csw sense code ∷ H)
+    of_waiting : has_started n H ≡ false → Ordered (Post n status.csw status.sense code ∷ H)
     of_waiting u =
         let play = filter-filter (λ (r : Piece). has_started r.name H || not (is_posted r.name H)) (λ r. not (same n r.name))
         (λ r. has_started r.name H || not (same n r.name || is_posted r.name H)) at (arrivals H) in
         let split = filter-append (λ (r : Piece). not (same n r.name)) (begun H) (waiting H) in
         let none = filter-all (λ (r : Piece). not (same n r.name)) (begun H) (begun-none n H u (arrivals H)) in
         play ∙ ap (filter (λ (r : Piece). not (same n r.name))) o ∙ split ∙ ap (λ x. x ++ without n (waiting H)) none
-        ∙ ap (λ x. begun H ++ x) (sym (waiting-post meaning mounted n csw sense code H)) where
+        ∙ ap (λ x. begun H ++ x) (sym (waiting-post n status.csw status.sense code H)) where
           at : (r : Piece) → (has_started r.name H || not (same n r.name || is_posted r.name H))
               ≡ (not (same n r.name) && (has_started r.name H || not (is_posted r.name H)))
           at r = elim (cases_Bool (same n r.name)) [
@@ -173,28 +181,21 @@ module _ {D : Type 0} (meaning : Meaning D) (mounted : D) where
             | inr e ↦ rw e refl
           ]
 
-    by_whom : (active H ≡ Some n) ⊎ ((r : Piece) × WaitsAmong H r × (r.name ≡ n)) → Ordered (Post n csw sense code ∷ H)
+    by_whom : (active H ≡ Some n) ⊎ ((r : Piece) × WaitsAmong H r × (r.name ≡ n)) → Ordered (Post n status.csw status.sense code ∷ H)
     by_whom (inl a) = of_started (active-is n H a).0
     by_whom (inr w) = of_waiting (subst (λ (x : Name). has_started x H ≡ false) w.2 w.1.unstarted)
-
-  -- both together, by induction
-  abbrev InOrder : List Entry → Type 0
-  InOrder H = Ordered H × (first_starts H ≡ map (λ (r : Piece). r.name) (begun H))
-
-  map-push : (rs : List Piece) (r : Piece) → map (λ (q : Piece). q.name) (rs ++ r ∷ []) ≡ map (λ (q : Piece). q.name) rs ++ r.name ∷ []
-  map-push [] r = refl
-  map-push (q ∷ rs) r = ap (λ x. q.name ∷ x) (map-push rs r)
 
   order-start : (n : Name) (H : List Entry) → Facts H → StartFits meaning mounted n H → InOrder H → InOrder (Start n ∷ H)
   unfolding first_starts
   order-start n H f (First s) o =
-      let w = first-waits meaning mounted s.request H f s.first in
+      let w = first-waits s.request H f s.first in
       let k = ordered-first s.request H f s.first o.0 in
       let u = w.unstarted in
       let names : first_starts (Start s.request.name ∷ H) ≡ first_starts H ++ s.request.name ∷ [] = rw u refl in
       subst (λ (x : Name). InOrder (Start x ∷ H)) s.name (
         k.0,
-        names ∙ ap (λ x. x ++ s.request.name ∷ []) o.1 ∙ sym (map-push (begun H) s.request) ∙ ap (map (λ (q : Piece). q.name)) (sym k.1),
+        names ∙ ap (λ x. x ++ s.request.name ∷ []) o.1 ∙ sym (map-append (λ (q : Piece). q.name) (begun H) (s.request ∷ []))
+            ∙ ap (map (λ (q : Piece). q.name)) (sym k.1),
       )
   order-start n H f (Again s) o =
       let st = (active-is n H s.active).0 in
@@ -205,26 +206,21 @@ module _ {D : Type 0} (meaning : Meaning D) (mounted : D) where
   in-order : (H : List Entry) → Legal meaning mounted H → InOrder H
   unfolding Legal waiting arrivals first_starts
   in-order [] l = (refl, refl)
-  in-order (Opened d i x ∷ H) l = in-order H l.1
   in-order (Arrive r ∷ H) l =
       let f = facts meaning mounted H l.1 in
-      let new = fresh meaning mounted r H f (fits-arrive meaning mounted r H (due meaning mounted H) l.0) in
+      let new = fresh r H f (fits-arrive meaning mounted r H (due meaning mounted H) l.0) in
       let o = in-order H l.1 in
-      let s = fresh-start meaning mounted r.name H f new in
+      let s = fresh-start r.name H f new in
       let begun_is : begun (Arrive r ∷ H) ≡ begun H = filter-append (λ (q : Piece). has_started q.name H) (arrivals H) (r ∷ [])
       ∙ rw s (append-nil (begun H)) in
       (ordered-arrive r H f new o.0, o.1 ∙ ap (map (λ (q : Piece). q.name)) (sym begun_is))
   in-order (Start n ∷ H) l = order-start n H (facts meaning mounted H l.1) (fits-start meaning mounted n H (due meaning mounted H) l.0)
       (in-order H l.1)
-  in-order (Ran n j ∷ H) l = in-order H l.1
-  in-order (Halted n ∷ H) l = in-order H l.1
-  in-order (Purge s m ∷ H) l = in-order H l.1
-  in-order (Close d ∷ H) l = in-order H l.1
-  in-order (Reset d ∷ H) l = in-order H l.1
   in-order (Post n csw sense code ∷ H) l = let o = in-order H l.1 in (
-    ordered-post n csw sense code H (facts meaning mounted H l.1) l.0 o.0,
+    ordered-post n (record { csw = csw; sense = sense }) code H l o.0,
     o.1,
   )
+  in-order (_ ∷ H) l = in-order H l.1
 
 pub starts-in-order : {D : Type 0} (meaning : Meaning D) → StartsInOrder meaning
 starts-in-order meaning mounted H l = (in-order meaning mounted H l).1

@@ -1,120 +1,63 @@
 -- The posts of the swept requests, one after another.
-use Rattle.unit_book.proofs.Names.{◌≡◌, ℕ, ◌+◌, ◌<◌, ◌≤◌, Some, None, List, [], ◌∷◌, ◌++◌, append_assoc, length, length-append, map, refl}
-use Rattle.unit_book.proofs.Names.{sym, ap, ◌∙◌, arith, subst, append-nil, slice_get, drop, Buffer, Purged, no_status, PostedState, Placed}
-use Rattle.unit_book.proofs.Names.{Piece, Queue, queue, Entry, Post, Each, all_posted, purged, ◌-◌, Option, Meaning, Channel, Active, Dcb}
+use Rattle.unit_book.proofs.Names.{BookFields, ◌≡◌, ℕ, ◌+◌, ◌≤◌, Some, None, List, [], ◌∷◌, ◌++◌, append_assoc, length, length-append, map}
+use Rattle.unit_book.proofs.Names.{sym, ap, ◌∙◌, arith, subst, slice_get, drop, Buffer, Purged, no_status, PostedState, Placed}
+use Rattle.unit_book.proofs.Names.{Piece, Queue, queue, Entry, Post, Each, all_posted, purged, ◌-◌, Option, Meaning, Active}
 use Rattle.unit_book.proofs.Names.{posted, Ties}
 use Rattle.circular_buffer.specs.Buffer.{buffer}
 use Rattle.std.proofs.Common.{take}
 use Rattle.std.proofs.Math.Seq.{take-append_seam}
 use Rattle.std.specs.Prelude.{IfSome}
 use Rattle.unit_book.proofs.Dooms.{all_posted-push}
+use Rattle.unit_book.proofs.Lists.{first-rest}
+use Rattle.std.proofs.lemmas.List.{map-append}
 
-map-push : (rs : List Piece) (r : Piece) → map purged (rs ++ r ∷ []) ≡ map purged rs ++ purged r ∷ []
-map-push [] r = refl
-map-push (q ∷ rs) r = ap (λ x. purged q ∷ x) (map-push rs r)
-
-pub length-map : (rs : List Piece) → length (map purged rs) ≡ length rs
-length-map [] = refl
-length-map (q ∷ rs) = let ih = length-map rs in omega (arith, ih)
+-- where the posts of the swept requests are: what is left of the queue, the trace, what is out, and the room for entries
+pub record PostingPlace : Type 0 where
+  pub queue : Queue
+  pub trace : List Entry
+  pub out : Buffer PostedState
+  pub spare : ℕ
 
 -- after the first of the swept requests were posted
-pub record Posting (old : Queue) (H : List Entry) (outs : Buffer PostedState) (spare : ℕ) (now : Queue) (G : List Entry)
-    (out : Buffer PostedState) (left : ℕ) : Type 0 where
+pub record Posting (start now : PostingPlace) : Type 0 where
   pub done : List Piece
   pub rest : List Piece
-  pub whole : old.pieces ≡ done ++ rest
-  pub now_is : now ≡ queue rest old.capacity
-  pub trace_is : G ≡ all_posted done H
-  pub out_is : out ≡ buffer (outs.items ++ map purged done) outs.capacity
-  pub spare_is : spare ≤ left + length done
+  pub whole : start.queue.pieces ≡ done ++ rest
+  pub now_is : now.queue ≡ queue rest start.queue.capacity
+  pub trace_is : now.trace ≡ all_posted done start.trace
+  pub out_is : now.out ≡ buffer (start.out.items ++ map purged done) start.out.capacity
+  pub spare_is : start.spare ≤ now.spare + length done
   pub placed : Each Placed rest
 
-module _ (old : Queue) (H : List Entry) (outs : Buffer PostedState) (spare : ℕ) where
-  pub posting-start : Each Placed old.pieces → Posting old H outs spare old H outs spare
-  posting-start p = record {
-    done = [];
-    rest = old.pieces;
-    whole = refl;
-    now_is = refl;
-    trace_is = refl;
-    out_is = ap (λ x. buffer x outs.capacity) (sym (append-nil outs.items));
-    spare_is = omega arith;
-    placed = p;
-  }
+-- this request was the first, and was posted
+pub record PostsNext (r : Piece) (now next : PostingPlace) : Type 0 where
+  pub first : Some r ≡ slice_get now.queue.pieces 0
+  pub queue_is : next.queue ≡ queue (drop 1 now.queue.pieces) now.queue.capacity
+  pub trace_is : next.trace ≡ Post r.name no_status 0 Purged ∷ now.trace
+  pub out_is : next.out ≡ buffer (now.out.items ++ purged r ∷ []) now.out.capacity
+  pub spare_is : now.spare ≤ next.spare + 1
 
-  module _ (now next : Queue) (G : List Entry) (out : Buffer PostedState) (left : ℕ) (r : Piece)
-      (s : Posting old H outs spare now G out left)
-      (first : Some r ≡ slice_get now.pieces 0) (next_is : next ≡ queue (drop 1 now.pieces) now.capacity) where
-    split : (rest : List Piece) → s.rest ≡ rest → (s.rest ≡ r ∷ drop 1 s.rest) × Placed r
-    split [] e = let k = first ∙ ap (λ (q : Queue). slice_get q.pieces 0) s.now_is ∙ ap (λ x. slice_get x 0) e in absurd cc
-    split (q ∷ rest) e =
-        let f : Some r ≡ Some q = first ∙ ap (λ (q : Queue). slice_get q.pieces 0) s.now_is ∙ ap (λ x. slice_get x 0) e in
-        let i : q ≡ r = cc in
-        let p = (subst (Each Placed) e s.placed).0 in
-        (rw e (ap (λ x. x ∷ rest) i), subst Placed i p)
+module _ {start now next : PostingPlace} {r : Piece} (s : Posting start now) (n : PostsNext r now next) where
+  rest-is : s.rest ≡ r ∷ drop 1 s.rest
+  rest-is = first-rest s.rest r (sym (n.first ∙ ap (λ (q : Queue). slice_get q.pieces 0) s.now_is))
 
-    rest-is : s.rest ≡ r ∷ drop 1 s.rest
-    rest-is = (split s.rest refl).0
-
-    pub posting-placed : Placed r
-    posting-placed = (split s.rest refl).1
-
-    -- there is room for one more
-    pub posting-spare : length old.pieces ≤ spare → 1 ≤ left
-    posting-spare h = omega (arith, h, s.spare_is, ap length s.whole, length-append s.done s.rest, ap length rest-is)
-
-    pub posting-room : length old.pieces + length outs.items ≤ outs.capacity → length out.items < out.capacity
-    posting-room h =
-        let e = s.out_is in
-        rw e (omega (
-          arith,
-          h,
-          length-append outs.items (map purged s.done),
-          length-map s.done,
-          ap length s.whole,
-          length-append s.done s.rest,
-          ap length rest-is,
-        ))
-
-    pub posting-less : length next.pieces < length now.pieces
-    posting-less = let e = next_is in let f = s.now_is in rw (e, f) (omega (arith, ap length rest-is))
-
-    pub posting-next : (K : List Entry) (more : Buffer PostedState) (remaining : ℕ) → K ≡ Post r.name no_status 0 Purged ∷ G →
-        more ≡ buffer (out.items ++ purged r ∷ []) out.capacity →
-        left ≤ remaining + 1 → Posting old H outs spare next K more remaining
-    posting-next K more remaining k m l =
-        let e = s.out_is in
-        let p = subst (Each Placed) rest-is s.placed in
-        record {
-          done = s.done ++ r ∷ [];
-          rest = drop 1 s.rest;
-          whole = s.whole ∙ ap (λ x. s.done ++ x) rest-is ∙ sym (append_assoc s.done (r ∷ []) (drop 1 s.rest));
-          now_is = next_is ∙ ap (λ (q : Queue). queue (drop 1 q.pieces) q.capacity) s.now_is;
-          trace_is = k ∙ ap (λ x. Post r.name no_status 0 Purged ∷ x) s.trace_is ∙ sym (all_posted-push s.done r H);
-          out_is = m ∙ ap (λ (b : Buffer PostedState). buffer (b.items ++ purged r ∷ []) b.capacity) e
-              ∙ ap (λ x. buffer x outs.capacity)
-              (append_assoc outs.items (map purged s.done) (purged r ∷ []) ∙ ap (λ x. outs.items ++ x) (sym (map-push s.done r)));
-          spare_is = omega (arith, l, s.spare_is, length-append s.done (r ∷ []));
-          placed = p.1;
-        }
-
-  -- all were posted
-  pub posting-end : (now next : Queue) (G : List Entry) (out : Buffer PostedState) (left : ℕ) → Posting old H outs spare now G out left →
-      None ≡ slice_get now.pieces 0 → next ≡ queue (drop 1 now.pieces) now.capacity →
-      (next ≡ queue [] old.capacity) × (G ≡ all_posted old.pieces H) × (out ≡ buffer (outs.items ++ map purged old.pieces) outs.capacity)
-      × (spare ≤ left + length old.pieces)
-  posting-end now next G out left s none next_is = by_rest s.rest refl where
-    by_rest : (rest : List Piece) → s.rest ≡ rest →
-        (next ≡ queue [] old.capacity) × (G ≡ all_posted old.pieces H) × (out ≡ buffer (outs.items ++ map purged old.pieces) outs.capacity)
-        × (spare ≤ left + length old.pieces)
-    by_rest [] e =
-        let w : old.pieces ≡ s.done = s.whole ∙ ap (λ x. s.done ++ x) e ∙ append-nil s.done in (
-          next_is ∙ ap (λ (q : Queue). queue (drop 1 q.pieces) q.capacity) s.now_is ∙ ap (λ x. queue (drop 1 x) old.capacity) e,
-          s.trace_is ∙ ap (λ x. all_posted x H) (sym w),
-          s.out_is ∙ ap (λ x. buffer (outs.items ++ map purged x) outs.capacity) (sym w),
-          omega (arith, s.spare_is, ap length w),
-        )
-    by_rest (q ∷ rest) e = let k = none ∙ ap (λ (q : Queue). slice_get q.pieces 0) s.now_is ∙ ap (λ x. slice_get x 0) e in absurd cc
+  pub posting-next : Posting start next
+  posting-next =
+      let e = s.out_is in
+      let r1 = r ∷ [] in
+      record {
+        done = s.done ++ r1;
+        rest = drop 1 s.rest;
+        whole = s.whole ∙ ap (λ x. s.done ++ x) rest-is ∙ sym (append_assoc s.done r1 (drop 1 s.rest));
+        now_is = n.queue_is ∙ ap (λ (q : Queue). queue (drop 1 q.pieces) q.capacity) s.now_is;
+        trace_is = n.trace_is ∙ ap (λ x. Post r.name no_status 0 Purged ∷ x) s.trace_is ∙ sym (all_posted-push s.done r start.trace);
+        out_is = n.out_is ∙ ap (λ (b : Buffer PostedState). buffer (b.items ++ purged r ∷ []) b.capacity) e
+            ∙ ap (λ x. buffer x start.out.capacity)
+            (append_assoc start.out.items (map purged s.done) (purged r ∷ [])
+            ∙ ap (λ x. start.out.items ++ x) (sym (map-append purged s.done r1)));
+        spare_is = omega (arith, n.spare_is, s.spare_is, length-append s.done r1);
+        placed = (subst (Each Placed) rest-is s.placed).1;
+      }
 
 -- The posted values that were not yet taken.
 
@@ -123,10 +66,9 @@ length-rest [] = omega arith
 length-rest (x ∷ xs) = omega arith
 
 module _ {D : Type 0} (meaning : Meaning D) (mounted : D) where
-  pub ties-taken : {H : List Entry} {channel : Channel D} {o : Option Active} {waiters : List Piece} {table : List Dcb}
-      {left : List PostedState} →
-      Ties meaning mounted H channel o waiters table left → Ties meaning mounted H channel o waiters table (drop 1 left)
-  ties-taken {H} {left = left} t = record {
+  pub ties-taken : {held : BookFields D} {o : Option Active} →
+      Ties meaning mounted held o → Ties meaning mounted (record held { out = drop 1 held.out }) o
+  ties-taken {held} t = record {
     legal = t.legal;
     queue = t.queue;
     placed = t.placed;
@@ -134,10 +76,10 @@ module _ {D : Type 0} (meaning : Meaning D) (mounted : D) where
     activity = t.activity;
     count = t.count;
     dcbs = t.dcbs;
-    out = by_left left t.out.0 t.out.1;
+    out = by_left held.out t.out.0 t.out.1;
   } where
-    by_left : (xs given : List PostedState) → given ++ xs ≡ posted meaning mounted H →
-        (before : List PostedState) × (before ++ drop 1 xs ≡ posted meaning mounted H)
+    by_left : (xs given : List PostedState) → given ++ xs ≡ posted meaning mounted held.trace →
+        (before : List PostedState) × (before ++ drop 1 xs ≡ posted meaning mounted held.trace)
     by_left [] given e = (given, e)
     by_left (x ∷ xs) given e = (given ++ x ∷ [], append_assoc given (x ∷ []) xs ∙ e)
 

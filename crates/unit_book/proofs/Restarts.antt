@@ -1,8 +1,8 @@
 -- A further start of the active request: the fields stay those of the trace.
-use Rattle.unit_book.proofs.Names.{◌≡◌, ℕ, ◌+◌, ◌≤◌, Bool, true, false, ◌&&◌, ◌||◌, Some, List, ◌∷◌, refl, sym, ap, ◌∙◌, arith, subst}
+use Rattle.unit_book.proofs.Names.{BookFields, ◌≡◌, ℕ, ◌+◌, ◌≤◌, Bool, true, false, ◌&&◌, ◌||◌, Some, ◌∷◌, refl, sym, ap, ◌∙◌, arith, subst}
 use Rattle.unit_book.proofs.Names.{if◌then◌else◌, and_parts, Csw, Ended, Meaning, Kind, Program, Channel, Phase, Idle, Running, Pending}
-use Rattle.unit_book.proofs.Names.{ssch_started, Retry, Final, verdict, PostedState, Name, Piece, Active, Standing, OnChannel}
-use Rattle.unit_book.proofs.Names.{AwaitsRestart, Dcb, Entry, Start, same, starts_of, active, request_named, extents_of, flag, mask_of}
+use Rattle.unit_book.proofs.Names.{ssch_started, Retry, Final, verdict, Name, Piece, Active, Standing, OnChannel}
+use Rattle.unit_book.proofs.Names.{AwaitsRestart, Start, same, starts_of, request_named, extents_of, flag, mask_of}
 use Rattle.unit_book.proofs.Names.{current, device, Legal, due, Free, StartsAgain, posted, StandingTies, Ties, awaits_by, dcb_at, mask_at}
 use Rattle.std.proofs.lemmas.Bool.{leb-true}
 use Rattle.std.specs.Prelude.{nat_le}
@@ -32,96 +32,99 @@ retry-few kind csw sense attempt h = by_tests (is_success csw)
           leb-true attempt 10 (and_parts (is_disk kind) (nat_le attempt 10) p.0).1
       by_tests false false e k = absurd cc
 
-module _ {D : Type 0} (meaning : Meaning D) (mounted : D) where
-  -- the active request, started once more
-  abbrev pub restarted : Active → Active
-  restarted a = record { piece = a.piece; starts = a.starts + 1; halted = false; covered = false; standing = OnChannel }
+-- the active request, started once more
+abbrev pub restarted : Active → Active
+restarted a = record { piece = a.piece; starts = a.starts + 1; halted = false; covered = false; standing = OnChannel }
 
+module _ {D : Type 0} (meaning : Meaning D) (mounted : D) where
   -- what a further start finds: the active request awaits it
-  pub record FoundAgain (H : List Entry) (channel : Channel D) (a : Active) (waiters : List Piece) (table : List Dcb)
-      (left : List PostedState) : Type 0 where
-    pub ties : Ties meaning mounted H channel (Some a) waiters table left
-    pub settled : due meaning mounted H ≡ Free
+  pub record FoundAgain (held : BookFields D) (a : Active) : Type 0 where
+    pub ties : Ties meaning mounted held (Some a)
+    pub settled : due meaning mounted held.trace ≡ Free
     pub again : awaits_by a.standing ≡ true
 
-  module _ {H : List Entry} {channel : Channel D} {a : Active} {waiters : List Piece} {table : List Dcb} {left : List PostedState}
-      (found : FoundAgain H channel a waiters table left) where
-    t : Ties meaning mounted H channel (Some a) waiters table left
+  module _ {held : BookFields D} {a : Active}
+      (found : FoundAgain held a) where
+    t : Ties meaning mounted held (Some a)
     t = found.ties
 
     abbrev n : Name
     n = a.piece.value.name
 
-    is-idle : (phase : Phase) (standing : Standing) → StandingTies meaning mounted H phase a standing → awaits_by standing ≡ true →
+    is-idle : (phase : Phase) (standing : Standing) → StandingTies meaning mounted held.trace phase a standing → awaits_by standing ≡ true →
         phase ≡ Idle
     is-idle Idle standing d h = refl
     is-idle (Running place) OnChannel d h = absurd cc
-    is-idle (Pending csw sense) OnChannel d h = absurd cc
+    is-idle (Pending status) OnChannel d h = absurd cc
     is-idle _ _ d h = absurd d
 
     -- it may be started again
-    pub may-restart : StartsAgain meaning mounted n H
-    may-restart = by_standing channel.phase a.standing t.activity.standing found.again where
-      by_standing : (phase : Phase) (standing : Standing) → StandingTies meaning mounted H phase a standing → awaits_by standing ≡ true →
-          StartsAgain meaning mounted n H
-      by_standing Idle (AwaitsRestart csw sense) d h = record {
+    pub may-restart : StartsAgain meaning mounted n held.trace
+    may-restart = by_standing held.channel.phase a.standing t.activity.standing found.again where
+      by_standing : (phase : Phase) (standing : Standing) → StandingTies meaning mounted held.trace phase a standing → awaits_by standing
+          ≡ true →
+          StartsAgain meaning mounted n held.trace
+      by_standing Idle (AwaitsRestart status) d h = record {
         active = t.activity.is;
-        csw = csw;
-        sense = sense;
+        status = status;
         ended = d.0;
         retry = d.1;
         free = d.2;
       }
       by_standing (Running place) OnChannel d h = absurd cc
-      by_standing (Pending csw sense) OnChannel d h = absurd cc
+      by_standing (Pending status) OnChannel d h = absurd cc
       by_standing _ _ d h = absurd d
 
     -- it was started at most ten times
     pub few-starts : a.starts ≤ 10
     few-starts = let e = t.activity.starts in let s = may-restart in rw e
-        (retry-few (meaning.kind mounted) s.csw s.sense (starts_of n H) s.retry)
+        (retry-few (meaning.kind mounted) s.status.csw s.status.sense (starts_of n held.trace) s.retry)
 
     -- its seek fits the device
-    pub restart-fits : Lawful meaning → TakesSeek meaning channel.device a.piece.value.seek
+    pub restart-fits : Lawful meaning → TakesSeek meaning held.channel.device a.piece.value.seek
     restart-fits law =
-        let f = seeks meaning mounted H t.legal n (active-is n H t.activity.is).0 in
+        let f = seeks meaning mounted held.trace t.legal n (active-is n held.trace t.activity.is).0 in
         let seek_is = ap (λ (r : Piece). r.seek) t.activity.request in
         let device_is = t.device in
-        rw (seek_is, device_is) (fits-device meaning mounted law H (request_named n H).seek f)
+        rw (seek_is, device_is) (fits-device meaning mounted law held.trace (request_named n held.trace).seek f)
 
-    pub ties-restart : {mask : ℕ} → mask ≡ mask_at (dcb_at table a.piece.value.dcb) →
-        Ties meaning mounted (Start n ∷ H) (ssch_started meaning channel a.piece.value.start a.piece.value.seek mask channel.phase)
-        (Some (restarted a)) waiters table left
+    pub ties-restart : {mask : ℕ} → mask ≡ mask_at (dcb_at held.dcbs a.piece.value.dcb) →
+        Ties meaning mounted (record held {
+          trace = Start n ∷ held.trace;
+          channel = ssch_started meaning held.channel a.piece.value.start a.piece.value.seek mask held.channel.phase;
+        })
+        (Some (restarted a))
     unfolding Legal posted flag extents_of request_named
     ties-restart {mask} mask_is =
-        let f = facts meaning mounted H t.legal in
-        let G = Start n ∷ H in
-        let q = request_named n H in
+        let f = facts meaning mounted held.trace t.legal in
+        let G = Start n ∷ held.trace in
+        let q = request_named n held.trace in
         let r = a.piece.value in
-        let w : NewestIs n H = f.4 n t.activity.is in
+        let w : NewestIs n held.trace = f.4 n t.activity.is in
         let self : same n n ≡ true = same-refl n in
         let start_is : r.start ≡ q.start = ap (λ (r : Piece). r.start) t.activity.request in
         let seek_is : r.seek ≡ q.seek = ap (λ (r : Piece). r.seek) t.activity.request in
         let dcb_is : r.dcb ≡ q.dcb = ap (λ (r : Piece). r.dcb) t.activity.request in
-        let m : mask ≡ mask_of q.dcb H = mask_is ∙ ap mask_at (t.dcbs r.dcb) ∙ mask-is r.dcb H ∙ ap (λ d. mask_of d H) dcb_is in
-        let c = current-start meaning mounted n H in
-        let device_is : prefixed meaning channel.device r.seek mask ≡ Some (device meaning mounted G) = rw (t.device, m, seek_is)
-        (ap Some (sym (device-start meaning mounted n H))) in
-        let area_is : (current meaning mounted G).area ≡ (current meaning mounted H).area = ap (λ (p : Program D). p.area) c
-        ∙ area-current meaning mounted n H w in
-        let idle = is-idle channel.phase a.standing t.activity.standing found.again in
+        let m : mask ≡ mask_of q.dcb held.trace = mask_is ∙ ap mask_at (t.dcbs r.dcb) ∙ mask-is r.dcb held.trace
+        ∙ ap (λ d. mask_of d held.trace) dcb_is in
+        let c = current-start meaning mounted n held.trace in
+        let device_is : prefixed meaning held.channel.device r.seek mask ≡ Some (device meaning mounted G) = rw (t.device, m, seek_is)
+        (ap Some (sym (device-start meaning mounted n held.trace))) in
+        let area_is : (current meaning mounted G).area ≡ (current meaning mounted held.trace).area = ap (λ (p : Program D). p.area) c
+        ∙ area-current meaning mounted n held.trace w in
+        let idle = is-idle held.channel.phase a.standing t.activity.standing found.again in
         let running : Channel D = record {
-          device = prefixed meaning channel.device r.seek mask;
-          isc = channel.isc;
+          device = prefixed meaning held.channel.device r.seek mask;
+          isc = held.channel.isc;
           phase = Running (start_place r.start);
         } in
-        let whole : Ties meaning mounted G running (Some (restarted a)) waiters table left = record {
-          legal = (fits-free meaning mounted (Start n) H found.settled (Restart may-restart), t.legal);
-          queue = t.queue ∙ sym (waiting-start meaning mounted n H ∙ without-started meaning mounted n H f (active-is n H t.activity.is).0);
+        let whole : Ties meaning mounted (record held { trace = G; channel = running }) (Some (restarted a)) = record {
+          legal = (fits-free meaning mounted (Start n) held.trace found.settled (Restart may-restart), t.legal);
+          queue = t.queue ∙ sym (waiting-start n held.trace ∙ without-started n held.trace f (active-is n held.trace t.activity.is).0);
           placed = t.placed;
           device = device_is;
           activity = record {
-            is = active-start meaning mounted n H (active-is n H t.activity.is).1;
+            is = active-start n held.trace (active-is n held.trace t.activity.is).1;
             request = t.activity.request ∙ ap (λ m. record q { area = m }) (sym area_is);
             placed = t.activity.placed;
             starts = let e = t.activity.starts in rw self (omega (arith, e));
@@ -133,5 +136,6 @@ module _ {D : Type 0} (meaning : Meaning D) (mounted : D) where
           dcbs = t.dcbs;
           out = t.out;
         } in
-        subst (λ x. Ties meaning mounted G (ssch_started meaning channel r.start r.seek mask x) (Some (restarted a)) waiters table left)
+        subst (λ x. Ties meaning mounted (record held { trace = G; channel = ssch_started meaning held.channel r.start r.seek mask x })
+        (Some (restarted a)))
         (sym idle) whole

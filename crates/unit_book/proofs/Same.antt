@@ -1,7 +1,8 @@
 -- What an entry that says nothing of the active request leaves as it is.
-use Rattle.unit_book.proofs.Names.{◌≡◌, ℕ, ◌+◌, ◌<◌, Bool, Option, Some, None, List, length, refl, sym, ap, ◌∙◌, arith, subst, Meaning}
-use Rattle.unit_book.proofs.Names.{Program, Channel, Phase, Idle, Running, Pending, PostedState, Name, Piece, Active, Standing, OnChannel}
-use Rattle.unit_book.proofs.Names.{AwaitsRestart, Dcb, Entry, waiting, active, request_named, starts_of, is_halted, is_covered, attempts}
+use Rattle.unit_book.proofs.Names.{BookFields, ◌≡◌, ℕ, ◌+◌, ◌<◌, Bool, Option, Some, None, List, length, refl, sym, ap, ◌∙◌, arith, subst}
+use Rattle.unit_book.proofs.Names.{Meaning}
+use Rattle.unit_book.proofs.Names.{Program, Phase, Idle, Running, Pending, PostedState, Name, Piece, Active, Standing, OnChannel}
+use Rattle.unit_book.proofs.Names.{AwaitsRestart, Entry, waiting, active, request_named, starts_of, is_halted, is_covered, attempts}
 use Rattle.unit_book.proofs.Names.{newest, current, active_phase, active_phase_by, Fits, FitsBy, due, Free, ActivityTies, StandingTies}
 use Rattle.unit_book.proofs.Names.{Ties, ◌++◌, [], slice_get, Buffer, Queue, queue, Ok, Err, OnErr, Storage, Placed}
 use Rattle.unit_book.specs.Media.{ActivePhase}
@@ -12,16 +13,16 @@ use Rattle.std.proofs.Common.{Result}
 use Rattle.std.specs.Prelude.{option_map, box_value, Box}
 use Rattle.io_area.specs.Storage.{SamePlace, lies_in}
 
-module _ {D : Type 0} (meaning : Meaning D) (mounted : D) where
-  -- the later trace says of this name what the earlier one does
-  pub record Silent (H G : List Entry) (n : Name) : Type 0 where
-    pub active : active G ≡ active H
-    pub request : request_named n G ≡ request_named n H
-    pub starts : starts_of n G ≡ starts_of n H
-    pub attempts : attempts G ≡ attempts H
-    pub halted : is_halted n G ≡ is_halted n H
-    pub covered : is_covered (request_named n G) G ≡ is_covered (request_named n H) H
+-- the later trace says of this name what the earlier one does
+pub record Silent (H G : List Entry) (n : Name) : Type 0 where
+  pub active : active G ≡ active H
+  pub request : request_named n G ≡ request_named n H
+  pub starts : starts_of n G ≡ starts_of n H
+  pub attempts : attempts G ≡ attempts H
+  pub halted : is_halted n G ≡ is_halted n H
+  pub covered : is_covered (request_named n G) G ≡ is_covered (request_named n H) H
 
+module _ {D : Type 0} (meaning : Meaning D) (mounted : D) where
   current-same : (H G : List Entry) → attempts G ≡ attempts H → current meaning mounted G ≡ current meaning mounted H
   current-same H G e = ap (newest meaning mounted) e
 
@@ -31,37 +32,44 @@ module _ {D : Type 0} (meaning : Meaning D) (mounted : D) where
       let s : Bool → Program D → ActivePhase = λ b p. active_phase_by b p.place p.place.state in
       ap (λ b. s b (current meaning mounted G)) h ∙ ap (λ p. s (is_halted n H) p) (current-same H G e)
 
-  standing-same : (H G : List Entry) (phase : Phase) (a : Active) (standing : Standing) → Silent H G a.piece.value.name →
-      StandingTies meaning mounted H phase a standing → StandingTies meaning mounted G phase a standing
-  standing-same H G Idle a (AwaitsRestart csw sense) s t =
-      (phase-same H G a.piece.value.name s.attempts s.halted ∙ t.0, rw s.starts t.1, s.covered ∙ t.2)
-  standing-same H G (Running place) a OnChannel s t = (
-    t.0 ∙ ap (λ (p : Program D). p.place) (sym (current-same H G s.attempts)),
-    phase-same H G a.piece.value.name s.attempts s.halted ∙ t.1,
-  )
-  standing-same H G (Pending csw sense) a OnChannel s t = phase-same H G a.piece.value.name s.attempts s.halted ∙ t
-  standing-same H G _ a _ s t = t
+  module _ (H G : List Entry) (a : Active) (s : Silent H G a.piece.value.name) where
+    phase-is : active_phase meaning mounted a.piece.value.name G ≡ active_phase meaning mounted a.piece.value.name H
+    phase-is = phase-same H G a.piece.value.name s.attempts s.halted
 
-  active-same : (H G : List Entry) (phase : Phase) (a : Active) → Silent H G a.piece.value.name →
-      ActiveTies meaning mounted H phase a → ActiveTies meaning mounted G phase a
-  active-same H G phase a s t =
-      let n = a.piece.value.name in
-      let with_area : Piece → Program D → Piece = λ r p. record r { area = p.area } in
-      record {
-        is = s.active ∙ t.is;
-        request = t.request ∙ ap (λ r. with_area r (current meaning mounted H)) (sym s.request) ∙ ap (with_area (request_named n G))
-            (sym (current-same H G s.attempts));
-        placed = t.placed;
-        starts = t.starts ∙ sym s.starts;
-        halted = t.halted ∙ sym s.halted;
-        covered = t.covered ∙ sym s.covered;
-        standing = standing-same H G phase a a.standing s t.standing;
-      }
+    standing-same : (phase : Phase) (standing : Standing) → StandingTies meaning mounted H phase a standing →
+        StandingTies meaning mounted G phase a standing
+    standing-same Idle (AwaitsRestart status) t = (phase-is ∙ t.0, rw s.starts t.1, s.covered ∙ t.2)
+    standing-same (Running place) OnChannel t = (
+      t.0 ∙ ap (λ (p : Program D). p.place) (sym (current-same H G s.attempts)),
+      phase-is ∙ t.1,
+    )
+    standing-same (Pending status) OnChannel t = phase-is ∙ t
+    standing-same _ _ t = t
 
-  pub activity-same : (H G : List Entry) (phase : Phase) (o : Option Active) → active G ≡ active H →
-      ((n : Name) → active H ≡ Some n → Silent H G n) → ActivityTies meaning mounted H phase o → ActivityTies meaning mounted G phase o
-  activity-same H G phase None e s t = (e ∙ t.0, t.1)
-  activity-same H G phase (Some a) e s t = active-same H G phase a (s a.piece.value.name t.is) t
+    active-same : (phase : Phase) → ActiveTies meaning mounted H phase a → ActiveTies meaning mounted G phase a
+    active-same phase t =
+        let n = a.piece.value.name in
+        let with_area : Piece → Program D → Piece = λ r p. record r { area = p.area } in
+        record {
+          is = s.active ∙ t.is;
+          request = t.request ∙ ap (λ r. with_area r (current meaning mounted H)) (sym s.request) ∙ ap (with_area (request_named n G))
+              (sym (current-same H G s.attempts));
+          placed = t.placed;
+          starts = t.starts ∙ sym s.starts;
+          halted = t.halted ∙ sym s.halted;
+          covered = t.covered ∙ sym s.covered;
+          standing = standing-same phase a.standing t.standing;
+        }
+
+  -- a later trace that is silent on the active request
+  pub activity-same : (G : List Entry) {held : BookFields D} {o : Option Active} → Ties meaning mounted held o →
+      active G ≡ active held.trace → ((n : Name) → active held.trace ≡ Some n → Silent held.trace G n) →
+      ActivityTies meaning mounted G held.channel.phase o
+  activity-same G {held} {o} t e s = by_active o t.activity where
+    by_active : (found : Option Active) → ActivityTies meaning mounted held.trace held.channel.phase found →
+        ActivityTies meaning mounted G held.channel.phase found
+    by_active None k = (e ∙ k.0, k.1)
+    by_active (Some a) k = active-same held.trace G a (s a.piece.value.name k.is) held.channel.phase k
 
   -- as many are active
   pub count-same : (H : List Entry) (phase : Phase) (o : Option Active) → ActivityTies meaning mounted H phase o →
@@ -70,12 +78,11 @@ module _ {D : Type 0} (meaning : Meaning D) (mounted : D) where
   count-same H phase (Some a) t = let e = t.is in rw e refl
 
   -- there is room in the queue
-  pub room-of : {H : List Entry} {channel : Channel D} {o : Option Active} {waiters : List Piece} {table : List Dcb}
-      {left : List PostedState} {capacity : ℕ} →
-      Ties meaning mounted H channel o waiters table left → length (waiting H) + active_count (active H) + length left < capacity →
-      length waiters + active_field_count o + length left < capacity
-  room-of {H} {channel} {o} t h =
-      let a = count-same H channel.phase o t.activity in
+  pub room-of : {held : BookFields D} {o : Option Active} {capacity : ℕ} →
+      Ties meaning mounted held o → length (waiting held.trace) + active_count (active held.trace) + length held.out < capacity →
+      length held.waiting + active_field_count o + length held.out < capacity
+  room-of {held} {o} t h =
+      let a = count-same held.trace held.channel.phase o t.activity in
       let q = ap length t.queue in omega (arith, a, q, h)
 
   -- what fits freely fits where nothing is due
@@ -84,22 +91,21 @@ module _ {D : Type 0} (meaning : Meaning D) (mounted : D) where
 
 -- What the fields of a book say once it is known what a place of them has.
 
-module _ {D : Type 0} {meaning : Meaning D} {mounted : D} {H : List Entry} {channel : Channel D} {waiters : List Piece} {table : List Dcb}
-    {left : List PostedState} where
+module _ {D : Type 0} {meaning : Meaning D} {mounted : D} {held : BookFields D} where
   -- the active place has this
-  pub ties-found : {busy found : Option Active} → busy ≡ found → Ties meaning mounted H channel busy waiters table left →
-      Ties meaning mounted H channel found waiters table left
-  ties-found o t = subst (λ (x : Option Active). Ties meaning mounted H channel x waiters table left) o t
+  pub ties-found : {busy found : Option Active} → busy ≡ found → Ties meaning mounted held busy →
+      Ties meaning mounted held found
+  ties-found o t = subst (λ (x : Option Active). Ties meaning mounted held x) o t
 
   -- the name that is active is that of the request in the active place
-  pub name-found : {a : Active} {n : Name} → active H ≡ Some n → Ties meaning mounted H channel (Some a) waiters table left →
+  pub name-found : {a : Active} {n : Name} → active held.trace ≡ Some n → Ties meaning mounted held (Some a) →
       n ≡ a.piece.value.name
   name-found {a = a} {n = n} e t = let s : Some n ≡ Some a.piece.value.name = sym e ∙ t.activity.is in cc
 
   -- what was taken from the front of the queue is the request that waits first
   pub first-found : {Z : Type 0} {busy : Option Active} {popped : Option (Box Piece Z)} {b : Box Piece Z} {r : Piece} → popped ≡ Some b →
-      option_map box_value popped ≡ slice_get waiters 0 → Ties meaning mounted H channel busy waiters table left →
-      slice_get (waiting H) 0 ≡ Some r → b.value ≡ r
+      option_map box_value popped ≡ slice_get held.waiting 0 → Ties meaning mounted held busy →
+      slice_get (waiting held.trace) 0 ≡ Some r → b.value ≡ r
   first-found {b = b} {r = r} is popped t first = let z : Some b.value ≡ Some r = sym (ap (option_map box_value) is) ∙ popped
       ∙ ap (λ (x : List Piece). slice_get x 0) t.queue ∙ first in cc
 

@@ -2,7 +2,7 @@
 -- having nothing to do.
 use Rattle.unit_book.proofs.Names.{◌≡◌, ◌≤◌, ◌<◌, ℕ, zero, suc, ◌+◌, ◌-◌, Bool, true, false, not, ◌||◌, Option, Some, None, List, [], ◌∷◌}
 use Rattle.unit_book.proofs.Names.{◌++◌, append_assoc, length, refl, sym, ap, ◌∙◌, arith, inl, inr, subst, if◌then◌else◌, slice_get}
-use Rattle.unit_book.proofs.Names.{is_some, list_all, cases_Bool, and_parts, Csw, Code, ExtentViolated, Purged, Meaning, Program, after}
+use Rattle.unit_book.proofs.Names.{is_some, cases_Bool, Csw, Code, ExtentViolated, Purged, Meaning, Program, after}
 use Rattle.unit_book.proofs.Names.{length_of, is_running, no_status, Name, Piece, Starting, Busy, Started, Violated, NothingRuns, RanSome}
 use Rattle.unit_book.proofs.Names.{Interruption, NothingPending, TriedAgain, WasPosted, Entry, Start, Ran, Post, same, arrivals}
 use Rattle.unit_book.proofs.Names.{has_started, is_posted, waiting, started, active, starts_of, is_halted, Place, State, Attempt, attempts}
@@ -17,6 +17,7 @@ use Rattle.unit_book.specs.declared.answer.Starting.TheVariants.{Idle}
 use Rattle.unit_book.specs.declared.answer.Running.{Running as RunAnswer}
 use Rattle.ccw_programs.specs.declared.context.State.TheVariants.{Running, Ended}
 use Rattle.unit_book.specs.Legal.{FailsCheck}
+use Rattle.unit_book.specs.Answers.{StartsOne}
 use Rattle.unit_book.specs.Book.{active_count, is_pending}
 use Rattle.unit_book.specs.Settle.{AddsService, Settles, Stays, Then, Steps, ByStart, ByRun, ByInterrupt, distance, is_service, starts_left}
 use Rattle.unit_book.specs.Settle.{unposted}
@@ -25,7 +26,8 @@ use Rattle.unit_book.proofs.Facts.{NewestIs, active-is, active-start, active-pos
 use Rattle.unit_book.proofs.LegalFacts.{facts}
 use Rattle.unit_book.proofs.Dooms.{length-filter_le}
 use Rattle.unit_book.proofs.Restarts.{retry-few}
-use Rattle.unit_book.proofs.Runs.{current-ran}
+use Rattle.unit_book.proofs.Runs.{current-ran, runs-running}
+use Rattle.unit_book.proofs.Lists.{all-at}
 
 -- WHAT IS ADDED
 
@@ -82,7 +84,7 @@ module _ {D : Type 0} (meaning : Meaning D) where
       let e = h.2 in rw e (record { adds = adds-none old.trace; mounted = refl; isc = refl; capacity = refl })
   interrupts-served old new (WasPosted n code) h =
       let e = h.1.extends in
-      rw e (record { adds = adds-post n h.1.csw h.1.sense code old.trace; mounted = refl; isc = refl; capacity = refl })
+      rw e (record { adds = adds-post n h.1.status.csw h.1.status.sense code old.trace; mounted = refl; isc = refl; capacity = refl })
 
   step-served : (old new : Book D) → Steps meaning old new → IsServed old new
   step-served old new (ByStart answer h) = starts-served old new answer h
@@ -118,10 +120,6 @@ module _ {X : Type 0} where
         | inr e ↦ let k = rw e at h in elim (cases_Bool (q x)) [ inl f ↦ no_both (p x) (w x f) e | inr f ↦ rw f (ih k) ]
       ]
 
-  first-passes : (p : X → Bool) (xs : List X) (x : X) → list_all p xs ≡ true → slice_get xs 0 ≡ Some x → p x ≡ true
-  first-passes p [] x h e = absurd cc
-  first-passes p (y ∷ ys) x h e = let i : y ≡ x = cc in rw (← i) (and_parts (p y) (list_all p ys) h).0
-
 first-fewer : (r : Piece) (rs : List Piece) → slice_get rs 0 ≡ Some r → length (without r.name rs) < length rs
 unfolding without
 first-fewer r [] e = absurd cc
@@ -141,7 +139,7 @@ pub first-unposted : (r : Piece) (H : List Entry) → slice_get (waiting H) 0 �
 unfolding waiting
 first-unposted r H e =
     let p = λ (q : Piece). not (has_started q.name H || is_posted q.name H) in
-    not-or_right (has_started r.name H) (is_posted r.name H) (first-passes p (waiting H) r (all-filter p (arrivals H)) e)
+    not-or_right (has_started r.name H) (is_posted r.name H) (all-at p (waiting H) 0 r (all-filter p (arrivals H)) e)
 
 pub still-none : (n : Name) (csw : Csw) (sense : ℕ) (code : Code) (H : List Entry) → active H ≡ None →
     active (Post n csw sense code ∷ H) ≡ None
@@ -154,25 +152,25 @@ pub posts-none : (rs : List Piece) (H : List Entry) → active H ≡ None → ac
 posts-none [] H h = h
 posts-none (r ∷ rs) H h = posts-none rs (Post r.name no_status 0 Purged ∷ H) (still-none r.name no_status 0 Purged H h)
 
+post-fewer : (n : Name) (csw : Csw) (sense : ℕ) (code : Code) (H : List Entry) →
+    length (waiting (Post n csw sense code ∷ H)) ≤ length (waiting H)
+unfolding without
+post-fewer n csw sense code H = rw (waiting-post n csw sense code H)
+    (length-filter_le (λ (r : Piece). not (same n r.name)) (waiting H))
+
+start-fewer : (n : Name) (H : List Entry) → length (waiting (Start n ∷ H)) ≤ length (waiting H)
+unfolding without
+start-fewer n H = rw (waiting-start n H) (length-filter_le (λ (r : Piece). not (same n r.name)) (waiting H))
+
+posts-fewer : (rs : List Piece) (H : List Entry) → length (waiting (all_posted rs H)) ≤ length (waiting H)
+posts-fewer [] H = omega arith
+posts-fewer (r ∷ rs) H =
+    let G = Post r.name no_status 0 Purged ∷ H in
+    let ih = posts-fewer rs G in
+    let one = post-fewer r.name no_status 0 Purged H in
+    omega (arith, ih, one)
+
 module _ {D : Type 0} (meaning : Meaning D) (mounted : D) where
-  post-fewer : (n : Name) (csw : Csw) (sense : ℕ) (code : Code) (H : List Entry) →
-      length (waiting (Post n csw sense code ∷ H)) ≤ length (waiting H)
-  unfolding without
-  post-fewer n csw sense code H = rw (waiting-post meaning mounted n csw sense code H)
-      (length-filter_le (λ (r : Piece). not (same n r.name)) (waiting H))
-
-  start-fewer : (n : Name) (H : List Entry) → length (waiting (Start n ∷ H)) ≤ length (waiting H)
-  unfolding without
-  start-fewer n H = rw (waiting-start meaning mounted n H) (length-filter_le (λ (r : Piece). not (same n r.name)) (waiting H))
-
-  posts-fewer : (rs : List Piece) (H : List Entry) → length (waiting (all_posted rs H)) ≤ length (waiting H)
-  posts-fewer [] H = omega arith
-  posts-fewer (r ∷ rs) H =
-      let G = Post r.name no_status 0 Purged ∷ H in
-      let ih = posts-fewer rs G in
-      let one = post-fewer r.name no_status 0 Purged H in
-      omega (arith, ih, one)
-
   -- a program that goes on has fetched 4,096 CCWs at most
   fetched-few : (k : ℕ) (p : Program D) → p.place.fetched ≤ 4096 → is_running (after meaning k p).place.state ≡ true →
       (after meaning k p).place.fetched ≤ 4096
@@ -203,23 +201,15 @@ module _ {D : Type 0} (meaning : Meaning D) (mounted : D) where
       let p = current meaning mounted H in
       let few = length-few meaning 4097 p in
       let k : j ≡ length_of meaning p = omega (arith, e, few) in
-      let r = stands-by (is_halted n H) p.place p.place.state h in
-      let ends = length-ends meaning p (current-few H r.1) in
+      let r = runs-running (is_halted n H) p.place p.place.state h in
+      let ends = length-ends meaning p (current-few H (ap is_running r.1)) in
       let c = current-ran meaning mounted n j H w in
       let x : is_running (current meaning mounted (Ran n j ∷ H)).place.state ≡ false = rw (c, k) ends in
       over-by (is_halted n H) (current meaning mounted (Ran n j ∷ H)).place (current meaning mounted (Ran n j ∷ H)).place.state x where
-        stands-by : (b : Bool) (place : Place) (state : State) → still_runs (active_phase_by b place state) ≡ true →
-            (b ≡ false) × (is_running state ≡ true)
-        stands-by true place state h = absurd cc
-        stands-by false place Running h = (refl, refl)
-        stands-by false place (Ended csw sense) h = absurd cc
-
         over-by : (b : Bool) (place : Place) (state : State) → is_running state ≡ false → still_runs (active_phase_by b place state) ≡ false
         over-by true place state h = refl
         over-by false place Running h = absurd cc
         over-by false place (Ended csw sense) h = refl
-
--- AN ATTEMPT: a start, a run and an interruption
 
 -- after the start a request was posted, or one is on the channel
 data Begun {D : Type 0} (old mid : Book D) : Type 0 where
@@ -238,27 +228,30 @@ module _ {D : Type 0} (meaning : Meaning D) where
   still-busy old None e h a = absurd cc
   still-busy old (Some n) e h a = OnChannel n e a (omega arith) (λ few. rw (e, a) (omega arith))
 
-  first-begun : (old mid : Book D) (n : Name) → StartsFirst meaning old.mounted n old.trace → mid.trace ≡ Start n ∷ old.trace →
-      mid.awaits ≡ false → Begun old mid
-  first-begun old mid n s e a =
+  first-begun : (old mid : Book D) (n : Name) → StartsFirst meaning old.mounted n old.trace → StartsOne old n mid → Begun old mid
+  first-begun old mid n s h =
       let H = old.trace in
+      let e : mid.trace ≡ Start n ∷ H = ap (λ (b : Book D). b.trace) h in
+      let a : mid.awaits ≡ false = ap (λ (b : Book D). b.awaits) h in
       let none = s.none in
       let unposted_first = subst (λ (x : Name). is_posted x H ≡ false) s.name (first-unposted s.request H s.first) in
-      let is = active-start meaning old.mounted n H unposted_first in
+      let is = active-start n H unposted_first in
       let fewer = subst (λ (x : Name). length (without x (waiting H)) < length (waiting H)) s.name
       (first-fewer s.request (waiting H) s.first) in
-      let left = ap length (waiting-start meaning old.mounted n H) in
+      let left = ap length (waiting-start n H) in
       let one = ap active_count is in
       let zero_active = ap active_count none in
       OnChannel n (rw e is) a (rw e (omega (arith, fewer, left, one, zero_active))) (λ few. rw none (omega arith))
 
   again-begun : (old mid : Book D) (n : Name) → old.awaits ≡ true → StartsAgain meaning old.mounted n old.trace →
-      mid.trace ≡ Start n ∷ old.trace → mid.awaits ≡ false → Begun old mid
-  again-begun old mid n o s e a =
+      StartsOne old n mid → Begun old mid
+  again-begun old mid n o s h =
       let H = old.trace in
+      let e : mid.trace ≡ Start n ∷ H = ap (λ (b : Book D). b.trace) h in
+      let a : mid.awaits ≡ false = ap (λ (b : Book D). b.awaits) h in
       let act = s.active in
-      let is = active-start meaning old.mounted n H (active-is n H act).1 in
-      let fewer = start-fewer meaning old.mounted n H in
+      let is = active-start n H (active-is n H act).1 in
+      let fewer = start-fewer n H in
       let one = ap active_count is in
       let one_before = ap active_count act in
       let same_name = same-refl n in
@@ -274,8 +267,8 @@ module _ {D : Type 0} (meaning : Meaning D) where
       let none = posts-none (doomed G) G (still-none n no_status 0 ExtentViolated H s.none) in
       let fewer = subst (λ (x : Name). length (without x (waiting H)) < length (waiting H)) s.name
       (first-fewer s.request (waiting H) s.first) in
-      let left = ap length (waiting-post meaning old.mounted n no_status 0 ExtentViolated H) in
-      let more = posts-fewer meaning old.mounted (doomed G) G in
+      let left = ap length (waiting-post n no_status 0 ExtentViolated H) in
+      let more = posts-fewer (doomed G) G in
       let zero_active = ap active_count none in
       Posted (rw e none) (rw e (omega (arith, fewer, left, more, zero_active)))
 
@@ -284,9 +277,22 @@ module _ {D : Type 0} (meaning : Meaning D) where
   begins old mid Idle k h = absurd (k refl)
   begins old mid (Started n) k h = by_start h.0 where
     by_start : MayStart meaning old n → Begun old mid
-    by_start (MayFirst s) = first-begun old mid n s (ap (λ (b : Book D). b.trace) h.1) (ap (λ (b : Book D). b.awaits) h.1)
-    by_start (MayAgain o s) = again-begun old mid n o s (ap (λ (b : Book D). b.trace) h.1) (ap (λ (b : Book D). b.awaits) h.1)
+    by_start (MayFirst s) = first-begun old mid n s h.1
+    by_start (MayAgain o s) = again-begun old mid n o s h.1
   begins old mid (Violated n) k h = violated-begun old mid n h.0 (ap (λ (b : Book D). b.trace) h.1)
+
+  -- AN ATTEMPT: a start that found something, a run to the end of the program, and an interruption
+  pub record Tried (old new : Book D) : Type 0 where
+    pub mid : Book D
+    pub ran : Book D
+    pub starting : Starting
+    pub running : RunAnswer
+    pub ending : Interruption
+    pub found : starting ≡ Idle → ⊥
+    pub started_as : StartsBook meaning old starting mid
+    pub ran_as : RunsBook meaning mid 4294967295 running ran
+    pub legal : Legal meaning ran.mounted ran.trace
+    pub ended_as : InterruptsBook meaning ran ending new
 
   -- after the run the status of the request is pending
   record IsPending (n : Name) (mid ran : Book D) : Type 0 where
@@ -295,30 +301,32 @@ module _ {D : Type 0} (meaning : Meaning D) where
     left : unposted ran.trace ≡ unposted mid.trace
     starts : starts_of n ran.trace ≡ starts_of n mid.trace
 
-  pends : (n : Name) (mid ran : Book D) (answer : RunAnswer) → active mid.trace ≡ Some n → mid.awaits ≡ false →
-      Legal meaning ran.mounted ran.trace → RunsBook meaning mid 4294967295 answer ran → IsPending n mid ran
+  pends : {old new : Book D} (n : Name) (t : Tried old new) → active t.mid.trace ≡ Some n → t.mid.awaits ≡ false → IsPending n t.mid t.ran
   unfolding Legal waiting arrivals active started
-  pends n mid ran NothingRuns a g l h =
-      let e = h.1 in
-      let quiet : still_runs (active_phase meaning mid.mounted n mid.trace)
-      ≡ false = none-runs (still_runs (active_phase meaning mid.mounted n mid.trace)) (rw a at h.0) in
-      rw e (record { is = a; pending = rw (a, g, quiet) refl; left = refl; starts = refl }) where
-        none-runs : (b : Bool) → (if b then Some n else None) ≡ None → b ≡ false
-        none-runs true k = absurd cc
-        none-runs false k = refl
-  pends n mid ran (RanSome commands pending) a g l h =
-      let e = h.adds in
-      let t = some-runs (still_runs (active_phase meaning mid.mounted n mid.trace)) h.name (rw a at h.running) in
-      let now : ran.trace ≡ Ran n commands ∷ mid.trace = ap (λ (b : Book D). b.trace) e ∙ ap (λ x. Ran x commands ∷ mid.trace) t.1 in
-      let still : ran.mounted ≡ mid.mounted = ap (λ (b : Book D). b.mounted) e in
-      let same_again : ran.awaits ≡ mid.awaits = ap (λ (b : Book D). b.awaits) e in
-      let legal : Legal meaning mid.mounted (Ran n commands ∷ mid.trace) = rw (still, now) at l in
-      let w = (facts meaning mid.mounted mid.trace legal.1).4 n a in
-      let out = runs-out meaning mid.mounted n commands mid.trace w t.0 h.count in
-      record { is = rw now a; pending = rw (now, still, same_again, a, g, out) refl; left = rw now refl; starts = rw now refl } where
-        some-runs : (b : Bool) (m : Name) → (if b then Some n else None) ≡ Some m → (b ≡ true) × (m ≡ n)
-        some-runs true m k = (refl, sym (some-is k))
-        some-runs false m k = absurd (none-is k)
+  pends n t a g = by_answer t.running t.ran_as where
+    by_answer : (answer : RunAnswer) → RunsBook meaning t.mid 4294967295 answer t.ran → IsPending n t.mid t.ran
+    by_answer NothingRuns h =
+        let e = h.1 in
+        let quiet : still_runs (active_phase meaning t.mid.mounted n t.mid.trace)
+        ≡ false = none-runs (still_runs (active_phase meaning t.mid.mounted n t.mid.trace)) (rw a at h.0) in
+        rw e (record { is = a; pending = rw (a, g, quiet) refl; left = refl; starts = refl }) where
+          none-runs : (b : Bool) → (if b then Some n else None) ≡ None → b ≡ false
+          none-runs true k = absurd cc
+          none-runs false k = refl
+    by_answer (RanSome commands pending) h =
+        let e = h.adds in
+        let k = some-runs (still_runs (active_phase meaning t.mid.mounted n t.mid.trace)) h.name (rw a at h.running) in
+        let now : t.ran.trace ≡ Ran n commands ∷ t.mid.trace = ap (λ (b : Book D). b.trace) e
+        ∙ ap (λ x. Ran x commands ∷ t.mid.trace) k.1 in
+        let still : t.ran.mounted ≡ t.mid.mounted = ap (λ (b : Book D). b.mounted) e in
+        let same_again : t.ran.awaits ≡ t.mid.awaits = ap (λ (b : Book D). b.awaits) e in
+        let legal : Legal meaning t.mid.mounted (Ran n commands ∷ t.mid.trace) = rw (still, now) at t.legal in
+        let w = (facts meaning t.mid.mounted t.mid.trace legal.1).4 n a in
+        let out = runs-out meaning t.mid.mounted n commands t.mid.trace w k.0 h.count in
+        record { is = rw now a; pending = rw (now, still, same_again, a, g, out) refl; left = rw now refl; starts = rw now refl } where
+          some-runs : (b : Bool) (m : Name) → (if b then Some n else None) ≡ Some m → (b ≡ true) × (m ≡ n)
+          some-runs true m k = (refl, sym (some-is k))
+          some-runs false m k = absurd (none-is k)
 
   run-none : (mid ran : Book D) (answer : RunAnswer) → active mid.trace ≡ None → RunsBook meaning mid 4294967295 answer ran → ran ≡ mid
   run-none mid ran NothingRuns a h = h.1
@@ -329,46 +337,44 @@ module _ {D : Type 0} (meaning : Meaning D) where
   interrupt-none ran new _ a h = let k = rw a at h.0 in absurd cc
 
   -- after the interruption the request was posted, or awaits its restart
-  ends : (n : Name) (ran new : Book D) (answer : Interruption) (left : ℕ) → active ran.trace ≡ Some n → is_pending meaning ran ≡ true →
-      Legal meaning ran.mounted ran.trace →
-      (starts_of n ran.trace ≤ 10 → 11 - starts_of n ran.trace < left) → InterruptsBook meaning ran answer new →
-      distance new < 13 * unposted ran.trace + left
-  ends n ran new NothingPending left a p l few h = no_both (is_pending meaning ran) p h.0
-  ends n ran new (TriedAgain m) left a p l few h =
-      let e = h.2 in
-      let s = h.1 in
-      let i : m ≡ n = some-is (sym s.active ∙ a) in
-      let ten = subst (λ x. starts_of x ran.trace ≤ 10) i
-      (retry-few (meaning.kind ran.mounted) s.csw s.sense (starts_of m ran.trace) s.retry) in
-      let less = few ten in
-      rw (e, a) (omega (arith, less))
-  ends n ran new (WasPosted m code) left a p l few h =
-      let H = ran.trace in
-      let x = h.1 in
-      let G = Post m x.csw x.sense code ∷ H in
-      let e : new.trace ≡ after_dooms G = ap (λ (b : Book D). b.trace) x.extends in
-      let none = posts-none (doomed G) G
-      (active-post meaning ran.mounted m x.csw x.sense code H (facts meaning ran.mounted H l) x.fits.active) in
-      let first = post-fewer meaning ran.mounted m x.csw x.sense code H in
-      let more = posts-fewer meaning ran.mounted (doomed G) G in
-      let one = ap active_count a in
-      let zero_active = ap active_count none in
-      let twelve : starts_left (after_dooms G) new.awaits (active (after_dooms G)) ≡ 12 = rw none refl in
-      rw e (omega (arith, first, more, one, zero_active, twelve))
+  ends : {old new : Book D} (n : Name) (t : Tried old new) (left : ℕ) → active t.ran.trace ≡ Some n → is_pending meaning t.ran ≡ true →
+      (starts_of n t.ran.trace ≤ 10 → 11 - starts_of n t.ran.trace < left) → distance new < 13 * unposted t.ran.trace + left
+  ends {new = new} n t left a p few = by_answer t.ending t.ended_as where
+    by_answer : (answer : Interruption) → InterruptsBook meaning t.ran answer new → distance new < 13 * unposted t.ran.trace + left
+    by_answer NothingPending h = no_both (is_pending meaning t.ran) p h.0
+    by_answer (TriedAgain m) h =
+        let e = h.2 in
+        let s = h.1 in
+        let i : m ≡ n = some-is (sym s.active ∙ a) in
+        let ten = subst (λ x. starts_of x t.ran.trace ≤ 10) i
+        (retry-few (meaning.kind t.ran.mounted) s.status.csw s.status.sense (starts_of m t.ran.trace) s.retry) in
+        let less = few ten in
+        rw (e, a) (omega (arith, less))
+    by_answer (WasPosted m code) h =
+        let H = t.ran.trace in
+        let x = h.1 in
+        let G = Post m x.status.csw x.status.sense code ∷ H in
+        let e : new.trace ≡ after_dooms G = ap (λ (b : Book D). b.trace) x.extends in
+        let none = posts-none (doomed G) G
+        (active-post m x.status.csw x.status.sense code H (facts meaning t.ran.mounted H t.legal) x.fits.active) in
+        let first = post-fewer m x.status.csw x.status.sense code H in
+        let more = posts-fewer (doomed G) G in
+        let one = ap active_count a in
+        let zero_active = ap active_count none in
+        let twelve : starts_left (after_dooms G) new.awaits (active (after_dooms G)) ≡ 12 = rw none refl in
+        rw e (omega (arith, first, more, one, zero_active, twelve))
 
   -- AN ATTEMPT BRINGS A BOOK NEARER
-  pub nearer : (old mid ran new : Book D) (starting : Starting) (running : RunAnswer) (ending : Interruption) → (starting ≡ Idle → ⊥) →
-      StartsBook meaning old starting mid → RunsBook meaning mid 4294967295 running ran →
-      Legal meaning ran.mounted ran.trace → InterruptsBook meaning ran ending new → distance new < distance old
-  nearer old mid ran new starting running ending k s r l i = by_begun (begins old mid starting k s) where
-    by_begun : Begun old mid → distance new < distance old
+  pub nearer : (old new : Book D) → Tried old new → distance new < distance old
+  nearer old new t = by_begun (begins old t.mid t.starting t.found t.started_as) where
+    by_begun : Begun old t.mid → distance new < distance old
     by_begun (Posted none fewer) =
-        let e = run-none mid ran running none r in
-        let f = interrupt-none ran new ending (rw e none) i ∙ e in
-        let twelve : starts_left mid.trace mid.awaits (active mid.trace) ≡ 12 = rw none refl in
+        let e = run-none t.mid t.ran t.running none t.ran_as in
+        let f = interrupt-none t.ran new t.ending (rw e none) t.ended_as ∙ e in
+        let twelve : starts_left t.mid.trace t.mid.awaits (active t.mid.trace) ≡ 12 = rw none refl in
         rw f (omega (arith, fewer, twelve))
     by_begun (OnChannel n is a left few) =
-        let p = pends n mid ran running is a l r in
+        let p = pends n t is a in
         let s = p.starts in
-        let d = ends n ran new ending (starts_left old.trace old.awaits (active old.trace)) p.is p.pending l (rw s few) i in
+        let d = ends n t (starts_left old.trace old.awaits (active old.trace)) p.is p.pending (rw s few) in
         omega (arith, d, p.left, left)

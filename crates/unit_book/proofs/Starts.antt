@@ -1,11 +1,13 @@
 -- A first start: the fields stay those of the trace.
-use Rattle.unit_book.proofs.Names.{◌≡◌, ℕ, Bool, true, false, ◌||◌, Option, Some, None, List, [], ◌∷◌, length, refl, sym, ap, ◌∙◌, eqb, inl}
+use Rattle.unit_book.proofs.Names.{no_status, ExtentViolated}
+use Rattle.unit_book.proofs.Names.{BookFields, ◌≡◌, ℕ, Bool, true, false, ◌||◌, Option, Some, None, List, [], ◌∷◌, length, refl, sym, ap}
+use Rattle.unit_book.proofs.Names.{◌∙◌, eqb, inl}
 use Rattle.unit_book.proofs.Names.{inr, subst, cases_Bool, and_parts, and_from, or_parts, or_left, or_right, filter, list_any, list_all}
-use Rattle.unit_book.proofs.Names.{slice_get, drop, Meaning, Program, after, Channel, Phase, Idle, Running, ssch_started, PostedState}
+use Rattle.unit_book.proofs.Names.{slice_get, drop, Meaning, Program, after, Channel, Phase, Idle, Running, ssch_started}
 use Rattle.unit_book.proofs.Names.{Placed, Name, Piece, Active, OnChannel, Dcb, Entry, Opened, Start, Ran, same, starts, has_started}
 use Rattle.unit_book.proofs.Names.{waiting, active, request_named, passes_check, is_opened, extents_of, flag, mask_of, Attempt, attempts}
 use Rattle.unit_book.proofs.Names.{stand, newest, current, device, area, Legal, due, Free, First, StartsFirst, posted, Each, ActivityTies}
-use Rattle.unit_book.proofs.Names.{Ties, dcb_at, dcb_of, mask_at, ◌&&◌, ◌++◌, append_assoc, Storage, is_error, Csw, Code, Post, Fits}
+use Rattle.unit_book.proofs.Names.{Ties, dcb_at, dcb_of, mask_at, ◌&&◌, ◌++◌, append_assoc, Storage, is_error, Post, Fits}
 use Rattle.unit_book.proofs.Names.{posted_value, noted}
 use Rattle.std.specs.Global.{Box}
 use Rattle.std.specs.Prelude.{option_map, box_value, MatchOption, IsSomeAnd}
@@ -69,6 +71,18 @@ mask-is d H = elim (cases_Bool (is_opened d H)) [ inl o ↦ rw o refl | inr o �
 pub extents-is : (d : ℕ) (H : List Entry) → extents_at (dcb_of d H) ≡ extents_of d H
 extents-is d H = elim (cases_Bool (is_opened d H)) [ inl o ↦ rw o refl | inr o ↦ let i = no-extents d H o in rw (o, i) refl ]
 
+pub placed-rest : (rs : List Piece) → Each Placed rs → Each Placed (drop 1 rs)
+placed-rest [] h = tt
+placed-rest (q ∷ rs) h = h.1
+
+abbrev pub held_first : Box Piece → Active
+held_first b = record { piece = b; starts = 1; halted = false; covered = false; standing = OnChannel }
+
+-- nothing is first in an empty queue
+pub no-first : {X : Type 0} (xs : List X) → slice_get xs 0 ≡ None → xs ≡ []
+no-first [] h = refl
+no-first (x ∷ xs) h = absurd cc
+
 module _ {D : Type 0} (meaning : Meaning D) (mounted : D) where
   -- each attempt is of a name that was started
   pub named : (H : List Entry) → Legal meaning mounted H → list_all (named_within H) (attempts H) ≡ true
@@ -77,9 +91,10 @@ module _ {D : Type 0} (meaning : Meaning D) (mounted : D) where
   named (Start n ∷ H) l =
       let f = facts meaning mounted H l.1 in
       let u = start-unposted meaning mounted n H f (fits-start meaning mounted n H (due meaning mounted H) l.0) in
-      let w = (facts meaning mounted (Start n ∷ H) l).4 n (active-start meaning mounted n H u) in
+      let w = (facts meaning mounted (Start n ∷ H) l).4 n (active-start n H u) in
       let e : (request_named n H).name ≡ n = w.4 in
-      and_from (same n (request_named n H).name || has_started (request_named n H).name H) (list_all (named_within (Start n ∷ H)) (attempts H))
+      and_from (same n (request_named n H).name || has_started (request_named n H).name H)
+      (list_all (named_within (Start n ∷ H)) (attempts H))
       (or_left (same n (request_named n H).name) (has_started (request_named n H).name H) (same-is n (request_named n H).name (sym e)))
       (named-more H n (attempts H) (named H l.1))
   named (Ran n j ∷ H) l = lengthened-named H n j (attempts H) (named H l.1)
@@ -103,7 +118,8 @@ module _ {D : Type 0} (meaning : Meaning D) (mounted : D) where
   as-issued r H l u = as-issued_by r H u (attempts H) (named H l)
 
   pub current-start : (n : Name) (H : List Entry) → current meaning mounted (Start n ∷ H) ≡
-      begun (request_named n H).start (meaning.prefix (device meaning mounted H) (request_named n H).seek (mask_of (request_named n H).dcb H))
+      begun (request_named n H).start
+      (meaning.prefix (device meaning mounted H) (request_named n H).seek (mask_of (request_named n H).dcb H))
       (area meaning mounted (request_named n H) H)
   unfolding attempts newest after
   current-start n H = refl
@@ -113,79 +129,76 @@ module _ {D : Type 0} (meaning : Meaning D) (mounted : D) where
   unfolding attempts stand after
   device-start n H = refl
 
-  pub placed-rest : (rs : List Piece) → Each Placed rs → Each Placed (drop 1 rs)
-  placed-rest [] h = tt
-  placed-rest (q ∷ rs) h = h.1
-
   -- what is tied where nothing is active
   pub none-in_field : (H : List Entry) (phase : Phase) (o : Option Active) → active H ≡ None → ActivityTies meaning mounted H phase o →
       (phase ≡ Idle) × (o ≡ None)
   none-in_field H phase None n t = (t.1, refl)
   none-in_field H phase (Some a) n t = let k = sym n ∙ t.is in absurd cc
 
-  abbrev pub held_first : Box Piece → Active
-  held_first b = record { piece = b; starts = 1; halted = false; covered = false; standing = OnChannel }
-
-  -- nothing is first in an empty queue
-  pub no-first : {X : Type 0} (xs : List X) → slice_get xs 0 ≡ None → xs ≡ []
-  no-first [] h = refl
-  no-first (x ∷ xs) h = absurd cc
-
   -- the request that waits first, and whether it passes the check
-  pub first-told : {H : List Entry} {channel : Channel D} {o : Option Active} {waiters : List Piece} {table : List Dcb}
-      {left : List PostedState} {r : Piece} →
-      Ties meaning mounted H channel o waiters table left → slice_get waiters 0 ≡ Some r →
-      (slice_get (waiting H) 0 ≡ Some r)
-      × (passes meaning mounted r H ≡ passes_check (meaning.kind mounted) (meaning.heads mounted)
-      (extents_at (dcb_at table r.dcb)) r.seek)
-  first-told {H} {channel} {o} {waiters} {table} {left} {r} t h = (
+  pub first-told : {held : BookFields D} {o : Option Active} {r : Piece} →
+      Ties meaning mounted held o → slice_get held.waiting 0 ≡ Some r →
+      (slice_get (waiting held.trace) 0 ≡ Some r)
+      × (passes meaning mounted r held.trace ≡ passes_check (meaning.kind mounted) (meaning.heads mounted)
+      (extents_at (dcb_at held.dcbs r.dcb)) r.seek)
+  first-told {held} {o} {r} t h = (
     ap (λ x. slice_get x 0) (sym t.queue) ∙ h,
     ap (λ x. passes_check (meaning.kind mounted) (meaning.heads mounted) x r.seek)
-        (sym (ap extents_at (t.dcbs r.dcb) ∙ extents-is r.dcb H)),
+        (sym (ap extents_at (t.dcbs r.dcb) ∙ extents-is r.dcb held.trace)),
   )
 
-  module _ (b : Box Piece) {H : List Entry} {channel : Channel D} {o : Option Active} {waiters : List Piece} {table : List Dcb}
-      {left : List PostedState} {mask : ℕ}
-      (settled : due meaning mounted H ≡ Free) (s : StartsFirst meaning mounted b.value.name H)
-      (t : Ties meaning mounted H channel o waiters table left)
-      (first : slice_get (waiting H) 0 ≡ Some b.value) (mask_is : mask ≡ mask_at (dcb_at table b.value.dcb)) where
-    pub ties-start : Ties meaning mounted (Start b.value.name ∷ H)
-        (ssch_started meaning channel b.value.start b.value.seek mask channel.phase) (Some (held_first b)) (drop 1 waiters) table left
+  -- what a first start finds: the request that waits first, which fits, and the mask of its DCB
+  pub record FoundFirst (held : BookFields D) (r : Piece) (mask : ℕ) : Type 0 where
+    pub first : slice_get (waiting held.trace) 0 ≡ Some r
+    pub settled : due meaning mounted held.trace ≡ Free
+    pub starts : StartsFirst meaning mounted r.name held.trace
+    pub mask_is : mask ≡ mask_at (dcb_at held.dcbs r.dcb)
+
+  module _ (b : Box Piece) {held : BookFields D} {o : Option Active} {mask : ℕ}
+      (t : Ties meaning mounted held o) (found : FoundFirst held b.value mask) where
+    pub ties-start : Ties meaning mounted (record held {
+      trace = Start b.value.name ∷ held.trace;
+      channel = ssch_started meaning held.channel b.value.start b.value.seek mask held.channel.phase;
+      waiting = drop 1 held.waiting;
+    })
+        (Some (held_first b))
     unfolding Legal posted flag extents_of request_named
     ties-start =
         let r = b.value in
-        let f = facts meaning mounted H t.legal in
+        let f = facts meaning mounted held.trace t.legal in
         let n = r.name in
-        let G = Start n ∷ H in
-        let w = first-waits meaning mounted r H f first in
-        let e : request_named n H ≡ r = w.known.0 in
+        let G = Start n ∷ held.trace in
+        let w = first-waits r held.trace f found.first in
+        let e : request_named n held.trace ≡ r = w.known.0 in
         let self : same n n ≡ true = same-refl n in
-        let z = first-rest (waiting H) r first in
-        let apart = subst Apart z (waiting-apart meaning mounted H f) in
-        let m : mask ≡ mask_of r.dcb H = mask_is ∙ ap mask_at (t.dcbs r.dcb) ∙ mask-is r.dcb H in
-        let issued : area meaning mounted r H ≡ r.area = as-issued r H t.legal w.unstarted in
-        let device_is : prefixed meaning channel.device r.seek mask ≡ Some (device meaning mounted G) = rw (t.device, m)
-        (ap Some (sym (rw e at (device-start n H)))) in
-        let idle = (none-in_field H channel.phase o s.none t.activity).0 in
-        let c : current meaning mounted G ≡ begun r.start (meaning.prefix (device meaning mounted H) r.seek (mask_of r.dcb H))
-        (area meaning mounted r H) = rw e at (current-start n H) in
+        let z = first-rest (waiting held.trace) r found.first in
+        let apart = subst Apart z (waiting-apart held.trace f) in
+        let m : mask ≡ mask_of r.dcb held.trace = found.mask_is ∙ ap mask_at (t.dcbs r.dcb) ∙ mask-is r.dcb held.trace in
+        let issued : area meaning mounted r held.trace ≡ r.area = as-issued r held.trace t.legal w.unstarted in
+        let device_is : prefixed meaning held.channel.device r.seek mask ≡ Some (device meaning mounted G) = rw (t.device, m)
+        (ap Some (sym (rw e at (device-start n held.trace)))) in
+        let idle = (none-in_field held.trace held.channel.phase o found.starts.none t.activity).0 in
+        let c : current meaning mounted G
+        ≡ begun r.start (meaning.prefix (device meaning mounted held.trace) r.seek (mask_of r.dcb held.trace))
+        (area meaning mounted r held.trace) = rw e at (current-start n held.trace) in
         let area_is : (current meaning mounted G).area ≡ r.area = ap (λ (p : Program D). p.area) c ∙ issued in
-        let none = no-starts n H w.unstarted in
+        let none = no-starts n held.trace w.unstarted in
         let running : Channel D = record {
-          device = prefixed meaning channel.device r.seek mask;
-          isc = channel.isc;
+          device = prefixed meaning held.channel.device r.seek mask;
+          isc = held.channel.isc;
           phase = Running (start_place r.start);
         } in
-        let whole : Ties meaning mounted G running (Some (held_first b)) (drop 1 waiters) table left = record {
-          legal = (fits-free meaning mounted (Start n) H settled (First s), t.legal);
+        let whole : Ties meaning mounted (record held { trace = G; channel = running; waiting = drop 1 held.waiting })
+        (Some (held_first b)) = record {
+          legal = (fits-free meaning mounted (Start n) held.trace found.settled (First found.starts), t.legal);
           queue = ap (λ x. drop 1 x) t.queue
-              ∙ sym (waiting-start meaning mounted n H ∙ ap (without n) z ∙ without-first r (drop 1 (waiting H)) apart);
-          placed = placed-rest waiters t.placed;
+              ∙ sym (waiting-start n held.trace ∙ ap (without n) z ∙ without-first r (drop 1 (waiting held.trace)) apart);
+          placed = placed-rest held.waiting t.placed;
           device = device_is;
           activity = record {
-            is = active-start meaning mounted n H w.unposted;
+            is = active-start n held.trace w.unposted;
             request = rw (e, area_is) refl;
-            placed = Each-at Placed waiters 0 r t.placed (ap (λ x. slice_get x 0) t.queue ∙ first);
+            placed = Each-at Placed held.waiting 0 r t.placed (ap (λ x. slice_get x 0) t.queue ∙ found.first);
             starts = rw self (rw none refl);
             halted = rw self refl;
             covered = rw e (rw self refl);
@@ -195,70 +208,78 @@ module _ {D : Type 0} (meaning : Meaning D) (mounted : D) where
           dcbs = t.dcbs;
           out = t.out;
         } in
-        subst (λ x. Ties meaning mounted G (ssch_started meaning channel r.start r.seek mask x) (Some (held_first b))
-        (drop 1 waiters) table left) (sym idle) whole
+        subst (λ x. Ties meaning mounted (record held {
+          trace = G;
+          channel = ssch_started meaning held.channel r.start r.seek mask x;
+          waiting = drop 1 held.waiting;
+        }) (Some (held_first b))) (sym idle) whole
 
   -- the first of the queue is started, and what is taken from the queue is made active
-  pub ties-first : (popped : Option (Box Piece)) (made : Option Active) {r : Piece} {H : List Entry} {channel : Channel D}
-      {o : Option Active} {waiters : List Piece} {table : List Dcb} {left : List PostedState} {mask : ℕ} →
-      due meaning mounted H ≡ Free → StartsFirst meaning mounted r.name H → Ties meaning mounted H channel o waiters table left →
-      slice_get (waiting H) 0 ≡ Some r → mask ≡ mask_at (dcb_at table r.dcb) → option_map box_value popped ≡ Some r →
+  pub ties-first : (popped : Option (Box Piece)) (made : Option Active) {r : Piece} {held : BookFields D}
+      {o : Option Active} {mask : ℕ} →
+      Ties meaning mounted held o → FoundFirst held r mask → option_map box_value popped ≡ Some r →
       MatchOption popped (made ≡ None) (λ x. IsSomeAnd made (λ y. y ≡ held_first x)) →
-      Ties meaning mounted (Start r.name ∷ H) (ssch_started meaning channel r.start r.seek mask channel.phase) made (drop 1 waiters) table left
+      Ties meaning mounted (record held {
+        trace = Start r.name ∷ held.trace;
+        channel = ssch_started meaning held.channel r.start r.seek mask held.channel.phase;
+        waiting = drop 1 held.waiting;
+      }) made
       × (active_field_count made ≡ 1)
-  ties-first None made settled s t first mask_is popped_is made_is = absurd cc
-  ties-first (Some b) None settled s t first mask_is popped_is made_is = absurd made_is
-  ties-first (Some b) (Some a) {r = r} {H = H} {table = table} settled s t first mask_is popped_is made_is =
+  ties-first None made t found popped_is made_is = absurd cc
+  ties-first (Some b) None t found popped_is made_is = absurd made_is
+  ties-first (Some b) (Some a) {r = r} {held = held} {mask = mask} t found popped_is made_is =
       let e : r ≡ b.value = cc in
-      let k = ties-start b settled (subst (λ (x : Piece). StartsFirst meaning mounted x.name H) e s) t (first ∙ ap Some e)
-      (mask_is ∙ ap (λ (x : Piece). mask_at (dcb_at table x.dcb)) e) in
+      let k = ties-start b t (subst (λ (x : Piece). FoundFirst held x mask) e found) in
       (rw (made_is, e) k, refl)
 
 -- The post of a request that waits first: the fields stay those of the trace.
 
-module _ {D : Type 0} (meaning : Meaning D) (mounted : D) where
-  module _ (r : Piece) (csw : Csw) (sense : ℕ) (code : Code) {H : List Entry} {channel : Channel D} {o : Option Active}
-      {waiters : List Piece} {table : List Dcb} {left : List PostedState}
-      (t : Ties meaning mounted H channel o waiters table left) where
+module _ {D : Type 0} {meaning : Meaning D} {mounted : D} where
+  module _ {r : Piece} {held : BookFields D} {o : Option Active}
+      (t : Ties meaning mounted held o) where
     -- what is handed out is the value that the trace says
-    pub waiting-value : (i : ℕ) → slice_get (waiting H) i ≡ Some r →
-        posted_value r csw sense code r.area ≡ posted_value (request_named r.name H) csw sense code
-        (area meaning mounted (request_named r.name H) H)
-    waiting-value i there =
-        let w = waits-at meaning mounted r i H (facts meaning mounted H t.legal) there in
-        let issued : area meaning mounted r H ≡ r.area = as-issued meaning mounted r H t.legal w.unstarted in
-        ap (λ (m : Storage). posted_value r csw sense code m) (sym issued)
-        ∙ ap (λ q. posted_value q csw sense code (area meaning mounted q H)) (sym w.known.0)
+    pub waiting-value : slice_get (waiting held.trace) 0 ≡ Some r →
+        posted_value r no_status 0 ExtentViolated r.area ≡ posted_value (request_named r.name held.trace) no_status 0 ExtentViolated
+        (area meaning mounted (request_named r.name held.trace) held.trace)
+    waiting-value there =
+        let w = waits-at r 0 held.trace (facts meaning mounted held.trace t.legal) there in
+        let issued : area meaning mounted r held.trace ≡ r.area = as-issued meaning mounted r held.trace t.legal w.unstarted in
+        ap (λ (m : Storage). posted_value r no_status 0 ExtentViolated m) (sym issued)
+        ∙ ap (λ q. posted_value q no_status 0 ExtentViolated (area meaning mounted q held.trace)) (sym w.known.0)
 
-    pub ties-first_post : {new : List Dcb} → Fits meaning mounted (Post r.name csw sense code) H → slice_get (waiting H) 0 ≡ Some r →
-        ((d : ℕ) → dcb_at new d ≡ noted (is_error code && r.related && eqb r.dcb d) (dcb_at table d)) → length new ≡ length table →
-        Ties meaning mounted (Post r.name csw sense code ∷ H) channel o (drop 1 waiters) new
-        (left ++ posted_value r csw sense code r.area ∷ [])
+    pub ties-first_post : {new : List Dcb} → Fits meaning mounted (Post r.name no_status 0 ExtentViolated) held.trace →
+        slice_get (waiting held.trace) 0 ≡ Some r →
+        ((d : ℕ) → dcb_at new d ≡ noted (is_error ExtentViolated && r.related && eqb r.dcb d) (dcb_at held.dcbs d)) →
+        length new ≡ length held.dcbs → Ties meaning mounted (record held {
+          trace = Post r.name no_status 0 ExtentViolated ∷ held.trace;
+          waiting = drop 1 held.waiting;
+          dcbs = new;
+          out = held.out ++ posted_value r no_status 0 ExtentViolated r.area ∷ [];
+        }) o
     unfolding Legal attempts posted request_named
     ties-first_post fits there dcbs count =
-        let f = facts meaning mounted H t.legal in
+        let f = facts meaning mounted held.trace t.legal in
         let n = r.name in
-        let w = waits-at meaning mounted r 0 H f there in
-        let a = active-post_waiting meaning mounted n csw sense code H w.unstarted in
-        let z = first-rest (waiting H) r there in
-        let apart = subst Apart z (waiting-apart meaning mounted H f) in
-        let v = posted_value r csw sense code r.area in
-        let related = ap (λ (q : Piece). q.related) w.known.0 in
-        let dcb = ap (λ (q : Piece). q.dcb) w.known.0 in
+        let w = waits-at r 0 held.trace f there in
+        let a = active-post_waiting n no_status 0 ExtentViolated held.trace w.unstarted in
+        let z = first-rest (waiting held.trace) r there in
+        let apart = subst Apart z (waiting-apart held.trace f) in
+        let v = posted_value r no_status 0 ExtentViolated r.area in
         record {
           legal = (fits, t.legal);
           queue = ap (λ x. drop 1 x) t.queue
-              ∙ sym (waiting-post meaning mounted n csw sense code H ∙ ap (without n) z ∙ without-first r (drop 1 (waiting H)) apart);
-          placed = placed-rest meaning mounted waiters t.placed;
+              ∙ sym (waiting-post n no_status 0 ExtentViolated held.trace ∙ ap (without n) z
+              ∙ without-first r (drop 1 (waiting held.trace)) apart);
+          placed = placed-rest held.waiting t.placed;
           device = t.device;
-          activity = activity-same meaning mounted H (Post n csw sense code ∷ H) channel.phase o a
-              (λ m e. record { active = a; request = refl; starts = refl; attempts = refl; halted = refl; covered = refl }) t.activity;
+          activity = activity-same meaning mounted (Post n no_status 0 ExtentViolated ∷ held.trace) t a
+              (λ m e. record { active = a; request = refl; starts = refl; attempts = refl; halted = refl; covered = refl });
           count = count ∙ t.count;
-          dcbs = λ d. dcbs d ∙ ap (noted (is_error code && r.related && eqb r.dcb d)) (t.dcbs d)
-              ∙ dcb-post meaning mounted n csw sense code H r.related r.dcb d related dcb;
+          dcbs = λ d. dcbs d ∙ ap (noted (is_error ExtentViolated && r.related && eqb r.dcb d)) (t.dcbs d)
+              ∙ dcb-post n (record { csw = no_status; sense = 0 }) ExtentViolated held.trace d (sym w.known.0);
           out = (
             t.out.0,
-            sym (append_assoc t.out.0 left (v ∷ [])) ∙ ap (λ x. x ++ v ∷ []) t.out.1
-                ∙ ap (λ x. posted meaning mounted H ++ x ∷ []) (waiting-value 0 there),
+            sym (append_assoc t.out.0 held.out (v ∷ [])) ∙ ap (λ x. x ++ v ∷ []) t.out.1
+                ∙ ap (λ x. posted meaning mounted held.trace ++ x ∷ []) (waiting-value there),
           );
         }

@@ -1,31 +1,36 @@
 -- Laws of legal traces.
-use Rattle.unit_book.proofs.Names.{◌≡◌, ℕ, ◌⊎◌, true, false, Some, List, [], ◌∷◌, ◌++◌, refl, sym, ap, ◌∙◌, inl, inr, subst, cases_Bool}
-use Rattle.unit_book.proofs.Names.{or_left, or_right, list_any, Csw, Meaning, Name, Piece, Code, Entry, Arrive, Start, Ran, Halted, Post}
+use Rattle.unit_book.proofs.Names.{◌≡◌, ◌⊎◌, Bool, true, false, Some, List, [], ◌∷◌, ◌++◌, refl, sym, ap, ◌∙◌, inl, inr, subst, cases_Bool}
+use Rattle.unit_book.proofs.Names.{or_left, or_right, list_any, Meaning, Name, Piece, Entry, Arrive, Start, Ran, Halted, Post}
 use Rattle.unit_book.proofs.Names.{same, is_posted, active, has_arrived, Due, ToHalt, ToPost, Free, due, Fits, FitsBy, Legal, StartFits}
 use Rattle.unit_book.proofs.Names.{First, Again}
 use Rattle.std.proofs.lemmas.Bool.{or_from}
-use Rattle.unit_book.specs.Laws.{is_of_name}
+use Rattle.unit_book.specs.Laws.{PostsLast, is_of_name}
 use Rattle.unit_book.proofs.Lists.{same-true, same-refl, no_both}
 use Rattle.unit_book.proofs.Facts.{Facts, active-is, fits-arrive, fits-start, fits-ran, fresh, post-whom, WaitsAmong, due-halt}
 use Rattle.unit_book.proofs.LegalFacts.{facts, first-waits}
 
-module _ {D : Type 0} (meaning : Meaning D) (mounted : D) where
-  -- what is active is not posted
-  unposted : (n m : Name) (H : List Entry) → is_posted n H ≡ true → is_posted m H ≡ false → same m n ≡ false
-  unposted n m H p q =
-      elim (cases_Bool (same m n)) [
-        | inl s ↦ no_both (is_posted n H) p (subst (λ (x : Name). is_posted x H ≡ false) (same-true m n s) q)
-        | inr s ↦ s
-      ]
+-- what is active is not posted
+unposted : (n m : Name) (H : List Entry) → is_posted n H ≡ true → is_posted m H ≡ false → same m n ≡ false
+unposted n m H p q =
+    elim (cases_Bool (same m n)) [
+      | inl s ↦ no_both (is_posted n H) p (subst (λ (x : Name). is_posted x H ≡ false) (same-true m n s) q)
+      | inr s ↦ s
+    ]
 
+whom-unposted : (m : Name) (H : List Entry) → (active H ≡ Some m) ⊎ ((r : Piece) × WaitsAmong H r × (r.name ≡ m)) → is_posted m H ≡ false
+whom-unposted m H (inl a) = (active-is m H a).1
+whom-unposted m H (inr w) = subst (λ (x : Name). is_posted x H ≡ false) w.2 w.1.unposted
+
+-- what an older part has, the whole has
+pub any-later : (p : Entry → Bool) (later earlier : List Entry) → list_any p earlier ≡ true → list_any p (later ++ earlier) ≡ true
+any-later p [] earlier h = h
+any-later p (e ∷ later) earlier h = or_right (p e) (list_any p (later ++ earlier)) (any-later p later earlier h)
+
+module _ {D : Type 0} (meaning : Meaning D) (mounted : D) where
   pub start-unposted : (m : Name) (H : List Entry) → Facts H → StartFits meaning mounted m H → is_posted m H ≡ false
   start-unposted m H f (First s) = subst (λ (x : Name). is_posted x H ≡ false) s.name
-      (first-waits meaning mounted s.request H f s.first).unposted
+      (first-waits s.request H f s.first).unposted
   start-unposted m H f (Again s) = (active-is m H s.active).1
-
-  whom-unposted : (m : Name) (H : List Entry) → (active H ≡ Some m) ⊎ ((r : Piece) × WaitsAmong H r × (r.name ≡ m)) → is_posted m H ≡ false
-  whom-unposted m H (inl a) = (active-is m H a).1
-  whom-unposted m H (inr w) = subst (λ (x : Name). is_posted x H ≡ false) w.2 w.1.unposted
 
   halted-active : (m : Name) (H : List Entry) (d : Due) → d ≡ due meaning mounted H → FitsBy meaning mounted d (Halted m) H →
       active H ≡ Some m
@@ -36,7 +41,7 @@ module _ {D : Type 0} (meaning : Meaning D) (mounted : D) where
   -- an entry that fits is not of a posted name
   pub not-of : (n : Name) (e : Entry) (H : List Entry) → Facts H → is_posted n H ≡ true → Fits meaning mounted e H → is_of_name n e ≡ false
   not-of n (Arrive r) H f p h =
-      let new = fresh meaning mounted r H f (fits-arrive meaning mounted r H (due meaning mounted H) h) in
+      let new = fresh r H f (fits-arrive meaning mounted r H (due meaning mounted H) h) in
       elim (cases_Bool (same r.name n)) [
         | inl s ↦ no_both (has_arrived n H) (f.1 n p) (subst (λ (x : Name). has_arrived x H ≡ false) (same-true r.name n s) new)
         | inr s ↦ s
@@ -47,18 +52,16 @@ module _ {D : Type 0} (meaning : Meaning D) (mounted : D) where
   not-of n (Post m csw sense code) H f p h = unposted n m H p (whom-unposted m H (post-whom meaning mounted m csw sense code H f h))
   not-of n _ H f p h = refl
 
-  still-posted : (n : Name) (csw : Csw) (sense : ℕ) (code : Code) (later earlier : List Entry) →
-      is_posted n (later ++ Post n csw sense code ∷ earlier) ≡ true
-  still-posted n csw sense code [] earlier = or_left (same n n) (is_posted n earlier) (same-refl n)
-  still-posted n csw sense code (e ∷ later) earlier = or_right _ (is_posted n (later ++ Post n csw sense code ∷ earlier))
-      (still-posted n csw sense code later earlier)
-
-  pub posts-last : (n : Name) (csw : Csw) (sense : ℕ) (code : Code) (later earlier : List Entry) →
-      Legal meaning mounted (later ++ Post n csw sense code ∷ earlier) → list_any (is_of_name n) later ≡ false
+  none-later : (n : Name) (later earlier : List Entry) → is_posted n earlier ≡ true → Legal meaning mounted (later ++ earlier) →
+      list_any (is_of_name n) later ≡ false
   unfolding Legal
-  posts-last n csw sense code [] earlier l = refl
-  posts-last n csw sense code (e ∷ later) earlier l =
-      let G = later ++ Post n csw sense code ∷ earlier in
+  none-later n [] earlier p l = refl
+  none-later n (e ∷ later) earlier p l =
+      let G = later ++ earlier in
       or_from (is_of_name n e) (list_any (is_of_name n) later)
-      (not-of n e G (facts meaning mounted G l.1) (still-posted n csw sense code later earlier) l.0)
-      (posts-last n csw sense code later earlier l.1)
+      (not-of n e G (facts meaning mounted G l.1) (any-later _ later earlier p) l.0)
+      (none-later n later earlier p l.1)
+
+pub posts-last : {D : Type 0} (meaning : Meaning D) → PostsLast meaning
+posts-last meaning mounted n csw sense code later earlier l =
+    none-later meaning mounted n later (Post n csw sense code ∷ earlier) (or_left (same n n) (is_posted n earlier) (same-refl n)) l

@@ -1,13 +1,13 @@
 -- What each call of a book keeps: a legal trace with nothing due, and that what is posted is out.
-use Rattle.unit_book.proofs.Names.{◌≡◌, ◌≤◌, ℕ, suc, ◌+◌, Bool, true, false, Option, Some, None, List, [], ◌∷◌, ◌++◌, refl, sym, ap, ◌∙◌}
-use Rattle.unit_book.proofs.Names.{arith, inl, inr, subst, cases_Bool, append-nil, ExtentViolated, Purged, Extent, Meaning, Place, State}
-use Rattle.unit_book.proofs.Names.{length_of, is_running, no_status, PostedState, Name, Piece, Scope, Starting, Started, Violated}
+use Rattle.unit_book.proofs.Names.{empty_status, ◌≡◌, ◌≤◌, ℕ, suc, ◌+◌, Bool, true, false, Option, Some, None, List, [], ◌∷◌, ◌++◌, refl}
+use Rattle.unit_book.proofs.Names.{sym, ap, ◌∙◌}
+use Rattle.unit_book.proofs.Names.{arith, inl, inr, subst, cases_Bool, append-nil, ExtentViolated, Purged, Extent, Meaning}
+use Rattle.unit_book.proofs.Names.{length_of, no_status, PostedState, Name, Piece, Scope, Starting, Started, Violated}
 use Rattle.unit_book.proofs.Names.{NothingRuns, RanSome, Interruption, NothingPending, TriedAgain, WasPosted, Mode, Entry, Opened, Arrive}
-use Rattle.unit_book.proofs.Names.{Start, Ran, Close, Reset, Post, arrivals, arrived_of, active, is_open, StillRunning, still_runs}
-use Rattle.unit_book.proofs.Names.{active_phase, active_phase_by, current, Free, due, Legal, StartFits, First, Again, OfActive, OfFirst}
+use Rattle.unit_book.proofs.Names.{Start, Ran, Close, Reset, Post, arrivals, arrived_of, active, is_open, still_runs}
+use Rattle.unit_book.proofs.Names.{active_phase, current, Free, due, Legal, StartFits, First, Again, OfActive, OfFirst}
 use Rattle.unit_book.proofs.Names.{CanPurge, posted, after_dooms, Book, running_name_by, Adds, Extends, MayStart, MayFirst, MayAgain}
 use Rattle.unit_book.proofs.Names.{StartsBook, RunsBook, InterruptsBook, PurgesBy, covers_awaiting, after_purge}
-use Rattle.ccw_programs.specs.declared.context.State.TheVariants.{Running as Runs}
 use Rattle.unit_book.proofs.Names.{ProcessingMethod}
 use Rattle.ccw_programs.proofs.StepLaws.{steps_within-running}
 use Rattle.unit_book.specs.declared.answer.Running.{Running}
@@ -17,14 +17,11 @@ use Rattle.unit_book.specs.Legal.{RanFits}
 use Rattle.unit_book.specs.Answers.{OpensBook, RunsOn}
 use Rattle.unit_book.specs.Controls.{PurgesBook, ClosesBy, ClosesBook}
 use Rattle.unit_book.proofs.Dooms.{since-is}
-use Rattle.unit_book.proofs.WorldTraces.{Grows, grows-not, grows-open, grows-arrive, grows-start, grows-ran, grows-post, grows-close}
+use Rattle.unit_book.proofs.Runs.{runs-running, running-phase}
+use Rattle.unit_book.proofs.Names.{is_halted}
+use Rattle.unit_book.proofs.WorldTraces.{Grows, SoundTrace, grows-not, grows-open, grows-arrive, grows-start, grows-ran, grows-post}
+use Rattle.unit_book.proofs.WorldTraces.{grows-close}
 use Rattle.unit_book.proofs.WorldTraces.{grows-reset, grows-purge, grows-purged}
-
--- one command is left at least, where a program runs
-runs-running : (b : Bool) (place : Place) (state : State) → still_runs (active_phase_by b place state) ≡ true →
-    (active_phase_by b place state ≡ StillRunning) × (is_running state ≡ true)
-runs-running false place Runs h = (refl, refl)
-runs-running _ place _ h = absurd cc
 
 module _ {D : Type 0} (meaning : Meaning D) where
   -- A CALL KEEPS A BOOK: the trace stays legal and nothing is due; these requests arrived; what was posted is out
@@ -42,9 +39,12 @@ module _ {D : Type 0} (meaning : Meaning D) where
   abbrev pub Sound : Book D → Type 0
   Sound b = Legal meaning b.mounted b.trace × (due meaning b.mounted b.trace ≡ Free)
 
-  keeps-posts : (old new : Book D) (H : List Entry) (again : Bool) (more : List Piece) → Extends meaning old H again new →
+  sound-trace : (b : Book D) → Sound b → SoundTrace meaning b.mounted b.trace
+  sound-trace b s = record { legal = s.0; settled = s.1 }
+
+  keeps-posts : (old : Book D) {new : Book D} (H : List Entry) (again : Bool) {more : List Piece} → Extends meaning old H again new →
       Grows meaning old.mounted old.trace H more → Keeps old more new
-  keeps-posts old new H again more p g =
+  keeps-posts old H again p g =
       let s = since-is meaning old.mounted old.trace H g.values g.posted_is in
       rw p (record {
         mounted = refl;
@@ -58,10 +58,10 @@ module _ {D : Type 0} (meaning : Meaning D) where
       })
 
   -- a call that posts nothing
-  keeps-adds : (old new : Book D) (H : List Entry) (again : Bool) → new ≡ record old { trace = H; awaits = again; spare = new.spare } →
-      Grows meaning old.mounted old.trace H [] →
+  keeps-adds : (old : Book D) {new : Book D} (H : List Entry) (again : Bool) →
+      new ≡ record old { trace = H; awaits = again; spare = new.spare } → Grows meaning old.mounted old.trace H [] →
       posted meaning old.mounted H ≡ posted meaning old.mounted old.trace → Keeps old [] new
-  keeps-adds old new H again p g q =
+  keeps-adds old H again p g q =
       rw p (record {
         mounted = refl;
         isc = refl;
@@ -75,7 +75,7 @@ module _ {D : Type 0} (meaning : Meaning D) where
 
   pub keeps-again : (old new : Book D) (again : Bool) → Sound old → new ≡ record old { awaits = again; spare = new.spare } →
       Keeps old [] new
-  keeps-again old new again s p = keeps-adds old new old.trace again p (grows-not meaning old.mounted old.trace s.0 s.1) refl
+  keeps-again old new again s p = keeps-adds old old.trace again p (grows-not (sound-trace old s)) refl
 
   -- nothing changes
   pub keeps-same : (old new : Book D) → Sound old → new ≡ old → Keeps old [] new
@@ -84,16 +84,16 @@ module _ {D : Type 0} (meaning : Meaning D) where
   pub keeps-arrive : (old new : Book D) (r : Piece) → Sound old → r.name.seq ≡ arrived_of r.name.task old.trace + 1 →
       Extends meaning old (after_dooms (Arrive r ∷ old.trace)) old.awaits new → Keeps old (r ∷ []) new
   keeps-arrive old new r s n p =
-      keeps-posts old new (after_dooms (Arrive r ∷ old.trace)) old.awaits (r ∷ []) p
-      (grows-arrive meaning old.mounted r old.trace s.0 s.1 n)
+      keeps-posts old (after_dooms (Arrive r ∷ old.trace)) old.awaits p
+      (grows-arrive r (sound-trace old s) n)
 
   pub keeps-open : (old new : Book D) (dcb : ℕ) (method : ProcessingMethod) (extents : List Extent) → Sound old →
       OpensBook meaning old dcb method extents new →
       Keeps old [] new
   unfolding posted
   keeps-open old new dcb method extents s h =
-      keeps-adds old new (Opened dcb method extents ∷ old.trace) old.awaits h.adds
-      (grows-open meaning old.mounted dcb method extents old.trace s.0 s.1 h.fits) refl
+      keeps-adds old (Opened dcb method extents ∷ old.trace) old.awaits h.adds
+      (grows-open dcb method extents (sound-trace old s) h.fits) refl
 
   start-fits : (old : Book D) (n : Name) → MayStart meaning old n → StartFits meaning old.mounted n old.trace
   start-fits old n (MayFirst f) = First f
@@ -102,11 +102,11 @@ module _ {D : Type 0} (meaning : Meaning D) where
   pub keeps-start : (old new : Book D) (answer : Starting) → Sound old → StartsBook meaning old answer new → Keeps old [] new
   unfolding posted
   keeps-start old new (Started n) s h =
-      keeps-adds old new (Start n ∷ old.trace) false h.1 (grows-start meaning old.mounted n old.trace s.0 s.1 (start-fits old n h.0)) refl
+      keeps-adds old (Start n ∷ old.trace) false h.1 (grows-start n (sound-trace old s) (start-fits old n h.0)) refl
   keeps-start old new (Violated n) s h =
       let f = OfFirst (record { fails = h.0; code_is = refl; csw_is = refl; sense_is = refl }) in
-      keeps-posts old new (after_dooms (Post n no_status 0 ExtentViolated ∷ old.trace)) false [] h.1
-      (grows-post meaning old.mounted n no_status 0 ExtentViolated old.trace s.0 s.1 f)
+      keeps-posts old (after_dooms (Post n no_status 0 ExtentViolated ∷ old.trace)) false h.1
+      (grows-post n empty_status ExtentViolated (sound-trace old s) f)
   keeps-start old new _ s h = keeps-same old new s h.2
 
   -- a program that is to run is that of the active request, and goes
@@ -123,29 +123,35 @@ module _ {D : Type 0} (meaning : Meaning D) where
           | inr b ↦ let e' = rw b at e in absurd cc
         ]
 
-  ran-fits : (old new : Book D) (max commands : ℕ) (pending : Bool) → 1 ≤ max → (h : RunsOn meaning old max commands pending new) →
-      RanFits meaning old.mounted h.name commands old.trace
-  ran-fits old new max commands pending m h =
+  ran-fits : (old : Book D) {new : Book D} {max commands : ℕ} {pending : Bool} → 1 ≤ max →
+      (h : RunsOn meaning old max commands pending new) → RanFits meaning old.mounted h.name commands old.trace
+  ran-fits old m h =
       let p = current meaning old.mounted old.trace in
       let a = running-is old.mounted old.trace h.name h.running in
-      let g = runs-running _ p.place p.place.state a.1 in
-      let n : length_of meaning p ≡ suc _ = steps_within-running meaning 4096 p g.1 in
-      record { active = a.0; running = g.0; some = omega (arith, m, n, h.count); left = omega (arith, h.count) }
+      let g = runs-running (is_halted h.name old.trace) p.place p.place.state a.1 in
+      let state_is = g.1 in
+      let n : length_of meaning p ≡ suc _ = steps_within-running meaning 4096 p (rw state_is refl) in
+      record {
+        active = a.0;
+        running = running-phase (is_halted h.name old.trace) p.place p.place.state g;
+        some = omega (arith, m, n, h.count);
+        left = omega (arith, h.count);
+      }
 
   pub keeps-run : (old new : Book D) (max : ℕ) (answer : Running) → Sound old → 1 ≤ max → RunsBook meaning old max answer new →
       Keeps old [] new
   unfolding posted
   keeps-run old new max NothingRuns s m h = keeps-same old new s h.1
   keeps-run old new max (RanSome commands pending) s m h =
-      keeps-adds old new (Ran h.name commands ∷ old.trace) old.awaits h.adds
-      (grows-ran meaning old.mounted h.name commands old.trace s.0 s.1 (ran-fits old new max commands pending m h)) refl
+      keeps-adds old (Ran h.name commands ∷ old.trace) old.awaits h.adds
+      (grows-ran h.name commands (sound-trace old s) (ran-fits old m h)) refl
 
   pub keeps-interrupt : (old new : Book D) (answer : Interruption) → Sound old → InterruptsBook meaning old answer new → Keeps old [] new
   keeps-interrupt old new NothingPending s h = keeps-same old new s h.1
   keeps-interrupt old new (TriedAgain n) s h = keeps-again old new true s h.2
   keeps-interrupt old new (WasPosted n code) s h =
-      keeps-posts old new (after_dooms (Post n h.1.csw h.1.sense code ∷ old.trace)) false [] h.1.extends
-      (grows-post meaning old.mounted n h.1.csw h.1.sense code old.trace s.0 s.1 (OfActive h.1.fits))
+      keeps-posts old (after_dooms (Post n h.1.status.csw h.1.status.sense code ∷ old.trace)) false h.1.extends
+      (grows-post n h.1.status code (sound-trace old s) (OfActive h.1.fits))
 
   pub keeps-purge : (old new : Book D) (scope : Scope) (mode : Mode) (answer : Purging) → Sound old →
       CanPurge meaning old.mounted scope old.trace →
@@ -155,24 +161,24 @@ module _ {D : Type 0} (meaning : Meaning D) where
     after = after_purge meaning old.mounted scope mode old.trace
 
     grows : Grows meaning old.mounted old.trace after []
-    grows = grows-purge meaning old.mounted scope mode old.trace s.0 s.1 can
+    grows = grows-purge scope mode (sound-trace old s) can
 
     by_test : (b : Bool) → PurgesBy meaning b old scope mode new → Keeps old [] new
-    by_test false p = keeps-posts old new after old.awaits [] p grows
+    by_test false p = keeps-posts old after old.awaits p grows
     by_test true p =
-        keeps-posts old new (Post p.name p.csw p.sense Purged ∷ after) false [] p.extends
-        (grows-purged meaning old.mounted p.name p.csw p.sense old.trace after grows p.fits)
+        keeps-posts old (Post p.name p.status.csw p.status.sense Purged ∷ after) false p.extends
+        (grows-purged p.name p.status grows p.fits)
 
   pub keeps-close : (old new : Book D) (dcb : ℕ) (answer : Closing) → Sound old → ClosesBook meaning old dcb answer new → Keeps old [] new
   keeps-close old new dcb answer s h =
       elim (cases_Bool (is_open dcb old.trace)) [
         | inl o ↦
-            keeps-posts old new (after_dooms (Close dcb ∷ old.trace)) old.awaits [] (subst (λ b. ClosesBy meaning b old dcb new) o h.closes)
-            (grows-close meaning old.mounted dcb old.trace s.0 s.1 o)
+            keeps-posts old (after_dooms (Close dcb ∷ old.trace)) old.awaits (subst (λ b. ClosesBy meaning b old dcb new) o h.closes)
+            (grows-close dcb (sound-trace old s) o)
         | inr o ↦ keeps-same old new s (subst (λ b. ClosesBy meaning b old dcb new) o h.closes)
       ]
 
   pub keeps-reset : (old new : Book D) (dcb : ℕ) → Sound old → is_open dcb old.trace ≡ true → Adds old (Reset dcb) new → Keeps old [] new
   unfolding posted
   keeps-reset old new dcb s o h =
-      keeps-adds old new (Reset dcb ∷ old.trace) old.awaits h (grows-reset meaning old.mounted dcb old.trace s.0 s.1 o) refl
+      keeps-adds old (Reset dcb ∷ old.trace) old.awaits h (grows-reset dcb (sound-trace old s) o) refl

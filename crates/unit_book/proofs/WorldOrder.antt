@@ -45,7 +45,7 @@ module _ {D : Type 0} (meaning : Meaning D) (w : World D) (k : Kept meaning w) w
           | inl a ↦
               let few : length A + at + 1 ≤ arrived_of task H = subst (λ (x : Name). x.seq ≤ arrived_of x.task H) n (known.2 r.name a) in
               absurd (omega (arith, few))
-          | inr a ↦ fresh-start meaning w.book.mounted r.name H known a
+          | inr a ↦ fresh-start r.name H known a
         ]
 
   started-sent : (task : ℕ) → filter (λ r. has_started r.name H) (requests_of task (arrivals H)) ≡ filter (λ r. has_started r.name H)

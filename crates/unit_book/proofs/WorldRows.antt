@@ -1,7 +1,8 @@
 -- Worked rows of worlds, by computation: one step after another, from an opening world to a finished one.
-use Rattle.unit_book.proofs.Names.{◌≡◌, ℕ, true, false, List, [], ◌∷◌, refl, arith, Csw, Code, Ended, Purged, Meaning, Printer, after}
+use Rattle.unit_book.proofs.Names.{◌≡◌, ℕ, true, List, [], ◌∷◌, refl, arith, Csw, Code, Ended, Purged, Meaning, Printer, after}
 use Rattle.unit_book.proofs.Names.{no_status, PostedState, Name, Piece, Started, RanSome, WasPosted, Quiesce, Entry, Opened, Arrive, Ran}
-use Rattle.unit_book.proofs.Names.{Post, arrivals, waiting, started, active, request_named, extents_of, flag, attempts, stand, newest, Legal}
+use Rattle.unit_book.proofs.Names.{Post, arrivals, waiting, started, active, request_named, extents_of, flag, attempts, stand, newest}
+use Rattle.unit_book.proofs.Names.{Legal}
 use Rattle.unit_book.proofs.Names.{WithVerdict, due, posted, posted_value, MayFirst}
 use Rattle.unit_book.proofs.Names.{Output}
 use Rattle.std.proofs.Common.{replicate}
@@ -13,7 +14,8 @@ use Rattle.unit_book.specs.declared.answer.Purging.TheVariants.{Quiet}
 use Rattle.unit_book.specs.declared.entry.Entry.TheVariants.{Start as StartOf, Purge as PurgeOf}
 use Rattle.unit_book.specs.Trace.{no_request}
 use Rattle.unit_book.specs.Book.{opening}
-use Rattle.unit_book.specs.World.{World, one_more_of_task, without_first, Accepts, Accept, Take, Start, Run, Interrupt, Purge, Deliver, Collect}
+use Rattle.unit_book.specs.World.{World, one_more_of_task, without_first, Accepts, Accept, Take, Start, Run, Interrupt, Purge, Deliver}
+use Rattle.unit_book.specs.World.{Collect}
 use Rattle.unit_book.specs.World.{Reaches, Stay, Go, IsOpening, IsFinished}
 use Rattle.unit_book.specs.WorldLaws.{posts_of}
 
@@ -169,8 +171,14 @@ request_is_posted =
     = Go w3 (Run 5 (RanSome 1 true) (omega arith) (record { name = n 1; running = refl; count = refl; adds = refl; pending_is = refl })
     refl) in
     let w5 : Reaches quiet began posted_world
-    = Go w4 (Interrupt (WasPosted (n 1) Ended)
-    (refl, record { csw = normal_end; sense = 0; fits = record { active = refl; as_ended = WithVerdict refl refl }; extends = refl })
+    = Go w4 (Interrupt (WasPosted (n 1) Ended) (
+      refl,
+      record {
+        status = record { csw = normal_end; sense = 0 };
+        fits = record { active = refl; as_ended = WithVerdict refl refl };
+        extends = refl;
+      },
+    )
     refl) in
     let w6 : Reaches quiet began (delivered (value normal_end Ended) posted_world)
     = Go w5 (Deliver (record { value = value normal_end Ended; first = refl; room = omega arith; is = refl })) in

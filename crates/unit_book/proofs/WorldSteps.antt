@@ -1,34 +1,18 @@
 -- What each step of a world keeps: what was sent arrived or is in flight, and what was posted is got, on its way back
 -- or out.
-use Rattle.unit_book.proofs.Names.{◌≡◌, ◌⊎◌, ℕ, zero, suc, ◌+◌, ◌==◌, true, Some, List, [], ◌∷◌, ◌++◌, append_assoc, length, refl, sym, ap}
+use Rattle.unit_book.proofs.Names.{◌≡◌, ◌⊎◌, ℕ, ◌+◌, ◌==◌, true, Some, List, [], ◌∷◌, ◌++◌, append_assoc, length, refl, sym, ap}
 use Rattle.unit_book.proofs.Names.{◌∙◌, arith, eqb, inl, inr, subst, cases_Bool, eqb-true, eq-eqb, append-nil, filter-append, slice_get}
 use Rattle.unit_book.proofs.Names.{drop, slice_get-append_right, Meaning, PostedState, Name, Piece, arrivals, arrived_of, Legal, posted}
 use Rattle.unit_book.proofs.Names.{Book, Each}
 use Rattle.unit_book.specs.Legal.{Settled}
-use Rattle.unit_book.specs.World.{World, requests_of, values_of, one_more_of_task, without_first, InBook, Takes, Step, Accept, Take, Open, Start, Run}
+use Rattle.unit_book.specs.World.{World, requests_of, values_of, one_more_of_task, without_first, InBook, Takes, Step, Accept, Take, Open}
+use Rattle.unit_book.specs.World.{Start, Run}
 use Rattle.unit_book.specs.World.{Interrupt, Purge, Close, Reset, Deliver, Collect, Reaches, Stay, Go, IsOpening}
 use Rattle.unit_book.proofs.Facts.{Each-behind}
 use Rattle.unit_book.proofs.WorldTraces.{opened-only}
 use Rattle.unit_book.proofs.WorldBooks.{Keeps, Sound, keeps-arrive, keeps-open, keeps-start, keeps-run, keeps-interrupt, keeps-purge}
 use Rattle.unit_book.proofs.WorldBooks.{keeps-close, keeps-reset}
-use Rattle.unit_book.proofs.Lists.{first-rest}
-
--- what is at a place of a list with one more item
-at-push : {X : Type 0} (xs : List X) (x y : X) (at : ℕ) → slice_get (xs ++ x ∷ []) at ≡ Some y →
-    (slice_get xs at ≡ Some y) ⊎ ((at ≡ length xs) × (y ≡ x))
-at-push [] x y zero h = inr (refl, cc)
-at-push [] x y (suc at) h = absurd cc
-at-push (z ∷ xs) x y zero h = inl h
-at-push (z ∷ xs) x y (suc at) h = by_sum (at-push xs x y at h) where
-  by_sum : (slice_get xs at ≡ Some y) ⊎ ((at ≡ length xs) × (y ≡ x)) →
-      (slice_get (z ∷ xs) (suc at) ≡ Some y) ⊎ ((suc at ≡ length (z ∷ xs)) × (y ≡ x))
-  by_sum (inl e) = inl e
-  by_sum (inr e) = inr (ap suc e.0, e.1)
-
-name-of : (n : Name) (task seq : ℕ) → n.task ≡ task → n.seq ≡ seq → n ≡ record { task = task; seq = seq }
-name-of n task seq t s =
-    let f : ℕ → ℕ → Name = λ x y. record { task = x; seq = y } in
-    ap (λ x. f x n.seq) t ∙ ap (λ y. f task y) s
+use Rattle.unit_book.proofs.Lists.{at-push, first-rest, name-is}
 
 module _ {D : Type 0} (meaning : Meaning D) where
   -- WHAT HOLDS BETWEEN STEPS
@@ -45,9 +29,9 @@ module _ {D : Type 0} (meaning : Meaning D) where
   sound w k = (k.legal, k.settled)
 
   -- A CALL OF THE BOOK, at which these requests arrive
-  call-kept : (w : World D) (book : Book D) (more rest : List Piece) → Kept w → Keeps meaning w.book more book → w.flight ≡ more ++ rest →
-      Kept (record w { book = book; flight = rest })
-  call-kept w book more rest k c before = record {
+  call-kept : (w : World D) {book : Book D} {more : List Piece} (rest : List Piece) → Kept w → Keeps meaning w.book more book →
+      w.flight ≡ more ++ rest → Kept (record w { book = book; flight = rest })
+  call-kept w {book} {more} rest k c before = record {
     received = received;
     numbered = k.numbered;
     for_unit = k.for_unit;
@@ -79,7 +63,7 @@ module _ {D : Type 0} (meaning : Meaning D) where
         ∙ ap (λ x. G ++ x) (sym o)
 
   in-book : {old new : World D} → Kept old → InBook old new → Keeps meaning old.book [] new.book → Kept new
-  in-book {old} {new} k e c = subst Kept (sym e) (call-kept old new.book [] old.flight k c refl)
+  in-book {old} {new} k e c = subst Kept (sym e) (call-kept old old.flight k c refl)
 
   -- A REQUEST IS ACCEPTED
   accept-kept : (w : World D) (r : Piece) → Kept w → r.unit ≡ w.unit → r.name.seq ≡ length (w.sent r.name.task) + 1 →
@@ -109,16 +93,19 @@ module _ {D : Type 0} (meaning : Meaning D) where
     numbered : (task at : ℕ) (q : Piece) → slice_get (sent task) at ≡ Some q → q.name ≡ record { task = task; seq = at + 1 }
     numbered task at q h =
         elim (cases_Bool (eqb r.name.task task)) [
-          | inl t ↦ of_task (eqb-true r.name.task task t) (at-push (w.sent task) r q at (rw t at h))
+          | inl t ↦ of_task (eqb-true r.name.task task t) (at-push (w.sent task) r at) (rw t at h)
           | inr t ↦ k.numbered task at q (rw t at h)
         ] where
-          of_task : r.name.task ≡ task → (slice_get (w.sent task) at ≡ Some q) ⊎ ((at ≡ length (w.sent task)) × (q ≡ r)) →
-              q.name ≡ record { task = task; seq = at + 1 }
-          of_task t (inl e) = k.numbered task at q e
-          of_task t (inr e) =
+          of_task : r.name.task ≡ task → slice_get (w.sent task ++ r ∷ []) at ≡ slice_get (w.sent task) at
+              ⊎ ((at ≡ length (w.sent task)) × (slice_get (w.sent task ++ r ∷ []) at ≡ Some r)) →
+              slice_get (w.sent task ++ r ∷ []) at ≡ Some q → q.name ≡ record { task = task; seq = at + 1 }
+          of_task t (inl e) g = k.numbered task at q (sym e ∙ g)
+          of_task t (inr e) g =
+              let last : Some r ≡ Some q = sym e.1 ∙ g in
+              let i : r ≡ q = cc in
               let n : r.name.seq ≡ length (w.sent task) + 1 = subst (λ x. r.name.seq ≡ length (w.sent x) + 1) t next in
-              name-of q.name task (at + 1) (ap (λ (p : Piece). p.name.task) e.1 ∙ t)
-              (ap (λ (p : Piece). p.name.seq) e.1 ∙ n ∙ ap (λ x. x + 1) (sym e.0))
+              name-is q.name (record { task = task; seq = at + 1 }) (ap (λ (p : Piece). p.name.task) (sym i) ∙ t)
+              (ap (λ (p : Piece). p.name.seq) (sym i) ∙ n ∙ ap (λ x. x + 1) (sym e.0))
 
     for_unit : (task : ℕ) → Each (λ q. q.unit ≡ w.unit) (sent task)
     for_unit task =
@@ -145,7 +132,7 @@ module _ {D : Type 0} (meaning : Meaning D) where
       let e = first-rest old.flight s.request s.first in
       let c = keeps-arrive meaning old.book new.book s.request (sound old k) (next-number old s.request (drop 1 old.flight) k e)
       s.arrives in
-      subst Kept (sym s.is) (call-kept old new.book (s.request ∷ []) (drop 1 old.flight) k c e)
+      subst Kept (sym s.is) (call-kept old (drop 1 old.flight) k c e)
 
   -- A VALUE GOES BACK
   deliver-kept : (w : World D) (value : PostedState) → Kept w → slice_get w.book.out 0 ≡ Some value →

@@ -1,7 +1,8 @@
 -- How the calls of a book lengthen its trace: it stays legal, nothing is due behind it, and its posts grow.
-use Rattle.unit_book.proofs.Names.{◌≡◌, ℕ, ◌+◌, Bool, true, List, [], ◌∷◌, ◌++◌, append_assoc, refl, sym, ap, ◌∙◌, subst, append-nil}
-use Rattle.unit_book.proofs.Names.{list_all, Csw, Code, Purged, Extent, Meaning, PostedState, Name, Piece, Scope, Mode, Entry, Opened}
-use Rattle.unit_book.proofs.Names.{Arrive, Start, Ran, Halted, Purge, Close, Reset, Post, arrivals, arrived_of, request_named, doomed, is_open}
+use Rattle.unit_book.proofs.Names.{◌≡◌, ℕ, ◌+◌, true, List, [], ◌∷◌, ◌++◌, append_assoc, refl, sym, ap, ◌∙◌, subst, append-nil}
+use Rattle.unit_book.proofs.Names.{list_all, Status, Code, Purged, Extent, Meaning, PostedState, Name, Piece, Scope, Mode, Entry, Opened}
+use Rattle.unit_book.proofs.Names.{Arrive, Start, Ran, Halted, Purge, Close, Reset, Post, arrivals, arrived_of, request_named, doomed}
+use Rattle.unit_book.proofs.Names.{is_open}
 use Rattle.unit_book.proofs.Names.{area, Free, due, doomed_first, FitsBy, Legal, StartFits, PostFits, OfActive, PostsActive, CanPurge}
 use Rattle.unit_book.proofs.Names.{posted, posted_value, after_dooms, halted_by, after_purge}
 use Rattle.unit_book.proofs.Names.{ProcessingMethod}
@@ -24,29 +25,31 @@ module _ {D : Type 0} (meaning : Meaning D) (mounted : D) where
     pub values : List PostedState
     pub posted_is : posted meaning mounted G ≡ posted meaning mounted H ++ values
 
-  none-more : {X : Type 0} (xs ys : List X) → xs ≡ ys → xs ≡ ys ++ []
-  none-more xs ys e = e ∙ sym (append-nil ys)
+  -- a legal trace with nothing due
+  pub record SoundTrace (H : List Entry) : Type 0 where
+    pub legal : Legal meaning mounted H
+    pub settled : due meaning mounted H ≡ Free
 
+module _ {D : Type 0} {meaning : Meaning D} {mounted : D} {H : List Entry} where
   -- what leaves the posts as they are
-  grows-quietly : (H G : List Entry) → Legal meaning mounted G → due meaning mounted G ≡ Free → arrivals G ≡ arrivals H →
-      posted meaning mounted G ≡ posted meaning mounted H → Grows H G []
-  grows-quietly H G l s a p =
-      record {
-        legal = l;
-        settled = s;
-        arrived = none-more (arrivals G) (arrivals H) a;
-        values = [];
-        posted_is = none-more (posted meaning mounted G) (posted meaning mounted H) p;
-      }
+  grows-quietly : (G : List Entry) → Legal meaning mounted G → due meaning mounted G ≡ Free → arrivals G ≡ arrivals H →
+      posted meaning mounted G ≡ posted meaning mounted H → Grows meaning mounted H G []
+  grows-quietly G l s a p = record {
+    legal = l;
+    settled = s;
+    arrived = a ∙ sym (append-nil (arrivals H));
+    values = [];
+    posted_is = p ∙ sym (append-nil (posted meaning mounted H));
+  }
 
-  pub grows-not : (H : List Entry) → Legal meaning mounted H → due meaning mounted H ≡ Free → Grows H H []
-  grows-not H l s = grows-quietly H H l s refl refl
+  pub grows-not : SoundTrace meaning mounted H → Grows meaning mounted H H []
+  grows-not s = grows-quietly H s.legal s.settled refl refl
 
   -- and then the dooms
-  grows-dooms : (H G : List Entry) (more : List Piece) (vs : List PostedState) → Legal meaning mounted G →
-      due meaning mounted G ≡ doomed_first (doomed G) →
-      arrivals G ≡ arrivals H ++ more → posted meaning mounted G ≡ posted meaning mounted H ++ vs → Grows H (after_dooms G) more
-  grows-dooms H G more vs l d a p =
+  grows-dooms : {more : List Piece} (G : List Entry) (vs : List PostedState) → Legal meaning mounted G →
+      due meaning mounted G ≡ doomed_first (doomed G) → arrivals G ≡ arrivals H ++ more →
+      posted meaning mounted G ≡ posted meaning mounted H ++ vs → Grows meaning mounted H (after_dooms G) more
+  grows-dooms G vs l d a p =
       let s = dooms-settle meaning mounted G d l in
       let m = posted-more meaning mounted (doomed G) G in
       record {
@@ -57,97 +60,91 @@ module _ {D : Type 0} (meaning : Meaning D) (mounted : D) where
         posted_is = m.1 ∙ ap (λ x. x ++ m.0) p ∙ append_assoc (posted meaning mounted H) vs m.0;
       }
 
-  pub grows-open : (d : ℕ) (method : ProcessingMethod) (x : List Extent) (H : List Entry) → Legal meaning mounted H → due meaning mounted H ≡ Free →
-      OpenFits meaning mounted d x H → Grows H (Opened d method x ∷ H) []
-  unfolding Legal arrivals posted
-  grows-open d method x H l s f =
-      grows-quietly H (Opened d method x ∷ H) (fits-free meaning mounted (Opened d method x) H s f, l)
-      (settled-open meaning mounted d method x H s) refl refl
+  -- dooms of what neither arrives nor is posted
+  dooms-quietly : (G : List Entry) → Legal meaning mounted G → due meaning mounted G ≡ doomed_first (doomed G) → arrivals G ≡ arrivals H →
+      posted meaning mounted G ≡ posted meaning mounted H → Grows meaning mounted H (after_dooms G) []
+  dooms-quietly G l d a p =
+      grows-dooms G [] l d (a ∙ sym (append-nil (arrivals H))) (p ∙ sym (append-nil (posted meaning mounted H)))
 
-  pub grows-arrive : (r : Piece) (H : List Entry) → Legal meaning mounted H → due meaning mounted H ≡ Free →
-      r.name.seq ≡ arrived_of r.name.task H + 1 → Grows H (after_dooms (Arrive r ∷ H)) (r ∷ [])
+  pub grows-open : (d : ℕ) (method : ProcessingMethod) (x : List Extent) → SoundTrace meaning mounted H → OpenFits meaning mounted d x H →
+      Grows meaning mounted H (Opened d method x ∷ H) []
   unfolding Legal arrivals posted
-  grows-arrive r H l s f =
-      grows-dooms H (Arrive r ∷ H) (r ∷ []) [] (fits-free meaning mounted (Arrive r) H s f, l)
+  grows-open d method x s f =
+      grows-quietly (Opened d method x ∷ H) (fits-free meaning mounted (Opened d method x) H s.settled f, s.legal)
+      (settled-open meaning mounted d method x H s.settled) refl refl
+
+  pub grows-arrive : (r : Piece) → SoundTrace meaning mounted H → r.name.seq ≡ arrived_of r.name.task H + 1 →
+      Grows meaning mounted H (after_dooms (Arrive r ∷ H)) (r ∷ [])
+  unfolding Legal arrivals posted
+  grows-arrive r s f =
+      grows-dooms (Arrive r ∷ H) [] (fits-free meaning mounted (Arrive r) H s.settled f, s.legal)
       (due-no_halt meaning mounted (Arrive r ∷ H) (λ n a. refl)) refl (sym (append-nil (posted meaning mounted H)))
 
-  pub grows-start : (n : Name) (H : List Entry) → Legal meaning mounted H → due meaning mounted H ≡ Free → StartFits meaning mounted n H →
-      Grows H (Start n ∷ H) []
+  pub grows-start : (n : Name) → SoundTrace meaning mounted H → StartFits meaning mounted n H → Grows meaning mounted H (Start n ∷ H) []
   unfolding Legal arrivals posted
-  grows-start n H l s f = grows-quietly H (Start n ∷ H) (fits-free meaning mounted (Start n) H s f, l)
-      (settled-start meaning mounted n H s) refl refl
+  grows-start n s f = grows-quietly (Start n ∷ H) (fits-free meaning mounted (Start n) H s.settled f, s.legal)
+      (settled-start meaning mounted n H s.settled) refl refl
 
-  pub grows-ran : (n : Name) (j : ℕ) (H : List Entry) → Legal meaning mounted H → due meaning mounted H ≡ Free →
-      RanFits meaning mounted n j H →
-      Grows H (Ran n j ∷ H) []
+  pub grows-ran : (n : Name) (j : ℕ) → SoundTrace meaning mounted H → RanFits meaning mounted n j H →
+      Grows meaning mounted H (Ran n j ∷ H) []
   unfolding Legal arrivals posted
-  grows-ran n j H l s f = grows-quietly H (Ran n j ∷ H) (fits-free meaning mounted (Ran n j) H s f, l)
-      (settled-ran meaning mounted n j H s) refl refl
+  grows-ran n j s f = grows-quietly (Ran n j ∷ H) (fits-free meaning mounted (Ran n j) H s.settled f, s.legal)
+      (settled-ran meaning mounted n j H s.settled) refl refl
 
-  pub grows-post : (n : Name) (csw : Csw) (sense : ℕ) (code : Code) (H : List Entry) → Legal meaning mounted H →
-      due meaning mounted H ≡ Free →
-      PostFits meaning mounted n csw sense code H →
-      Grows H (after_dooms (Post n csw sense code ∷ H)) []
+  pub grows-post : (n : Name) (status : Status) (code : Code) → SoundTrace meaning mounted H → PostFits meaning mounted n status code H →
+      Grows meaning mounted H (after_dooms (Post n status.csw status.sense code ∷ H)) []
   unfolding Legal arrivals posted
-  grows-post n csw sense code H l s f =
-      let G = Post n csw sense code ∷ H in
-      let v = posted_value (request_named n H) csw sense code (area meaning mounted (request_named n H) H) in
-      grows-dooms H G [] (v ∷ []) (fits-free meaning mounted (Post n csw sense code) H s f, l)
-      (due-no_halt meaning mounted G (λ n a. refl)) (sym (append-nil (arrivals H))) refl
+  grows-post n status code s f =
+      let e = Post n status.csw status.sense code in
+      let v = posted_value (request_named n H) status.csw status.sense code (area meaning mounted (request_named n H) H) in
+      grows-dooms (e ∷ H) (v ∷ []) (fits-free meaning mounted e H s.settled f, s.legal)
+      (due-no_halt meaning mounted (e ∷ H) (λ n a. refl)) (sym (append-nil (arrivals H))) refl
 
-  pub grows-close : (d : ℕ) (H : List Entry) → Legal meaning mounted H → due meaning mounted H ≡ Free → is_open d H ≡ true →
-      Grows H (after_dooms (Close d ∷ H)) []
+  pub grows-close : (d : ℕ) → SoundTrace meaning mounted H → is_open d H ≡ true → Grows meaning mounted H (after_dooms (Close d ∷ H)) []
   unfolding Legal arrivals posted
-  grows-close d H l s f =
-      grows-dooms H (Close d ∷ H) [] [] (fits-free meaning mounted (Close d) H s f, l)
-      (due-no_halt meaning mounted (Close d ∷ H) (λ n a. refl))
-      (sym (append-nil (arrivals H))) (sym (append-nil (posted meaning mounted H)))
+  grows-close d s f =
+      dooms-quietly (Close d ∷ H) (fits-free meaning mounted (Close d) H s.settled f, s.legal)
+      (due-no_halt meaning mounted (Close d ∷ H) (λ n a. refl)) refl refl
 
-  pub grows-reset : (d : ℕ) (H : List Entry) → Legal meaning mounted H → due meaning mounted H ≡ Free → is_open d H ≡ true →
-      Grows H (Reset d ∷ H) []
+  pub grows-reset : (d : ℕ) → SoundTrace meaning mounted H → is_open d H ≡ true → Grows meaning mounted H (Reset d ∷ H) []
   unfolding Legal arrivals posted
-  grows-reset d H l s f = grows-quietly H (Reset d ∷ H) (fits-free meaning mounted (Reset d) H s f, l)
-      (settled-reset meaning mounted d H s) refl refl
+  grows-reset d s f = grows-quietly (Reset d ∷ H) (fits-free meaning mounted (Reset d) H s.settled f, s.legal)
+      (settled-reset meaning mounted d H s.settled) refl refl
 
   -- a purge, with the Halted that is due and the dooms
-  pub grows-purge : (scope : Scope) (mode : Mode) (H : List Entry) → Legal meaning mounted H → due meaning mounted H ≡ Free →
-      CanPurge meaning mounted scope H → Grows H (after_purge meaning mounted scope mode H) []
+  pub grows-purge : (scope : Scope) (mode : Mode) → SoundTrace meaning mounted H → CanPurge meaning mounted scope H →
+      Grows meaning mounted H (after_purge meaning mounted scope mode H) []
   unfolding Legal arrivals posted
-  grows-purge scope mode H l s f = by_due (due-is meaning mounted P) where
+  grows-purge scope mode s f = by_due (due-is meaning mounted P) where
     P : List Entry
     P = Purge scope mode ∷ H
 
     legal : Legal meaning mounted P
-    legal = (fits-free meaning mounted (Purge scope mode) H s f, l)
+    legal = (fits-free meaning mounted (Purge scope mode) H s.settled f, s.legal)
 
-    quiet : due meaning mounted P ≡ doomed_first (doomed P) → Grows H (after_dooms P) []
-    quiet d = grows-dooms H P [] [] legal d (sym (append-nil (arrivals H))) (sym (append-nil (posted meaning mounted H)))
-
-    by_due : DueIs meaning mounted P → Grows H (after_dooms (halted_by (due meaning mounted P) P)) []
-    by_due (Dooms d) =
-        subst (λ x. Grows H (after_dooms x) []) (sym (ap (λ x. halted_by x P) d ∙ halted-first (doomed P) P)) (quiet d)
-    by_due (Halts n d a b) =
-        rw d (grows-dooms H (Halted n ∷ P) [] [] (subst (λ x. FitsBy meaning mounted x (Halted n) P) (sym d) refl, legal)
-        (due-no_halt meaning mounted (Halted n ∷ P) (λ m a. refl)) (sym (append-nil (arrivals H)))
-        (sym (append-nil (posted meaning mounted H))))
+    by_due : DueIs meaning mounted P → Grows meaning mounted H (after_dooms (halted_by (due meaning mounted P) P)) []
+    by_due (Dooms d) = subst (λ x. Grows meaning mounted H (after_dooms x) []) (sym (ap (λ x. halted_by x P) d ∙ halted-first (doomed P) P))
+        (dooms-quietly P legal d refl refl)
+    by_due (Halts n d a b) = rw d (dooms-quietly (Halted n ∷ P) (subst (λ x. FitsBy meaning mounted x (Halted n) P) (sym d) refl, legal)
+        (due-no_halt meaning mounted (Halted n ∷ P) (λ m a. refl)) refl refl)
 
   -- a post as purged behind it
-  pub grows-purged : (n : Name) (csw : Csw) (sense : ℕ) (H G : List Entry) → Grows H G [] →
-      PostsActive meaning mounted n csw sense Purged G →
-      Grows H (Post n csw sense Purged ∷ G) []
+  pub grows-purged : {G : List Entry} (n : Name) (status : Status) → Grows meaning mounted H G [] →
+      PostsActive meaning mounted n status Purged G → Grows meaning mounted H (Post n status.csw status.sense Purged ∷ G) []
   unfolding Legal arrivals posted without
-  grows-purged n csw sense H G g f =
-      let K = Post n csw sense Purged ∷ G in
-      let v = posted_value (request_named n G) csw sense Purged (area meaning mounted (request_named n G) G) in
+  grows-purged {G} n status g f =
+      let e = Post n status.csw status.sense Purged in
+      let v = posted_value (request_named n G) status.csw status.sense Purged (area meaning mounted (request_named n G) G) in
       record {
-        legal = (fits-free meaning mounted (Post n csw sense Purged) G g.settled (OfActive f), g.legal);
-        settled = due-no_halt meaning mounted K (λ m e. refl)
-            ∙ ap doomed_first (doomed-purged meaning mounted n csw sense G ∙ ap (without n) (due-doomed meaning mounted G g.settled));
+        legal = (fits-free meaning mounted e G g.settled (OfActive f), g.legal);
+        settled = due-no_halt meaning mounted (e ∷ G) (λ m e. refl)
+            ∙ ap doomed_first (doomed-purged n status.csw status.sense G ∙ ap (without n) (due-doomed meaning mounted G g.settled));
         arrived = g.arrived;
         values = g.values ++ v ∷ [];
         posted_is = ap (λ x. x ++ v ∷ []) g.posted_is ∙ append_assoc (posted meaning mounted H) g.values (v ∷ []);
       }
 
+module _ {D : Type 0} (meaning : Meaning D) (mounted : D) where
   -- where only DCBs were opened, nothing arrived, was posted or is due
   pub opened-only : (H : List Entry) → list_all is_opening H ≡ true →
       (arrivals H ≡ []) × (posted meaning mounted H ≡ []) × (due meaning mounted H ≡ Free)

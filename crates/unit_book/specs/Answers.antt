@@ -1,12 +1,13 @@
 -- WHAT THE CALLS OF A BOOK ADD AND ANSWER (profile).
 use Rattle.std.specs.Prelude.{◌≡◌, ◌<◌, ◌≤◌, ℕ, ◌+◌, min, Bool, true, false, not, Option, Some, None, IsSome, List, [], ◌∷◌, ◌++◌, length}
-use Rattle.io_images.specs.declared.csw.Csw.{Csw}
 use Rattle.io_images.specs.declared.extent.Extent.{Extent}
 use Rattle.io_images.specs.declared.code.Code.{Code}
 use Rattle.io_images.specs.declared.code.Code.TheVariants.{ExtentViolated}
 use Rattle.device_port.specs.Meaning.{Meaning}
 use Rattle.ccw_programs.specs.Step.{length_of}
 use Rattle.io_images.specs.Images.{no_status}
+use Rattle.subchannel.specs.declared.Status.{Status}
+use Rattle.subchannel.specs.Subchannel.{empty_status}
 use Rattle.request_piece.specs.declared.piece.Name.{Name}
 use Rattle.unit_queue.specs.declared.selection.Selection.{Selection}
 use Rattle.unit_book.specs.declared.answer.ArriveError.{ArriveError}
@@ -36,15 +37,6 @@ use Rattle.unit_book.specs.Selected.{DoomedBy}
 use Rattle.unit_book.specs.Posts.{posted_value, posted_since}
 use Rattle.unit_book.specs.Book.{Book, occupancy, running_name, is_pending}
 
--- what a start comes to: a program runs or its status is pending; nothing is active and nothing waits; the request that
--- waits first passes the extent check, or fails it; the active request awaits its restart
-pub data Next : Type 0 where
-  Busy : Next
-  Idle : Next
-  First : Name → Next
-  Violated : Name → Next
-  Again : Name → Next
-
 -- when a request is not taken, the first reason in this order
 abbrev pub ArriveRefused : {D : Type 0} → Book D → ArriveError → Type 0
 ArriveRefused b arriving.Held = occupancy b ≡ b.capacity
@@ -64,7 +56,7 @@ pending_after before running.Quiet = before
 pending_after before (running.Ran commands pending) = pending
 
 module _ {D : Type 0} (meaning : Meaning D) where
-  -- the book with a longer trace: what was posted since stands behind what was out
+  -- the book with a longer trace: what was posted since comes after what was out
   abbrev pub Extends : Book D → List Entry → Bool → Book D → Type 0
   Extends old H awaits new = new ≡ record old {
     trace = H;
@@ -73,14 +65,17 @@ module _ {D : Type 0} (meaning : Meaning D) where
     spare = new.spare;
   }
 
-  -- the book with one more entry, which posts this value
-  abbrev pub ExtendsByPost : Book D → Name → Csw → ℕ → Code → Book D → Type 0
-  ExtendsByPost old n csw sense code new = new ≡ record old {
-    trace = Post n csw sense code ∷ old.trace;
-    awaits = false;
-    out = old.out ++ posted_value (request_named n old.trace) csw sense code (area meaning old.mounted (request_named n old.trace) old.trace) ∷ [];
-    spare = new.spare;
-  }
+  -- the book with one more entry, which posts this value, and room for the posts that this dooms
+  pub record PostsOne (old : Book D) (n : Name) (status : Status) (code : Code) (doom : Option Selection) (new : Book D) : Type 0 where
+    pub extends : new ≡ record old {
+      trace = Post n status.csw status.sense code ∷ old.trace;
+      awaits = false;
+      out = old.out ++ posted_value (request_named n old.trace) status.csw status.sense code
+          (area meaning old.mounted (request_named n old.trace) old.trace) ∷ [];
+      spare = new.spare;
+    }
+    pub room : length (doomed new.trace) ≤ new.spare
+    pub dooms : DoomedBy doom new.trace
 
   -- a DCB was opened
   pub record OpensBook (old : Book D) (dcb : ℕ) (method : ProcessingMethod) (extents : List Extent) (new : Book D) : Type 0 where
@@ -97,22 +92,11 @@ module _ {D : Type 0} (meaning : Meaning D) where
   OpenRefused b extents opening.BadExtent = (opened_count b.trace < 65535) × (takes b extents ≡ false)
   OpenRefused b extents opening.NoMemory = OpenFits meaning b.mounted (opened_count b.trace + 1) extents b.trace
 
-  -- what a start comes to
-  abbrev pub IsNext : Book D → Next → Type 0
-  IsNext b Busy = IsSome (active b.trace) × (b.awaits ≡ false)
-  IsNext b Idle = (active b.trace ≡ None) × (waiting b.trace ≡ [])
-  IsNext b (First n) = StartsFirst meaning b.mounted n b.trace
-  IsNext b (Violated n) = FailsCheck meaning b.mounted n b.trace
-  IsNext b (Again n) = (b.awaits ≡ true) × StartsAgain meaning b.mounted n b.trace
-
-  -- the status of the active request was taken: it is posted, with room for the posts that this dooms
+  -- the status of the active request was taken: it is posted
   pub record TakesByPost (old : Book D) (n : Name) (code : Code) (doom : Option Selection) (new : Book D) : Type 0 where
-    pub csw : Csw
-    pub sense : ℕ
-    pub fits : PostsActive meaning old.mounted n csw sense code old.trace
-    pub extends : ExtendsByPost old n csw sense code new
-    pub room : length (doomed new.trace) ≤ new.spare
-    pub dooms : DoomedBy doom new.trace
+    pub status : Status
+    pub fits : PostsActive meaning old.mounted n status code old.trace
+    pub posts : PostsOne old n status code doom new
 
   -- or it awaits its restart
   abbrev pub Takes : Book D → Taken → Book D → Type 0
@@ -126,25 +110,20 @@ module _ {D : Type 0} (meaning : Meaning D) where
     MayFirst : StartsFirst meaning old.mounted n old.trace → MayStart old n
     MayAgain : old.awaits ≡ true → StartsAgain meaning old.mounted n old.trace → MayStart old n
 
-  -- the request that waited first was posted, with room for the posts that this dooms
-  pub record PostsViolated (old : Book D) (n : Name) (doom : Option Selection) (new : Book D) : Type 0 where
-    pub fits : FailsCheck meaning old.mounted n old.trace
-    pub extends : ExtendsByPost old n no_status 0 ExtentViolated new
-    pub room : length (doomed new.trace) ≤ new.spare
-    pub dooms : DoomedBy doom new.trace
-
-  -- a start, before what its post dooms is posted
-  abbrev pub IsBegun : Book D → Begun → Book D → Type 0
-  IsBegun old beginning.Busy new = IsSome (active old.trace) × (old.awaits ≡ false) × (new ≡ old)
-  IsBegun old beginning.Idle new = (active old.trace ≡ None) × (waiting old.trace ≡ []) × (new ≡ old)
-  IsBegun old (beginning.Started n) new = MayStart old n × StartsOne old n new
-  IsBegun old (beginning.Violated n doom) new = PostsViolated old n doom new
-
   abbrev pub StartsBook : Book D → Starting → Book D → Type 0
   StartsBook old starting.Busy new = IsSome (active old.trace) × (old.awaits ≡ false) × (new ≡ old)
   StartsBook old starting.Idle new = (active old.trace ≡ None) × (waiting old.trace ≡ []) × (new ≡ old)
   StartsBook old (starting.Started n) new = MayStart old n × StartsOne old n new
-  StartsBook old (starting.Violated n) new = FailsCheck meaning old.mounted n old.trace × Extends old (after_dooms (Post n no_status 0 ExtentViolated ∷ old.trace)) false new
+  StartsBook old (starting.Violated n) new = FailsCheck meaning old.mounted n old.trace
+      × Extends old (after_dooms (Post n no_status 0 ExtentViolated ∷ old.trace)) false new
+
+  -- a start, before what its post dooms is posted
+  abbrev pub IsBegun : Book D → Begun → Book D → Type 0
+  IsBegun old beginning.Busy new = StartsBook old starting.Busy new
+  IsBegun old beginning.Idle new = StartsBook old starting.Idle new
+  IsBegun old (beginning.Started n) new = StartsBook old (starting.Started n) new
+  IsBegun old (beginning.Violated n doom) new = FailsCheck meaning old.mounted n old.trace
+      × PostsOne old n empty_status ExtentViolated doom new
 
   -- `run` of a program that runs: as many commands as were asked for, or as are left
   pub record RunsOn (old : Book D) (max commands : ℕ) (pending : Bool) (new : Book D) : Type 0 where
@@ -160,13 +139,13 @@ module _ {D : Type 0} (meaning : Meaning D) where
 
   -- `interrupt` that posts the active request
   pub record EndsBook (old : Book D) (name : Name) (code : Code) (new : Book D) : Type 0 where
-    pub csw : Csw
-    pub sense : ℕ
-    pub fits : PostsActive meaning old.mounted name csw sense code old.trace
-    pub extends : Extends old (after_dooms (Post name csw sense code ∷ old.trace)) false new
+    pub status : Status
+    pub fits : PostsActive meaning old.mounted name status code old.trace
+    pub extends : Extends old (after_dooms (Post name status.csw status.sense code ∷ old.trace)) false new
 
   abbrev pub InterruptsBook : Book D → Interruption → Book D → Type 0
   InterruptsBook old interrupting.Quiet new = (is_pending meaning old ≡ false) × (new ≡ old)
   InterruptsBook old (interrupting.Again name) new =
-      (is_pending meaning old ≡ true) × StartsAgain meaning old.mounted name old.trace × (new ≡ record old { awaits = true; spare = new.spare })
+      (is_pending meaning old ≡ true) × StartsAgain meaning old.mounted name old.trace
+      × (new ≡ record old { awaits = true; spare = new.spare })
   InterruptsBook old (interrupting.Ended name code) new = (is_pending meaning old ≡ true) × EndsBook old name code new

@@ -1,9 +1,9 @@
 -- WHAT PURGES, CLOSES AND RESETS ADD AND ANSWER (DFSMSdfp Advanced Services, "Purging and Restoring I/O
 -- Requests (PURGE and RESTORE macros)", and profile).
 use Rattle.std.specs.Prelude.{◌≡◌, ℕ, Bool, true, false, ◌&&◌, if◌then◌else◌, Option, Some, None, is_some, List, ◌∷◌}
-use Rattle.io_images.specs.declared.csw.Csw.{Csw}
 use Rattle.io_images.specs.declared.code.Code.TheVariants.{Purged}
 use Rattle.device_port.specs.Meaning.{Meaning}
+use Rattle.subchannel.specs.declared.Status.{Status}
 use Rattle.request_piece.specs.declared.piece.Name.{Name}
 use Rattle.request_piece.specs.declared.piece.Piece.{Piece}
 use Rattle.request_piece.specs.Scope.{covers}
@@ -86,10 +86,9 @@ module _ {D : Type 0} (meaning : Meaning D) where
   -- the active request awaited its restart and is purged behind those that waited
   pub record PurgesAwaiting (old : Book D) (scope : Scope) (mode : Mode) (new : Book D) : Type 0 where
     pub name : Name
-    pub csw : Csw
-    pub sense : ℕ
-    pub fits : PostsActive meaning old.mounted name csw sense Purged (after_purge old.mounted scope mode old.trace)
-    pub extends : Extends meaning old (Post name csw sense Purged ∷ after_purge old.mounted scope mode old.trace) false new
+    pub status : Status
+    pub fits : PostsActive meaning old.mounted name status Purged (after_purge old.mounted scope mode old.trace)
+    pub extends : Extends meaning old (Post name status.csw status.sense Purged ∷ after_purge old.mounted scope mode old.trace) false new
 
   abbrev pub PurgesBy : Bool → Book D → Scope → Mode → Book D → Type 0
   PurgesBy false old scope mode new = Extends meaning old (after_purge old.mounted scope mode old.trace) old.awaits new

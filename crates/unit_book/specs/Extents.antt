@@ -7,7 +7,7 @@ use Rattle.io_images.specs.declared.seek.Seek.{Seek}
 use Rattle.device_port.specs.declared.kind.Kind.{Kind}
 use Rattle.device_port.specs.declared.kind.Kind.TheVariants.{Disk, Tape, Printer}
 
--- the number of a track, from 0, where a cylinder has so many heads
+-- the number of a track, from 0, if a cylinder has `heads` heads
 abbrev pub track : ℕ → ℕ → ℕ → ℕ
 track heads cylinder head = cylinder * heads + head
 

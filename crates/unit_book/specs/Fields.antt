@@ -1,17 +1,17 @@
 -- WHAT THE FIELDS OF A BOOK SAY: they are those of its trace.
-use Rattle.std.specs.Prelude.{◌≡◌, ◌≤◌, ℕ, ◌+◌, ◌-◌, ◌==◌, Bool, true, false, ◌||◌, ◌&&◌, if◌then◌else◌, Option, Some, None, List, [], ◌++◌, length, slice_get}
+use Rattle.std.specs.Prelude.{◌≡◌, ◌≤◌, ℕ, ◌+◌, ◌-◌, ◌==◌, Bool, true, false, ◌||◌, ◌&&◌, if◌then◌else◌, Option, Some, None, List, [], ◌++◌}
+use Rattle.std.specs.Prelude.{length, slice_get}
 use Rattle.circular_buffer.specs.Buffer.{Buffer}
 use Rattle.std.specs.Box.{with_value}
 use Rattle.io_area.specs.Storage.{Storage}
 use Rattle.io_images.specs.FileMask.{output_mask}
-use Rattle.io_images.specs.declared.csw.Csw.{Csw}
 use Rattle.io_images.specs.declared.extent.Extent.{Extent}
 use Rattle.io_images.specs.declared.code.Code.{Code}
 use Rattle.io_images.specs.declared.code.Code.TheVariants.{Purged}
 use Rattle.device_port.specs.Meaning.{Meaning}
 use Rattle.device_port.specs.declared.kind.Kind.{Kind}
-use Rattle.io_images.specs.Images.{no_status}
-use Rattle.subchannel.specs.Subchannel.{Channel, Phase, Absent, Idle, Running, Pending}
+use Rattle.subchannel.specs.declared.Status.{Status}
+use Rattle.subchannel.specs.Subchannel.{Channel, empty_status, Phase, Absent, Idle, Running, Pending}
 use Rattle.recovery.specs.declared.answer.Verdict.{Verdict}
 use Rattle.recovery.specs.declared.answer.Verdict.TheVariants.{Retry, Final}
 use Rattle.recovery.specs.Verdict.{verdict}
@@ -38,12 +38,12 @@ use Rattle.unit_book.specs.Posts.{posted}
 
 abbrev pub awaits_by : Standing → Bool
 awaits_by OnChannel = false
-awaits_by (AwaitsRestart csw sense) = true
+awaits_by (AwaitsRestart status) = true
 
 -- the status that is kept of an attempt that is to be tried again
-abbrev pub kept_by : Standing → Csw × ℕ
-kept_by OnChannel = (no_status, 0)
-kept_by (AwaitsRestart csw sense) = (csw, sense)
+abbrev pub kept_by : Standing → Status
+kept_by OnChannel = empty_status
+kept_by (AwaitsRestart status) = status
 
 abbrev pub awaits_of : Option Active → Bool
 awaits_of None = false
@@ -66,9 +66,9 @@ abbrev pub after_cover : Scope → Mode → Active → Active
 after_cover scope mode a = record a { covered = (covers scope a.piece.value && is_halt mode) || a.covered }
 
 -- the phase of a request whose status is pending
-abbrev pub pending_phase : Bool → Csw → ℕ → ActivePhase
-pending_phase true csw sense = WasHalted csw sense
-pending_phase false csw sense = HasEnded csw sense
+abbrev pub pending_phase : Bool → Status → ActivePhase
+pending_phase true status = WasHalted status
+pending_phase false status = HasEnded status
 
 -- the code of a request that has ended, if it is posted: one that would be tried again is posted only if it
 -- is covered
@@ -77,8 +77,9 @@ ended_code (Final code) covered = Some code
 ended_code Retry covered = if covered then Some Purged else None
 
 -- the code of a request whose status is pending, if it is posted
-abbrev pub pending_code : Kind → Csw → ℕ → ℕ → Bool → Bool → Option Code
-pending_code kind csw sense starts halted covered = if halted then Some Purged else ended_code (verdict kind csw sense starts) covered
+abbrev pub pending_code : Kind → Status → ℕ → Bool → Bool → Option Code
+pending_code kind status starts halted covered =
+    if halted then Some Purged else ended_code (verdict kind status.csw status.sense starts) covered
 
 -- THE TABLE OF DCBS
 
@@ -110,7 +111,8 @@ extents_at (Some c) = c.extents
 -- the DCB has the flag, if there was such an error
 abbrev pub noted : Bool → Option Dcb → Option Dcb
 noted error None = None
-noted error (Some c) = Some (record { method = c.method; extents = c.extents; closed = c.closed; in_error = if error then true else c.in_error })
+noted error (Some c) =
+    Some (record { method = c.method; extents = c.extents; closed = c.closed; in_error = if error then true else c.in_error })
 
 -- the DCB is closed, if it is this one
 abbrev pub shut : Bool → Option Dcb → Option Dcb
@@ -120,25 +122,38 @@ shut here (Some c) = Some (record { method = c.method; extents = c.extents; clos
 -- the DCB loses its flag, if it is this one
 abbrev pub unflagged : Bool → Option Dcb → Option Dcb
 unflagged here None = None
-unflagged here (Some c) = Some (record { method = c.method; extents = c.extents; closed = c.closed; in_error = if here then false else c.in_error })
+unflagged here (Some c) =
+    Some (record { method = c.method; extents = c.extents; closed = c.closed; in_error = if here then false else c.in_error })
 
 -- THE FIELDS AND THE TRACE
+
+-- the fields of a book beside its active request
+pub record BookFields (D : Type 0) : Type 0 where
+  pub trace : List Entry
+  pub channel : Channel D
+  pub waiting : List Piece
+  pub dcbs : List Dcb
+  pub out : List PostedState
+
+abbrev pub fields_of : {D : Type 0} → List Entry → Channel D → List Piece → List Dcb → List PostedState → BookFields D
+fields_of trace channel waiting dcbs out =
+    record { trace = trace; channel = channel; waiting = waiting; dcbs = dcbs; out = out }
 
 module _ {D : Type 0} (meaning : Meaning D) (mounted : D) where
   -- what the subchannel does is what the trace says of the active request
   abbrev pub StandingTies : List Entry → Phase → Active → Standing → Type 0
   StandingTies H Absent a standing = ⊥
   StandingTies H Idle a OnChannel = ⊥
-  StandingTies H Idle a (AwaitsRestart csw sense) =
-      (active_phase meaning mounted a.piece.value.name H ≡ HasEnded csw sense)
-      × (verdict_of meaning mounted a.piece.value.name csw sense H ≡ Retry)
+  StandingTies H Idle a (AwaitsRestart status) =
+      (active_phase meaning mounted a.piece.value.name H ≡ HasEnded status)
+      × (verdict_of meaning mounted a.piece.value.name status H ≡ Retry)
       × (is_covered (request_named a.piece.value.name H) H ≡ false)
   StandingTies H (Running place) a OnChannel =
       (place ≡ (current meaning mounted H).place) × (active_phase meaning mounted a.piece.value.name H ≡ StillRunning)
-  StandingTies H (Running place) a (AwaitsRestart csw sense) = ⊥
-  StandingTies H (Pending csw sense) a OnChannel =
-      active_phase meaning mounted a.piece.value.name H ≡ pending_phase a.halted csw sense
-  StandingTies H (Pending csw sense) a (AwaitsRestart c s) = ⊥
+  StandingTies H (Running place) a (AwaitsRestart status) = ⊥
+  StandingTies H (Pending status) a OnChannel =
+      active_phase meaning mounted a.piece.value.name H ≡ pending_phase a.halted status
+  StandingTies H (Pending status) a (AwaitsRestart kept) = ⊥
 
   -- the active request: all but its storage is as it arrived
   pub record ActiveTies (H : List Entry) (phase : Phase) (a : Active) : Type 0 where
@@ -154,15 +169,15 @@ module _ {D : Type 0} (meaning : Meaning D) (mounted : D) where
   ActivityTies H phase None = (active H ≡ None) × (phase ≡ Idle)
   ActivityTies H phase (Some a) = ActiveTies H phase a
 
-  pub record Ties (H : List Entry) (channel : Channel D) (busy : Option Active) (waiters : List Piece) (table : List Dcb) (left : List PostedState) : Type 0 where
-    pub legal : Legal meaning mounted H
-    pub queue : waiters ≡ waiting H
-    pub placed : Each Placed waiters
-    pub device : channel.device ≡ Some (device meaning mounted H)
-    pub activity : ActivityTies H channel.phase busy
-    pub count : length table ≡ opened_count H
-    pub dcbs : (d : ℕ) → dcb_at table d ≡ dcb_of d H
-    pub out : (given : List PostedState) × (given ++ left ≡ posted meaning mounted H)
+  pub record Ties (held : BookFields D) (busy : Option Active) : Type 0 where
+    pub legal : Legal meaning mounted held.trace
+    pub queue : held.waiting ≡ waiting held.trace
+    pub placed : Each Placed held.waiting
+    pub device : held.channel.device ≡ Some (device meaning mounted held.trace)
+    pub activity : ActivityTies held.trace held.channel.phase busy
+    pub count : length held.dcbs ≡ opened_count held.trace
+    pub dcbs : (d : ℕ) → dcb_at held.dcbs d ≡ dcb_of d held.trace
+    pub out : (given : List PostedState) × (given ++ held.out ≡ posted meaning mounted held.trace)
 
 -- the room that the book was made with
 pub record Rooms (busy : Option Active) (waiters swept : Queue) (outs : Buffer PostedState) : Type 0 where

@@ -8,7 +8,8 @@ use Rattle.request_piece.specs.declared.piece.Name.{Name}
 use Rattle.request_piece.specs.declared.piece.Piece.{Piece}
 use Rattle.unit_book.specs.declared.entry.Entry.{Entry}
 use Rattle.unit_book.specs.declared.entry.Entry.TheVariants.{Arrive, Start, Ran, Halted, Close, Post}
-use Rattle.unit_book.specs.Trace.{same, starts, arrivals, has_arrived, has_started, is_posted, waiting, active, request_named, starts_of, is_covered}
+use Rattle.unit_book.specs.Trace.{same, starts, arrivals, has_arrived, has_started, is_posted, waiting, active, request_named, starts_of}
+use Rattle.unit_book.specs.Trace.{is_covered}
 use Rattle.unit_book.specs.Dcbs.{is_closed, flag, doomed}
 use Rattle.unit_book.specs.Legal.{Legal}
 
@@ -69,7 +70,8 @@ pub record NoDoomedStarts {D : Type 0} (meaning : Meaning D) : Type 0 where
   pub of_closed : (mounted : D) (n : Name) (H : List Entry) → Legal meaning mounted (Start n ∷ H) →
       is_closed (request_named n H).dcb H ≡ true → has_started n H ≡ true
   -- it is of the request that was active when the DCB was closed
-  pub of_closing : (mounted : D) (n : Name) (d : ℕ) (later earlier : List Entry) → Legal meaning mounted (Start n ∷ later ++ Close d ∷ earlier) →
+  pub of_closing : (mounted : D) (n : Name) (d : ℕ) (later earlier : List Entry) →
+      Legal meaning mounted (Start n ∷ later ++ Close d ∷ earlier) →
       (request_named n (later ++ Close d ∷ earlier)).dcb ≡ d → active earlier ≡ Some n
   -- a Start of a related request whose DCB has the flag is no first one
   pub of_flagged : (mounted : D) (n : Name) (H : List Entry) → Legal meaning mounted (Start n ∷ H) →

@@ -1,12 +1,12 @@
 -- LEGAL TRACES: each entry fits the entries before it (profile).
 use Rattle.std.specs.Prelude.{◌≡◌, ◌≤◌, ℕ, ◌+◌, Bool, true, false, ◌&&◌, if◌then◌else◌, Option, Some, None, List, [], ◌∷◌, slice_get}
-use Rattle.io_images.specs.declared.csw.Csw.{Csw}
 use Rattle.io_images.specs.declared.extent.Extent.{Extent}
 use Rattle.io_images.specs.declared.code.Code.{Code}
 use Rattle.io_images.specs.declared.code.Code.TheVariants.{ExtentViolated, Purged}
 use Rattle.device_port.specs.Meaning.{Meaning}
 use Rattle.ccw_programs.specs.Step.{length_of}
 use Rattle.io_images.specs.Images.{no_status}
+use Rattle.subchannel.specs.declared.Status.{Status}
 use Rattle.recovery.specs.declared.answer.Verdict.{Verdict}
 use Rattle.recovery.specs.declared.answer.Verdict.TheVariants.{Retry, Final}
 use Rattle.recovery.specs.Verdict.{verdict}
@@ -36,7 +36,8 @@ doomed_first (r ∷ rs) = ToPost r.name
 module _ {D : Type 0} (meaning : Meaning D) (mounted : D) where
   -- the newest entry is a purge with Halt that covers the active request, whose program runs
   abbrev pub is_to_halt : List Entry → Name → Bool
-  is_to_halt (Purge scope Halt ∷ H) n = covers scope (request_named n H) && still_runs (active_phase meaning mounted n (Purge scope Halt ∷ H))
+  is_to_halt (Purge scope Halt ∷ H) n = covers scope (request_named n H)
+      && still_runs (active_phase meaning mounted n (Purge scope Halt ∷ H))
   is_to_halt _ n = false
 
   abbrev pub due_by : List Entry → Option Name → Due
@@ -51,8 +52,8 @@ module _ {D : Type 0} (meaning : Meaning D) (mounted : D) where
   passes r H = passes_check (meaning.kind mounted) (meaning.heads mounted) (extents_of r.dcb H) r.seek
 
   -- the verdict on a status of the active request
-  abbrev pub verdict_of : Name → Csw → ℕ → List Entry → Verdict
-  verdict_of n csw sense H = verdict (meaning.kind mounted) csw sense (starts_of n H)
+  abbrev pub verdict_of : Name → Status → List Entry → Verdict
+  verdict_of n status H = verdict (meaning.kind mounted) status.csw status.sense (starts_of n H)
 
   -- THE FIRST START of n: nothing is active, and n is the first that waits and passes the extent check
   pub record StartsFirst (n : Name) (H : List Entry) : Type 0 where
@@ -65,35 +66,35 @@ module _ {D : Type 0} (meaning : Meaning D) (mounted : D) where
   -- A FURTHER START of n: it is active and has ended, the verdict is to try again, and it is not covered
   pub record StartsAgain (n : Name) (H : List Entry) : Type 0 where
     pub active : active H ≡ Some n
-    pub csw : Csw
-    pub sense : ℕ
-    pub ended : active_phase meaning mounted n H ≡ HasEnded csw sense
-    pub retry : verdict_of n csw sense H ≡ Retry
+    pub status : Status
+    pub ended : active_phase meaning mounted n H ≡ HasEnded status
+    pub retry : verdict_of n status H ≡ Retry
     pub free : is_covered (request_named n H) H ≡ false
 
   pub data StartFits (n : Name) (H : List Entry) : Type 0 where
     First : StartsFirst n H → StartFits n H
     Again : StartsAgain n H → StartFits n H
 
-  -- n is active, its program runs and has at least so many commands left
+  -- n is active, its program runs and has at least `j` commands left
   pub record RanFits (n : Name) (j : ℕ) (H : List Entry) : Type 0 where
     pub active : active H ≡ Some n
     pub running : active_phase meaning mounted n H ≡ StillRunning
     pub some : 1 ≤ j
     pub left : j ≤ length_of meaning (current meaning mounted H)
 
-  -- WHAT BECAME of the active request n, by which it is posted with this CSW, sense and code: it has ended and the
+  -- WHAT BECAME of the active request n, by which it is posted with this status and code: it has ended and the
   -- verdict is final; it has ended and would be tried again, but is covered, or was halted, and so is purged
-  pub data PostsAs (n : Name) (csw : Csw) (sense : ℕ) (code : Code) (H : List Entry) : Type 0 where
-    WithVerdict : active_phase meaning mounted n H ≡ HasEnded csw sense → verdict_of n csw sense H ≡ Final code → PostsAs n csw sense code H
-    WhileCovered : active_phase meaning mounted n H ≡ HasEnded csw sense → verdict_of n csw sense H ≡ Retry → is_covered (request_named n H) H ≡ true →
-        code ≡ Purged → PostsAs n csw sense code H
-    AfterHalt : active_phase meaning mounted n H ≡ WasHalted csw sense → code ≡ Purged → PostsAs n csw sense code H
+  pub data PostsAs (n : Name) (status : Status) (code : Code) (H : List Entry) : Type 0 where
+    WithVerdict : active_phase meaning mounted n H ≡ HasEnded status → verdict_of n status H ≡ Final code → PostsAs n status code H
+    WhileCovered : active_phase meaning mounted n H ≡ HasEnded status → verdict_of n status H ≡ Retry →
+        is_covered (request_named n H) H ≡ true →
+        code ≡ Purged → PostsAs n status code H
+    AfterHalt : active_phase meaning mounted n H ≡ WasHalted status → code ≡ Purged → PostsAs n status code H
 
   -- THE POST of the active request
-  pub record PostsActive (n : Name) (csw : Csw) (sense : ℕ) (code : Code) (H : List Entry) : Type 0 where
+  pub record PostsActive (n : Name) (status : Status) (code : Code) (H : List Entry) : Type 0 where
     pub active : active H ≡ Some n
-    pub as_ended : PostsAs n csw sense code H
+    pub as_ended : PostsAs n status code H
 
   -- THE POST of the first that waits, where nothing is active and it fails the extent check
   pub record FailsCheck (n : Name) (H : List Entry) : Type 0 where
@@ -103,15 +104,15 @@ module _ {D : Type 0} (meaning : Meaning D) (mounted : D) where
     pub name : request.name ≡ n
     pub fails : passes request H ≡ false
 
-  pub record PostsFirst (n : Name) (csw : Csw) (sense : ℕ) (code : Code) (H : List Entry) : Type 0 where
+  pub record PostsFirst (n : Name) (status : Status) (code : Code) (H : List Entry) : Type 0 where
     pub fails : FailsCheck n H
     pub code_is : code ≡ ExtentViolated
-    pub csw_is : csw ≡ no_status
-    pub sense_is : sense ≡ 0
+    pub csw_is : status.csw ≡ no_status
+    pub sense_is : status.sense ≡ 0
 
-  pub data PostFits (n : Name) (csw : Csw) (sense : ℕ) (code : Code) (H : List Entry) : Type 0 where
-    OfActive : PostsActive n csw sense code H → PostFits n csw sense code H
-    OfFirst : PostsFirst n csw sense code H → PostFits n csw sense code H
+  pub data PostFits (n : Name) (status : Status) (code : Code) (H : List Entry) : Type 0 where
+    OfActive : PostsActive n status code H → PostFits n status code H
+    OfFirst : PostsFirst n status code H → PostFits n status code H
 
   -- the next number, at most 65,535, and extents that may be opened
   pub record OpenFits (d : ℕ) (extents : List Extent) (H : List Entry) : Type 0 where
@@ -134,7 +135,7 @@ module _ {D : Type 0} (meaning : Meaning D) (mounted : D) where
   FitsFree (Purge scope mode) H = CanPurge scope H
   FitsFree (Close d) H = is_open d H ≡ true
   FitsFree (Reset d) H = is_open d H ≡ true
-  FitsFree (Post n csw sense code) H = PostFits n csw sense code H
+  FitsFree (Post n csw sense code) H = PostFits n (record { csw = csw; sense = sense }) code H
 
   -- what is due comes next, and nothing else
   abbrev pub FitsBy : Due → Entry → List Entry → Type 0

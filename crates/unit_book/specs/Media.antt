@@ -1,12 +1,12 @@
 -- DEVICE AND STORAGE of a trace: what the attempts in it did, one after another (profile).
 use Rattle.std.specs.Prelude.{ℕ, ◌+◌, Bool, true, false, if◌then◌else◌, List, [], ◌∷◌}
 use Rattle.io_area.specs.Storage.{Storage}
-use Rattle.io_images.specs.declared.csw.Csw.{Csw}
 use Rattle.device_port.specs.Meaning.{Meaning}
 use Rattle.ccw_programs.specs.declared.context.State.{State}
 use Rattle.ccw_programs.specs.declared.context.State.TheVariants.{Running, Ended}
 use Rattle.ccw_programs.specs.Place.{Place, halted}
 use Rattle.ccw_programs.specs.Step.{Program, begun, after}
+use Rattle.subchannel.specs.declared.Status.{Status}
 use Rattle.request_piece.specs.declared.piece.Name.{Name}
 use Rattle.request_piece.specs.declared.piece.Piece.{Piece}
 use Rattle.unit_book.specs.declared.entry.Entry.{Entry}
@@ -41,25 +41,25 @@ pub record Stand (D : Type 0) : Type 0 where
   pub device : D
   pub area : Piece → Storage
 
--- THE PHASE of the active request: its program is running, was halted, or has ended, the last two with CSW and sense
+-- THE PHASE of the active request: its program is running, was halted, or has ended, the last two with a status
 pub data ActivePhase : Type 0 where
   StillRunning : ActivePhase
-  WasHalted : Csw → ℕ → ActivePhase
-  HasEnded : Csw → ℕ → ActivePhase
+  WasHalted : Status → ActivePhase
+  HasEnded : Status → ActivePhase
 
 abbrev pub active_phase_by : Bool → Place → State → ActivePhase
-active_phase_by true place state = WasHalted (halted place) 0
+active_phase_by true place state = WasHalted (record { csw = halted place; sense = 0 })
 active_phase_by false place Running = StillRunning
-active_phase_by false place (Ended csw sense) = HasEnded csw sense
+active_phase_by false place (Ended csw sense) = HasEnded (record { csw = csw; sense = sense })
 
 abbrev pub still_runs : ActivePhase → Bool
 still_runs StillRunning = true
-still_runs (WasHalted csw sense) = false
-still_runs (HasEnded csw sense) = false
+still_runs (WasHalted status) = false
+still_runs (HasEnded status) = false
 
 module _ {D : Type 0} (meaning : Meaning D) (mounted : D) where
-  -- the program of an attempt before its first command: the prefix, then IOBSTART, on the device and the
-  -- storage as they stand
+  -- the program of an attempt before its first command: the prefix, then IOBSTART, on the device and the storage at
+  -- that time
   abbrev pub beginning : Stand D → Attempt → Program D
   beginning s a = begun a.request.start (meaning.prefix s.device a.request.seek a.mask) (s.area a.request)
 

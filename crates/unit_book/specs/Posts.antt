@@ -17,7 +17,7 @@ unfoldable pub posted_value : Piece → Csw → ℕ → Code → Storage → Pos
 posted_value r csw sense code m = posted_of (record r { area = m }) code csw sense
 
 module _ {D : Type 0} (meaning : Meaning D) (mounted : D) where
-  -- THE POSTED VALUES, in order: each request with its storage as it stands at its post
+  -- THE POSTED VALUES, in order: each request with its storage at its post
   unfoldable pub posted : List Entry → List PostedState
   posted [] = []
   posted (Post n csw sense code ∷ H) =

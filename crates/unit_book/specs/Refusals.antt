@@ -1,23 +1,15 @@
 -- WHEN A CALL OF A BOOK WANTS MEMORY: it adds entries, and the trace has not the room that is reserved for them, which
 -- is that of the posts of all that they may doom too (profile).
 use Rattle.std.specs.Prelude.{◌≡◌, ◌<◌, ℕ, ◌+◌, true, IsSome, length}
-use Rattle.io_images.specs.declared.csw.Csw.{Csw}
 use Rattle.io_images.specs.declared.code.Code.{Code}
 use Rattle.device_port.specs.Meaning.{Meaning}
+use Rattle.subchannel.specs.declared.Status.{Status}
 use Rattle.request_piece.specs.declared.piece.Name.{Name}
 use Rattle.unit_book.specs.Trace.{waiting}
 use Rattle.unit_book.specs.Dcbs.{is_open}
-use Rattle.unit_book.specs.Legal.{PostsActive}
+use Rattle.unit_book.specs.Legal.{FailsCheck, PostsActive}
 use Rattle.unit_book.specs.Book.{Book, running_name}
-use Rattle.unit_book.specs.Answers.{Next, Busy, Idle, First, Violated, Again, IsNext}
-
--- the entries that have to have room for a start
-abbrev pub entries_of_start : {D : Type 0} → Book D → Next → ℕ
-entries_of_start b Busy = 0
-entries_of_start b Idle = 0
-entries_of_start b (First name) = 1
-entries_of_start b (Again name) = 1
-entries_of_start b (Violated name) = length (waiting b.trace) + 1
+use Rattle.unit_book.specs.Answers.{MayStart}
 
 -- a purge: its entry, what it halts or posts last, and what it dooms
 abbrev pub PurgeLacks : {D : Type 0} → Book D → Type 0
@@ -33,11 +25,10 @@ abbrev pub ResetLacks : {D : Type 0} → Book D → Type 0
 ResetLacks b = b.spare < 1
 
 module _ {D : Type 0} (meaning : Meaning D) where
-  -- a start: something is to be started, or posted for its extents
-  pub record StartLacks (b : Book D) : Type 0 where
-    pub next : Next
-    pub is : IsNext meaning b next
-    pub room : b.spare < entries_of_start b next
+  -- a start: a program is to be started, or the request that waits first is to be posted for its extents
+  pub data StartLacks (b : Book D) : Type 0 where
+    ForStart : (name : Name) → MayStart meaning b name → b.spare < 1 → StartLacks b
+    ForPost : (name : Name) → FailsCheck meaning b.mounted name b.trace → b.spare < length (waiting b.trace) + 1 → StartLacks b
 
   -- a run: a program runs
   pub record RunLacks (b : Book D) : Type 0 where
@@ -47,10 +38,9 @@ module _ {D : Type 0} (meaning : Meaning D) where
   -- an interruption: the active request is to be posted
   pub record InterruptLacks (b : Book D) : Type 0 where
     pub name : Name
-    pub csw : Csw
-    pub sense : ℕ
+    pub status : Status
     pub code : Code
-    pub fits : PostsActive meaning b.mounted name csw sense code b.trace
+    pub fits : PostsActive meaning b.mounted name status code b.trace
     pub room : b.spare < length (waiting b.trace) + 1
 
   -- settling: one of its steps

@@ -1,5 +1,5 @@
--- THE TRACE of a unit, newest entry first: the entries before an entry stand behind it. Each word below
--- reads a whole trace (profile).
+-- THE TRACE of a unit, newest entry first: the entries before an entry are its tail. Each word below reads a whole
+-- trace (profile).
 use Rattle.std.specs.Prelude.{ℕ, ◌==◌, Bool, true, false, not, ◌&&◌, ◌||◌, if◌then◌else◌, Option, List, [], ◌∷◌, ◌++◌, length}
 use Rattle.std.specs.List.{filter, find, list_any}
 use Rattle.request_piece.specs.declared.piece.Name.{Name}

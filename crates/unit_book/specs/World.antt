@@ -1,6 +1,7 @@
 -- THE WORLD OF A UNIT: the tasks that send it requests and collect what was posted, its book, and what is under way
 -- between them (profile).
-use Rattle.std.specs.Prelude.{◌≡◌, ◌≤◌, ◌<◌, ℕ, ◌+◌, ◌==◌, Bool, true, if◌then◌else◌, Some, None, List, [], ◌∷◌, ◌++◌, length, drop, slice_get}
+use Rattle.std.specs.Prelude.{◌≡◌, ◌≤◌, ◌<◌, ℕ, ◌+◌, ◌==◌, true, if◌then◌else◌, Some, None, List, [], ◌∷◌, ◌++◌, length, drop}
+use Rattle.std.specs.Prelude.{slice_get}
 use Rattle.std.specs.List.{filter, list_all}
 use Rattle.io_images.specs.declared.extent.Extent.{Extent}
 use Rattle.device_port.specs.Meaning.{Meaning}
@@ -65,7 +66,10 @@ module _ {D : Type 0} where
     pub value : PostedState
     pub first : slice_get old.book.out 0 ≡ Some value
     pub room : length (old.back value.name.task) < old.post_room
-    pub is : new ≡ record old { book = record old.book { out = drop 1 old.book.out }; back = one_more_of_task old.back value.name.task value }
+    pub is : new ≡ record old {
+      book = record old.book { out = drop 1 old.book.out };
+      back = one_more_of_task old.back value.name.task value;
+    }
 
   -- a task collects the first posted value that is on its way back to it
   pub record Collects (old : World D) (task : ℕ) (new : World D) : Type 0 where
@@ -97,7 +101,8 @@ module _ {D : Type 0} (meaning : Meaning D) where
   pub data Step (old new : World D) : Type 0 where
     Accept : (r : Piece) → Accepts old r new → Step old new
     Take : Takes old new → Step old new
-    Open : (dcb : ℕ) (method : ProcessingMethod) (extents : List Extent) → OpensBook meaning old.book dcb method extents new.book → InBook old new → Step old new
+    Open : (dcb : ℕ) (method : ProcessingMethod) (extents : List Extent) → OpensBook meaning old.book dcb method extents new.book →
+        InBook old new → Step old new
     Start : (answer : Starting) → StartsBook meaning old.book answer new.book → InBook old new → Step old new
     Run : (max : ℕ) (answer : Running) → 1 ≤ max → RunsBook meaning old.book max answer new.book → InBook old new → Step old new
     Interrupt : (answer : Interruption) → InterruptsBook meaning old.book answer new.book → InBook old new → Step old new

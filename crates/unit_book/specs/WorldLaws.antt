@@ -19,7 +19,8 @@ posts_of n H = length (filter (posts n) H)
 module _ {D : Type 0} (meaning : Meaning D) where
   -- A FINISHED TRACE HAS ONE POST FOR EACH ARRIVAL: one in which nothing waits and nothing is active
   abbrev pub FinishedOnce : Type 0
-  FinishedOnce = (mounted : D) (H : List Entry) → Legal meaning mounted H → waiting H ≡ [] → active H ≡ None → Each (λ r. posts_of r.name H ≡ 1) (arrivals H)
+  FinishedOnce = (mounted : D) (H : List Entry) → Legal meaning mounted H → waiting H ≡ [] → active H ≡ None →
+      Each (λ r. posts_of r.name H ≡ 1) (arrivals H)
 
   -- A WORLD KEEPS ITS REQUESTS
   pub record KeepsRequests (w : World D) : Type 0 where
@@ -30,13 +31,15 @@ module _ {D : Type 0} (meaning : Meaning D) where
     -- each is for this unit
     pub for_unit : (task : ℕ) → Each (λ r. r.unit ≡ w.unit) (w.sent task)
     -- what was posted of a task is what it has got, and then what is on the way back to it, and then what is out
-    pub returned : (task : ℕ) → values_of task (posted meaning w.book.mounted w.book.trace) ≡ w.got task ++ w.back task ++ values_of task w.book.out
+    pub returned : (task : ℕ) → values_of task (posted meaning w.book.mounted w.book.trace) ≡ w.got task ++ w.back task
+        ++ values_of task w.book.out
     -- the trace is legal, and nothing is due
     pub legal : Legal meaning w.book.mounted w.book.trace
     pub settled : Settled meaning w.book.mounted w.book.trace
     -- those of its requests that were started had their first Starts in the order of sending
     pub first_started : (task : ℕ) →
-        filter (λ n. n.task == task) (first_starts w.book.trace) ≡ map (λ r. r.name) (filter (λ r. has_started r.name w.book.trace) (w.sent task))
+        filter (λ n. n.task == task) (first_starts w.book.trace) ≡ map (λ r. r.name)
+        (filter (λ r. has_started r.name w.book.trace) (w.sent task))
     -- each has one post at most
     pub posted_once : (n : Name) → posts_of n w.book.trace ≤ 1
     -- in a finished world each request that was sent has one post

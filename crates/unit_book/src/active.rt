@@ -10,16 +10,16 @@ ghost use Rattle.unit_book.specs.Trace.{is_halt};
 use crate::entry::Mode;
 use ccw_programs::Burst;
 use device_port::{Device, Kind};
-use io_images::{Code, Csw};
+use io_images::Code;
 use recovery::{Verdict, verdict};
 use request_piece::{Name, Piece, Scope};
-use subchannel::Subchannel;
+use subchannel::{Status, Subchannel};
 
 /// Whether the active request is on the channel, or awaits its restart with the status of its last attempt.
 #[derive(Clone, Copy, PartialEq, Eq, Debug)]
 pub(crate) enum Standing {
     OnChannel,
-    AwaitsRestart(Csw, u16),
+    AwaitsRestart(Status),
 }
 
 /// The active request: how often it was started, and what happened since its last start.
@@ -68,15 +68,15 @@ impl Active {
     }
 
     /// The request, which awaits its restart.
-    pub fn awaiting(self, csw: Csw, sense: u16) -> Self
-        ensures { result ≡ record self { standing = Standing.AwaitsRestart csw sense } }
+    pub fn awaiting(self, status: Status) -> Self
+        ensures { result ≡ record self { standing = Standing.AwaitsRestart status } }
     {
         Active {
             piece: self.piece,
             starts: self.starts,
             halted: self.halted,
             covered: self.covered,
-            standing: Standing::AwaitsRestart(csw, sense),
+            standing: Standing::AwaitsRestart(status),
         }
     }
 
@@ -86,7 +86,7 @@ impl Active {
     {
         match self.standing {
             Standing::OnChannel => false,
-            Standing::AwaitsRestart(_, _) => true,
+            Standing::AwaitsRestart(_) => true,
         }
     }
 
@@ -98,12 +98,12 @@ impl Active {
     }
 
     /// The status of the last attempt of a request that awaits its restart.
-    pub fn kept_status(&self) -> (Csw, u16)
+    pub fn kept_status(&self) -> Status
         ensures { result ≡ kept_by self.now.standing }
     {
         match self.standing {
-            Standing::OnChannel => (Csw::empty(), 0),
-            Standing::AwaitsRestart(csw, sense) => (csw, sense),
+            Standing::OnChannel => Status::empty(),
+            Standing::AwaitsRestart(status) => status,
         }
     }
 
@@ -135,20 +135,20 @@ impl Active {
     }
 
     /// The completion code of a request whose status is this, or None where it is to be tried again.
-    pub fn code(&self, kind: Kind, csw: &Csw, sense: u16) -> Option<Code>
-        ensures { result ≡ pending_code kind csw.now sense self.now.starts self.now.halted self.now.covered }
+    pub fn code(&self, kind: Kind, status: &Status) -> Option<Code>
+        ensures { result ≡ pending_code kind status.now self.now.starts self.now.halted self.now.covered }
     {
         if self.halted {
             return Some(Code::Purged);
         }
-        match verdict(kind, csw, sense, self.starts) {
+        match verdict(kind, &status.csw, status.sense, self.starts) {
             Verdict::Final(code) => Some(code),
             Verdict::Retry if self.covered => Some(Code::Purged),
             Verdict::Retry => None,
         }
     }
 
-    /// Runs the program of the request, by so many commands at most.
+    /// Runs the program of the request, by at most `max` commands.
     pub fn run<D: Device>(&mut self, channel: &mut Subchannel<D>, max: u32) -> Option<Burst>
         requires { 1 ≤ max }
         ensures ran { RunsAs D.meaning channel.old self.old.piece.value.area max (running_program channel.old.device channel.old.phase self.old.piece.value.area) result channel.new self.new.piece.value.area }

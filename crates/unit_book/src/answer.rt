@@ -22,7 +22,7 @@ pub enum Starting {
 pub enum Running {
     /// No program runs.
     Quiet,
-    /// So many commands were done; whether a status is pending now.
+    /// This many commands were done; whether a status is pending now.
     Ran { commands: u32, pending: bool },
 }
 
@@ -53,6 +53,28 @@ pub enum Closing {
     Closing(Name),
     /// None is.
     Closed,
+}
+
+/// What a unit did to take the first request in flight to it.
+#[derive(Clone, Copy, PartialEq, Eq, Debug)]
+pub enum Intake {
+    /// The book holds as many requests as it may.
+    Held,
+    /// Nothing is in flight.
+    Quiet,
+    /// This request arrived.
+    Took(Name),
+}
+
+/// What a unit did to deliver the first posted value that is out.
+#[derive(Clone, Copy, PartialEq, Eq, Debug)]
+pub enum Delivery {
+    /// Nothing is out.
+    Quiet,
+    /// The posted value of this request is on its way back.
+    Delivered(Name),
+    /// The post row of this request's task is full.
+    Full(Name),
 }
 
 /// Why a request was not taken.

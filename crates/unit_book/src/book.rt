@@ -46,9 +46,8 @@ impl<D: Device> Model for UnitBook<D> {
 }
 
 impl<D: Device> UnitBook<D> {
-    /// The book of a device that was just mounted, which is copied, on a subchannel with this interruption
-    /// subclass (0 to 7), for so many requests at a time (1 to 65,536). Where there is no memory the device
-    /// is handed back.
+    /// The book of a device that was just mounted, on a subchannel with this interruption subclass (0 to 7), for
+    /// `capacity` requests at a time (1 to 65,536). It copies the device. If memory runs out, it returns the device.
     pub fn new(alloc: Global, device: D, isc: u8, capacity: usize) -> Result<Self, AllocFailed<D>>
         requires isc { isc ≤ 7 }
         requires some { 1 ≤ capacity }
@@ -61,9 +60,9 @@ impl<D: Device> UnitBook<D> {
         })
     }
 
-    /// What holds of every book: its trace is legal and nothing is due, the posted values are those that
-    /// were taken and those that are out, it holds no more requests than it may, its interruption subclass is
-    /// 0 to 7, and no program runs where the active request awaits its restart.
+    /// What holds of every book. Its trace is legal, and nothing is due. The posted values are those that were taken
+    /// and those that are out. It holds no more requests than it may. Its interruption subclass is 0 to 7. No program
+    /// runs if the active request awaits its restart.
     pub fn holds(&self)
         ensures legal { Legal D.meaning self.now.mounted self.now.trace }
         ensures settled { Settled D.meaning self.now.mounted self.now.trace }
@@ -127,9 +126,14 @@ impl<D: Device> UnitBook<D> {
         }
     }
 
-    /// Opens a DCB for input or for output, with its extents, and answers its number. It is refused, and
-    /// the trace stays, for the first reason that applies: the unit has 65,535 DCBs; the extents are not such
-    /// as the device takes (DFSMSdfp Advanced Services, "Data Extent Block Fields"); there is no memory.
+    /// Opens a DCB for input or for output, with its extents, and returns its number. An error leaves the trace as it
+    /// was.
+    ///
+    /// Errors, in this order:
+    ///
+    /// - The unit has 65,535 DCBs.
+    /// - The device does not take the extents (DFSMSdfp Advanced Services, "Data Extent Block Fields").
+    /// - Memory runs out.
     pub fn open(&mut self, method: ProcessingMethod, extents: &[Extent]) -> Result<u16, OpenError>
         ensures ok { IfOk result (λ dcb. OpensBook D.meaning self.old dcb method extents.now self.new) }
         ensures refused { IfErr result (OpenRefused D.meaning self.old extents.now) }

@@ -50,11 +50,11 @@ impl<D: Device> Model for Entries<D> {
 
     ghost Value = { Book D };
 
-    ghost use Rattle.unit_book.specs.Fields.{awaits_of, Ties, Rooms};
+    ghost use Rattle.unit_book.specs.Fields.{awaits_of, fields_of, Ties, Rooms};
 
     ghost view = { λ a. record { mounted = a.mounted; isc = a.channel.isc; capacity = a.out.capacity; trace = reverse a.trace.items; awaits = awaits_of a.active; out = a.out.items; spare = vec_capacity a.trace - vec_len a.trace } };
 
-    ghost invariant = { λ a. Ties D.meaning a.mounted (reverse a.trace.items) a.channel a.active a.waiting.pieces a.dcbs a.out.items × Rooms a.active a.waiting a.swept a.out };
+    ghost invariant = { λ a. Ties D.meaning a.mounted (fields_of (reverse a.trace.items) a.channel a.waiting.pieces a.dcbs a.out.items) a.active × Rooms a.active a.waiting a.swept a.out };
 }
 
 /// Adds an entry where there is room.
@@ -90,16 +90,21 @@ impl<D: Device> Entries<D> {
         ensures err { IfErr result (λ e. e.value ≡ device) }
     {
         match Parts::new(alloc, &device, capacity) {
-            Ok(parts) => Ok(Entries {
-                mounted: parts.mounted,
-                channel: Subchannel::new(device, isc),
-                active: None,
-                waiting: parts.waiting,
-                swept: parts.swept,
-                dcbs: DcbTable::new(alloc),
-                trace: Vec::new(alloc),
-                out: parts.out,
-            }),
+            Ok(parts) => {
+                let channel = Subchannel::new(device, isc);
+                let dcbs = DcbTable::new(alloc);
+                let trace = Vec::new(alloc);
+                Ok(Entries {
+                    mounted: parts.mounted,
+                    channel,
+                    active: None,
+                    waiting: parts.waiting,
+                    swept: parts.swept,
+                    dcbs,
+                    trace,
+                    out: parts.out,
+                })
+            }
             Err(_) => Err(AllocFailed { value: device }),
         }
     }
@@ -115,7 +120,7 @@ impl<D: Device> Entries<D> {
         let _isc = self.channel.isc();
     }
 
-    /// Makes room for so many entries.
+    /// Makes room for this many entries.
     pub fn reserve(&mut self, entries: usize) -> Result<(), AllocError>
         ensures room { OnOk result (entries ≤ self.new.spare) }
         ensures book { self.new ≡ record self.old { spare = self.new.spare } }
@@ -126,7 +131,7 @@ impl<D: Device> Entries<D> {
         self.trace.reserve(entries)
     }
 
-    /// Makes room for so many entries and for the posts of all that they may doom.
+    /// Makes room for this many entries and for the posts of all that they may doom.
     pub fn reserve_posts(&mut self, entries: usize) -> Result<(), AllocError>
         requires { entries ≤ 2 }
         ensures room { OnOk result (length (waiting self.old.trace) + entries ≤ self.new.spare) }

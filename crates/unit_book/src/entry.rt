@@ -22,7 +22,7 @@ pub enum Entry {
     Arrive(Issued),
     /// The program of a request was started.
     Start(Name),
-    /// So many commands of the active request were done.
+    /// This many commands of the active request were done.
     Ran(Name, u32),
     /// The program of the active request was halted.
     Halted(Name),

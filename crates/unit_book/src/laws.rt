@@ -5,7 +5,7 @@ ghost use Rattle.unit_book.specs.WorldLaws.{FinishedOnce, WorldLaws};
 
 use device_port::Device;
 
-/// A name has at most one post, and none of its entries stand behind it.
+/// A name has at most one post, and none of its entries comes after it.
 pub fn posts_are_last<D: Device>()
     ensures { PostsLast D.meaning }
 {}
@@ -20,9 +20,9 @@ pub fn first_starts_keep_order<D: Device>()
     ensures { StartsInOrder D.meaning }
 {}
 
-/// What was doomed is never started, what was covered is not started again; after a close no first start is of
-/// the DCB, and no start at all but of the request that was active then; while a DCB has the error flag
-/// none of its related requests has a first start.
+/// What was doomed is never started, and what was covered is not started again. After a close no request of the DCB
+/// has a first start, and only the request that was active then has any. While a DCB has the error flag, none of its
+/// related requests has a first start.
 pub fn doomed_are_not_started<D: Device>()
     ensures { NoDoomedStarts D.meaning }
 {}
@@ -37,11 +37,13 @@ pub fn finished_posts_once<D: Device>()
     ensures { FinishedOnce D.meaning }
 {}
 
-/// After every list of steps of a unit's world, what arrived of a task and what is in flight of it is what the
-/// task sent, numbered in the order of sending, and its first starts are in that order; what was posted of it is
-/// what it has got, what is on the way back to it and what is out. The trace is legal and nothing is due, so it
-/// has the laws above. Each request has one post at most, and exactly one once nothing is in flight, waits or is
-/// active.
+/// After every list of steps of a unit's world:
+///
+/// - What arrived of a task, and what is in flight of it, is what the task sent, numbered in the order of sending.
+/// - The first starts of a task are in that order.
+/// - What was posted of it is what it has got, what is on the way back to it and what is out.
+/// - The trace is legal and nothing is due, so it has the laws above.
+/// - Each request has at most one post, and exactly one once nothing is in flight, waits or is active.
 pub fn worlds_keep_requests<D: Device>()
     ensures { WorldLaws D.meaning }
 {}

@@ -19,7 +19,8 @@ mod extents;
 pub mod laws;
 
 pub use answer::{
-    ArriveError, Closing, DcbError, Interruption, OpenError, Purging, Running, Starting,
+    ArriveError, Closing, DcbError, Delivery, Intake, Interruption, OpenError, Purging, Running,
+    Starting,
 };
 pub use book::UnitBook;
 pub use dcb::{DcbState, ProcessingMethod};

@@ -5,9 +5,9 @@ ghost use Rattle.std.specs.Prelude.{◌≡◌, ◌<◌, IfErr, None, length};
 use crate::doom::Dooms;
 use crate::error::HistoryError;
 use crate::open_dcbs::OpenDcbs;
-use crate::steps::Steps;
+use crate::steps::{CommandList, Steps};
 use crate::words::{Count, Request, end_in_words};
-use device_port::{Device, Fault, Kind};
+use device_port::{Device, Kind};
 use io_images::{Code, Csw};
 use request_piece::{Issued, Name, Scope};
 use std::io;
@@ -38,7 +38,7 @@ impl<'a> Past<'a> {
         }
     }
 
-    /// Whether an entry is told already: it counts the commands of one more turn of the same program.
+    /// Whether an entry has no line of its own: it counts the commands of one more turn of the same program.
     fn has_told(&self, entry: &Entry) -> bool {
         match entry {
             Entry::Ran(name, _) => self.ran == Some(*name),
@@ -68,19 +68,19 @@ impl<'a> Past<'a> {
     }
 }
 
-/// Writes what happened at a unit, oldest first, as comments of a script. Where the faults are given that the unit's
-/// device was to meet, every command is told too. The table has to have room for the DCBs of the unit.
+/// Writes what happened at a unit, oldest first, as comments of a script, and its commands if they are asked for. The
+/// table has to have room for the DCBs of the unit.
 pub fn write_history<W: Write, D: Device>(
     out: &mut W,
     unit: usize,
     book: &UnitBook<D>,
-    faults: Option<&[Fault]>,
+    commands: Option<CommandList<'_>>,
     open: &mut OpenDcbs,
 ) -> Result<(), HistoryError>
-    ensures { faults.entry ≡ None → IfErr result (λ error. error ≡ HistoryError.NotWritten) }
+    ensures { commands.entry ≡ None → IfErr result (λ error. error ≡ HistoryError.NotWritten) }
 {
-    let steps = match faults {
-        Some(faults) => Some(Steps::of(book, faults)?),
+    let steps = match &commands {
+        Some(commands) => Some(Steps::of(book, commands)?),
         None => None,
     };
     write_heading(out, unit, book)?;
@@ -106,7 +106,7 @@ fn kind_in_words(kind: Kind) -> &'static str {
 }
 
 /// Writes the entries, each with its number. Turns of a program that follow one another are one line, with the number
-/// of the first. The commands of an entry stand behind its line.
+/// of the first. The commands of an entry follow its line.
 fn write_entries<W: Write, D: Device>(
     out: &mut W,
     trace: &[Entry],
@@ -127,7 +127,7 @@ fn write_entries<W: Write, D: Device>(
     Ok(())
 }
 
-/// Writes the entry at a place with its number, unless it is told already.
+/// Writes the entry at a place with its number, if it has a line of its own.
 fn write_numbered<W: Write>(
     out: &mut W,
     trace: &[Entry],
@@ -144,7 +144,7 @@ fn write_numbered<W: Write>(
     write_entry(out, &trace[place], entries, past)
 }
 
-/// Writes an entry, which those behind it begin with.
+/// Writes an entry, which is the first of `entries`.
 fn write_entry<W: Write>(
     out: &mut W,
     entry: &Entry,

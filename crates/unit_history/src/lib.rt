@@ -17,3 +17,4 @@ pub use characters::Text;
 pub use error::HistoryError;
 pub use history::write_history;
 pub use open_dcbs::OpenDcbs;
+pub use steps::CommandList;

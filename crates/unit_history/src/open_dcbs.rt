@@ -4,8 +4,8 @@ use device_port::Device;
 use std::alloc::{AllocError, Global};
 use unit_book::{Entry, UnitBook};
 
-/// Which DCBs of a unit are open, at each place of its trace. The first has the number 1, and each the number behind that
-/// of the DCB that was opened before it.
+/// The open DCBs of a unit, at each place of its trace. The first has the number 1, and each other the number after
+/// that of the DCB that was opened before it.
 #[derive(Drop)]
 pub struct OpenDcbs {
     are_open: Vec<bool>,
@@ -25,7 +25,7 @@ impl OpenDcbs {
         OpenDcbs::new(alloc, most)
     }
 
-    /// Room for so many DCBs of a unit.
+    /// Room for `room` DCBs of a unit.
     pub fn new(alloc: Global, room: usize) -> Result<OpenDcbs, AllocError> {
         let mut are_open = Vec::new(alloc);
         are_open.resize(room, false)?;

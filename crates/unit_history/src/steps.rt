@@ -19,6 +19,13 @@ use unit_book::{Entry, UnitBook};
 /// The most bytes of a command's data that are shown.
 const SHOWN: u32 = 16;
 
+/// The commands of a unit that are written: the first `most`. `faults` are those that its device was to meet.
+#[derive(Clone, Copy)]
+pub struct CommandList<'f> {
+    pub faults: &'f [Fault],
+    pub most: u64,
+}
+
 /// A replay of a unit's trace, with the faults that its device was to meet, in the order of their numbers.
 #[derive(Drop)]
 pub(crate) struct Steps<'t, D: Device> {
@@ -31,39 +38,60 @@ pub(crate) struct Steps<'t, D: Device> {
     met: usize,
     /// How many commands the device did: those whose CCWs kept the rules.
     acted: u64,
+    /// How many more commands are written.
+    left: u64,
+    /// Whether a command was left out, and with it all that follow.
+    is_cut: bool,
 }
 
 impl<'t, D: Device> Steps<'t, D> {
     /// Nothing is replayed.
-    pub fn of(book: &'t UnitBook<D>, faults: &'t [Fault]) -> Result<Steps<'t, D>, AllocError> {
+    pub fn of(
+        book: &'t UnitBook<D>,
+        commands: &CommandList<'t>,
+    ) -> Result<Steps<'t, D>, AllocError> {
         Ok(Steps {
             replay: Replay::of(book)?,
             listed: Workspace::new(),
             kind: book.mounted().kind(),
-            faults,
+            faults: commands.faults,
             met: 0,
             acted: 0,
+            left: commands.most,
+            is_cut: false,
         })
     }
 
-    /// Replays the next entry, which is this one, and writes its commands if it has any.
+    /// Replays the next entry, which is this one, and writes its commands, as long as some are left to write.
     pub fn write_entry<W: Write>(
         &mut self,
         out: &mut W,
         entry: &Entry,
     ) -> Result<(), HistoryError> {
+        if self.is_cut {
+            return Ok(());
+        }
         let Entry::Ran(_, commands) = entry else {
             self.replay.step()?;
             return Ok(());
         };
         for _ in 0..*commands {
+            if self.left == 0 {
+                self.is_cut = true;
+                writeln!(
+                    out,
+                    "#         --most-steps leaves out the commands from here"
+                )?;
+                return Ok(());
+            }
+            self.left -= 1;
             self.write_command(out)?;
         }
         Ok(())
     }
 
-    /// Replays the next command, and writes it: what is listed of it before, and where its program and its storage
-    /// stand behind it.
+    /// Replays the next command, and writes it: what is listed of it before, and then the places of its program and
+    /// its storage.
     fn write_command<W: Write>(&mut self, out: &mut W) -> Result<(), HistoryError> {
         let Some(listing) = self.replay.next_command(&mut self.listed) else {
             return write_idle(out);
@@ -150,7 +178,7 @@ fn write_ccw<W: Write>(out: &mut W, kind: Kind, place: usize, link: &Link) -> io
     out.write_all(b"\n")
 }
 
-/// Writes the rule that a CCW breaks, and the CCW as it stands in storage, unless it was written.
+/// Writes the rule that a CCW breaks, and the CCW itself, unless it was written.
 fn write_refusal<W: Write>(
     out: &mut W,
     refusal: &Refusal,
@@ -204,7 +232,7 @@ fn write_data<W: Write>(
     out.write_all(if moved > shown { b" ...\n" } else { b"\n" })
 }
 
-/// The lowest address of so many bytes that end at a part's.
+/// The lowest address of `count` bytes that end where a part begins.
 fn lowest(part: &Segment, count: u32) -> u32 {
     part.address.saturating_sub(count.saturating_sub(1))
 }

@@ -1,5 +1,6 @@
 -- Posts go into the rows of a site and out of them, and units come to it.
-use Rattle.std.proofs.Common.{◌≡◌, ◌<◌, ◌⊎◌, ℕ, zero, suc, eqb, true, false, Option, Some, None, List, [], ◌∷◌, ◌++◌, length, set, drop, replicate, refl, sym, ap, ◌∙◌, subst, inl, inr, arith}
+use Rattle.std.proofs.Common.{◌≡◌, ◌<◌, ◌⊎◌, ℕ, zero, suc, eqb, true, false, Option, Some, None, List, [], ◌∷◌, ◌++◌, length, set, drop}
+use Rattle.std.proofs.Common.{replicate, refl, sym, ap, ◌∙◌, subst, inl, inr, arith}
 use Rattle.std.specs.Prelude.{slice_get, slice_index_or}
 use Rattle.std.specs.List.{list_all}
 use Rattle.std.proofs.lemmas.List.{get_or-set_same, get_or-set_other, length_push as length-push, length-map, length-replicate, set-get_or}
@@ -10,6 +11,7 @@ use native.Mathlib.Decide.{ℕ_discrete}
 use Rattle.circular_buffer.proofs.Places.{slice_get-set_same, slice_get-some}
 use Rattle.device_port.specs.Meaning.{Meaning}
 use Rattle.request_piece.specs.PostedState.{PostedState}
+use Rattle.request_piece.specs.declared.piece.Name.{Name}
 use Rattle.unit_book.specs.Book.{Book, given}
 use Rattle.unit_book.specs.Legal.{Legal}
 use Rattle.unit_book.specs.Lists.{Each}
@@ -17,10 +19,11 @@ use Rattle.unit_book.specs.Posts.{posted}
 use Rattle.unit_book.specs.Trace.{is_opening}
 use Rattle.unit_world.specs.Parts.{UnitPart, opening_part}
 use Rattle.unit_world.specs.PostLists.{list_of, with_value, without_value}
-use Rattle.unit_world.specs.Sites.{SiteState, IsSite, KeepsOthers, StepsUnit, from_unit, world_at}
-use Rattle.unit_world.specs.States.{IsWorldState, MakesStep}
+use Rattle.unit_world.specs.Sites.{SiteState, IsFirstOut, IsSite, KeepsOthers, StepsUnit, from_unit, world_at}
+use Rattle.unit_world.specs.States.{IsWorldState, MakesStep, StepName, CollectStep, DeliverStep}
 use Rattle.unit_world.proofs.Moves.{DeliversValue}
-use Rattle.unit_world.proofs.Sites.{eqb-other, fewer, first-own, from-row, less-other, less-own, others-stay, put-other, put-own, same-item, site-keeps}
+use Rattle.unit_world.proofs.Sites.{eqb-other, fewer, first-own, from-row, less-other, less-own, others-stay, put-other, put-own, same-item}
+use Rattle.unit_world.proofs.Sites.{site-keeps}
 use Rattle.unit_world.proofs.States.{all-same, no-rest, opened-out, state-opening, state-step}
 use Rattle.unit_world.proofs.Steps.{collects, delivers, has-list}
 
@@ -40,7 +43,8 @@ Each-head P (y ∷ xs) x h e = let i : y ≡ x = cc in subst P i h.0
 after-set : {X : Type 0} (P : X → Type 0) (lists : List (List X)) (at : ℕ) (l : List X) → ((k : ℕ) → Each P (slice_index_or lists k [])) →
     (at < length lists → Each P l) → at < length lists → (k : ℕ) → Each P (slice_index_or (set lists at l) k [])
 after-set P lists at l h here lt k = dite (ℕ_discrete k at)
-    (λ e. subst (λ j. Each P (slice_index_or (set lists at l) j [])) (sym e) (subst (Each P) (sym (get_or-set_same lists at l [] lt)) (here lt)))
+    (λ e. subst (λ j. Each P (slice_index_or (set lists at l) j [])) (sym e)
+    (subst (Each P) (sym (get_or-set_same lists at l [] lt)) (here lt)))
     (λ ne. subst (Each P) (sym (get_or-set_other lists at k l [] ne)) (h k))
 
 -- what is at a place of a list with one more item
@@ -64,60 +68,64 @@ none-of unit (v ∷ vs) h =
     rw e (none-of unit vs h.1)
 
 module _ {D : Type 0} (meaning : Meaning D) where
-  steps-from : (old new : SiteState D) (unit : ℕ) (before after : UnitPart D) → KeepsOthers meaning old unit new →
+  steps-from : (old new : SiteState D) (unit : ℕ) (before after : UnitPart D) {name : StepName} → KeepsOthers meaning old unit new →
       slice_get old.units unit ≡ Some before → slice_get new.units unit ≡ Some after →
-      MakesStep meaning (world_at old unit before) (world_at new unit after) → StepsUnit meaning old unit new
-  steps-from old new unit before after others at now f = record {
+      MakesStep meaning name (world_at old unit before) (world_at new unit after) → StepsUnit meaning name old unit new
+  steps-from old new unit before after {name} others at now f = record {
     others = others;
     step = λ p q ep eq.
         let e = same-item old.units unit before p at ep in
         let d = same-item new.units unit after q now eq in
-        subst (λ x. MakesStep meaning (world_at old unit x) (world_at new unit q)) e
-        (subst (λ x. MakesStep meaning (world_at old unit before) (world_at new unit x)) d f);
+        subst (λ x. MakesStep meaning name (world_at old unit x) (world_at new unit q)) e
+        (subst (λ x. MakesStep meaning name (world_at old unit before) (world_at new unit x)) d f);
   }
 
   -- A POST IS DELIVERED: the first that is out at a unit, into the row of its task
-  module _ (old : SiteState D) (unit : ℕ) (part : UnitPart D) (value : PostedState) (at : slice_get old.units unit ≡ Some part)
-      (site : IsSite meaning old) (first : slice_get part.book.out 0 ≡ Some value) (own : value.unit ≡ unit)
-      (of_task : value.name.task < length old.rows) (room : length (list_of old.rows value.name.task) < old.post_room) where
+  module _ (old : SiteState D) (unit : ℕ) (name : Name) (out : IsFirstOut old unit name)
+      (room : length (list_of old.rows name.task) < old.post_room) (site : IsSite meaning old) where
     abbrev pub delivered_part : UnitPart D
-    delivered_part = record part { book = record part.book { out = drop 1 part.book.out } }
+    delivered_part = record out.part { book = record out.part.book { out = drop 1 out.part.book.out } }
 
     abbrev pub delivered_site : SiteState D
-    delivered_site = record old { units = set old.units unit delivered_part; rows = with_value old.rows value.name.task value }
+    delivered_site = record old { units = set old.units unit delivered_part; rows = with_value old.rows name.task out.value }
 
     others : KeepsOthers meaning old unit delivered_site
-    others = others-stay meaning old unit delivered_part (with_value old.rows value.name.task value)
-        (λ other ne. put-other other value.name.task old.rows value (λ e. ne (sym e ∙ own)))
+    others = others-stay meaning old unit delivered_part (with_value old.rows name.task out.value)
+        (λ other ne. put-other other name.task old.rows out.value (λ e. ne (sym e ∙ out.of_unit)))
 
     now : slice_get (set old.units unit delivered_part) unit ≡ Some delivered_part
-    now = slice_get-set_same old.units unit delivered_part (slice_get_within old.units unit part at)
+    now = slice_get-set_same old.units unit delivered_part (slice_get_within old.units unit out.part out.at)
 
-    moves : DeliversValue (world_at old unit part) value (world_at delivered_site unit delivered_part)
+    moves : DeliversValue (world_at old unit out.part) out.value name (world_at delivered_site unit delivered_part)
     moves = record {
-      first = first;
-      of_task = omega (arith, of_task, length-map old.rows (from_unit unit));
-      room = omega (arith, room, fewer unit (list_of old.rows value.name.task), ap length (from-row unit value.name.task old.rows));
-      is = ap (λ back. record (world_at old unit part) { book = record part.book { out = drop 1 part.book.out }; back = back })
-          (put-own unit value.name.task old.rows value own);
+      first = out.first;
+      named = out.named;
+      of_task = omega (arith, out.of_task, length-map old.rows (from_unit unit));
+      room = omega (arith, room, fewer unit (list_of old.rows name.task), ap length (from-row unit name.task old.rows));
+      is = ap (λ back. record (world_at old unit delivered_part) { back = back })
+          (put-own unit name.task old.rows out.value out.of_unit);
     }
 
-    step : MakesStep meaning (world_at old unit part) (world_at delivered_site unit delivered_part)
-    step = delivers meaning (world_at old unit part) (world_at delivered_site unit delivered_part) value moves
+    step : MakesStep meaning (DeliverStep name) (world_at old unit out.part) (world_at delivered_site unit delivered_part)
+    step = delivers meaning (world_at old unit out.part) (world_at delivered_site unit delivered_part) out.value name moves
 
-    pub deliver-steps : StepsUnit meaning old unit delivered_site
-    deliver-steps = steps-from old delivered_site unit part delivered_part others at now step
+    pub deliver-steps : StepsUnit meaning (DeliverStep name) old unit delivered_site
+    deliver-steps = steps-from old delivered_site unit out.part delivered_part others out.at now step
 
     pub deliver-keeps : IsSite meaning delivered_site
     deliver-keeps = site-keeps meaning old delivered_site unit site others
-        (λ p e. subst (λ x. IsWorldState meaning (world_at delivered_site unit x)) (same-item (set old.units unit delivered_part) unit delivered_part p now e)
-        (state-step meaning (world_at old unit part) (world_at delivered_site unit delivered_part) (site.worlds unit part at)
-        (length-map (with_value old.rows value.name.task value) (from_unit unit) ∙ length-set old.rows value.name.task _
-        ∙ sym (length-map old.rows (from_unit unit)) ∙ (site.worlds unit part at).tasks) step))
-        (λ task. subst (λ n. Each (λ v. v.unit < n) (list_of (with_value old.rows value.name.task value) task)) (sym (length-set old.units unit delivered_part))
-        (after-set (λ (v : PostedState). v.unit < length old.units) old.rows value.name.task (list_of old.rows value.name.task ++ value ∷ []) site.of_units
-        (λ lt. Each-push (λ (v : PostedState). v.unit < length old.units) (list_of old.rows value.name.task) value (site.of_units value.name.task)
-        (subst (λ k. k < length old.units) (sym own) (slice_get_within old.units unit part at))) of_task task))
+        (λ p e. subst (λ x. IsWorldState meaning (world_at delivered_site unit x))
+        (same-item (set old.units unit delivered_part) unit delivered_part p now e)
+        (state-step meaning (world_at old unit out.part) (world_at delivered_site unit delivered_part) (site.worlds unit out.part out.at)
+        (length-map (with_value old.rows name.task out.value) (from_unit unit) ∙ length-set old.rows name.task _
+        ∙ sym (length-map old.rows (from_unit unit)) ∙ (site.worlds unit out.part out.at).tasks) step))
+        (λ task. subst (λ n. Each (λ v. v.unit < n) (list_of (with_value old.rows name.task out.value) task))
+        (sym (length-set old.units unit delivered_part))
+        (after-set (λ (v : PostedState). v.unit < length old.units) old.rows name.task
+        (list_of old.rows name.task ++ out.value ∷ []) site.of_units
+        (λ lt. Each-push (λ (v : PostedState). v.unit < length old.units) (list_of old.rows name.task) out.value
+        (site.of_units name.task)
+        (subst (λ k. k < length old.units) (sym out.of_unit) (slice_get_within old.units unit out.part out.at))) out.of_task task))
 
   -- A POST IS COLLECTED: the first of a row
   module _ (old : SiteState D) (task : ℕ) (site : IsSite meaning old) where
@@ -125,9 +133,11 @@ module _ {D : Type 0} (meaning : Meaning D) where
     collected_site = record old { rows = without_value old.rows task }
 
     pub collect-unit : (value : PostedState) → slice_get (list_of old.rows task) 0 ≡ Some value → value.unit < length old.units
-    collect-unit value first = Each-head (λ (v : PostedState). v.unit < length old.units) (list_of old.rows task) value (site.of_units task) first
+    collect-unit value first = Each-head (λ (v : PostedState). v.unit < length old.units) (list_of old.rows task) value
+        (site.of_units task) first
 
-    others-collect : (value : PostedState) → slice_get (list_of old.rows task) 0 ≡ Some value → KeepsOthers meaning old value.unit collected_site
+    others-collect : (value : PostedState) → slice_get (list_of old.rows task) 0 ≡ Some value →
+        KeepsOthers meaning old value.unit collected_site
     others-collect value first = record {
       count = refl;
       same = λ other part ne at. (
@@ -137,30 +147,34 @@ module _ {D : Type 0} (meaning : Meaning D) where
     }
 
     collect-step : (value : PostedState) (part : UnitPart D) → slice_get (list_of old.rows task) 0 ≡ Some value →
-        MakesStep meaning (world_at old value.unit part) (world_at collected_site value.unit part)
+        MakesStep meaning (CollectStep task value.name) (world_at old value.unit part) (world_at collected_site value.unit part)
     collect-step value part first =
         collects meaning (world_at old value.unit part) (world_at collected_site value.unit part) task value
         (ap (λ l. slice_get l 0) (from-row value.unit task old.rows) ∙ (first-own value.unit (list_of old.rows task) value first refl).0)
         (ap (λ back. record (world_at old value.unit part) { back = back }) (less-own value.unit task old.rows value first refl))
 
-    pub collect-steps : (value : PostedState) → slice_get (list_of old.rows task) 0 ≡ Some value → StepsUnit meaning old value.unit collected_site
+    pub collect-steps : (value : PostedState) → slice_get (list_of old.rows task) 0 ≡ Some value →
+        StepsUnit meaning (CollectStep task value.name) old value.unit collected_site
     collect-steps value first =
         let p = slice_get-some old.units value.unit (collect-unit value first) in
         steps-from old collected_site value.unit p.0 p.0 (others-collect value first) p.1 p.1 (collect-step value p.0 first)
 
     pub collect-none : slice_get (list_of old.rows task) 0 ≡ None → collected_site ≡ old
-    collect-none e = ap (λ rows. record old { rows = rows }) (ap (set old.rows task) (no-rest (list_of old.rows task) e) ∙ set-get_or old.rows task [])
+    collect-none e = ap (λ rows. record old { rows = rows })
+        (ap (set old.rows task) (no-rest (list_of old.rows task) e) ∙ set-get_or old.rows task [])
 
     pub collect-keeps : IsSite meaning collected_site
     collect-keeps = by_first (slice_get (list_of old.rows task) 0) refl where
       by_first : (r : Option PostedState) → slice_get (list_of old.rows task) 0 ≡ r → IsSite meaning collected_site
       by_first None e = subst (IsSite meaning) (sym (collect-none e)) site
       by_first (Some value) e = site-keeps meaning old collected_site value.unit site (others-collect value e)
-          (λ part at. state-step meaning (world_at old value.unit part) (world_at collected_site value.unit part) (site.worlds value.unit part at)
+          (λ part at. state-step meaning (world_at old value.unit part) (world_at collected_site value.unit part)
+          (site.worlds value.unit part at)
           (length-map (without_value old.rows task) (from_unit value.unit) ∙ length-set old.rows task _
           ∙ sym (length-map old.rows (from_unit value.unit)) ∙ (site.worlds value.unit part at).tasks) (collect-step value part e))
           (after-set (λ (v : PostedState). v.unit < length old.units) old.rows task (drop 1 (list_of old.rows task)) site.of_units
-          (λ lt. Each-rest (λ (v : PostedState). v.unit < length old.units) (list_of old.rows task) (site.of_units task)) (has-list old.rows task value e))
+          (λ lt. Each-rest (λ (v : PostedState). v.unit < length old.units) (list_of old.rows task) (site.of_units task))
+          (has-list old.rows task value e))
 
   -- A SITE WITH NO UNITS YET
   pub empty-site : (tasks room : ℕ) → IsSite meaning (record { units = []; post_room = room; rows = replicate tasks [] })

@@ -9,3 +9,4 @@ pub mod Sides
 pub mod Deliveries
 pub mod Sends
 pub mod PurgedUnits
+pub mod Calls

@@ -1,5 +1,6 @@
 -- A loop over the units of a site.
-use Rattle.std.proofs.Common.{◌≡◌, ◌≤◌, ◌<◌, ◌⊎◌, ℕ, ◌+◌, Some, List, [], ◌∷◌, ◌++◌, length, set, refl, sym, ap, ◌∙◌, subst, inl, inr, arith}
+use Rattle.std.proofs.Common.{◌≡◌, ◌≤◌, ◌<◌, ◌⊎◌, ℕ, ◌+◌, Some, List, [], ◌∷◌, ◌++◌, length, set, refl, sym, ap, ◌∙◌, subst, inl, inr}
+use Rattle.std.proofs.Common.{arith}
 use Rattle.std.specs.Prelude.{slice_get, IfOk, OnErr}
 use Rattle.std.specs.declared.result.Result.{Result}
 use Rattle.std.specs.declared.result.Result.TheVariants.{Ok, Err}
@@ -19,9 +20,9 @@ use Rattle.unit_book.specs.Lists.{Each}
 use Rattle.unit_book.specs.Refusals.{PurgeLacks}
 use Rattle.unit_world.specs.Parts.{UnitPart}
 use Rattle.unit_world.specs.PostLists.{list_of}
-use Rattle.unit_world.specs.Purges.{PurgesPart, PurgesParts, PurgesSite}
+use Rattle.unit_world.specs.Purges.{PurgesPart, PurgesParts}
 use Rattle.unit_world.specs.Sites.{SiteState, IsSite, world_at}
-use Rattle.unit_world.specs.States.{IsWorldState, MakesStep}
+use Rattle.unit_world.specs.States.{IsWorldState, MakesStep, PurgeStep}
 use Rattle.unit_world.proofs.Deliveries.{at-push}
 use Rattle.unit_world.proofs.Sites.{same-item}
 use Rattle.unit_world.proofs.States.{state-step}
@@ -36,7 +37,8 @@ module _ {W A : Type 0} (P : W → A → W → Type 0) (old now : List W) (answe
   pub rest-stays : (at : ℕ) → place + 1 ≤ at → slice_get (set now place w) at ≡ slice_get old at
   rest-stays at le = slice_get-set_other now place at w (λ e. omega (arith, e, le)) ∙ rest at (omega (arith, le))
 
-  pub each-more : ((at : ℕ) (x : W) (b : A) (y : W) → slice_get old at ≡ Some x → slice_get answers at ≡ Some b → slice_get now at ≡ Some y → P x b y) →
+  pub each-more : ((at : ℕ) (x : W) (b : A) (y : W) → slice_get old at ≡ Some x → slice_get answers at ≡ Some b →
+      slice_get now at ≡ Some y → P x b y) →
       P v a w → (at : ℕ) (x : W) (b : A) (y : W) → slice_get old at ≡ Some x → slice_get (answers ++ a ∷ []) at ≡ Some b →
       slice_get (set now place w) at ≡ Some y → P x b y
   each-more before here at x b y ex eb ey = by_sum (at-push answers a b at eb) where
@@ -54,7 +56,8 @@ module _ {W A : Type 0} (P : W → A → W → Type 0) (old now : List W) (answe
 
 module _ {D : Type 0} (meaning : Meaning D) (task : ℕ) (mode : Mode) where
   pub purged-part : (old : UnitPart D) (book : Book D) (r : Result Purging AllocError) →
-      IfOk r (λ answer. PurgesBook meaning old.book (Task task) mode answer book) → OnErr r (PurgeLacks old.book) → OnErr r (book ≡ old.book) →
+      IfOk r (λ answer. PurgesBook meaning old.book (Task task) mode answer book) → OnErr r (PurgeLacks old.book) →
+      OnErr r (book ≡ old.book) →
       PurgesPart meaning task mode old r (record old { book = book })
   purged-part old book (Ok answer) ok full err = (ok, refl)
   purged-part old book (Err e) ok full err = (full, ap (λ b. record old { book = b }) err)
@@ -63,9 +66,8 @@ module _ {D : Type 0} (meaning : Meaning D) (task : ℕ) (mode : Mode) where
   module _ (old : SiteState D) (answers : List (Result Purging AllocError)) (units : List (UnitPart D))
       (h : PurgesParts meaning task mode old.units answers units) where
     one-step : (unit : ℕ) (p q : UnitPart D) (answer : Purging) → PurgesPart meaning task mode p (Ok answer) q →
-        MakesStep meaning (world_at old unit p) (world_at old unit q)
-    one-step unit p q answer e = purges meaning (world_at old unit p) (world_at old unit q) (Task task) mode answer
-        (ap (world_at old unit) e.1) tt e.0
+        MakesStep meaning (PurgeStep (Task task) mode answer) (world_at old unit p) (world_at old unit q)
+    one-step unit p q answer e = purges meaning (world_at old unit p) q (Task task) mode answer e.1 tt e.0
 
     one-state : (unit : ℕ) (p q : UnitPart D) (answer : Result Purging AllocError) → IsWorldState meaning (world_at old unit p) →
         PurgesPart meaning task mode p answer q → IsWorldState meaning (world_at old unit q)
@@ -83,9 +85,7 @@ module _ {D : Type 0} (meaning : Meaning D) (task : ℕ) (mode : Mode) where
       of_units = λ t. subst (λ n. Each (λ (v : PostedState). v.unit < n) (list_of old.rows t)) (sym h.units) (site.of_units t);
     }
 
-    pub purges-site : PurgesSite meaning task mode old answers (record old { units = units })
-    purges-site = record {
-      parts = h;
-      is = refl;
-      steps = λ unit p answer q ep ea eq. one-step unit p q answer (h.each unit p (Ok answer) q ep ea eq);
-    }
+    pub purges-steps : (unit : ℕ) (p q : UnitPart D) (answer : Purging) → slice_get old.units unit ≡ Some p →
+        slice_get answers unit ≡ Some (Ok answer) → slice_get units unit ≡ Some q →
+        MakesStep meaning (PurgeStep (Task task) mode answer) (world_at old unit p) (world_at old unit q)
+    purges-steps unit p q answer ep ea eq = one-step unit p q answer (h.each unit p (Ok answer) q ep ea eq)

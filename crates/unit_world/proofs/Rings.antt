@@ -31,11 +31,14 @@ Each-replicate P zero x h = tt
 Each-replicate P (suc n) x h = (h, Each-replicate P n x h)
 
 -- what was refused had no room
-pub refused : {A E : Type 0} (r : Result A E) (len capacity room count : ℕ) → (IsOk r ↔ (len < capacity)) → capacity ≡ room → count ≡ len → OnErr r (room ≤ count)
+pub refused : {A E : Type 0} (r : Result A E) (len capacity room count : ℕ) → (IsOk r ↔ (len < capacity)) → capacity ≡ room → count ≡ len →
+    OnErr r (room ≤ count)
 refused (Ok a) len capacity room count h e n = tt
-refused (Err x) len capacity room count h e n = dite (dec_lt len capacity) (λ lt. absurd (false≢true (h.1 lt))) (λ no. omega (arith, no, e, n))
+refused (Err x) len capacity room count h e n = dite (dec_lt len capacity) (λ lt. absurd (false≢true (h.1 lt)))
+    (λ no. omega (arith, no, e, n))
 
-module _ (rings : List (Buffer PostedState)) (i k : ℕ) (here : i ≡ k) (lt : k < length rings) (ring : Buffer PostedState) (is : ring ≡ get_or rings i ring) where
+module _ (rings : List (Buffer PostedState)) (i k : ℕ) (here : i ≡ k) (lt : k < length rings) (ring : Buffer PostedState)
+    (is : ring ≡ get_or rings i ring) where
   -- the ring at a place has the list there
   pub list-is : slice_index_or (lists_of rings) k [] ≡ ring.items
   list-is =
@@ -43,7 +46,8 @@ module _ (rings : List (Buffer PostedState)) (i k : ℕ) (here : i ≡ k) (lt : 
       ∙ sym (ap (λ (r : Buffer PostedState). r.items) (is ∙ ap (λ j. get_or rings j ring) here))
 
   -- and another ring, another list
-  pub put-is : (new : Buffer PostedState) (items : List PostedState) → new.items ≡ items → lists_of (set rings i new) ≡ slice_set (lists_of rings) k items
+  pub put-is : (new : Buffer PostedState) (items : List PostedState) → new.items ≡ items →
+      lists_of (set rings i new) ≡ slice_set (lists_of rings) k items
   put-is new items e =
       map-set (λ (r : Buffer PostedState). r.items) rings i new
       ∙ (ap (λ j. set (lists_of rings) j new.items) here ∙ ap (set (lists_of rings) k) e)

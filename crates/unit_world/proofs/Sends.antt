@@ -1,93 +1,99 @@
 -- A posted value that is out at a unit goes into the row of its task.
-use Rattle.std.proofs.Common.{◌≡◌, ◌<◌, ℕ, Some, List, [], ◌++◌, length, map, set, get_or, drop, refl, sym, ap, ◌∙◌, subst, arith}
+use Rattle.std.proofs.Common.{◌≡◌, ◌<◌, ◌≤◌, Some, [], ◌++◌, length, set, drop, sym, ap, ◌∙◌, subst, arith}
 use Rattle.std.specs.Prelude.{slice_get}
 use Rattle.std.proofs.lemmas.List.{length-map}
 use Rattle.device_port.specs.Meaning.{Meaning}
 use Rattle.request_piece.specs.PostedState.{PostedState}
 use Rattle.request_piece.specs.declared.piece.Name.{Name}
+use Rattle.unit_book.specs.declared.answer.Delivery.{Delivery}
+use Rattle.unit_book.specs.declared.answer.Delivery.TheVariants as delivery
 use Rattle.unit_book.specs.Book.{Book, given}
 use Rattle.unit_book.specs.Legal.{Legal}
 use Rattle.unit_book.specs.Posts.{posted}
-use Rattle.unit_world.specs.declared.answer.Delivering.{Delivering}
-use Rattle.unit_world.specs.declared.answer.Delivering.TheVariants as delivering
-use Rattle.unit_world.specs.declared.unit_side.UnitSide.{UnitSide}
-use Rattle.unit_world.specs.Parts.{UnitPart, unit_part}
-use Rattle.unit_world.specs.PostLists.{PostLists, with_value}
+use Rattle.unit_world.specs.Parts.{unit_part}
+use Rattle.unit_world.specs.PostLists.{PostLists, list_of, with_value}
 use Rattle.unit_world.specs.Sending.{IsForRows, SendsBack, SendsOne}
-use Rattle.unit_world.specs.Sites.{SiteState, DeliversAs, DeliversPost, HoldsPost, IsFirstOut, IsSite, OnDelivered, StepsUnit, from_unit, world_at}
-use Rattle.unit_world.proofs.Deliveries.{deliver-keeps, deliver-steps}
-use Rattle.unit_world.proofs.Sites.{same-item, set-same, side-at, side-put, side_with, view_of}
+use Rattle.unit_world.specs.Sites.{SiteState, DeliversAs, DeliversPost, IsFirstOut, IsSite, from_unit}
+use Rattle.unit_world.proofs.Deliveries.{deliver-keeps}
+use Rattle.unit_world.proofs.Sites.{UnitPlace, on-old, part-at, put-side, side_with, site-before, stays, view_of, world-before}
+use Rattle.unit_world.proofs.Sites.{world_before}
 use Rattle.unit_world.proofs.States.{first-of-task, first-of-unit}
 
-module _ {D : Type 0} (meaning : Meaning D) (items : List (UnitSide D)) (rows : PostLists) (place unit : ℕ) (here : place ≡ unit)
-    (lt : unit < length (map unit_part items)) (side : UnitSide D) (is : side ≡ get_or items place side)
-    (site : IsSite meaning (view_of items rows)) (legal : Legal meaning side.book.mounted side.book.trace)
-    (all : given meaning side.book ++ side.book.out ≡ posted meaning side.book.mounted side.book.trace) where
-  at : slice_get (map unit_part items) unit ≡ Some (unit_part side)
-  at = side-at items place unit here lt side is
+-- A DELIVERY at a unit: what the book and the rows became, and the answer
+pub record SendCall {D : Type 0} (meaning : Meaning D) : Type 0 where
+  pub at : UnitPlace meaning
+  pub legal : Legal meaning at.side.book.mounted at.side.book.trace
+  pub all : given meaning at.side.book ++ at.side.book.out ≡ posted meaning at.side.book.mounted at.side.book.trace
+  pub book : Book D
+  pub rows : PostLists
+  pub answer : Delivery
+  pub sends : SendsBack at.side.book at.rows answer book rows
 
-  -- the first value is of a task that has a row, and of this unit
-  pub for-rows : IsForRows side.book.out rows
-  for-rows value first =
-      let t = first-of-task meaning (world_at (view_of items rows) unit (unit_part side)) value (site.worlds unit (unit_part side) at) legal all first in
-      omega (arith, t, length-map rows.lists (from_unit unit))
+module _ {D : Type 0} (meaning : Meaning D) where
+  -- the first value is of a task that has a row
+  pub for-rows : (k : UnitPlace meaning) → Legal meaning k.side.book.mounted k.side.book.trace →
+      given meaning k.side.book ++ k.side.book.out ≡ posted meaning k.side.book.mounted k.side.book.trace → IsForRows k.side.book.out k.rows
+  for-rows k legal all value first =
+      let t = first-of-task meaning (world_before meaning k) value (world-before meaning k) legal all first in
+      omega (arith, t, length-map k.old.rows (from_unit k.unit), ap (λ (s : SiteState D). length s.rows) k.view_is)
 
-  own : (value : PostedState) → slice_get side.book.out 0 ≡ Some value → value.unit ≡ unit
-  own value first = first-of-unit meaning (world_at (view_of items rows) unit (unit_part side)) value (site.worlds unit (unit_part side) at) legal all first
-
-  module _ (book : Book D) (rows_after : PostLists) where
-    abbrev pub site_after : SiteState D
-    site_after = view_of (set items place (side_with side book)) rows_after
+  module _ (c : SendCall meaning) where
+    abbrev pub sent_site : SiteState D
+    sent_site = view_of (set c.at.items c.at.place (side_with c.at.side c.book)) c.rows
 
     -- if nothing changes
-    stays : book ≡ side.book → rows_after ≡ rows → site_after ≡ view_of items rows
-    stays b r =
-        (λ j. view_of (set items place (side_with side (b j))) (r j))
-        ∙ ap (λ us. record (view_of items rows) { units = us })
-        (side-put items place unit here lt side is side ∙ set-same (map unit_part items) unit (unit_part side) at)
+    unchanged : c.book ≡ c.at.side.book → c.rows ≡ c.at.rows → sent_site ≡ c.at.old
+    unchanged b r = ap (λ (l : PostLists). view_of (set c.at.items c.at.place (side_with c.at.side c.book)) l) r
+        ∙ stays meaning c.at (side_with c.at.side c.book) (ap (side_with c.at.side) b)
 
-    abbrev delivered_now : PostedState → SiteState D
-    delivered_now value = record (view_of items rows) {
-      units = set (map unit_part items) unit (record (unit_part side) { book = record side.book { out = drop 1 side.book.out } });
-      rows = with_value rows.lists value.name.task value;
-    }
-
-    sent-is : (name : Name) (h : SendsOne side.book rows name book rows_after) → site_after ≡ delivered_now h.value
-    sent-is name h =
-        (λ j. view_of (set items place (side_with side (h.book_is j))) (h.rows_are j))
-        ∙ ap (λ us. record (view_of items rows) { units = us; rows = with_value rows.lists h.value.name.task h.value })
-        (side-put items place unit here lt side is (side_with side (record side.book { out = drop 1 side.book.out })))
-
-    abbrev first-out : (value : PostedState) → slice_get side.book.out 0 ≡ Some value → IsFirstOut (view_of items rows) unit value.name
-    first-out value first = record {
-      part = unit_part side;
-      at = at;
+    -- the first value is of this unit
+    abbrev first-out : (name : Name) (value : PostedState) → slice_get c.at.side.book.out 0 ≡ Some value → value.name ≡ name →
+        IsFirstOut c.at.old c.at.unit name
+    first-out name value first named = record {
+      part = unit_part c.at.side;
+      at = part-at meaning c.at;
       value = value;
       first = first;
-      named = refl;
-      of_unit = own value first;
-      of_task = for-rows value first;
+      named = named;
+      of_unit = first-of-unit meaning (world_before meaning c.at) value (world-before meaning c.at) c.legal c.all first;
+      of_task = subst (λ (n : Name). n.task < length c.at.old.rows) named
+          (omega (arith, for-rows c.at c.legal c.all value first, ap (λ (s : SiteState D). length s.rows) c.at.view_is));
     }
 
-    pub sends-keeps : (answer : Delivering) → SendsBack side.book rows answer book rows_after → IsSite meaning site_after
-    sends-keeps delivering.Quiet h = subst (IsSite meaning) (sym (stays h.1 h.2)) site
-    sends-keeps (delivering.Full name) h = subst (IsSite meaning) (sym (stays h.book_is h.rows_are)) site
-    sends-keeps (delivering.Delivered name) h = subst (IsSite meaning) (sym (sent-is name h))
-        (deliver-keeps meaning (view_of items rows) unit (unit_part side) h.value at site h.first (own h.value h.first) (for-rows h.value h.first) h.room)
+    delivered : (name : Name) → SendsOne c.at.side.book c.at.rows name c.book c.rows → DeliversPost c.at.old c.at.unit name sent_site
+    delivered name h = record {
+      out = first-out name h.value h.first h.named;
+      room = subst (λ (n : Name). length (list_of c.at.old.rows n.task) < c.at.old.post_room) h.named
+          (subst (λ (s : SiteState D). length (list_of s.rows h.value.name.task) < s.post_room) c.at.view_is h.room);
+      is = (λ j. view_of (set c.at.items c.at.place (side_with c.at.side (h.book_is j))) (h.rows_are j))
+          ∙ ap (λ (s : SiteState D). record s { rows = with_value c.at.rows.lists h.value.name.task h.value })
+          (put-side meaning c.at (side_with c.at.side (record c.at.side.book { out = drop 1 c.at.side.book.out })))
+          ∙ ap (λ rows. record c.at.old {
+            units = set c.at.old.units c.at.unit
+                (record (unit_part c.at.side) { book = record c.at.side.book { out = drop 1 c.at.side.book.out } });
+            rows = rows;
+          })
+          (ap (λ (s : SiteState D). with_value s.rows h.value.name.task h.value) c.at.view_is
+          ∙ ap (λ (n : Name). with_value c.at.old.rows n.task h.value) h.named);
+    }
 
-    pub sends-step : (answer : Delivering) → SendsBack side.book rows answer book rows_after →
-        OnDelivered answer (StepsUnit meaning (view_of items rows) unit site_after)
-    sends-step delivering.Quiet h = tt
-    sends-step (delivering.Full name) h = tt
-    sends-step (delivering.Delivered name) h = subst (StepsUnit meaning (view_of items rows) unit) (sym (sent-is name h))
-        (deliver-steps meaning (view_of items rows) unit (unit_part side) h.value at site h.first (own h.value h.first) (for-rows h.value h.first) h.room)
+    pub sends-answer : DeliversAs c.at.old c.at.unit c.answer sent_site
+    sends-answer = by_answer c.answer c.sends where
+      by_answer : (answer : Delivery) → SendsBack c.at.side.book c.at.rows answer c.book c.rows →
+          DeliversAs c.at.old c.at.unit answer sent_site
+      by_answer delivery.Quiet h = (on-old meaning c.at (λ p. p.book.out ≡ []) h.0, unchanged h.1 h.2)
+      by_answer (delivery.Full name) h = record {
+        out = first-out name h.value h.first h.named;
+        full = subst (λ (n : Name). c.at.old.post_room ≤ length (list_of c.at.old.rows n.task)) h.named
+            (subst (λ (s : SiteState D). s.post_room ≤ length (list_of s.rows h.value.name.task)) c.at.view_is h.full);
+        is = unchanged h.book_is h.rows_are;
+      }
+      by_answer (delivery.Delivered name) h = delivered name h
 
-    pub sends-answer : (answer : Delivering) → SendsBack side.book rows answer book rows_after → DeliversAs (view_of items rows) unit answer site_after
-    sends-answer delivering.Quiet h = (
-      λ p e. subst (λ (x : UnitPart D). x.book.out ≡ []) (same-item (map unit_part items) unit (unit_part side) p at e) h.0,
-      stays h.1 h.2,
-    )
-    sends-answer (delivering.Full name) h = subst (λ n. HoldsPost (view_of items rows) unit n site_after) h.named
-        (record { out = first-out h.value h.first; full = h.full; is = stays h.book_is h.rows_are })
-    sends-answer (delivering.Delivered name) h = subst (λ n. DeliversPost (view_of items rows) unit n site_after) h.named
-        (record { out = first-out h.value h.first; room = h.room; is = sent-is name h })
+    pub sends-keeps : IsSite meaning sent_site
+    sends-keeps = by_answer c.answer sends-answer where
+      by_answer : (answer : Delivery) → DeliversAs c.at.old c.at.unit answer sent_site → IsSite meaning sent_site
+      by_answer delivery.Quiet h = subst (IsSite meaning) (sym h.1) (site-before meaning c.at)
+      by_answer (delivery.Full name) h = subst (IsSite meaning) (sym h.is) (site-before meaning c.at)
+      by_answer (delivery.Delivered name) h = subst (IsSite meaning) (sym h.is)
+          (deliver-keeps meaning c.at.old c.at.unit name h.out h.room (site-before meaning c.at))

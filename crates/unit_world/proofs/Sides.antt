@@ -1,110 +1,52 @@
 -- A call of a unit itself: a request is accepted, or arrives.
-use Rattle.std.proofs.Common.{◌≡◌, ◌<◌, ℕ, Some, List, length, map, set, get_or, refl, sym, ap, ◌∙◌, subst}
+use Rattle.std.proofs.Common.{◌≡◌, ◌<◌, ℕ, ◌+◌, eqb, Option, Some, None, List, length, refl, sym, ap, ◌∙◌, subst, inl, inr}
 use Rattle.std.specs.Prelude.{slice_get}
+use Rattle.std.proofs.lemmas.Bool.{cases_Bool}
+use Rattle.std.proofs.lemmas.Option.{get_or_from_slice_get, slice_get_within}
 use Rattle.std.proofs.Math.ListN.{length-set}
 use Rattle.device_port.specs.Meaning.{Meaning}
+use Rattle.request_piece.specs.declared.piece.Name.{Name}
 use Rattle.request_piece.specs.declared.piece.Piece.{Piece}
-use Rattle.unit_world.specs.declared.answer.AcceptError.{AcceptError}
-use Rattle.unit_world.specs.declared.answer.AcceptError.TheVariants as accepting
-use Rattle.unit_world.specs.declared.answer.Arriving.{Arriving}
-use Rattle.unit_world.specs.declared.answer.Arriving.TheVariants as arriving
-use Rattle.unit_world.specs.declared.unit_side.UnitSide.{UnitSide}
-use Rattle.unit_world.specs.Parts.{UnitPart, HasNextNumber, PartAccepts, PartRefuses, PartTakes, unit_part}
-use Rattle.unit_world.specs.PostLists.{PostLists}
-use Rattle.unit_world.specs.Sites.{SiteState, AcceptRefused, IsSite, OnPart, OnTook, OnUnit, StepsUnit, world_at}
-use Rattle.unit_world.specs.States.{IsWorldState, MakesStep}
-use Rattle.unit_world.proofs.Moves.{AcceptsRequest, TakesRequest}
-use Rattle.unit_world.proofs.Sites.{same-item, set-same, side-at, side-put, unit-site, unit-steps, view_of}
+use Rattle.unit_book.specs.declared.answer.Intake.{Intake}
+use Rattle.unit_book.specs.declared.answer.Intake.TheVariants as intake
+use Rattle.unit_world.specs.Parts.{UnitPart, HasNextNumber, PartAccepts, PartTakes, issued_by, next_name_from, next_name_of}
+use Rattle.unit_world.specs.States.{WorldState, IsWorldState}
 use Rattle.unit_world.proofs.States.{next-number, state-spare, state-step}
 use Rattle.unit_world.proofs.Steps.{accepts, takes}
 
-module _ {D : Type 0} (meaning : Meaning D) where
-  pub part-next : (s : SiteState D) (unit : ℕ) (p : UnitPart D) → IsWorldState meaning (world_at s unit p) → HasNextNumber p
-  part-next s unit p is r first = next-number meaning (world_at s unit p) r is first
+-- THE NEXT NAME of a task is of a task that there is, and its number is one more than what the task sent
+pub record IsNextName (issued : List ℕ) (name : Name) : Type 0 where
+  pub of_task : name.task < length issued
+  pub next : name.seq ≡ issued_by issued name.task + 1
 
-  pub part-accepts : (s : SiteState D) (r : Piece) (p q : UnitPart D) → PartAccepts p r q → MakesStep meaning (world_at s r.unit p) (world_at s r.unit q)
-  part-accepts s r p q h =
-      let moves : AcceptsRequest (world_at s r.unit p) r (world_at s r.unit q) = record {
-        of_unit = refl;
-        of_task = h.of_task;
-        next = h.next;
-        room = h.room;
-        is = ap (world_at s r.unit) h.is;
-      } in
-      accepts meaning (world_at s r.unit p) (world_at s r.unit q) r moves
+pub next-name : (issued : List ℕ) (name : Name) → next_name_of issued name.task ≡ Some name → IsNextName issued name
+next-name issued name h = by_count (slice_get issued name.task) refl h where
+  by_count : (r : Option ℕ) → slice_get issued name.task ≡ r → next_name_from name.task r ≡ Some name → IsNextName issued name
+  by_count None e f = absurd cc
+  by_count (Some count) e f = elim (cases_Bool (eqb count 4294967295)) [
+    | inl last ↦ let g : None ≡ Some name = rw last at f in absurd cc
+    | inr more ↦
+        let g : Some (record { task = name.task; seq = count + 1 }) ≡ Some name = rw more at f in
+        let same : record { task = name.task; seq = count + 1 } ≡ name = cc in
+        record {
+          of_task = slice_get_within issued name.task count e;
+          next = sym (ap (λ (n : Name). n.seq) same) ∙ ap (λ n. n + 1) (sym (get_or_from_slice_get issued name.task count 0 e));
+        }
+  ]
 
-  pub part-accepted : (s : SiteState D) (r : Piece) (p q : UnitPart D) → IsWorldState meaning (world_at s r.unit p) → PartAccepts p r q →
-      IsWorldState meaning (world_at s r.unit q)
-  part-accepted s r p q is h = state-step meaning (world_at s r.unit p) (world_at s r.unit q) is
-      (is.tasks ∙ sym (ap (λ (x : UnitPart D). length x.issued) h.is ∙ length-set p.issued r.name.task r.name.seq)) (part-accepts s r p q h)
+module _ {D : Type 0} (meaning : Meaning D) (v : WorldState D) (is : IsWorldState meaning v) where
+  pub part-next : HasNextNumber v.part
+  part-next r first = next-number meaning v r is first
 
-  pub part-takes : (s : SiteState D) (unit : ℕ) (answer : Arriving) (p q : UnitPart D) → PartTakes meaning p answer q →
-      OnTook answer (MakesStep meaning (world_at s unit p) (world_at s unit q))
-  part-takes s unit arriving.Held p q h = tt
-  part-takes s unit arriving.Quiet p q h = tt
-  part-takes s unit (arriving.Took name) p q h =
-      let moves : TakesRequest meaning (world_at s unit p) h.request (world_at s unit q) = record {
-        first = h.first;
-        room = h.room;
-        arrives = h.arrives;
-        is = ap (world_at s unit) h.is;
-      } in
-      takes meaning (world_at s unit p) (world_at s unit q) h.request moves
+  pub part-accepted : (r : Piece) (q : UnitPart D) → r.unit ≡ v.unit → PartAccepts v.part r q →
+      IsWorldState meaning (record v { part = q })
+  part-accepted r q of_unit h = state-step meaning v (record v { part = q }) is
+      (is.tasks ∙ sym (ap (λ (x : UnitPart D). length x.issued) h.is ∙ length-set v.part.issued r.name.task r.name.seq))
+      (accepts meaning v q r of_unit h)
 
-  pub part-taken : (s : SiteState D) (unit : ℕ) (answer : Arriving) (p q : UnitPart D) → IsWorldState meaning (world_at s unit p) →
-      PartTakes meaning p answer q → IsWorldState meaning (world_at s unit q)
-  part-taken s unit arriving.Held p q is h = subst (λ x. IsWorldState meaning (world_at s unit x)) (sym h.1) is
-  part-taken s unit arriving.Quiet p q is h =
-      let spare = state-spare meaning (world_at s unit p) (record p.book { spare = q.book.spare }) is refl in
-      subst (λ x. IsWorldState meaning (world_at s unit x)) (sym h.2) spare
-  part-taken s unit (arriving.Took name) p q is h = state-step meaning (world_at s unit p) (world_at s unit q) is
-      (is.tasks ∙ ap (λ (x : UnitPart D). length x.issued) (sym h.is)) (part-takes s unit (arriving.Took name) p q h)
-
-  -- THE UNIT AT A PLACE becomes another
-  module _ (items : List (UnitSide D)) (rows : PostLists) (place unit : ℕ) (here : place ≡ unit)
-      (lt : unit < length (map unit_part items)) (side : UnitSide D) (is : side ≡ get_or items place side) (after : UnitSide D) where
-    at : slice_get (map unit_part items) unit ≡ Some (unit_part side)
-    at = side-at items place unit here lt side is
-
-    put : view_of (set items place after) rows ≡ record (view_of items rows) { units = set (map unit_part items) unit (unit_part after) }
-    put = ap (λ us. record (view_of items rows) { units = us }) (side-put items place unit here lt side is after)
-
-    pub side-world : IsSite meaning (view_of items rows) → IsWorldState meaning (world_at (view_of items rows) unit (unit_part side))
-    side-world site = site.worlds unit (unit_part side) at
-
-    pub side-same : after ≡ side → view_of (set items place after) rows ≡ view_of items rows
-    side-same same =
-        put
-        ∙ ap (λ x. record (view_of items rows) { units = set (map unit_part items) unit (unit_part x) }) same
-        ∙ ap (λ us. record (view_of items rows) { units = us }) (set-same (map unit_part items) unit (unit_part side) at)
-
-    pub side-does : (Does : UnitPart D → UnitPart D → Type 0) → Does (unit_part side) (unit_part after) →
-        OnUnit (view_of items rows) unit Does (view_of (set items place after) rows)
-    side-does Does h = record { before = unit_part side; after = unit_part after; at = at; does = h; is = put }
-
-    pub side-steps : MakesStep meaning (world_at (view_of items rows) unit (unit_part side)) (world_at (view_of items rows) unit (unit_part after)) →
-        StepsUnit meaning (view_of items rows) unit (view_of (set items place after) rows)
-    side-steps f = subst (StepsUnit meaning (view_of items rows) unit) (sym put)
-        (unit-steps meaning (view_of items rows) unit (unit_part side) (unit_part after) at f)
-
-    pub side-keeps : IsSite meaning (view_of items rows) → IsWorldState meaning (world_at (view_of items rows) unit (unit_part after)) →
-        IsSite meaning (view_of (set items place after) rows)
-    side-keeps site w = subst (IsSite meaning) (sym put) (unit-site meaning (view_of items rows) unit (unit_part side) (unit_part after) at site w)
-
-    pub side-fact : (P : UnitPart D → Type 0) → P (unit_part side) → OnPart (view_of items rows) unit P
-    side-fact P h p e = subst P (same-item (map unit_part items) unit (unit_part side) p at e) h
-
-    pub side-took : (answer : Arriving) → PartTakes meaning (unit_part side) answer (unit_part after) →
-        OnTook answer (StepsUnit meaning (view_of items rows) unit (view_of (set items place after) rows))
-    side-took arriving.Held h = tt
-    side-took arriving.Quiet h = tt
-    side-took (arriving.Took name) h = side-steps (part-takes (view_of items rows) unit (arriving.Took name) (unit_part side) (unit_part after) h)
-
-    of_part : (r : Piece) (e : AcceptError) → r.unit ≡ unit → PartRefuses (unit_part side) r e → OnPart (view_of items rows) r.unit (λ p. PartRefuses p r e)
-    of_part r e own h = subst (λ k. OnPart (view_of items rows) k (λ p. PartRefuses p r e)) (sym own) (side-fact (λ p. PartRefuses p r e) h)
-
-    pub side-refused : (r : Piece) (e : AcceptError) → r.unit ≡ unit → PartRefuses (unit_part side) r e → AcceptRefused (view_of items rows) r e
-    side-refused r accepting.NoSuchUnit own h = absurd h
-    side-refused r accepting.NoSuchTask own h = (subst (λ k. k < length (map unit_part items)) (sym own) lt, of_part r accepting.NoSuchTask own h)
-    side-refused r accepting.OtherNumber own h = (subst (λ k. k < length (map unit_part items)) (sym own) lt, of_part r accepting.OtherNumber own h)
-    side-refused r accepting.Full own h = (subst (λ k. k < length (map unit_part items)) (sym own) lt, of_part r accepting.Full own h)
+  pub part-taken : (answer : Intake) (q : UnitPart D) → PartTakes meaning v.part answer q → IsWorldState meaning (record v { part = q })
+  part-taken intake.Held q h = subst (λ x. IsWorldState meaning (record v { part = x })) (sym h.1) is
+  part-taken intake.Quiet q h =
+      subst (λ x. IsWorldState meaning (record v { part = x })) (sym h.2) (state-spare meaning v q.book is (h.3).is)
+  part-taken (intake.Took name) q h = state-step meaning v (record v { part = q }) is
+      (is.tasks ∙ ap (λ (x : UnitPart D). length x.issued) (sym h.is)) (takes meaning v q name h)

@@ -1,5 +1,6 @@
 -- A site beside the worlds of its units.
-use Rattle.std.proofs.Common.{◌≡◌, ◌≢◌, ◌≤◌, ◌<◌, ◌==◌, ℕ, zero, suc, eqb, true, false, Some, List, [], ◌∷◌, ◌++◌, length, map, set, get_or, drop, refl, sym, ap, ◌∙◌, subst, inl, inr, arith, append-nil}
+use Rattle.std.proofs.Common.{◌≡◌, ◌≢◌, ◌≤◌, ◌<◌, ◌==◌, ℕ, zero, suc, eqb, true, false, Some, List, [], ◌∷◌, ◌++◌, length, map, set, get_or}
+use Rattle.std.proofs.Common.{drop, refl, sym, ap, ◌∙◌, subst, inl, inr, arith, append-nil}
 use Rattle.std.specs.Prelude.{option_map, slice_get, IfErr, IfOk, OnErr, OnOk}
 use Rattle.std.specs.declared.result.Result.{Result}
 use Rattle.std.specs.declared.result.Result.TheVariants.{Ok, Err}
@@ -19,9 +20,10 @@ use Rattle.unit_book.specs.Lists.{Each}
 use Rattle.unit_world.specs.declared.unit_side.UnitSide.{UnitSide}
 use Rattle.unit_world.specs.Parts.{UnitPart, unit_part}
 use Rattle.unit_world.specs.PostLists.{PostLists, list_of, with_value, without_value}
-use Rattle.unit_world.specs.Sites.{SiteState, IsSite, KeepsOthers, OnBook, OnPart, StepsUnit, StepsOfUnit, from_unit, world_at}
-use Rattle.unit_world.specs.States.{IsWorldState, MakesStep, MakesSteps}
-use Rattle.unit_world.proofs.States.{either, on-done, state-spare, state-step, state-steps}
+use Rattle.unit_world.specs.Sites.{SiteState, IsSite, KeepsOthers, OnBook, OnPart, OnUnit, StepsUnit, StepsOfUnit, from_unit}
+use Rattle.unit_world.specs.Sites.{world_at}
+use Rattle.unit_world.specs.States.{WorldState, IsWorldState, MakesStep, MakesSteps, StepName}
+use Rattle.unit_world.proofs.States.{either, state-spare, state-step, state-steps}
 
 -- the same item
 pub same-item : {X : Type 0} (xs : List X) (at : ℕ) (x y : X) → slice_get xs at ≡ Some x → slice_get xs at ≡ Some y → x ≡ y
@@ -51,19 +53,19 @@ two-refused (Ok a) f p q = tt
 two-refused (Err e) f p q = f p q
 
 -- the unit at a place, and another in its place
-module _ {D : Type 0} (items : List (UnitSide D)) (place unit : ℕ) (here : place ≡ unit) (lt : unit < length (map unit_part items))
-    (side : UnitSide D) (is : side ≡ get_or items place side) where
-  pub side-at : slice_get (map unit_part items) unit ≡ Some (unit_part side)
-  side-at =
-      slice_get-map unit_part items unit
-      ∙ ap (option_map unit_part) (slice_get-get_or items unit side (omega (arith, lt, length-map items unit_part)))
-      ∙ ap (λ (u : UnitSide D). Some (unit_part u)) (sym (is ∙ ap (λ k. get_or items k side) here))
+module _ {D : Type 0} (items : List (UnitSide D)) (place : ℕ) (side : UnitSide D) where
+  pub side-at : place < length items → side ≡ get_or items place side → slice_get (map unit_part items) place ≡ Some (unit_part side)
+  side-at lt is =
+      slice_get-map unit_part items place
+      ∙ ap (option_map unit_part) (slice_get-get_or items place side lt)
+      ∙ ap (λ (u : UnitSide D). Some (unit_part u)) (sym is)
 
-  pub side-put : (after : UnitSide D) → map unit_part (set items place after) ≡ set (map unit_part items) unit (unit_part after)
-  side-put after = map-set unit_part items place after ∙ ap (λ k. set (map unit_part items) k (unit_part after)) here
+  pub side-put : map unit_part (set items place side) ≡ set (map unit_part items) place (unit_part side)
+  side-put = map-set unit_part items place side
 
 -- the posts of a unit in rows
-pub from-row : (unit task : ℕ) (rows : List (List PostedState)) → list_of (map (from_unit unit) rows) task ≡ from_unit unit (list_of rows task)
+pub from-row : (unit task : ℕ) (rows : List (List PostedState)) →
+    list_of (map (from_unit unit) rows) task ≡ from_unit unit (list_of rows task)
 from-row unit task rows = dite (dec_lt task (length rows))
     (λ lt. get_or-map (from_unit unit) rows task [] [] lt)
     (λ no.
@@ -103,7 +105,8 @@ put-other unit task rows value other =
     map-set (from_unit unit) rows task (list_of rows task ++ value ∷ [])
     ∙ ap (set (map (from_unit unit) rows) task)
     (filter-append (λ (v : PostedState). v.unit == unit) (list_of rows task) (value ∷ [])
-    ∙ ap (λ l. from_unit unit (list_of rows task) ++ l) none ∙ append-nil (from_unit unit (list_of rows task)) ∙ sym (from-row unit task rows))
+    ∙ ap (λ l. from_unit unit (list_of rows task) ++ l) none ∙ append-nil (from_unit unit (list_of rows task))
+    ∙ sym (from-row unit task rows))
     ∙ set-get_or (map (from_unit unit) rows) task []
 
 -- the first post of a row is one of the unit
@@ -177,19 +180,34 @@ module _ {D : Type 0} (meaning : Meaning D) where
   }
 
   -- a unit becomes this, by a step of its world
-  pub unit-steps : (old : SiteState D) (unit : ℕ) (before after : UnitPart D) → slice_get old.units unit ≡ Some before →
-      MakesStep meaning (world_at old unit before) (world_at old unit after) →
-      StepsUnit meaning old unit (record old { units = set old.units unit after })
-  unit-steps old unit before after at f =
-      let now = slice_get-set_same old.units unit after (slice_get_within old.units unit before at) in
-      record {
-        others = others-by-unit old unit after;
+  pub unit-steps : (old new : SiteState D) (unit : ℕ) {name : StepName} (Does : UnitPart D → UnitPart D → Type 0) →
+      OnUnit old unit Does new →
+      ((p q : UnitPart D) → Does p q → MakesStep meaning name (world_at old unit p) (world_at old unit q)) →
+      StepsUnit meaning name old unit new
+  unit-steps old new unit {name} Does h f =
+      let at = slice_get-set_same old.units unit h.after (slice_get_within old.units unit h.before h.at) in
+      subst (StepsUnit meaning name old unit) (sym h.is) (record {
+        others = others-by-unit old unit h.after;
         step = λ p q ep eq.
-            let e = same-item old.units unit before p at ep in
-            let d = same-item (set old.units unit after) unit after q now eq in
-            subst (λ x. MakesStep meaning (world_at old unit x) (world_at old unit q)) e
-            (subst (λ x. MakesStep meaning (world_at old unit before) (world_at old unit x)) d f);
-      }
+            let e = same-item old.units unit h.before p h.at ep in
+            let d = same-item (set old.units unit h.after) unit h.after q at eq in
+            subst (λ x. MakesStep meaning name (world_at old unit x) (world_at old unit q)) e
+            (subst (λ x. MakesStep meaning name (world_at old unit h.before) (world_at old unit x)) d (f h.before h.after h.does));
+      })
+
+  -- or by a list of steps
+  pub unit-settles : (old new : SiteState D) (unit : ℕ) (Does : UnitPart D → UnitPart D → Type 0) → OnUnit old unit Does new →
+      ((p q : UnitPart D) → Does p q → MakesSteps meaning (world_at old unit p) (world_at old unit q)) → StepsOfUnit meaning old unit new
+  unit-settles old new unit Does h f =
+      let at = slice_get-set_same old.units unit h.after (slice_get_within old.units unit h.before h.at) in
+      subst (StepsOfUnit meaning old unit) (sym h.is) (record {
+        others = others-by-unit old unit h.after;
+        steps = λ p q ep eq.
+            let e = same-item old.units unit h.before p h.at ep in
+            let d = same-item (set old.units unit h.after) unit h.after q at eq in
+            subst (λ x. MakesSteps meaning (world_at old unit x) (world_at old unit q)) e
+            (subst (λ x. MakesSteps meaning (world_at old unit h.before) (world_at old unit x)) d (f h.before h.after h.does));
+      })
 
   -- and stays such as a list of steps leads to
   pub unit-site : (old : SiteState D) (unit : ℕ) (before after : UnitPart D) → slice_get old.units unit ≡ Some before → IsSite meaning old →
@@ -201,130 +219,146 @@ module _ {D : Type 0} (meaning : Meaning D) where
       (λ part p. subst (λ x. IsWorldState meaning (world_at new unit x)) (same-item new.units unit after part now p) w)
       (λ task. subst (λ n. Each (λ v. v.unit < n) (list_of old.rows task)) (sym (length-set old.units unit after)) (is.of_units task))
 
+-- THE UNIT AT A PLACE in the code, and the site as contracts see it
+pub record UnitPlace {D : Type 0} (meaning : Meaning D) : Type 0 where
+  pub items : List (UnitSide D)
+  pub rows : PostLists
+  pub place : ℕ
+  pub unit : ℕ
+  pub side : UnitSide D
+  pub old : SiteState D
+  pub here : place ≡ unit
+  pub within : unit < length old.units
+  pub is : side ≡ get_or items place side
+  pub view_is : view_of items rows ≡ old
+  pub site : IsSite meaning (view_of items rows)
+
+module _ {D : Type 0} (meaning : Meaning D) (k : UnitPlace meaning) where
+  -- the state of its world
+  abbrev pub world_before : WorldState D
+  world_before = world_at k.old k.unit (unit_part k.side)
+
+  pub site-before : IsSite meaning k.old
+  site-before = subst (IsSite meaning) k.view_is k.site
+
+  pub part-at : slice_get k.old.units k.unit ≡ Some (unit_part k.side)
+  part-at =
+      let within : k.place < length k.items =
+      omega (arith, k.within, ap (λ (s : SiteState D). length s.units) k.view_is, length-map k.items unit_part, k.here) in
+      subst (λ (s : SiteState D). slice_get s.units k.unit ≡ Some (unit_part k.side)) k.view_is
+      (subst (λ u. slice_get (map unit_part k.items) u ≡ Some (unit_part k.side)) k.here (side-at k.items k.place k.side within k.is))
+
+  pub world-before : IsWorldState meaning world_before
+  world-before = site-before.worlds k.unit (unit_part k.side) part-at
+
+  -- what holds of the unit
+  pub on-old : (P : UnitPart D → Type 0) → P (unit_part k.side) → OnPart k.old k.unit P
+  on-old P h p e = subst P (same-item k.old.units k.unit (unit_part k.side) p part-at e) h
+
+  -- THE UNIT BECOMES ANOTHER
+  module _ (after : UnitSide D) where
+    abbrev pub site_after : SiteState D
+    site_after = view_of (set k.items k.place after) k.rows
+
+    pub put-side : site_after ≡ record k.old { units = set k.old.units k.unit (unit_part after) }
+    put-side =
+        ap (λ us. record (view_of k.items k.rows) { units = us })
+        (side-put k.items k.place after ∙ ap (λ u. set (map unit_part k.items) u (unit_part after)) k.here)
+        ∙ ap (λ (s : SiteState D). record s { units = set s.units k.unit (unit_part after) }) k.view_is
+
+    pub does : (Does : UnitPart D → UnitPart D → Type 0) → Does (unit_part k.side) (unit_part after) → OnUnit k.old k.unit Does site_after
+    does Does h = record { before = unit_part k.side; after = unit_part after; at = part-at; does = h; is = put-side }
+
+    pub on-new : (P : UnitPart D → Type 0) → P (unit_part after) → OnPart site_after k.unit P
+    on-new P h p e =
+        let now = slice_get-set_same k.old.units k.unit (unit_part after) k.within in
+        let at = subst (λ (s : SiteState D). slice_get s.units k.unit ≡ Some p) put-side e in
+        subst P (same-item (set k.old.units k.unit (unit_part after)) k.unit (unit_part after) p now at) h
+
+    -- if nothing changes
+    pub stays : after ≡ k.side → site_after ≡ k.old
+    stays same =
+        put-side
+        ∙ ap (λ x. record k.old { units = set k.old.units k.unit (unit_part x) }) same
+        ∙ ap (λ us. record k.old { units = us }) (set-same k.old.units k.unit (unit_part k.side) part-at)
+
+    pub keeps-same : after ≡ k.side → IsSite meaning site_after
+    keeps-same same = subst (IsSite meaning) (sym (stays same)) site-before
+
+    -- if the unit stays such as a list of steps leads to
+    pub keeps : IsWorldState meaning (record world_before { part = unit_part after }) → IsSite meaning site_after
+    keeps w = subst (IsSite meaning) (sym put-side)
+        (unit-site meaning k.old k.unit (unit_part k.side) (unit_part after) part-at site-before w)
+
 -- the unit with another book
 abbrev pub side_with : {D : Type 0} → UnitSide D → Book D → UnitSide D
 side_with side book = record side { book = book }
 
--- A CALL OF THE BOOK of the unit at a place
-module _ {D : Type 0} (meaning : Meaning D) (items : List (UnitSide D)) (rows : PostLists) (place unit : ℕ) (here : place ≡ unit)
-    (lt : unit < length (map unit_part items)) (side : UnitSide D) (is : side ≡ get_or items place side) (book : Book D) where
-  at : slice_get (map unit_part items) unit ≡ Some (unit_part side)
-  at = side-at items place unit here lt side is
+-- A CALL OF THE BOOK of the unit
+module _ {D : Type 0} (meaning : Meaning D) (k : UnitPlace meaning) (book : Book D) where
+  abbrev pub book_after : SiteState D
+  book_after = site_after meaning k (side_with k.side book)
 
-  put : view_of (set items place (side_with side book)) rows
-      ≡ record (view_of items rows) { units = set (map unit_part items) unit (unit_part (side_with side book)) }
-  put = ap (λ us. record (view_of items rows) { units = us }) (side-put items place unit here lt side is (side_with side book))
+  abbrev pub part_after : UnitPart D
+  part_after = unit_part (side_with k.side book)
 
-  -- if it changes nothing, nor does the site
-  put-same : book ≡ side.book → view_of (set items place (side_with side book)) rows ≡ view_of items rows
-  put-same same =
-      put
-      ∙ ap (λ b. record (view_of items rows) { units = set (map unit_part items) unit (unit_part (side_with side b)) }) same
-      ∙ ap (λ us. record (view_of items rows) { units = us }) (set-same (map unit_part items) unit (unit_part side) at)
+  pub book-does : (Does : Book D → Book D → Type 0) → Does k.side.book book → OnBook k.old k.unit Does book_after
+  book-does Does h = does meaning k (side_with k.side book) (λ p q. Does p.book q.book × (q ≡ record p { book = q.book })) (h, refl)
 
-  pub call-step : MakesStep meaning (world_at (view_of items rows) unit (unit_part side)) (world_at (view_of items rows) unit (unit_part (side_with side book))) →
-      StepsUnit meaning (view_of items rows) unit (view_of (set items place (side_with side book)) rows)
-  call-step f = subst (StepsUnit meaning (view_of items rows) unit) (sym put)
-      (unit-steps meaning (view_of items rows) unit (unit_part side) (unit_part (side_with side book)) at f)
+  book-same : book ≡ k.side.book → side_with k.side book ≡ k.side
+  book-same same = ap (side_with k.side) same
 
-  call-site : IsSite meaning (view_of items rows) →
-      IsWorldState meaning (world_at (view_of items rows) unit (unit_part (side_with side book))) →
-      IsSite meaning (view_of (set items place (side_with side book)) rows)
-  call-site site w = subst (IsSite meaning) (sym put)
-      (unit-site meaning (view_of items rows) unit (unit_part side) (unit_part (side_with side book)) at site w)
+  keeps-by : {name : StepName} → MakesStep meaning name (world_before meaning k) (record (world_before meaning k) { part = part_after }) →
+      IsSite meaning book_after
+  keeps-by f = keeps meaning k (side_with k.side book)
+      (state-step meaning (world_before meaning k) (record (world_before meaning k) { part = part_after }) (world-before meaning k)
+      (world-before meaning k).tasks f)
 
-  -- a list of steps of its world
-  pub call-list : MakesSteps meaning (world_at (view_of items rows) unit (unit_part side)) (world_at (view_of items rows) unit (unit_part (side_with side book))) →
-      StepsOfUnit meaning (view_of items rows) unit (view_of (set items place (side_with side book)) rows)
-  call-list f =
-      let after = unit_part (side_with side book) in
-      let units = map unit_part items in
-      let now = slice_get-set_same units unit after lt in
-      subst (StepsOfUnit meaning (view_of items rows) unit) (sym put) (record {
-        others = others-by-unit meaning (view_of items rows) unit after;
-        steps = λ p q ep eq.
-            let e = same-item units unit (unit_part side) p at ep in
-            let d = same-item (set units unit after) unit after q now eq in
-            subst (λ x. MakesSteps meaning (world_at (view_of items rows) unit x) (world_at (view_of items rows) unit q)) e
-            (subst (λ x. MakesSteps meaning (world_at (view_of items rows) unit (unit_part side)) (world_at (view_of items rows) unit x)) d f);
-      })
-
-  pub call-settles : IsSite meaning (view_of items rows) →
-      MakesSteps meaning (world_at (view_of items rows) unit (unit_part side)) (world_at (view_of items rows) unit (unit_part (side_with side book))) →
-      IsSite meaning (view_of (set items place (side_with side book)) rows)
-  call-settles site f = call-site site (state-steps meaning (world_at (view_of items rows) unit (unit_part side))
-      (world_at (view_of items rows) unit (unit_part (side_with side book))) (site.worlds unit (unit_part side) at)
-      (site.worlds unit (unit_part side) at).tasks f)
-
-  -- what was done to the book
-  pub call-always : (Does : Book D → Book D → Type 0) → Does side.book book →
-      OnBook (view_of items rows) unit Does (view_of (set items place (side_with side book)) rows)
-  call-always Does h = record { before = unit_part side; after = unit_part (side_with side book); at = at; does = (h, refl); is = put }
-
-  -- what holds of the book before and after
-  on-old : (P : Book D → Type 0) → P side.book → OnPart (view_of items rows) unit (λ p. P p.book)
-  on-old P h p e = subst (λ (x : UnitPart D). P x.book) (same-item (map unit_part items) unit (unit_part side) p at e) h
-
-  on-new : (P : Book D → Type 0) → P book → OnPart (view_of (set items place (side_with side book)) rows) unit (λ p. P p.book)
-  on-new P h p e =
-      let after = unit_part (side_with side book) in
-      let units = map unit_part items in
-      let now = slice_get-set_same units unit after lt in
-      let f = subst (λ us. slice_get us unit ≡ Some p) (side-put items place unit here lt side is (side_with side book)) e in
-      subst (λ (x : UnitPart D). P x.book) (same-item (set units unit after) unit after p now f) h
+  pub book-settles : MakesSteps meaning (world_before meaning k) (record (world_before meaning k) { part = part_after }) →
+      IsSite meaning book_after
+  book-settles f = keeps meaning k (side_with k.side book)
+      (state-steps meaning (world_before meaning k) (record (world_before meaning k) { part = part_after }) (world-before meaning k)
+      (world-before meaning k).tasks f)
 
   module _ {A E : Type 0} (r : Result A E) where
-    pub call-ok : (Does : A → Book D → Book D → Type 0) → IfOk r (λ a. Does a side.book book) →
-        IfOk r (λ a. OnBook (view_of items rows) unit (Does a) (view_of (set items place (side_with side book)) rows))
-    call-ok Does done = if-ok r (λ a. call-always (Does a)) done
+    pub book-ok : (Does : A → Book D → Book D → Type 0) → IfOk r (λ a. Does a k.side.book book) →
+        IfOk r (λ a. OnBook k.old k.unit (Does a) book_after)
+    book-ok Does done = if-ok r (λ a. book-does (Does a)) done
 
-    pub call-done : (Does : Book D → Book D → Type 0) → OnOk r (Does side.book book) →
-        OnOk r (OnBook (view_of items rows) unit Does (view_of (set items place (side_with side book)) rows))
-    call-done Does done = on_ok_weaker r (call-always Does) done
+    pub book-done : (Does : Book D → Book D → Type 0) → OnOk r (Does k.side.book book) → OnOk r (OnBook k.old k.unit Does book_after)
+    book-done Does done = on_ok_weaker r (book-does Does) done
 
     -- it may do this to the book and be refused
-    pub call-refused : (Does : Book D → Book D → Type 0) → OnErr r (Does side.book book) →
-        OnErr r (OnBook (view_of items rows) unit Does (view_of (set items place (side_with side book)) rows))
-    call-refused Does done = on_err_weaker r (call-always Does) done
+    pub book-refused : (Does : Book D → Book D → Type 0) → OnErr r (Does k.side.book book) → OnErr r (OnBook k.old k.unit Does book_after)
+    book-refused Does done = on_err_weaker r (book-does Does) done
 
-    pub call-fact : (P : Book D → Type 0) → OnOk r (P side.book) → OnOk r (OnPart (view_of items rows) unit (λ p. P p.book))
-    call-fact P h = on_ok_weaker r (on-old P) h
+    pub book-fact : (P : Book D → Type 0) → OnOk r (P k.side.book) → OnOk r (OnPart k.old k.unit (λ p. P p.book))
+    book-fact P h = on_ok_weaker r (on-old meaning k (λ p. P p.book)) h
 
-    pub call-given : (P : E → Book D → Type 0) → IfErr r (λ e. P e side.book) → IfErr r (λ e. OnPart (view_of items rows) unit (λ p. P e p.book))
-    call-given P h = if-err r (λ e. on-old (P e)) h
+    pub book-given : (P : E → Book D → Type 0) → IfErr r (λ e. P e k.side.book) → IfErr r (λ e. OnPart k.old k.unit (λ p. P e p.book))
+    book-given P h = if-err r (λ e. on-old meaning k (λ p. P e p.book)) h
 
-    pub call-now : (P : Book D → Type 0) → OnOk r (P book) → OnOk r (OnPart (view_of (set items place (side_with side book)) rows) unit (λ p. P p.book))
-    call-now P h = on_ok_weaker r (on-new P) h
+    pub book-full : (Lacks : Book D → Type 0) → OnErr r (Lacks k.side.book) → OnErr r (OnPart k.old k.unit (λ p. Lacks p.book))
+    book-full Lacks full = on_err_weaker r (on-old meaning k (λ p. Lacks p.book)) full
 
-    pub call-now-err : (P : Book D → Type 0) → OnErr r (P book) → OnErr r (OnPart (view_of (set items place (side_with side book)) rows) unit (λ p. P p.book))
-    call-now-err P h = on_err_weaker r (on-new P) h
+    pub book-now : (P : Book D → Type 0) → OnOk r (P book) → OnOk r (OnPart book_after k.unit (λ p. P p.book))
+    book-now P h = on_ok_weaker r (on-new meaning k (side_with k.side book) (λ p. P p.book)) h
 
-    pub call-full : (Lacks : Book D → Type 0) → OnErr r (Lacks side.book) → OnErr r (OnPart (view_of items rows) unit (λ p. Lacks p.book))
-    call-full Lacks full = on_err_weaker r (on-old Lacks) full
+    pub book-now-err : (P : Book D → Type 0) → OnErr r (P book) → OnErr r (OnPart book_after k.unit (λ p. P p.book))
+    book-now-err P h = on_err_weaker r (on-new meaning k (side_with k.side book) (λ p. P p.book)) h
 
-    pub call-err : OnErr r (book ≡ side.book) → OnErr r (view_of (set items place (side_with side book)) rows ≡ view_of items rows)
-    call-err refused = on_err_weaker r put-same refused
+    pub book-err : OnErr r (book ≡ k.side.book) → OnErr r (book_after ≡ k.old)
+    book-err refused = on_err_weaker r (λ same. stays meaning k (side_with k.side book) (book-same same)) refused
 
-    pub call-keeps : {Done : A → Type 0} → IsSite meaning (view_of items rows) → IfOk r Done → OnErr r (book ≡ side.book) →
-        ((a : A) → Done a → MakesStep meaning (world_at (view_of items rows) unit (unit_part side)) (world_at (view_of items rows) unit (unit_part (side_with side book)))) →
-        IsSite meaning (view_of (set items place (side_with side book)) rows)
-    call-keeps site done refused f = either r done refused
-        (λ a h. call-site site (state-step meaning (world_at (view_of items rows) unit (unit_part side))
-        (world_at (view_of items rows) unit (unit_part (side_with side book))) (site.worlds unit (unit_part side) at)
-        (site.worlds unit (unit_part side) at).tasks (f a h)))
-        (λ same. subst (IsSite meaning) (sym (put-same same)) site)
-
-    pub call-steps : {Done : A → Type 0} → IfOk r Done →
-        ((a : A) → Done a → MakesStep meaning (world_at (view_of items rows) unit (unit_part side)) (world_at (view_of items rows) unit (unit_part (side_with side book)))) →
-        OnOk r (StepsUnit meaning (view_of items rows) unit (view_of (set items place (side_with side book)) rows))
-    call-steps done f = on-done r done (λ a h. call-step (f a h))
+    pub book-keeps : {Done : A → Type 0} {name : A → StepName} → IfOk r Done → OnErr r (book ≡ k.side.book) →
+        ((a : A) → Done a → MakesStep meaning (name a) (world_before meaning k) (record (world_before meaning k) { part = part_after })) →
+        IsSite meaning book_after
+    book-keeps done refused f = either r done refused (λ a h. keeps-by (f a h))
+        (λ same. keeps-same meaning k (side_with k.side book) (book-same same))
 
     -- where only the room for entries may have grown if it is refused
-    pub call-grows : {Done : A → Type 0} → IsSite meaning (view_of items rows) → IfOk r Done → OnErr r (book ≡ record side.book { spare = book.spare }) →
-        ((a : A) → Done a → MakesStep meaning (world_at (view_of items rows) unit (unit_part side)) (world_at (view_of items rows) unit (unit_part (side_with side book)))) →
-        IsSite meaning (view_of (set items place (side_with side book)) rows)
-    call-grows site done refused f = either r done refused
-        (λ a h. call-site site (state-step meaning (world_at (view_of items rows) unit (unit_part side))
-        (world_at (view_of items rows) unit (unit_part (side_with side book))) (site.worlds unit (unit_part side) at)
-        (site.worlds unit (unit_part side) at).tasks (f a h)))
-        (λ same. call-site site (state-spare meaning (world_at (view_of items rows) unit (unit_part side)) book (site.worlds unit (unit_part side) at) same))
+    pub book-grows : {Done : A → Type 0} {name : A → StepName} → IfOk r Done → OnErr r (book ≡ record k.side.book { spare = book.spare }) →
+        ((a : A) → Done a → MakesStep meaning (name a) (world_before meaning k) (record (world_before meaning k) { part = part_after })) →
+        IsSite meaning book_after
+    book-grows done refused f = either r done refused (λ a h. keeps-by (f a h))
+        (λ same. keeps meaning k (side_with k.side book) (state-spare meaning (world_before meaning k) book (world-before meaning k) same))

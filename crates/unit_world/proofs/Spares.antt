@@ -28,7 +28,8 @@ module _ {D : Type 0} (meaning : Meaning D) (s : ℕ) where
       Extends meaning (with_spare s old) H awaits (with_spare s new)
   extends old new H awaits h = ap (with_spare s) h
 
-  pub opens : (old new : Book D) (dcb : ℕ) (method : ProcessingMethod) (extents : List Extent) → OpensBook meaning old dcb method extents new →
+  pub opens : (old new : Book D) (dcb : ℕ) (method : ProcessingMethod) (extents : List Extent) →
+      OpensBook meaning old dcb method extents new →
       OpensBook meaning (with_spare s old) dcb method extents (with_spare s new)
   opens old new dcb method extents h = record { fits = h.fits; adds = ap (with_spare s) h.adds }
 
@@ -45,31 +46,27 @@ module _ {D : Type 0} (meaning : Meaning D) (s : ℕ) where
   pub runs : (old new : Book D) (max : ℕ) (answer : Running) → RunsBook meaning old max answer new →
       RunsBook meaning (with_spare s old) max answer (with_spare s new)
   runs old new max running.Quiet h = (h.0, ap (with_spare s) h.1)
-  runs old new max (running.Ran commands pending) h = record {
-    name = h.name;
-    running = h.running;
-    count = h.count;
-    adds = ap (with_spare s) h.adds;
-    pending_is = h.pending_is;
-  }
+  runs old new max (running.Ran commands pending) h =
+      record { name = h.name; running = h.running; count = h.count; adds = ap (with_spare s) h.adds; pending_is = h.pending_is }
 
   pub interrupts : (old new : Book D) (answer : Interruption) → InterruptsBook meaning old answer new →
       InterruptsBook meaning (with_spare s old) answer (with_spare s new)
   interrupts old new interrupting.Quiet h = (h.0, ap (with_spare s) h.1)
   interrupts old new (interrupting.Again n) h = (h.0, h.1, ap (with_spare s) h.2)
   interrupts old new (interrupting.Ended n code) h =
-      (h.0, record { csw = h.1.csw; sense = h.1.sense; fits = h.1.fits; extends = ap (with_spare s) h.1.extends })
+      (h.0, record { status = h.1.status; fits = h.1.fits; extends = ap (with_spare s) h.1.extends })
 
   pub purges : (old new : Book D) (scope : Scope) (mode : Mode) (answer : Purging) → PurgesBook meaning old scope mode answer new →
       PurgesBook meaning (with_spare s old) scope mode answer (with_spare s new)
   purges old new scope mode answer h = record { purges = by_test (covers_awaiting old scope mode) h.purges; answer_is = h.answer_is } where
     by_test : (b : Bool) → PurgesBy meaning b old scope mode new → PurgesBy meaning b (with_spare s old) scope mode (with_spare s new)
     by_test false p = ap (with_spare s) p
-    by_test true p = record { name = p.name; csw = p.csw; sense = p.sense; fits = p.fits; extends = ap (with_spare s) p.extends }
+    by_test true p = record { name = p.name; status = p.status; fits = p.fits; extends = ap (with_spare s) p.extends }
 
   pub closes : (old new : Book D) (dcb : ℕ) (answer : Closing) → ClosesBook meaning old dcb answer new →
       ClosesBook meaning (with_spare s old) dcb answer (with_spare s new)
-  closes old new dcb answer h = record { opened = h.opened; closes = by_test (is_open dcb old.trace) h.closes; answer_is = h.answer_is } where
-    by_test : (b : Bool) → ClosesBy meaning b old dcb new → ClosesBy meaning b (with_spare s old) dcb (with_spare s new)
-    by_test true p = ap (with_spare s) p
-    by_test false p = ap (with_spare s) p
+  closes old new dcb answer h =
+      record { opened = h.opened; closes = by_test (is_open dcb old.trace) h.closes; answer_is = h.answer_is } where
+        by_test : (b : Bool) → ClosesBy meaning b old dcb new → ClosesBy meaning b (with_spare s old) dcb (with_spare s new)
+        by_test true p = ap (with_spare s) p
+        by_test false p = ap (with_spare s) p

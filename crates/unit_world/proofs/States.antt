@@ -1,5 +1,6 @@
 -- Which states are reached, and what holds of them.
-use Rattle.std.proofs.Common.{◌≡◌, ◌≤◌, ◌<◌, ℕ, ◌+◌, eqb, true, Option, Some, None, List, [], ◌∷◌, ◌++◌, length, drop, replicate, refl, sym, ap, ◌∙◌, subst, inl, inr, arith}
+use Rattle.std.proofs.Common.{◌≡◌, ◌≤◌, ◌<◌, ℕ, ◌+◌, eqb, true, Option, Some, None, List, [], ◌∷◌, ◌++◌, length, drop, replicate, refl, sym}
+use Rattle.std.proofs.Common.{ap, ◌∙◌, subst, inl, inr, arith}
 use Rattle.std.specs.Prelude.{slice_get, slice_index_or, IfNone, IfSome, IfOk, OnErr, OnOk}
 use Rattle.std.specs.List.{list_all}
 use Rattle.std.specs.declared.result.Result.{Result}
@@ -24,7 +25,8 @@ use Rattle.unit_book.proofs.WorldTraces.{opened-only}
 use Rattle.unit_book.proofs.Worlds.{world-laws}
 use Rattle.unit_world.specs.Parts.{issued_by}
 use Rattle.unit_world.specs.PostLists.{list_of}
-use Rattle.unit_world.specs.States.{WorldState, MakesStep, MakesSteps, IsReached, IsWorldState, KeepsLaws, with_spare}
+use Rattle.unit_world.specs.States.{WorldState, MakesStep, MakesSteps, IsReached, IsWorldState, KeepsLaws, StepName, with_spare}
+use Rattle.unit_world.proofs.Moves.{with_book}
 use Rattle.unit_world.proofs.Steps.{world_of}
 
 -- what follows of a call that was done, and of one that was refused
@@ -51,7 +53,8 @@ both Done Also (Ok a) done also = (done, also)
 both Done Also (Err e) done also = tt
 
 -- what follows of the first item, and of that there is none
-pub on-some-value : {X : Type 0} {T : X → Type 0} (r : Option X) (xs : List X) → r ≡ slice_get xs 0 → ((x : X) → slice_get xs 0 ≡ Some x → T x) → IfSome r T
+pub on-some-value : {X : Type 0} {T : X → Type 0} (r : Option X) (xs : List X) → r ≡ slice_get xs 0 →
+    ((x : X) → slice_get xs 0 ≡ Some x → T x) → IfSome r T
 on-some-value None xs e f = tt
 on-some-value (Some x) xs e f = f x (sym e)
 
@@ -64,7 +67,8 @@ pub no-rest : {X : Type 0} (xs : List X) → slice_get xs 0 ≡ None → drop 1 
 no-rest [] h = refl
 no-rest (x ∷ xs) h = absurd cc
 
-then-all : {D : Type 0} (meaning : Meaning D) {first mid last : World D} → Reaches meaning first mid → Reaches meaning mid last → Reaches meaning first last
+then-all : {D : Type 0} (meaning : Meaning D) {first mid last : World D} → Reaches meaning first mid → Reaches meaning mid last →
+    Reaches meaning first last
 then-all meaning before Stay = before
 then-all meaning before (Go rest step) = Go (then-all meaning before rest) step
 
@@ -118,7 +122,8 @@ Each-left P (x ∷ xs) ys h = (h.0, Each-left P xs ys h.1)
 
 -- each item of a list of one item is that item, and so is what is past its end
 pub all-same : {X : Type 0} (n i : ℕ) (x : X) → slice_index_or (replicate n x) i x ≡ x
-all-same n i x = dite (dec_lt i n) (get_or-replicate n i x x) (λ no. get_or_past (replicate n x) i x (omega (arith, length-replicate n x, no)))
+all-same n i x = dite (dec_lt i n) (get_or-replicate n i x x)
+    (λ no. get_or_past (replicate n x) i x (omega (arith, length-replicate n x, no)))
 
 pub Each-first : {X : Type 0} (P : X → Type 0) (xs : List X) (x : X) → Each P xs → slice_get xs 0 ≡ Some x → P x
 Each-first P [] x h e = absurd cc
@@ -126,14 +131,13 @@ Each-first P (y ∷ xs) x h e = let i : y ≡ x = cc in subst P i h.0
 
 module _ {D : Type 0} (meaning : Meaning D) where
   pub keeps-laws : (v : WorldState D) → IsReached meaning v → KeepsLaws meaning v
-  keeps-laws v r = record {
-    world = r.world;
-    shows = r.shows;
-    keeps = (world-laws meaning).keeps r.opening r.world r.opens r.reaches;
-  }
+  keeps-laws v r =
+      record { world = r.world; shows = r.shows; keeps = (world-laws meaning).keeps r.opening r.world r.opens r.reaches }
 
   -- WHAT KEEPS A STATE
-  pub state-step : (old new : WorldState D) → IsWorldState meaning old → length new.back ≡ length new.issued → MakesStep meaning old new → IsWorldState meaning new
+  pub state-step : (old new : WorldState D) {name : StepName} → IsWorldState meaning old →
+      length new.back ≡ length new.part.issued → MakesStep meaning name old new →
+      IsWorldState meaning new
   state-step old new is tasks f =
       let r = is.reached in
       let next = f r.world r.shows in
@@ -142,7 +146,8 @@ module _ {D : Type 0} (meaning : Meaning D) where
         tasks = tasks;
       }
 
-  pub state-steps : (old new : WorldState D) → IsWorldState meaning old → length new.back ≡ length new.issued → MakesSteps meaning old new → IsWorldState meaning new
+  pub state-steps : (old new : WorldState D) → IsWorldState meaning old → length new.back ≡ length new.part.issued →
+      MakesSteps meaning old new → IsWorldState meaning new
   state-steps old new is tasks f =
       let r = is.reached in
       let next = f r.world r.shows in
@@ -158,8 +163,8 @@ module _ {D : Type 0} (meaning : Meaning D) where
       }
 
   -- with other room for entries
-  pub state-spare : (v : WorldState D) (book : Book D) → IsWorldState meaning v → book ≡ record v.book { spare = book.spare } →
-      IsWorldState meaning (record v { book = book })
+  pub state-spare : (v : WorldState D) (book : Book D) → IsWorldState meaning v → book ≡ record v.part.book { spare = book.spare } →
+      IsWorldState meaning (with_book v book)
   state-spare v book is same =
       let r = is.reached in
       let h = r.shows in
@@ -183,28 +188,47 @@ module _ {D : Type 0} (meaning : Meaning D) where
       }
 
   -- of a book that has only opened DCBs, nothing is out
-  pub opened-out : (b : Book D) → list_all is_opening b.trace ≡ true → given meaning b ++ b.out ≡ posted meaning b.mounted b.trace → b.out ≡ []
+  pub opened-out : (b : Book D) → list_all is_opening b.trace ≡ true → given meaning b ++ b.out ≡ posted meaning b.mounted b.trace →
+      b.out ≡ []
   opened-out b opened all = none-after (given meaning b) b.out (all ∙ (opened-only meaning b.mounted b.trace opened).1)
 
   -- the state in which nothing was sent
-  pub state-opening : (v : WorldState D) → Legal meaning v.book.mounted v.book.trace → list_all is_opening v.book.trace ≡ true →
-      v.book.out ≡ [] → v.flight ≡ [] → ((task : ℕ) → list_of v.back task ≡ []) → ((task : ℕ) → issued_by v.issued task ≡ 0) →
-      length v.back ≡ length v.issued → IsWorldState meaning v
+  pub state-opening : (v : WorldState D) → Legal meaning v.part.book.mounted v.part.book.trace →
+      list_all is_opening v.part.book.trace ≡ true → v.part.book.out ≡ [] → v.part.flight ≡ [] →
+      ((task : ℕ) → list_of v.back task ≡ []) → ((task : ℕ) → issued_by v.part.issued task ≡ 0) →
+      length v.back ≡ length v.part.issued → IsWorldState meaning v
   state-opening v legal opened out flight back issued tasks =
-      let w = world_of v v.book.spare (λ task. []) (λ task. []) (λ task. []) in
+      let w = world_of v v.part.book.spare (λ task. []) (λ task. []) (λ task. []) in
       record {
         reached = record {
           opening = w;
           world = w;
-          opens = record { legal = legal; opened = opened; out = out; sent = λ task. refl; flight = flight; back = λ task. refl; got = λ task. refl };
+          opens = record {
+            legal = legal;
+            opened = opened;
+            out = out;
+            sent = λ task. refl;
+            flight = flight;
+            back = λ task. refl;
+            got = λ task. refl;
+          };
           reaches = Stay;
-          shows = record { unit = refl; intake_room = refl; post_room = refl; flight = refl; book = refl; back = λ task. sym (back task); sent = λ task. sym (issued task) };
+          shows = record {
+            unit = refl;
+            intake_room = refl;
+            post_room = refl;
+            flight = refl;
+            book = refl;
+            back = λ task. sym (back task);
+            sent = λ task. sym (issued task);
+          };
         };
         tasks = tasks;
       }
 
   -- THE NEXT NUMBER: the first request in flight has it
-  pub next-number : (v : WorldState D) (r : Piece) → IsWorldState meaning v → slice_get v.flight 0 ≡ Some r → r.name.seq ≡ arrived_of r.name.task v.book.trace + 1
+  pub next-number : (v : WorldState D) (r : Piece) → IsWorldState meaning v → slice_get v.part.flight 0 ≡ Some r →
+      r.name.seq ≡ arrived_of r.name.task v.part.book.trace + 1
   next-number v r is first =
       let k = keeps-laws v is.reached in
       let w = k.world in
@@ -220,36 +244,43 @@ module _ {D : Type 0} (meaning : Meaning D) where
       ap (λ (n : Name). n.seq) (k.keeps.numbered task (length A) r p) ∙ ap (λ (b : Book D). arrived_of task b.trace + 1) k.shows.book
 
   -- THE FIRST VALUE THAT IS OUT is for one of the tasks
-  pub first-of-task : (v : WorldState D) (value : PostedState) → IsWorldState meaning v → Legal meaning v.book.mounted v.book.trace →
-      given meaning v.book ++ v.book.out ≡ posted meaning v.book.mounted v.book.trace → slice_get v.book.out 0 ≡ Some value →
+  pub first-of-task : (v : WorldState D) (value : PostedState) → IsWorldState meaning v →
+      Legal meaning v.part.book.mounted v.part.book.trace →
+      given meaning v.part.book ++ v.part.book.out ≡ posted meaning v.part.book.mounted v.part.book.trace →
+      slice_get v.part.book.out 0 ≡ Some value →
       value.name.task < length v.back
   unfolding posted_value
   first-of-task v value is legal all first =
       let k = keeps-laws v is.reached in
       let w = k.world in
-      let n = length v.issued in
-      let none : (t : ℕ) → n ≤ t → requests_of t (arrivals v.book.trace) ≡ [] = λ t le.
-      no-more (requests_of t (arrivals v.book.trace)) (requests_of t w.flight)
+      let n = length v.part.issued in
+      let none : (t : ℕ) → n ≤ t → requests_of t (arrivals v.part.book.trace) ≡ [] = λ t le.
+      no-more (requests_of t (arrivals v.part.book.trace)) (requests_of t w.flight)
       (ap (λ (b : Book D). length (requests_of t (arrivals b.trace) ++ requests_of t w.flight)) (sym k.shows.book)
-      ∙ ap length (k.keeps.received t) ∙ k.shows.sent t ∙ get_or_past v.issued t 0 le) in
-      let arrived = of-tasks n (arrivals v.book.trace) none in
-      let outs = out-of meaning v.book.mounted (λ r. r.name.task < n) (λ x. x.name.task < n) (λ r csw sense code m h. h) v.book legal all arrived in
-      let lt : value.name.task < n = Each-first (λ x. x.name.task < n) v.book.out value outs first in
+      ∙ ap length (k.keeps.received t) ∙ k.shows.sent t ∙ get_or_past v.part.issued t 0 le) in
+      let arrived = of-tasks n (arrivals v.part.book.trace) none in
+      let outs = out-of meaning v.part.book.mounted (λ r. r.name.task < n) (λ x. x.name.task < n)
+      (λ r csw sense code m h. h) v.part.book legal all arrived in
+      let lt : value.name.task < n = Each-first (λ x. x.name.task < n) v.part.book.out value outs first in
       omega (arith, lt, is.tasks)
 
   -- and of this unit
-  pub first-of-unit : (v : WorldState D) (value : PostedState) → IsWorldState meaning v → Legal meaning v.book.mounted v.book.trace →
-      given meaning v.book ++ v.book.out ≡ posted meaning v.book.mounted v.book.trace → slice_get v.book.out 0 ≡ Some value →
+  pub first-of-unit : (v : WorldState D) (value : PostedState) → IsWorldState meaning v →
+      Legal meaning v.part.book.mounted v.part.book.trace →
+      given meaning v.part.book ++ v.part.book.out ≡ posted meaning v.part.book.mounted v.part.book.trace →
+      slice_get v.part.book.out 0 ≡ Some value →
       value.unit ≡ v.unit
   unfolding posted_value
   first-of-unit v value is legal all first =
       let k = keeps-laws v is.reached in
       let w = k.world in
-      let of_task : (t : ℕ) → Each (λ (r : Piece). r.unit ≡ w.unit) (requests_of t (arrivals v.book.trace)) = λ t.
-      Each-left (λ (r : Piece). r.unit ≡ w.unit) (requests_of t (arrivals v.book.trace)) (requests_of t w.flight)
+      let of_task : (t : ℕ) → Each (λ (r : Piece). r.unit ≡ w.unit) (requests_of t (arrivals v.part.book.trace)) = λ t.
+      Each-left (λ (r : Piece). r.unit ≡ w.unit) (requests_of t (arrivals v.part.book.trace)) (requests_of t w.flight)
       (subst (Each (λ (r : Piece). r.unit ≡ w.unit))
-      (sym (ap (λ (b : Book D). requests_of t (arrivals b.trace) ++ requests_of t w.flight) (sym k.shows.book) ∙ k.keeps.received t)) (k.keeps.for_unit t)) in
-      let arrived = of-each-task (λ (r : Piece). r.unit ≡ w.unit) (arrivals v.book.trace) of_task in
-      let outs = out-of meaning v.book.mounted (λ r. r.unit ≡ w.unit) (λ x. x.unit ≡ w.unit) (λ r csw sense code m h. h) v.book legal all arrived in
-      let e : value.unit ≡ w.unit = Each-first (λ x. x.unit ≡ w.unit) v.book.out value outs first in
+      (sym (ap (λ (b : Book D). requests_of t (arrivals b.trace) ++ requests_of t w.flight) (sym k.shows.book) ∙ k.keeps.received t))
+      (k.keeps.for_unit t)) in
+      let arrived = of-each-task (λ (r : Piece). r.unit ≡ w.unit) (arrivals v.part.book.trace) of_task in
+      let outs = out-of meaning v.part.book.mounted (λ r. r.unit ≡ w.unit) (λ x. x.unit ≡ w.unit)
+      (λ r csw sense code m h. h) v.part.book legal all arrived in
+      let e : value.unit ≡ w.unit = Each-first (λ x. x.unit ≡ w.unit) v.part.book.out value outs first in
       e ∙ k.shows.unit

@@ -1,5 +1,6 @@
 -- The steps that calls make of every world that looks as the state did.
-use Rattle.std.proofs.Common.{◌≡◌, ◌≤◌, ◌<◌, ℕ, ◌+◌, eqb, true, Some, List, [], ◌∷◌, ◌++◌, length, drop, refl, sym, ap, ◌∙◌, subst, inl, inr, arith, length-append}
+use Rattle.std.proofs.Common.{◌≡◌, ◌≤◌, ◌<◌, ℕ, ◌+◌, eqb, true, Some, List, [], ◌∷◌, ◌++◌, length, drop, refl, sym, ap, ◌∙◌, subst, inl}
+use Rattle.std.proofs.Common.{inr, arith, length-append}
 use Rattle.std.specs.Prelude.{slice_get, slice_set, slice_index_or}
 use mathlib.Core.Logic.{dite}
 use native.Mathlib.Decide.{dec_lt}
@@ -8,6 +9,7 @@ use Rattle.std.proofs.lemmas.List.{get_or-set_same, get_or-set_other, get_or_pas
 use Rattle.device_port.specs.Meaning.{Meaning}
 use Rattle.io_images.specs.declared.extent.Extent.{Extent}
 use Rattle.request_piece.specs.PostedState.{PostedState}
+use Rattle.request_piece.specs.declared.piece.Name.{Name}
 use Rattle.request_piece.specs.declared.piece.Piece.{Piece}
 use Rattle.request_piece.specs.declared.scope.Scope.{Scope}
 use Rattle.unit_book.specs.declared.answer.Closing.{Closing}
@@ -27,27 +29,30 @@ use Rattle.unit_book.specs.Settle.{Settles, Stays, Then, Steps, ByStart, ByRun, 
 use Rattle.unit_book.specs.World.{World, Step, Accept, Take, Open, Start, Run, Interrupt, Purge, Close, Reset, Deliver, Collect}
 use Rattle.unit_book.specs.World.{Stay, Go, one_more_of_task, without_first}
 use Rattle.unit_world.specs.PostLists.{list_of}
-use Rattle.unit_world.specs.Parts.{issued_by}
-use Rattle.unit_world.specs.States.{WorldState, Shows, StepFrom, StepsFrom, MakesStep, MakesSteps, with_spare}
-use Rattle.unit_world.proofs.Moves.{AcceptsRequest, InBook, CollectsValue, DeliversValue, TakesRequest}
+use Rattle.unit_world.specs.Parts.{UnitPart, PartAccepts, PartTakesOne, issued_by}
+use Rattle.unit_world.specs.States.{WorldState, Shows, StepFrom, StepsFrom, StepName, MakesStep, MakesSteps, step_name, with_spare}
+use Rattle.unit_world.specs.States.{AcceptStep, TakeStep, OpenStep, StartStep, RunStep, InterruptStep, PurgeStep, CloseStep, ResetStep}
+use Rattle.unit_world.specs.States.{DeliverStep, CollectStep}
+use Rattle.unit_world.proofs.Moves.{CollectsValue, DeliversValue, with_book}
 use Rattle.unit_world.proofs.Spares as spare
 
 -- the world that looks so, with this room for entries, these lists and these counts
 abbrev pub world_of : {D : Type 0} → WorldState D → ℕ → (ℕ → List Piece) → (ℕ → List PostedState) → (ℕ → List PostedState) → World D
 world_of v s sent back got = record {
   unit = v.unit;
-  intake_room = v.intake_room;
+  intake_room = v.part.intake_room;
   post_room = v.post_room;
   sent = sent;
-  flight = v.flight;
-  book = with_spare s v.book;
+  flight = v.part.flight;
+  book = with_spare s v.part.book;
   back = back;
   got = got;
 }
 
 -- one more item of a task, beside lists by place
 more-is : {X : Type 0} (lists : ℕ → List X) (xs : List (List X)) (task : ℕ) (x : X) → ((t : ℕ) → lists t ≡ slice_index_or xs t []) →
-    task < length xs → (t : ℕ) → one_more_of_task lists task x t ≡ slice_index_or (slice_set xs task (slice_index_or xs task [] ++ x ∷ [])) t []
+    task < length xs → (t : ℕ) → one_more_of_task lists task x t ≡ slice_index_or
+    (slice_set xs task (slice_index_or xs task [] ++ x ∷ [])) t []
 more-is lists xs task x h lt t =
     let more = slice_index_or xs task [] ++ x ∷ [] in
     elim (cases_Bool (eqb task t)) [
@@ -73,9 +78,10 @@ less-is lists xs task h lt t =
 
 -- a task whose list has a first item is one of the tasks
 pub has-list : {X : Type 0} (xs : List (List X)) (task : ℕ) (x : X) → slice_get (slice_index_or xs task []) 0 ≡ Some x → task < length xs
-has-list xs task x first = dite (dec_lt task (length xs)) (λ lt. lt) (λ no. absurd (none (get_or_past xs task [] (omega (arith, no))) first)) where
-  none : {X : Type 0} {l : List X} {x : X} → l ≡ [] → slice_get l 0 ≡ Some x → ⊥
-  none {X} {l} {x} e f = let g = subst (λ (k : List X). slice_get k 0 ≡ Some x) e f in absurd cc
+has-list xs task x first = dite (dec_lt task (length xs)) (λ lt. lt)
+    (λ no. absurd (none (get_or_past xs task [] (omega (arith, no))) first)) where
+      none : {X : Type 0} {l : List X} {x : X} → l ≡ [] → slice_get l 0 ≡ Some x → ⊥
+      none {X} {l} {x} e f = let g = subst (λ (k : List X). slice_get k 0 ≡ Some x) e f in absurd cc
 
 -- one more request of a task, beside counts by place
 count-is : (sent : ℕ → List Piece) (issued : List ℕ) (task seq : ℕ) (r : Piece) → ((t : ℕ) → length (sent t) ≡ issued_by issued t) →
@@ -104,118 +110,136 @@ module _ {D : Type 0} (meaning : Meaning D) where
     got = w.got;
   }
 
+  -- the step of this name from one world to another
+  abbrev NamedStep : StepName → World D → World D → Type 0
+  NamedStep name w x = (step : Step meaning w x) × (step_name meaning step ≡ name)
+
   -- a step of the world with these lists is a step of each world that looks so
-  pub from-lists : (old new : WorldState D) → ((s : ℕ) (sent : ℕ → List Piece) (back got : ℕ → List PostedState) →
-      ((task : ℕ) → back task ≡ list_of old.back task) → ((task : ℕ) → length (sent task) ≡ issued_by old.issued task) →
-      StepFrom meaning (world_of old s sent back got) new) → MakesStep meaning old new
-  from-lists old new f w h =
-      subst (λ x. StepFrom meaning x new) (sym (shown-is w old h)) (f w.book.spare w.sent w.back w.got h.back h.sent)
+  from-lists : (old new : WorldState D) (name : StepName) → ((s : ℕ) (sent : ℕ → List Piece) (back got : ℕ → List PostedState) →
+      ((task : ℕ) → back task ≡ list_of old.back task) → ((task : ℕ) → length (sent task) ≡ issued_by old.part.issued task) →
+      StepFrom meaning name (world_of old s sent back got) new) → MakesStep meaning name old new
+  from-lists old new name f w h =
+      subst (λ x. StepFrom meaning name x new) (sym (shown-is w old h)) (f w.book.spare w.sent w.back w.got h.back h.sent)
 
-  -- a call of the book
-  in-book : (old new : WorldState D) → InBook old new → ((s : ℕ) (sent : ℕ → List Piece) (back got : ℕ → List PostedState) →
-      Step meaning (world_of old s sent back got) (world_of (record old { book = new.book }) s sent back got)) → MakesStep meaning old new
-  in-book old new same f = from-lists old new (λ s sent back got b l. record {
-    after = world_of (record old { book = new.book }) s sent back got;
-    step = f s sent back got;
-    shows = subst (Shows (world_of (record old { book = new.book }) s sent back got)) (sym same)
-        (record { unit = refl; intake_room = refl; post_room = refl; flight = refl; book = refl; back = b; sent = l });
-  })
+  -- A CALL OF A UNIT: nothing but the unit changes
+  module _ (v : WorldState D) (q : UnitPart D) where
+    -- a call of the book
+    in-book : (name : StepName) → q ≡ record v.part { book = q.book } →
+        ((s : ℕ) (sent : ℕ → List Piece) (back got : ℕ → List PostedState) →
+        NamedStep name (world_of v s sent back got) (world_of (with_book v q.book) s sent back got)) →
+        MakesStep meaning name v (record v { part = q })
+    in-book name same f = from-lists v (record v { part = q }) name (λ s sent back got b l.
+        let t = f s sent back got in
+        record {
+          after = world_of (with_book v q.book) s sent back got;
+          step = t.0;
+          named = t.1;
+          shows = subst (λ (p : UnitPart D). Shows (world_of (with_book v q.book) s sent back got) (record v { part = p })) (sym same)
+              (record { unit = refl; intake_room = refl; post_room = refl; flight = refl; book = refl; back = b; sent = l });
+        })
 
-  pub opens : (old new : WorldState D) (dcb : ℕ) (method : ProcessingMethod) (extents : List Extent) → InBook old new →
-      OpensBook meaning old.book dcb method extents new.book → MakesStep meaning old new
-  opens old new dcb method extents same h = in-book old new same (λ s sent back got.
-      Open dcb method extents (spare.opens meaning s old.book new.book dcb method extents h) refl)
+    pub opens : (dcb : ℕ) (method : ProcessingMethod) (extents : List Extent) → q ≡ record v.part { book = q.book } →
+        OpensBook meaning v.part.book dcb method extents q.book → MakesStep meaning (OpenStep dcb method extents) v (record v { part = q })
+    opens dcb method extents same h = in-book (OpenStep dcb method extents) same (λ s sent back got.
+        (Open dcb method extents (spare.opens meaning s v.part.book q.book dcb method extents h) refl, refl))
 
-  pub starts : (old new : WorldState D) (answer : Starting) → InBook old new → StartsBook meaning old.book answer new.book → MakesStep meaning old new
-  starts old new answer same h = in-book old new same (λ s sent back got. Start answer (spare.starts meaning s old.book new.book answer h) refl)
+    pub starts : (answer : Starting) → q ≡ record v.part { book = q.book } → StartsBook meaning v.part.book answer q.book →
+        MakesStep meaning (StartStep answer) v (record v { part = q })
+    starts answer same h = in-book (StartStep answer) same (λ s sent back got.
+        (Start answer (spare.starts meaning s v.part.book q.book answer h) refl, refl))
 
-  pub runs : (old new : WorldState D) (max : ℕ) (answer : Running) → InBook old new → 1 ≤ max → RunsBook meaning old.book max answer new.book →
-      MakesStep meaning old new
-  runs old new max answer same some h = in-book old new same (λ s sent back got.
-      Run max answer some (spare.runs meaning s old.book new.book max answer h) refl)
+    pub runs : (max : ℕ) (answer : Running) → 1 ≤ max → q ≡ record v.part { book = q.book } →
+        RunsBook meaning v.part.book max answer q.book → MakesStep meaning (RunStep max answer) v (record v { part = q })
+    runs max answer some same h = in-book (RunStep max answer) same (λ s sent back got.
+        (Run max answer some (spare.runs meaning s v.part.book q.book max answer h) refl, refl))
 
-  pub interrupts : (old new : WorldState D) (answer : Interruption) → InBook old new → InterruptsBook meaning old.book answer new.book →
-      MakesStep meaning old new
-  interrupts old new answer same h = in-book old new same (λ s sent back got.
-      Interrupt answer (spare.interrupts meaning s old.book new.book answer h) refl)
+    pub interrupts : (answer : Interruption) → q ≡ record v.part { book = q.book } →
+        InterruptsBook meaning v.part.book answer q.book → MakesStep meaning (InterruptStep answer) v (record v { part = q })
+    interrupts answer same h = in-book (InterruptStep answer) same (λ s sent back got.
+        (Interrupt answer (spare.interrupts meaning s v.part.book q.book answer h) refl, refl))
 
-  pub purges : (old new : WorldState D) (scope : Scope) (mode : Mode) (answer : Purging) → InBook old new →
-      CanPurge meaning old.book.mounted scope old.book.trace → PurgesBook meaning old.book scope mode answer new.book → MakesStep meaning old new
-  purges old new scope mode answer same can h = in-book old new same (λ s sent back got.
-      Purge scope mode answer can (spare.purges meaning s old.book new.book scope mode answer h) refl)
+    pub purges : (scope : Scope) (mode : Mode) (answer : Purging) → q ≡ record v.part { book = q.book } →
+        CanPurge meaning v.part.book.mounted scope v.part.book.trace → PurgesBook meaning v.part.book scope mode answer q.book →
+        MakesStep meaning (PurgeStep scope mode answer) v (record v { part = q })
+    purges scope mode answer same can h = in-book (PurgeStep scope mode answer) same (λ s sent back got.
+        (Purge scope mode answer can (spare.purges meaning s v.part.book q.book scope mode answer h) refl, refl))
 
-  pub closes : (old new : WorldState D) (dcb : ℕ) (answer : Closing) → InBook old new → ClosesBook meaning old.book dcb answer new.book →
-      MakesStep meaning old new
-  closes old new dcb answer same h = in-book old new same (λ s sent back got.
-      Close dcb answer (spare.closes meaning s old.book new.book dcb answer h) refl)
+    pub closes : (dcb : ℕ) (answer : Closing) → q ≡ record v.part { book = q.book } →
+        ClosesBook meaning v.part.book dcb answer q.book → MakesStep meaning (CloseStep dcb answer) v (record v { part = q })
+    closes dcb answer same h = in-book (CloseStep dcb answer) same (λ s sent back got.
+        (Close dcb answer (spare.closes meaning s v.part.book q.book dcb answer h) refl, refl))
 
-  pub resets : (old new : WorldState D) (dcb : ℕ) → InBook old new → is_open dcb old.book.trace ≡ true → Adds old.book (ResetOf dcb) new.book →
-      MakesStep meaning old new
-  resets old new dcb same open_is h = in-book old new same (λ s sent back got.
-      Reset dcb open_is (spare.adds meaning s old.book new.book (ResetOf dcb) h) refl)
+    pub resets : (dcb : ℕ) → q ≡ record v.part { book = q.book } → is_open dcb v.part.book.trace ≡ true →
+        Adds v.part.book (ResetOf dcb) q.book → MakesStep meaning (ResetStep dcb) v (record v { part = q })
+    resets dcb same open_is h = in-book (ResetStep dcb) same (λ s sent back got.
+        (Reset dcb open_is (spare.adds meaning s v.part.book q.book (ResetOf dcb) h) refl, refl))
 
-  pub accepts : (old new : WorldState D) (r : Piece) → AcceptsRequest old r new → MakesStep meaning old new
-  accepts old new r h = from-lists old new (λ s sent back got b l.
-      let task = r.name.task in
-      let more = one_more_of_task sent task r in
-      let after = record (world_of old s sent back got) { sent = more; flight = old.flight ++ r ∷ [] } in
-      record {
-        after = after;
-        step = Accept r (record { of_unit = h.of_unit; next = h.next ∙ ap (λ n. n + 1) (sym (l task)); room = h.room; is = refl });
-        shows = subst (Shows after) (sym h.is) (record {
-          unit = refl;
-          intake_room = refl;
-          post_room = refl;
-          flight = refl;
-          book = refl;
-          back = b;
-          sent = count-is sent old.issued task r.name.seq r l h.of_task h.next;
-        });
-      })
+    pub accepts : (r : Piece) → r.unit ≡ v.unit → PartAccepts v.part r q → MakesStep meaning (AcceptStep r) v (record v { part = q })
+    accepts r of_unit h = from-lists v (record v { part = q }) (AcceptStep r) (λ s sent back got b l.
+        let more = one_more_of_task sent r.name.task r in
+        let after = record (world_of v s sent back got) { sent = more; flight = v.part.flight ++ r ∷ [] } in
+        record {
+          after = after;
+          step = Accept r (record { of_unit = of_unit; next = h.next ∙ ap (λ n. n + 1) (sym (l r.name.task)); room = h.room; is = refl });
+          named = refl;
+          shows = subst (λ (p : UnitPart D). Shows after (record v { part = p })) (sym h.is) (record {
+            unit = refl;
+            intake_room = refl;
+            post_room = refl;
+            flight = refl;
+            book = refl;
+            back = b;
+            sent = count-is sent v.part.issued r.name.task r.name.seq r l h.of_task h.next;
+          });
+        })
 
-  pub takes : (old new : WorldState D) (request : Piece) → TakesRequest meaning old request new → MakesStep meaning old new
-  takes old new request h = from-lists old new (λ s sent back got b l.
-      let after = record (world_of old s sent back got) { flight = drop 1 old.flight; book = with_spare s new.book } in
-      record {
-        after = after;
-        step = Take (record { request = request; first = h.first; room = h.room; arrives = ap (with_spare s) h.arrives; is = refl });
-        shows = subst (Shows after) (sym h.is)
-            (record { unit = refl; intake_room = refl; post_room = refl; flight = refl; book = refl; back = b; sent = l });
-      })
+    pub takes : (name : Name) → PartTakesOne meaning v.part name q → MakesStep meaning (TakeStep name) v (record v { part = q })
+    takes name h = from-lists v (record v { part = q }) (TakeStep name) (λ s sent back got b l.
+        let after = record (world_of v s sent back got) { flight = drop 1 v.part.flight; book = with_spare s q.book } in
+        record {
+          after = after;
+          step = Take (record { request = h.request; first = h.first; room = h.room; arrives = ap (with_spare s) h.arrives; is = refl });
+          named = ap TakeStep h.named;
+          shows = subst (λ (p : UnitPart D). Shows after (record v { part = p })) (sym h.is)
+              (record { unit = refl; intake_room = refl; post_room = refl; flight = refl; book = refl; back = b; sent = l });
+        })
 
-  pub delivers : (old new : WorldState D) (value : PostedState) → DeliversValue old value new → MakesStep meaning old new
-  delivers old new value h = from-lists old new (λ s sent back got b l.
-      let task = value.name.task in
-      let after = record (world_of old s sent back got) {
-        book = record old.book { out = drop 1 old.book.out; spare = s };
-        back = one_more_of_task back task value;
+  pub delivers : (old new : WorldState D) (value : PostedState) (name : Name) → DeliversValue old value name new →
+      MakesStep meaning (DeliverStep name) old new
+  delivers old new value name h = from-lists old new (DeliverStep name) (λ s sent back got b l.
+      let after : Name → World D = λ n. record (world_of old s sent back got) {
+        book = record old.part.book { out = drop 1 old.part.book.out; spare = s };
+        back = one_more_of_task back n.task value;
       } in
       record {
-        after = after;
+        after = after value.name;
         step = Deliver (record {
           value = value;
           first = h.first;
-          room = subst (λ x. length x < old.post_room) (sym (b task)) h.room;
+          room = subst (λ (n : Name). length (back n.task) < old.post_room) (sym h.named)
+              (subst (λ x. length x < old.post_room) (sym (b name.task)) h.room);
           is = refl;
         });
-        shows = subst (Shows after) (sym h.is) (record {
+        named = ap DeliverStep h.named;
+        shows = subst (λ n. Shows (after n) new) (sym h.named) (subst (Shows (after name)) (sym h.is) (record {
           unit = refl;
           intake_room = refl;
           post_room = refl;
           flight = refl;
           book = refl;
-          back = more-is back old.back task value b h.of_task;
+          back = more-is back old.back name.task value b h.of_task;
           sent = l;
-        });
+        }));
       })
 
   pub collects : (old new : WorldState D) (task : ℕ) (value : PostedState) → slice_get (list_of old.back task) 0 ≡ Some value →
-      CollectsValue old task new → MakesStep meaning old new
-  collects old new task value first h = from-lists old new (λ s sent back got b l.
+      CollectsValue old task new → MakesStep meaning (CollectStep task value.name) old new
+  collects old new task value first h = from-lists old new (CollectStep task value.name) (λ s sent back got b l.
       let after = record (world_of old s sent back got) { back = without_first back task; got = one_more_of_task got task value } in
       record {
         after = after;
         step = Collect task (record { value = value; first = ap (λ x. slice_get x 0) (b task) ∙ first; is = refl });
+        named = refl;
         shows = subst (Shows after) (sym h) (record {
           unit = refl;
           intake_room = refl;
@@ -227,18 +251,23 @@ module _ {D : Type 0} (meaning : Meaning D) where
         });
       })
 
-  -- a list of steps and then one more, or another list
-  then-one : (w : World D) (mid new : WorldState D) → StepsFrom meaning w mid → MakesStep meaning mid new → StepsFrom meaning w new
-  then-one w mid new h f =
-      let next = f h.after h.shows in
-      record { after = next.after; steps = Go h.steps next.step; shows = next.shows }
+  -- starts, runs and interruptions: one more of them after a list of steps
+  service : (v : WorldState D) (mid book : Book D) (w : World D) → StepsFrom meaning w (with_book v mid) → Steps meaning mid book →
+      StepsFrom meaning w (with_book v book)
+  service v mid book w before step = after step where
+    then-one : {name : StepName} → MakesStep meaning name (with_book v mid) (with_book v book) → StepsFrom meaning w (with_book v book)
+    then-one f =
+        let next = f before.after before.shows in
+        record { after = next.after; steps = Go before.steps next.step; shows = next.shows }
 
-  -- starts, runs and interruptions
-  pub settles : (old : WorldState D) (book : Book D) → Settles meaning old.book book → MakesSteps meaning old (record old { book = book })
-  settles old _ Stays w h = record { after = w; steps = Stay; shows = h }
-  settles old book (Then {mid} before step) w h =
-      then-one w (record old { book = mid }) (record old { book = book }) (settles old mid before w h) (one step) where
-        one : Steps meaning mid book → MakesStep meaning (record old { book = mid }) (record old { book = book })
-        one (ByStart answer h) = starts (record old { book = mid }) (record old { book = book }) answer refl h
-        one (ByRun max answer some h) = runs (record old { book = mid }) (record old { book = book }) max answer refl some h
-        one (ByInterrupt answer h) = interrupts (record old { book = mid }) (record old { book = book }) answer refl h
+    part : UnitPart D
+    part = record v.part { book = book }
+
+    after : Steps meaning mid book → StepsFrom meaning w (with_book v book)
+    after (ByStart answer h) = then-one (starts (with_book v mid) part answer refl h)
+    after (ByRun max answer some h) = then-one (runs (with_book v mid) part max answer some refl h)
+    after (ByInterrupt answer h) = then-one (interrupts (with_book v mid) part answer refl h)
+
+  pub settles : (v : WorldState D) (book : Book D) → Settles meaning v.part.book book → MakesSteps meaning v (with_book v book)
+  settles v _ Stays w h = record { after = w; steps = Stay; shows = h }
+  settles v book (Then {mid} before step) w h = service v mid book w (settles v mid before w h) step

@@ -6,3 +6,4 @@ pub mod Sending
 pub mod States
 pub mod Sites
 pub mod Purges
+pub mod Calls

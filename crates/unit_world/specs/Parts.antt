@@ -1,19 +1,19 @@
 -- A UNIT OF A SITE, and what its calls do to it (profile). The calls of its book do what they do to a book alone.
-use Rattle.std.specs.Prelude.{◌≡◌, ◌≢◌, ◌≤◌, ◌<◌, ℕ, ◌+◌, ◌==◌, if◌then◌else◌, Bool, true, false, Option, None, Some, List, [], ◌∷◌, ◌++◌, length, drop, replicate, slice_get, slice_index_or, slice_set}
+use Rattle.std.specs.Prelude.{◌≡◌, ◌≤◌, ◌<◌, ℕ, ◌+◌, ◌==◌, if◌then◌else◌, Bool, true, false, Option, None, Some, List, [], ◌∷◌, ◌++◌}
+use Rattle.std.specs.Prelude.{length, drop, replicate, slice_get, slice_index_or, slice_set}
 use Rattle.device_port.specs.Meaning.{Meaning}
 use Rattle.request_piece.specs.declared.piece.Name.{Name}
 use Rattle.request_piece.specs.declared.piece.Piece.{Piece}
+use Rattle.unit_book.specs.declared.answer.Intake.{Intake}
+use Rattle.unit_book.specs.declared.answer.Intake.TheVariants as intake
 use Rattle.unit_book.specs.declared.entry.Entry.TheVariants.{Arrive}
 use Rattle.unit_book.specs.Answers.{Extends}
 use Rattle.unit_book.specs.Book.{Book, is_pending, occupancy}
 use Rattle.unit_book.specs.Dooms.{after_dooms}
-use Rattle.unit_book.specs.Trace.{active, arrived_of, waiting}
-use Rattle.unit_world.specs.declared.answer.AcceptError.{AcceptError}
-use Rattle.unit_world.specs.declared.answer.AcceptError.TheVariants as accepting
-use Rattle.unit_world.specs.declared.answer.ActivePhase.{ActivePhase}
-use Rattle.unit_world.specs.declared.answer.ActivePhase.TheVariants as phase
-use Rattle.unit_world.specs.declared.answer.Arriving.{Arriving}
-use Rattle.unit_world.specs.declared.answer.Arriving.TheVariants as arriving
+use Rattle.unit_book.specs.Settle.{IsIdle}
+use Rattle.unit_book.specs.Trace.{arrived_of}
+use Rattle.unit_world.specs.declared.active.ActiveState.{ActiveState}
+use Rattle.unit_world.specs.declared.active.ActiveState.TheVariants as state
 use Rattle.unit_world.specs.declared.unit_side.UnitSide.{UnitSide}
 
 -- its book; how many requests may be in flight to it; what is in flight, in the order of sending; and how many requests
@@ -51,33 +51,29 @@ pub record PartAccepts {D : Type 0} (old : UnitPart D) (r : Piece) (new : UnitPa
   pub room : length old.flight < old.intake_room
   pub is : new ≡ record old { flight = old.flight ++ r ∷ []; issued = slice_set old.issued r.name.task r.name.seq }
 
--- when a request is not accepted, the first reason in this order. That there is such a unit is known
-abbrev pub PartRefuses : {D : Type 0} → UnitPart D → Piece → AcceptError → Type 0
-PartRefuses p r accepting.NoSuchUnit = ⊥
-PartRefuses p r accepting.NoSuchTask = length p.issued ≤ r.name.task
-PartRefuses p r accepting.OtherNumber = (r.name.task < length p.issued) × (r.name.seq ≢ issued_by p.issued r.name.task + 1)
-PartRefuses p r accepting.Full =
-    (r.name.task < length p.issued) × (r.name.seq ≡ issued_by p.issued r.name.task + 1) × (p.intake_room ≤ length p.flight)
-
 -- the first request in flight is the next of its task at the book
 abbrev pub HasNextNumber : {D : Type 0} → UnitPart D → Type 0
 HasNextNumber p = (r : Piece) → slice_get p.flight 0 ≡ Some r → r.name.seq ≡ arrived_of r.name.task p.book.trace + 1
 
--- NOTHING IS LEFT TO DO: nothing is in flight or waits, and nothing is active
+-- NOTHING IS LEFT TO DO: nothing is in flight, and the book is idle
 pub record IsFinishedPart {D : Type 0} (p : UnitPart D) : Type 0 where
   pub flight : p.flight ≡ []
-  pub waiting : waiting p.book.trace ≡ []
-  pub active : active p.book.trace ≡ None
+  pub idle : IsIdle p.book.trace
+
+-- only the room for entries may have grown
+pub record GrowsSpare {D : Type 0} (old new : Book D) : Type 0 where
+  pub is : new ≡ record old { spare = new.spare }
+  pub more : old.spare ≤ new.spare
 
 -- what the active request waits for
-abbrev pub phase_shown_by : Bool → Bool → ActivePhase
-phase_shown_by true pending = phase.AwaitsRestart
-phase_shown_by false true = phase.Pending
-phase_shown_by false false = phase.Running
+abbrev pub active_state_by : Bool → Bool → ActiveState
+active_state_by true pending = state.AwaitsRestart
+active_state_by false true = state.Pending
+active_state_by false false = state.Running
 
 module _ {D : Type 0} (meaning : Meaning D) where
-  abbrev pub active_phase_shown : Book D → ActivePhase
-  active_phase_shown b = phase_shown_by b.awaits (is_pending meaning b)
+  abbrev pub active_state : Book D → ActiveState
+  active_state b = active_state_by b.awaits (is_pending meaning b)
 
   -- the first request in flight arrives at the book
   pub record PartTakesOne (old : UnitPart D) (name : Name) (new : UnitPart D) : Type 0 where
@@ -90,9 +86,9 @@ module _ {D : Type 0} (meaning : Meaning D) where
 
   -- what `take` answers: held if the book has no room, quiet if nothing is in flight, for which it has made room for
   -- entries
-  abbrev pub PartTakes : UnitPart D → Arriving → UnitPart D → Type 0
-  PartTakes old arriving.Held new = (old.book.capacity ≤ occupancy old.book) × (new ≡ old)
-  PartTakes old arriving.Quiet new =
+  abbrev pub PartTakes : UnitPart D → Intake → UnitPart D → Type 0
+  PartTakes old intake.Held new = (old.book.capacity ≤ occupancy old.book) × (new ≡ old)
+  PartTakes old intake.Quiet new =
       (occupancy old.book < old.book.capacity) × (old.flight ≡ [])
-      × (new ≡ record old { book = record old.book { spare = new.book.spare } }) × (2 ≤ new.book.spare)
-  PartTakes old (arriving.Took name) new = PartTakesOne old name new
+      × (new ≡ record old { book = new.book }) × GrowsSpare old.book new.book × (2 ≤ new.book.spare)
+  PartTakes old (intake.Took name) new = PartTakesOne old name new

@@ -10,8 +10,7 @@ use Rattle.unit_book.specs.declared.entry.Mode.{Mode}
 use Rattle.unit_book.specs.Controls.{PurgesBook}
 use Rattle.unit_book.specs.Refusals.{PurgeLacks}
 use Rattle.unit_world.specs.Parts.{UnitPart}
-use Rattle.unit_world.specs.Sites.{SiteState, world_at}
-use Rattle.unit_world.specs.States.{MakesStep}
+use Rattle.unit_world.specs.Sites.{SiteState}
 
 module _ {D : Type 0} (meaning : Meaning D) (task : ℕ) (mode : Mode) where
   -- at one unit: the requests of the task are purged in its book, or memory ran out and nothing changes
@@ -26,9 +25,7 @@ module _ {D : Type 0} (meaning : Meaning D) (task : ℕ) (mode : Mode) where
     pub each : (unit : ℕ) (p : UnitPart D) (answer : Result Purging AllocError) (q : UnitPart D) → slice_get old unit ≡ Some p →
         slice_get answers unit ≡ Some answer → slice_get new unit ≡ Some q → PurgesPart p answer q
 
-  -- that is one step of the world of each unit at which memory did not run out
+  -- and nothing else changes
   pub record PurgesSite (old : SiteState D) (answers : List (Result Purging AllocError)) (new : SiteState D) : Type 0 where
     pub parts : PurgesParts old.units answers new.units
     pub is : new ≡ record old { units = new.units }
-    pub steps : (unit : ℕ) (p : UnitPart D) (answer : Purging) (q : UnitPart D) → slice_get old.units unit ≡ Some p →
-        slice_get answers unit ≡ Some (Ok answer) → slice_get new.units unit ≡ Some q → MakesStep meaning (world_at old unit p) (world_at new unit q)

@@ -5,19 +5,14 @@ use Rattle.std.specs.List.{filter}
 use Rattle.device_port.specs.Meaning.{Meaning}
 use Rattle.request_piece.specs.PostedState.{PostedState}
 use Rattle.request_piece.specs.declared.piece.Name.{Name}
-use Rattle.request_piece.specs.declared.piece.Piece.{Piece}
+use Rattle.unit_book.specs.declared.answer.Delivery.{Delivery}
+use Rattle.unit_book.specs.declared.answer.Delivery.TheVariants as delivery
 use Rattle.unit_book.specs.Book.{Book}
 use Rattle.unit_book.specs.Lists.{Each}
 use Rattle.unit_book.specs.Settle.{AddsService, Settles}
-use Rattle.unit_world.specs.declared.answer.AcceptError.{AcceptError}
-use Rattle.unit_world.specs.declared.answer.AcceptError.TheVariants as accepting
-use Rattle.unit_world.specs.declared.answer.Arriving.{Arriving}
-use Rattle.unit_world.specs.declared.answer.Arriving.TheVariants as arriving
-use Rattle.unit_world.specs.declared.answer.Delivering.{Delivering}
-use Rattle.unit_world.specs.declared.answer.Delivering.TheVariants as delivering
-use Rattle.unit_world.specs.Parts.{UnitPart, PartRefuses}
+use Rattle.unit_world.specs.Parts.{UnitPart}
 use Rattle.unit_world.specs.PostLists.{list_of, with_value, without_value}
-use Rattle.unit_world.specs.States.{WorldState, IsWorldState, KeepsLaws, MakesStep, MakesSteps}
+use Rattle.unit_world.specs.States.{WorldState, IsWorldState, KeepsLaws, MakesStep, MakesSteps, StepName}
 
 -- the units, each at the place of its number; how many posts may be in a row; and the posts in the row of each task, in
 -- the order of their delivery
@@ -34,12 +29,9 @@ from_unit unit posts = filter (λ v. v.unit == unit) posts
 abbrev pub world_at : {D : Type 0} → SiteState D → ℕ → UnitPart D → WorldState D
 world_at s unit part = record {
   unit = unit;
-  book = part.book;
-  intake_room = part.intake_room;
+  part = part;
   post_room = s.post_room;
-  flight = part.flight;
   back = map (from_unit unit) s.rows;
-  issued = part.issued;
 }
 
 -- what holds of the unit with this number
@@ -57,16 +49,6 @@ pub record OnUnit {D : Type 0} (old : SiteState D) (unit : ℕ) (Does : UnitPart
 -- a call does this to the book of a unit, and changes nothing else
 abbrev pub OnBook : {D : Type 0} → SiteState D → ℕ → (Book D → Book D → Type 0) → SiteState D → Type 0
 OnBook old unit Does new = OnUnit old unit (λ p q. Does p.book q.book × (q ≡ record p { book = q.book })) new
-
--- only the room for entries may have grown
-pub record GrowsSpare {D : Type 0} (old new : Book D) : Type 0 where
-  pub is : new ≡ record old { spare = new.spare }
-  pub more : old.spare ≤ new.spare
-
--- when a request is not accepted, the first reason in this order
-abbrev pub AcceptRefused : {D : Type 0} → SiteState D → Piece → AcceptError → Type 0
-AcceptRefused s r accepting.NoSuchUnit = length s.units ≤ r.unit
-AcceptRefused s r e = (r.unit < length s.units) × OnPart s r.unit (λ p. PartRefuses p r e)
 
 -- the first posted value that is out at a unit
 pub record IsFirstOut {D : Type 0} (s : SiteState D) (unit : ℕ) (name : Name) : Type 0 where
@@ -94,23 +76,14 @@ pub record HoldsPost {D : Type 0} (old : SiteState D) (unit : ℕ) (name : Name)
   pub is : new ≡ old
 
 -- what `deliver` answers: quiet if nothing is out at the unit, full if the row of the task is
-abbrev pub DeliversAs : {D : Type 0} → SiteState D → ℕ → Delivering → SiteState D → Type 0
-DeliversAs old unit delivering.Quiet new = OnPart old unit (λ p. p.book.out ≡ []) × (new ≡ old)
-DeliversAs old unit (delivering.Delivered name) new = DeliversPost old unit name new
-DeliversAs old unit (delivering.Full name) new = HoldsPost old unit name new
+abbrev pub DeliversAs : {D : Type 0} → SiteState D → ℕ → Delivery → SiteState D → Type 0
+DeliversAs old unit delivery.Quiet new = OnPart old unit (λ p. p.book.out ≡ []) × (new ≡ old)
+DeliversAs old unit (delivery.Delivered name) new = DeliversPost old unit name new
+DeliversAs old unit (delivery.Full name) new = HoldsPost old unit name new
 
 -- a task collects the first post of its row
 abbrev pub CollectsPost : {D : Type 0} → SiteState D → ℕ → SiteState D → Type 0
 CollectsPost old task new = new ≡ record old { rows = without_value old.rows task }
-
--- what holds if a request arrived, and if a value was delivered
-abbrev pub OnTook : Arriving → Type 0 → Type 0
-OnTook (arriving.Took name) P = P
-OnTook _ P = Unit {0}
-
-abbrev pub OnDelivered : Delivering → Type 0 → Type 0
-OnDelivered (delivering.Delivered name) P = P
-OnDelivered _ P = Unit {0}
 
 module _ {D : Type 0} (meaning : Meaning D) where
   -- nothing changes in the worlds of the other units
@@ -119,11 +92,11 @@ module _ {D : Type 0} (meaning : Meaning D) where
     pub same : (other : ℕ) (part : UnitPart D) → other ≢ unit → slice_get old.units other ≡ Some part →
         (slice_get new.units other ≡ Some part) × (world_at new other part ≡ world_at old other part)
 
-  -- A CALL MAKES ONE STEP of the world of a unit, and changes no other unit's world
-  pub record StepsUnit (old : SiteState D) (unit : ℕ) (new : SiteState D) : Type 0 where
+  -- A CALL MAKES THE STEP OF THIS NAME in the world of a unit, and changes no other unit's world
+  pub record StepsUnit (name : StepName) (old : SiteState D) (unit : ℕ) (new : SiteState D) : Type 0 where
     pub others : KeepsOthers old unit new
     pub step : (before after : UnitPart D) → slice_get old.units unit ≡ Some before → slice_get new.units unit ≡ Some after →
-        MakesStep meaning (world_at old unit before) (world_at new unit after)
+        MakesStep meaning name (world_at old unit before) (world_at new unit after)
 
   -- A CALL MAKES A LIST OF STEPS of the world of a unit, and changes no other unit's world
   pub record StepsOfUnit (old : SiteState D) (unit : ℕ) (new : SiteState D) : Type 0 where

@@ -2,24 +2,31 @@
 use Rattle.std.specs.Prelude.{◌≡◌, ℕ, List, length}
 use Rattle.device_port.specs.Meaning.{Meaning}
 use Rattle.request_piece.specs.PostedState.{PostedState}
+use Rattle.io_images.specs.declared.extent.Extent.{Extent}
+use Rattle.request_piece.specs.declared.piece.Name.{Name}
 use Rattle.request_piece.specs.declared.piece.Piece.{Piece}
+use Rattle.request_piece.specs.declared.scope.Scope.{Scope}
+use Rattle.unit_book.specs.declared.answer.Closing.{Closing}
+use Rattle.unit_book.specs.declared.answer.Interruption.{Interruption}
+use Rattle.unit_book.specs.declared.answer.Purging.{Purging}
+use Rattle.unit_book.specs.declared.answer.Running.{Running}
+use Rattle.unit_book.specs.declared.answer.Starting.{Starting}
+use Rattle.unit_book.specs.declared.dcb.ProcessingMethod.{ProcessingMethod}
+use Rattle.unit_book.specs.declared.entry.Mode.{Mode}
 use Rattle.unit_book.specs.Book.{Book}
-use Rattle.unit_book.specs.World.{World, IsOpening, Reaches, Step}
+use Rattle.unit_book.specs.World.{World, IsOpening, Reaches, Step, Accept, Take, Open, Start, Run, Interrupt, Purge, Close, Reset, Deliver}
+use Rattle.unit_book.specs.World.{Collect}
 use Rattle.unit_book.specs.WorldLaws.{KeepsRequests}
-use Rattle.unit_world.specs.Parts.{issued_by}
+use Rattle.unit_world.specs.Parts.{UnitPart, issued_by}
 use Rattle.unit_world.specs.PostLists.{list_of}
 
--- the number of the unit; its book; how many requests may be in flight to it, and how many posted values on the way back
--- to a task; what is in flight, in the order of sending; the values on the way back to each task; and how many requests
--- each task sent
+-- the number of the unit; the unit; how many posted values may be on the way back to a task; and those values for each
+-- task
 pub record WorldState (D : Type 0) : Type 0 where
   pub unit : ℕ
-  pub book : Book D
-  pub intake_room : ℕ
+  pub part : UnitPart D
   pub post_room : ℕ
-  pub flight : List Piece
   pub back : List (List PostedState)
-  pub issued : List ℕ
 
 -- the book with room for this many entries
 abbrev pub with_spare : {D : Type 0} → ℕ → Book D → Book D
@@ -29,23 +36,52 @@ with_spare spare b = record b { spare = spare }
 -- entries, and each task sent this many requests
 pub record Shows {D : Type 0} (w : World D) (v : WorldState D) : Type 0 where
   pub unit : w.unit ≡ v.unit
-  pub intake_room : w.intake_room ≡ v.intake_room
+  pub intake_room : w.intake_room ≡ v.part.intake_room
   pub post_room : w.post_room ≡ v.post_room
-  pub flight : w.flight ≡ v.flight
-  pub book : w.book ≡ with_spare w.book.spare v.book
+  pub flight : w.flight ≡ v.part.flight
+  pub book : w.book ≡ with_spare w.book.spare v.part.book
   pub back : (task : ℕ) → w.back task ≡ list_of v.back task
-  pub sent : (task : ℕ) → length (w.sent task) ≡ issued_by v.issued task
+  pub sent : (task : ℕ) → length (w.sent task) ≡ issued_by v.part.issued task
+
+-- WHICH STEP: the call, with its arguments and its answer. A value that is taken, delivered or collected has the name of its
+-- request
+pub data StepName : Type 0 where
+  AcceptStep : Piece → StepName
+  TakeStep : Name → StepName
+  OpenStep : ℕ → ProcessingMethod → List Extent → StepName
+  StartStep : Starting → StepName
+  RunStep : ℕ → Running → StepName
+  InterruptStep : Interruption → StepName
+  PurgeStep : Scope → Mode → Purging → StepName
+  CloseStep : ℕ → Closing → StepName
+  ResetStep : ℕ → StepName
+  DeliverStep : Name → StepName
+  CollectStep : ℕ → Name → StepName
 
 module _ {D : Type 0} (meaning : Meaning D) where
-  -- one step leads from the world to a world that looks so
-  pub record StepFrom (w : World D) (v : WorldState D) : Type 0 where
+  abbrev pub step_name : {old new : World D} → Step meaning old new → StepName
+  step_name (Accept r h) = AcceptStep r
+  step_name (Take h) = TakeStep h.request.name
+  step_name (Open dcb method extents h same) = OpenStep dcb method extents
+  step_name (Start answer h same) = StartStep answer
+  step_name (Run max answer some h same) = RunStep max answer
+  step_name (Interrupt answer h same) = InterruptStep answer
+  step_name (Purge scope mode answer can h same) = PurgeStep scope mode answer
+  step_name (Close dcb answer h same) = CloseStep dcb answer
+  step_name (Reset dcb is h same) = ResetStep dcb
+  step_name (Deliver h) = DeliverStep h.value.name
+  step_name (Collect task h) = CollectStep task h.value.name
+
+  -- the step of this name leads from the world to a world that looks so
+  pub record StepFrom (name : StepName) (w : World D) (v : WorldState D) : Type 0 where
     pub after : World D
     pub step : Step meaning w after
+    pub named : step_name step ≡ name
     pub shows : Shows after v
 
-  -- A CALL MAKES ONE STEP of every world that looks as the state did
-  abbrev pub MakesStep : WorldState D → WorldState D → Type 0
-  MakesStep old new = (w : World D) → Shows w old → StepFrom w new
+  -- A CALL MAKES THIS STEP of every world that looks as the state did
+  abbrev pub MakesStep : StepName → WorldState D → WorldState D → Type 0
+  MakesStep name old new = (w : World D) → Shows w old → StepFrom name w new
 
   -- a list of steps leads from the world to a world that looks so
   pub record StepsFrom (w : World D) (v : WorldState D) : Type 0 where
@@ -74,4 +110,4 @@ module _ {D : Type 0} (meaning : Meaning D) where
   -- WHAT HOLDS OF EVERY STATE: it is reached, and has both lists for each task
   pub record IsWorldState (v : WorldState D) : Type 0 where
     pub reached : IsReached v
-    pub tasks : length v.back ≡ length v.issued
+    pub tasks : length v.back ≡ length v.part.issued

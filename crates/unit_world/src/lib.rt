@@ -1,19 +1,19 @@
-//! A site without locks, threads and waiting: units, each with its book and the requests in flight to it, and for each
-//! task a row of the posts that are on the way back to it, as bounded lists.
+//! A site without locks, threads and waiting. It has units, each with its book and the requests in flight to it. For
+//! each task it has a row of the posts that are on the way back to the task. Rows are bounded lists.
 //!
-//! Each call makes one step of `unit_book`'s `World` of one unit, or changes nothing. On the way back to a task from a
-//! unit are the unit's posts in the task's row. So the laws of worlds hold of each unit after every list of calls
-//! (`laws`).
+//! A call makes one step of `unit_book`'s `World` of one unit, or leaves the worlds of all units as they were. `settle`
+//! and `purge_task` make several (`laws::calls_make_steps`). On the way back to a task from a unit are the unit's posts
+//! in the task's row. So the laws of worlds hold of each unit after every list of calls (`PlainSite::holds`).
 //!
 //! Tests: tests/mutants/unit_world.
 #![tactic(auto)]
 
-mod answer;
+mod active;
 pub mod laws;
 mod post_lists;
 mod purges;
 mod site;
 mod unit_side;
 
-pub use answer::{AcceptError, ActivePhase, Arriving, Delivering};
+pub use active::{ActiveState, active_request};
 pub use site::PlainSite;

@@ -3,22 +3,21 @@
 mod book_calls;
 mod readers;
 
-ghost use Rattle.std.specs.Prelude.{◌≡◌, ◌<◌, ◌≤◌, ◌∷◌, ◌++◌, [], length, map, replicate, slice_get, true, IfErr, IfOk, IfSome, IfNone, OnErr, OnOk};
+ghost use Rattle.std.specs.Prelude.{◌≡◌, ◌<◌, ◌≤◌, ◌∷◌, ◌++◌, [], length, map, replicate, slice_get, true, Some, IfErr, IfOk, IfSome, IfNone, OnErr, OnOk};
 ghost use Rattle.std.specs.List.{list_all};
 ghost use Rattle.unit_book.specs.Book.{occupancy};
 ghost use Rattle.unit_book.specs.Trace.{is_opening};
-ghost use Rattle.unit_world.specs.Parts.{PartAccepts, PartTakes, opening_part};
+ghost use Rattle.unit_world.specs.Parts.{PartAccepts, PartTakes, next_name_of, opening_part};
 ghost use Rattle.unit_world.specs.PostLists.{list_of};
-ghost use Rattle.unit_world.specs.Sites.{AcceptRefused, CollectsPost, DeliversAs, IsSite, KeepsSiteLaws, OnDelivered, OnPart, OnTook, OnUnit, StepsUnit};
+ghost use Rattle.unit_world.specs.Sites.{CollectsPost, DeliversAs, IsSite, KeepsSiteLaws, OnPart, OnUnit};
 
-use crate::answer::{AcceptError, Arriving, Delivering};
 use crate::post_lists::PostLists;
 use crate::unit_side::{UnitSide, send_back};
 use device_port::Device;
 use request_piece::{Posted, Request};
 use std::alloc::{AllocError, AllocFailed, Global};
 use std::marker::Model;
-use unit_book::UnitBook;
+use unit_book::{Delivery, Intake, UnitBook};
 
 /// Units, and a post row for each task, which has the posts of all units in the order of their delivery.
 #[derive(Drop)]
@@ -84,31 +83,27 @@ impl<D: Device> PlainSite<D> {
         let _rows = &self.rows;
     }
 
-    /// Accepts a request, which is then in flight to its unit (DFSMSdfp Advanced Services, EXCP). The request is handed
-    /// back for the first reason that applies (profile): no such unit; no such task; a number other than the next of its
-    /// task at this unit, counted from 1; no room for another request in flight to the unit. Never allocates.
-    pub fn accept(&mut self, request: Request) -> Result<(), (AcceptError, Request)>
+    /// Accepts the next request of a task to a unit ([`PlainSite::next_name`]), which is then in flight to the unit
+    /// (DFSMSdfp Advanced Services, EXCP). If the unit has no room for another request in flight, the request is handed
+    /// back, and uses no number. Never allocates.
+    pub fn accept(&mut self, request: Request) -> Result<(), Request>
+        requires unit { request.unit < length self.old.units }
+        requires next { OnPart self.old request.unit (λ p. next_name_of p.issued request.name.task ≡ Some request.name) }
         ensures ok { OnOk result (OnUnit self.old request.unit (λ p q. PartAccepts p request q) self.new) }
-        ensures step { OnOk result (StepsUnit D.meaning self.old request.unit self.new) }
-        ensures refused { IfErr result (λ e. AcceptRefused self.old request e.0) }
-        ensures handed_back { IfErr result (λ e. e.1 ≡ request) }
+        ensures handed_back { IfErr result (λ back. back ≡ request) }
+        ensures full { OnErr result (OnPart self.old request.unit (λ p. p.intake_room ≤ length p.flight)) }
         ensures err { OnErr result (self.new ≡ self.old) }
     {
-        let unit = usize::from(request.unit());
-        if unit >= self.units.len() {
-            return Err((AcceptError::NoSuchUnit, request));
-        }
-        let side = &mut self.units[unit];
+        let side = &mut self.units[usize::from(request.unit())];
         side.accept(request)
     }
 
     /// Lets the first request in flight to a unit arrive at its book. Returns the first answer that applies: the book has
-    /// no room; memory runs out; nothing is in flight; the request arrived. Only room for entries may change without an
-    /// arrival.
-    pub fn take(&mut self, unit: u16) -> Result<Arriving, AllocError>
+    /// no room; memory runs out; nothing is in flight; the request arrived. If nothing is in flight, only the room for
+    /// entries may grow.
+    pub fn take(&mut self, unit: u16) -> Result<Intake, AllocError>
         requires unit { unit < length self.old.units }
         ensures ok { IfOk result (λ answer. OnUnit self.old unit (λ p q. PartTakes D.meaning p answer q) self.new) }
-        ensures step { IfOk result (λ answer. OnTook answer (StepsUnit D.meaning self.old unit self.new)) }
         ensures room { OnErr result (OnPart self.old unit (λ p. occupancy p.book < p.book.capacity)) }
         ensures full { OnErr result (OnPart self.old unit (λ p. p.book.spare < 2)) }
         ensures err { OnErr result (self.new ≡ self.old) }
@@ -119,10 +114,9 @@ impl<D: Device> PlainSite<D> {
 
     /// Puts the first posted value that is out at a unit into the row of its task, after all posts there. If the row is
     /// full, nothing changes. Never allocates.
-    pub fn deliver(&mut self, unit: u16) -> Delivering
+    pub fn deliver(&mut self, unit: u16) -> Delivery
         requires unit { unit < length self.old.units }
         ensures answer { DeliversAs self.old unit result self.new }
-        ensures step { OnDelivered result (StepsUnit D.meaning self.old unit self.new) }
     {
         let side = &mut self.units[usize::from(unit)];
         side.book.holds();
@@ -134,7 +128,6 @@ impl<D: Device> PlainSite<D> {
         ensures first { result ≡ slice_get (list_of self.old.rows task) 0 }
         ensures rest { CollectsPost self.old task self.new }
         ensures of_unit { IfSome result (λ value. value.unit < length self.old.units) }
-        ensures step { IfSome result (λ value. StepsUnit D.meaning self.old value.unit self.new) }
         ensures none { IfNone result (self.new ≡ self.old) }
     {
         self.rows.pop(task)

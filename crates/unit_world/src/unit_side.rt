@@ -1,19 +1,17 @@
 //! A unit of a site: its book, and what is in flight to it.
 
-ghost use Rattle.std.specs.Prelude.{◌≡◌, ◌<◌, ◌+◌, ◌↔◌, [], option_map, replicate, slice_get, None, Some, IfErr, IfOk, IsTrue, OnErr, OnOk};
+ghost use Rattle.std.specs.Prelude.{◌≡◌, ◌<◌, ◌≤◌, ◌↔◌, [], length, option_map, replicate, slice_get, Some, IfErr, IfOk, IsTrue, OnErr, OnOk};
 ghost use Rattle.circular_buffer.specs.Buffer.{buffer};
 ghost use Rattle.unit_book.specs.Book.{occupancy};
-ghost use Rattle.unit_book.specs.Trace.{active, arrived_of};
-ghost use Rattle.unit_world.specs.Parts.{HasNextNumber, IsFinishedPart, PartAccepts, PartRefuses, PartTakes, active_phase_shown, next_name_of, opening_part, unit_part};
+ghost use Rattle.unit_world.specs.Parts.{HasNextNumber, IsFinishedPart, PartAccepts, PartTakes, next_name_of, opening_part, unit_part};
 ghost use Rattle.unit_world.specs.Sending.{IsForRows, SendsBack};
 
-use crate::answer::{AcceptError, ActivePhase, Arriving, Delivering};
 use crate::post_lists::PostLists;
 use circular_buffer::HeapCircularBuffer;
 use device_port::Device;
 use request_piece::{Name, Request};
 use std::alloc::{AllocError, AllocFailed, Global};
-use unit_book::UnitBook;
+use unit_book::{Delivery, Intake, UnitBook};
 
 /// The book of a unit, the requests in flight to it, and how many requests each task sent to it.
 #[derive(Drop)]
@@ -65,32 +63,22 @@ impl<D: Device> UnitSide<D> {
         }
     }
 
-    /// Accepts a request for this unit.
-    pub fn accept(&mut self, request: Request) -> Result<(), (AcceptError, Request)>
+    /// Accepts the next request of a task for this unit.
+    pub fn accept(&mut self, request: Request) -> Result<(), Request>
+        requires { next_name_of (unit_part self.old).issued request.name.task ≡ Some request.name }
         ensures ok { OnOk result (PartAccepts (unit_part self.old) request (unit_part self.new)) }
-        ensures refused { IfErr result (λ e. PartRefuses (unit_part self.old) request e.0) }
-        ensures handed_back { IfErr result (λ e. e.1 ≡ request) }
+        ensures handed_back { IfErr result (λ back. back ≡ request) }
+        ensures full { OnErr result ((unit_part self.old).intake_room ≤ length (unit_part self.old).flight) }
         ensures err { OnErr result (self.new ≡ self.old) }
     {
         let name = request.name();
-        let task = usize::from(name.task);
-        if task >= self.issued.len() {
-            return Err((AcceptError::NoSuchTask, request));
-        }
-        if u64::from(name.seq) != u64::from(self.issued[task]) + 1 {
-            return Err((AcceptError::OtherNumber, request));
-        }
-        match self.flight.try_push_back(request) {
-            Ok(()) => {
-                self.issued[task] = name.seq;
-                Ok(())
-            }
-            Err(request) => Err((AcceptError::Full, request)),
-        }
+        self.flight.try_push_back(request)?;
+        self.issued[usize::from(name.task)] = name.seq;
+        Ok(())
     }
 
     /// Lets the first request in flight arrive at the book, if the book has room.
-    pub fn take(&mut self) -> Result<Arriving, AllocError>
+    pub fn take(&mut self) -> Result<Intake, AllocError>
         requires { HasNextNumber (unit_part self.old) }
         ensures ok { IfOk result (λ answer. PartTakes D.meaning (unit_part self.old) answer (unit_part self.new)) }
         ensures room { OnErr result (occupancy self.old.book < self.old.book.capacity) }
@@ -98,15 +86,15 @@ impl<D: Device> UnitSide<D> {
         ensures err { OnErr result (self.new ≡ self.old) }
     {
         if !self.book.has_room() {
-            return Ok(Arriving::Held);
+            return Ok(Intake::Held);
         }
         self.book.reserve()?;
         match self.flight.pop_front() {
-            None => Ok(Arriving::Quiet),
+            None => Ok(Intake::Quiet),
             Some(request) => {
                 let name = request.name();
                 self.book.arrive_reserved(request);
-                Ok(Arriving::Took(name))
+                Ok(Intake::Took(name))
             }
         }
     }
@@ -137,21 +125,6 @@ impl<D: Device> UnitSide<D> {
         }
     }
 
-    /// The active request, and what it waits for.
-    pub fn active(&self) -> Option<(Name, ActivePhase)>
-        ensures { result ≡ option_map (λ name. (name, active_phase_shown D.meaning self.now.book)) (active self.now.book.trace) }
-    {
-        let name = self.book.active_name()?;
-        let phase = if self.book.awaits() {
-            ActivePhase::AwaitsRestart
-        } else if self.book.pending() {
-            ActivePhase::Pending
-        } else {
-            ActivePhase::Running
-        };
-        Some((name, phase))
-    }
-
     /// Whether nothing is in flight or waits, and nothing is active.
     pub fn is_finished(&self) -> bool
         ensures { IsTrue result ↔ IsFinishedPart (unit_part self.now) }
@@ -161,19 +134,19 @@ impl<D: Device> UnitSide<D> {
 }
 
 /// Puts the first posted value that is out at a book into the row of its task.
-pub(crate) fn send_back<D: Device>(book: &mut UnitBook<D>, rows: &mut PostLists) -> Delivering
+pub(crate) fn send_back<D: Device>(book: &mut UnitBook<D>, rows: &mut PostLists) -> Delivery
     requires { IsForRows book.old.out rows.old }
     ensures { SendsBack book.old rows.old result book.new rows.new }
 {
     match book.take_out() {
-        None => Delivering::Quiet,
+        None => Delivery::Quiet,
         Some(value) => {
             let name = value.name();
             match rows.push(value) {
-                Ok(()) => Delivering::Delivered(name),
+                Ok(()) => Delivery::Delivered(name),
                 Err(value) => {
                     book.return_out(value);
-                    Delivering::Full(name)
+                    Delivery::Full(name)
                 }
             }
         }

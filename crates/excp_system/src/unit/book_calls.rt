@@ -150,8 +150,8 @@ impl<'r, S: Site, D: Device> UnitState<'r, S, D> {
         self.book.reset(dcb)
     }
 
-    /// Starts, runs and interrupts until nothing waits or is active, as [`unit_book::UnitBook::settle`]. Where it stops
-    /// for want of memory with a status pending, a notice is owed.
+    /// Starts, runs and interrupts until nothing waits or is active, as [`unit_book::UnitBook::settle`]. If memory
+    /// runs out with a status pending, a notice is owed.
     pub fn settle(&mut self) -> Result<(), AllocError>
         ensures steps { Settles D.meaning self.old.book self.new.book }
         ensures adds { AddsService self.old.book.trace self.new.book.trace }

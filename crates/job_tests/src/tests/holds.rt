@@ -56,7 +56,7 @@ enum Step {
     PurgeTask(u16),
     Close(u16),
     Reset(u16),
-    /// Resets DCB 2 until the trace has room for so many entries.
+    /// Resets DCB 2 until the trace has room for this many entries.
     Fill(u16),
     Settle,
 }
@@ -188,7 +188,7 @@ fn issue<S: Site, R: Wait>(
     task.excp(rt, request).map_err(|_| AllocError)
 }
 
-/// Resets DCB 2 until the trace has room for so many entries.
+/// Resets DCB 2 until the trace has room for `room` entries.
 fn fill<S: Site>(unit: &mut UnitState<'_, S, AnyDevice>, room: usize) -> Option<()> {
     for _ in room..unit.book().spare() {
         unit.reset(2).ok()?;

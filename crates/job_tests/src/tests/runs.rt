@@ -1,5 +1,5 @@
-//! Runs on rows and books of one, runs whose tasks wait for their posts or do not, runs in which a worker or a task met
-//! want of memory and nobody takes a status, and one in which a task ends early.
+//! Runs on rows and books of one. Runs whose tasks wait for their posts or do not. Runs in which a worker or a task
+//! ran out of memory, for some turns or for good. And one in which a task ends early.
 
 ghost use Rattle.std.specs.Prelude.{◌≡◌, ◌<◌, ◌≤◌, All, IfOk, vec_len};
 ghost use Rattle.excp_system.specs.Opening.{AreBooks, AreFresh, site_of};
@@ -21,10 +21,12 @@ use std::sync::Wait;
 use std::sync::atomic::{AtomicUsize, Ordering};
 use std::test::Fail;
 use std::thread::Threads;
-use system_threads::{Alarm, Crew, Workers, parted, run_beside, run_program, runners};
+use system_threads::{
+    Alarm, Crew, LASTING_TURNS, Workers, parted, run_beside, run_program, runners,
+};
 use unit_book::{Entry, UnitBook};
 
-/// So many tasks.
+/// One task.
 const ONE_TASK: &str = "tasks 1\n";
 
 const TWO_TASKS: &str = "tasks 2\n";
@@ -101,7 +103,7 @@ const CONTROLS: [(&str, usize); 4] = [
     ("reset 0 0 1\n", 1),
 ];
 
-/// A worker meets want of memory when it has passed the gate so often before such a call: the tasks sleep by then.
+/// A worker runs out of memory once it has passed the gate so often before such a call: the tasks sleep by then.
 const LATE: usize = 5000;
 
 /// How a run goes.
@@ -113,36 +115,52 @@ enum Way {
     Unawaited,
     /// Until its tasks have ended.
     Tasks,
-    /// And no handler takes a status, so that nothing is posted, and a worker meets want of memory before such a call.
+    /// And a worker runs out of memory in turns on unit 0, but in too few of them in a row to end the run.
+    Brief,
+    /// And no handler takes a status, so that nothing is posted, and a worker runs out of memory before each such call
+    /// on unit 0 from some time on.
     Late(Point),
-    /// And no handler takes a status, and a worker met want of memory before the tasks began.
+    /// And no handler takes a status, and a worker ran out of memory for good before the tasks began.
     Raised,
-    /// And there is no worker, and one met want of memory before the tasks began.
+    /// And there is no worker, and one ran out of memory for good before the tasks began.
     Alone,
     /// And there is no worker.
     Unserved,
 }
 
 impl Way {
-    /// Whether want of memory was met before the tasks began.
-    fn is_raised(self) -> bool {
-        matches!(self, Way::Raised | Way::Alone)
-    }
-
-    /// Before which calls a worker meets want of memory.
+    /// Before which calls a worker runs out of memory.
     fn point(self) -> Option<Point> {
         match self {
+            Way::Brief => Some(Point::Take),
             Way::Late(point) => Some(point),
             _ => None,
         }
     }
+
+    /// Whether a worker has memory for this call, after `others` others.
+    fn has_memory(self, others: usize) -> bool {
+        match self {
+            Way::Brief => others % 2 == 0,
+            _ => others < LATE,
+        }
+    }
+
+    /// In how many turns on unit 0 a worker ran out of memory before the tasks began.
+    fn turns_before(self) -> u32 {
+        match self {
+            Way::Brief => LASTING_TURNS - 1,
+            Way::Raised | Way::Alone => LASTING_TURNS,
+            _ => 0,
+        }
+    }
 }
 
-/// The gate of a run in which a worker meets want of memory late before such a call, if any.
+/// The gate of a run in which a worker runs out of memory before such a call, if any.
 #[derive(Drop)]
 struct Drill<'a> {
     alarm: &'a Alarm,
-    point: Option<Point>,
+    way: Way,
     passed: AtomicUsize,
 }
 
@@ -150,7 +168,7 @@ impl<'a> Drill<'a> {
     fn new(alarm: &'a Alarm, way: Way) -> Drill<'a> {
         Drill {
             alarm,
-            point: way.point(),
+            way,
             passed: AtomicUsize::new(0),
         }
     }
@@ -158,8 +176,12 @@ impl<'a> Drill<'a> {
 
 impl<'a> Gate for Drill<'a> {
     fn pass(&self, unit: u16, point: Point) {
-        if self.point == Some(point) && self.passed.fetch_add(1, Ordering::SeqCst) == LATE {
-            self.alarm.lack_memory(unit, point);
+        self.alarm.pass(unit, point);
+        if unit == 0 && self.way.point() == Some(point) {
+            let others = self.passed.fetch_add(1, Ordering::SeqCst);
+            if !self.way.has_memory(others) {
+                self.alarm.lack_memory(unit, point);
+            }
         }
     }
 
@@ -176,7 +198,7 @@ impl<'a> Gate for Drill<'a> {
 #[derive(PartialEq, Eq, Debug, Drop)]
 enum Outcome {
     Printed(Vec<u8>),
-    /// How many of its tasks ended for want of memory, and how many of their requests and controls the traces tell of.
+    /// How many of its tasks ran out of memory, and how many of their requests and controls the traces tell of.
     Ended(usize, usize),
 }
 
@@ -222,9 +244,7 @@ fn tasks_alone<S: Site + Send + Sync, R: Threads + Wait + Sync + AllocGlobal>(
     let (system, tasks, takers) = System::<S, AnyDevice>::new(alloc, rows, books)?;
     let runners = runners(alloc, tasks)?;
     let alarm = Alarm::of(alloc, runners.as_slice())?;
-    if way.is_raised() {
-        alarm.lack_memory(0, Point::Take);
-    }
+    run_out(&alarm, way.turns_before());
     let gate = Drill::new(&alarm, way);
     let crew = crew_of(alloc, units, takers, way)?;
     let program = ScriptTasks::new(script);
@@ -233,6 +253,14 @@ fn tasks_alone<S: Site + Send + Sync, R: Threads + Wait + Sync + AllocGlobal>(
     ))?;
     let (_, outcomes) = parted(alloc, runners)?;
     Ok(Outcome::Ended(how_many_short(outcomes)?, told(rt, &system, units)?))
+}
+
+/// A worker runs out of memory in `turns` turns on unit 0.
+fn run_out(alarm: &Alarm, turns: u32) {
+    for _ in 0..turns {
+        alarm.pass(0, Point::Take);
+        alarm.lack_memory(0, Point::Take);
+    }
 }
 
 /// The workers of such a run.
@@ -245,7 +273,7 @@ fn crew_of<'r, S: Site>(
     requires { units ≡ S.rows.units }
 {
     let handled = match way {
-        Way::Tasks => takers,
+        Way::Tasks | Way::Brief => takers,
         _ => Vec::new(alloc),
     };
     let served = match way {
@@ -265,7 +293,7 @@ fn two_of_each() -> Workers {
     }
 }
 
-/// How many tasks ended for want of memory. The others are to have collected all their posts.
+/// How many tasks ran out of memory. The others are to have collected all their posts.
 fn how_many_short(outcomes: Vec<Result<Lines, TaskError>>) -> Result<usize, JobError> {
     let mut short: usize = 0;
     for outcome in outcomes {
@@ -389,7 +417,15 @@ fn tasks_wait_for_their_posts(rt: HostRuntime) -> Result<(), Fail> {
     Ok(())
 }
 
-/// Also where a worker alone was told of it: it wakes the tasks, which sleep.
+/// A worker runs out of memory in one turn less than lasts, and then now and then: the run stays whole.
+#[test]
+fn run_stays_whole_if_memory_comes_back(rt: HostRuntime) -> Result<(), Fail> {
+    let outcome = run(&rt, [TWO_TASKS, UNITS], &[AREAS, EXCPS], 8, Way::Brief)?;
+    assert_eq!(rt; outcome, Outcome::Ended(0, 12));
+    Ok(())
+}
+
+/// Also where a worker alone ran out of it: it wakes the tasks, which sleep.
 #[test]
 fn want_of_memory_ends_the_tasks(rt: HostRuntime) -> Result<(), Fail> {
     let set_up = [TWO_TASKS, UNITS];
@@ -414,8 +450,8 @@ fn want_of_memory_ends_the_tasks(rt: HostRuntime) -> Result<(), Fail> {
     Ok(())
 }
 
-/// A purge, a close or a reset that a unit refuses for want of memory ends its task: run it with each allocation
-/// refused in turn. A unit's trace is full with four DCBs.
+/// A purge, a close or a reset for which a unit has no memory ends its task. Run it with each allocation made to fail
+/// in turn. A unit's trace is full with four DCBs.
 #[test]
 fn controls_without_memory(rt: HostRuntime) -> Result<(), Fail> {
     for (control, units) in CONTROLS {

@@ -15,7 +15,7 @@ pub enum PaperRefusal {
     Pages,
 }
 
-/// Which number is outside its range, the first of them, where a printer cannot have so many lines and pages.
+/// Returns the first number that is outside its range, if a printer cannot have these numbers of lines and pages.
 pub fn paper_refusal(lines: u64, pages: u64) -> Option<PaperRefusal>
     ensures none { IfNone result (is_paper lines pages ≡ true) }
     ensures some { IfSome result (λ r. is_paper lines pages ≡ false) }

@@ -70,8 +70,8 @@ fn books_again(alloc: Global) -> Result<Vec<UnitBook<Disk>>, Fail>
     Ok(books)
 }
 
-/// Asserts that the list of a system's units can be had, once more where there is no memory for it, and what their
-/// traces tell of: an opening, an arrival, a start, a run and a post; and on unit 1 an opening and an arrival.
+/// Asserts that a system gives the list of its units, once more if memory runs out for it, and what their traces
+/// have. Unit 0 has an opening, an arrival, a start, a run and a post; unit 1 an opening and an arrival.
 fn expect_units<S: Site>(rt: &impl Abort, system: System<'_, S, Disk>) -> Result<(), Fail> {
     let units = match system.into_units() {
         Ok(units) => units,
@@ -108,8 +108,8 @@ fn run_on<S: Site, R: Wait + Abort + AllocGlobal>(
     Ok(None)
 }
 
-/// Where there is no memory for the rows, the books, the system or the list of its units it is made once more from what
-/// is handed back, and used: run it with each growth refused in turn.
+/// If memory runs out for the rows, the books, the system or the list of its units, it is made once more from what
+/// comes back, and used. Run it with each allocation made to fail in turn.
 #[test]
 fn system_without_memory(rt: HostRuntime) -> Result<(), Fail> {
     let books = books_again(rt.alloc())?;

@@ -1,4 +1,4 @@
-//! A program that a purge halts, and the handler that is told of it.
+//! A program that a purge halts, and the handler that gets the notice of it.
 
 ghost use Rattle.std.specs.Prelude.{◌≡◌};
 ghost use Rattle.excp_system.specs.Opening.{AreBooks, AreFresh, site_of};

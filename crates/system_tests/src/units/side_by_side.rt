@@ -1,5 +1,5 @@
-//! Two units that are served at the same time: one's run is held up inside its lock until a request for it was
-//! accepted and one of the other was collected, and the end of the run gives the rest.
+//! Two units that are served at the same time. The run of one is held up inside its lock until it has accepted a
+//! request and the other has had one collected. The end of the run gives the rest.
 
 ghost use Rattle.std.specs.Prelude.{◌≡◌, IfOk};
 ghost use Rattle.excp_system.specs.Drained.{ArePlaced};
@@ -15,7 +15,7 @@ use std::alloc::Global;
 use std::sync::atomic::{AtomicBool, Ordering};
 use std::thread::{Scope, Threads};
 
-/// Holds up the runs of unit 0 until it is told to let them go, and stops the workers.
+/// Holds up the runs of unit 0 until a call lets them go, and stops the workers.
 #[derive(Drop)]
 struct Barrier {
     reached: AtomicBool,
@@ -53,7 +53,7 @@ impl Gate for Barrier {
     }
 }
 
-/// Whether a flag is set within so many looks.
+/// Whether a flag is set within a number of looks.
 fn is_set(flag: &AtomicBool) -> bool {
     for _ in 0..LOOKS {
         if flag.load(Ordering::SeqCst) {
@@ -78,8 +78,8 @@ fn collected<S: Site, R: Wait>(rt: &R, task: &mut Task<'_, S>) -> Collected
     Some((value.unit(), value.code()))
 }
 
-/// What the task does: with unit 0 held up it issues two requests to it and one to unit 1, and collects of unit 1; then
-/// it lets unit 0 go, and collects the first post of it.
+/// What the task does: with unit 0 held up it issues two requests to it and one to unit 1, and collects of unit 1.
+/// Then it lets unit 0 go, and collects the first post of it.
 fn exchange<S: Site, R: Wait>(
     rt: &R,
     alloc: Global,
@@ -221,8 +221,8 @@ fn expect_report<R: Abort + AllocGlobal>(rt: &R, report: &Report<Disk>) -> Resul
     Ok(())
 }
 
-/// The end of the run gives the post that the task has not collected. It refuses the wrong bodies of workers_serve and
-/// of workers_act_and_add_nothing, and one lock round all units.
+/// The end of the run gives the post that the task has not collected. The test fails for a serve that does nothing,
+/// for an act that adds nothing, and for one lock round all units.
 #[test]
 fn units_run_side_by_side(rt: HostRuntime) -> Result<(), Fail> {
     let mut rows = Rows::new(rt.alloc(), 1, 2, 2, 2)?;

@@ -5,9 +5,8 @@ ghost use Rattle.std.specs.Prelude.{◌≡◌, ◌<◌};
 ghost use Rattle.excp_system.specs.Opening.{AreBooks, AreFresh, site_of};
 
 use super::*;
-use excp_system::UnitPurging;
 use request_piece::Scope;
-use unit_book::{Entry, Mode};
+use unit_book::{Entry, Mode, Purging};
 
 /// Whether an entry tells of a purge of task 0 with this mode.
 fn tells_of(entry: &Entry, mode: Mode) -> bool {
@@ -47,21 +46,14 @@ fn expect_at<S: Site, R: Wait + Abort>(
     task: &mut Task<'_, S>,
     unit: u16,
     mode: Mode,
-    answers: [UnitPurging; 2],
+    answers: [Result<Purging, AllocError>; 2],
 ) -> Result<bool, Fail>
     requires { unit < S.rows.units }
 {
     let [wanted, answer] = answers;
     let mut state = system.lock_of(unit).lock(rt);
     let is_told = is_told(state.book().trace(), mode);
-    assert!(rt;
-        answer
-            == if is_told {
-                wanted
-            } else {
-                UnitPurging::Refused
-            }
-    );
+    assert!(rt; answer == if is_told { wanted } else { Err(AllocError) });
     state.settle()?;
     state.deliver(rt);
     let value = task.take_post(rt).ok_or("no posted value")?;
@@ -86,14 +78,18 @@ fn steps<S: Site, R: Wait + Abort + AllocGlobal>(
     let (system, mut tasks, _) = System::<S, Disk>::new(rt.alloc(), rows, books)?;
     let task = tasks.first_mut().ok_or("no task")?;
     let name = issue_both(rt, &system, task)?;
-    let answers = match system.purge_task(rt, 0, mode) {
+    let listed = system.purge_task(rt, 0, mode);
+    let is_listed = listed.is_ok();
+    let answers = match listed {
         Ok(answers) => [answers.get(0).copied(), answers.get(1).copied()],
         Err(AllocError) => [None, None],
     };
-    let [first, second] = answers.map(|answer| answer.unwrap_or(UnitPurging::Refused));
-    let active = [UnitPurging::Active(name), first];
+    let [first, second] = answers.map(|answer| answer.unwrap_or(Err(AllocError)));
+    let active = [Ok(Purging::Active(name)), first];
     let first = expect_at(rt, &system, task, 0, mode, active)?;
-    let second = expect_at(rt, &system, task, 1, mode, [UnitPurging::Quiet, second])?;
+    let second = expect_at(rt, &system, task, 1, mode, [Ok(Purging::Quiet), second])?;
+    // one allocation fails at most, so a list has the purge of one unit at least
+    assert!(rt; !is_listed || first || second);
     Ok(u16::from(first) + u16::from(second))
 }
 
@@ -113,8 +109,8 @@ fn purge_of_a_task(rt: HostRuntime) -> Result<(), Fail> {
     Ok(())
 }
 
-/// A unit that has no memory for the purge stays as it is, and the others go on; if there is none for the list no
-/// unit is touched: run it with each allocation made to fail in turn. If another call fails it ends with that error.
+/// A unit without memory for the purge stays as it is, and the others go on. Without memory for the list no unit is
+/// touched. If another call fails, it ends with that error. Run it with each allocation made to fail in turn.
 #[test]
 fn purge_of_a_task_without_memory(rt: HostRuntime) -> Result<(), Fail> {
     for mode in [Mode::Halt, Mode::Quiesce] {

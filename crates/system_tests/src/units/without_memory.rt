@@ -1,4 +1,4 @@
-//! Workers that meet want of memory, and a gate that is told of it.
+//! Workers that run out of memory, and a gate that hears of it.
 
 ghost use Rattle.std.specs.Prelude.{◌≡◌, ◌<◌};
 ghost use Rattle.excp_system.specs.Opening.{AreBooks, AreFresh, site_of};
@@ -11,7 +11,7 @@ use io_images::Extent;
 use std::cell::Cell;
 use unit_book::{OpenError, ProcessingMethod};
 
-/// Stops a worker after one turn on a unit, and counts the calls of which it is told that there was no memory.
+/// Stops a worker after one turn on a unit, and counts the calls that had no memory.
 #[derive(Drop)]
 struct OneTurn {
     stop: Stop,
@@ -38,7 +38,7 @@ impl Gate for OneTurn {
         }
     }
 
-    /// It counts only if it is told of the call that was about to be made.
+    /// It counts only the call that was about to be made.
     fn lack_memory(&self, unit: u16, point: Point) {
         if self.passed.get() == Some((unit, point)) {
             self.lacks.set(self.lacks.get().saturating_add(1));
@@ -46,8 +46,8 @@ impl Gate for OneTurn {
     }
 }
 
-/// A turn of a channel worker on unit 0, and one of a handler if a status is pending then. Answers of how many calls
-/// the gate was told that there was no memory.
+/// A turn of a channel worker on unit 0, and one of a handler if a status is pending then. Returns the number of
+/// calls without memory that the gate heard of.
 fn serve_once<'r, S: Site, R: Wait>(
     rt: &R,
     system: &System<'r, S, Disk>,
@@ -67,7 +67,8 @@ fn serve_once<'r, S: Site, R: Wait>(
     lacks.saturating_add(gate.lacks.get())
 }
 
-/// Serves unit 0 until the task collects: how that request ended, the turn, and how many calls were told of by then.
+/// Serves unit 0 until the task collects. Returns how that request ended, the turn, and the number of calls without
+/// memory by then.
 fn served<'r, S: Site, R: Wait>(
     rt: &R,
     system: &System<'r, S, Disk>,
@@ -86,7 +87,7 @@ fn served<'r, S: Site, R: Wait>(
     None
 }
 
-/// Opens so many DCBs more on unit 0.
+/// Opens `count` more DCBs on unit 0.
 fn open_more<S: Site, R: Wait>(
     rt: &R,
     system: &System<'_, S, Disk>,
@@ -118,8 +119,8 @@ enum Meets {
 /// and in which turn where there is memory.
 type Case = (u16, Meets, Code, u32);
 
-/// The trace is full at an interruption, at a run and at a take; at a start once more, since the active request takes
-/// the one place of its book; and at a start that posts.
+/// The trace is full at an interruption, at a run and at a take. It is full at a start once more, since the active
+/// request takes the one place of its book. And it is full at a start that posts.
 const CASES: [Case; 5] = [
     (0, Meets::Nothing, Code::Ended, 0),
     (1, Meets::Nothing, Code::Ended, 0),
@@ -143,7 +144,7 @@ fn issue_one<S: Site, R: Wait + AllocGlobal>(
 }
 
 /// Issues the request of a case to unit 0, and serves it. It is posted in its turn, and a turn later for each call
-/// without memory, of which the gate was told.
+/// without memory, of which the gate hears.
 fn expect_served<'r, S: Site, R: Wait + Abort + AllocGlobal>(
     rt: &R,
     system: &System<'r, S, Disk>,
@@ -184,8 +185,8 @@ fn steps<S: Site, R: Wait + Abort + AllocGlobal>(
     )
 }
 
-/// A worker's gate is told of each call without memory, and with memory again everything is posted: run it with each
-/// allocation refused in turn. Where another call is refused it ends with that error.
+/// A worker's gate hears of each call without memory, and with memory again everything is posted. If another call
+/// fails, it ends with that error. Run it with each allocation made to fail in turn.
 #[test]
 fn gate_is_told_of_want_of_memory(rt: HostRuntime) -> Result<(), Fail> {
     let failing = [fault(1, 0x1000)];

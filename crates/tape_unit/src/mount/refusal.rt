@@ -29,7 +29,7 @@ pub struct Overrun {
     pub needed: u64,
 }
 
-/// How a tape of so many bytes is too short, where size and items are not refused for something else.
+/// How a tape of `bytes` bytes is too short, if size and items are not rejected for something else.
 pub fn overrun_of(items: &[InitialItem], bytes: u64) -> Option<Overrun>
     ensures { IfSome result (λ o. nat_le (bytes_of (opening_items items.now)) bytes ≡ false) }
 {

@@ -39,10 +39,14 @@ fn closing(active: Option<Name>) -> Closing
 }
 
 impl<D: Device> UnitBook<D> {
-    /// Purges the requests of a DCB (DFSMSdfp Advanced Services, PURGE): those that wait are posted 48. With
-    /// `Halt` the active request is covered too: its program is halted, if one runs, and posted 48 by the next
-    /// `interrupt`; where its status is pending it is posted 48 only if it would be tried again; where it awaits its
-    /// restart it is posted 48 at once, behind the others (profile). Answers what is active then.
+    /// Purges the requests of a DCB (DFSMSdfp Advanced Services, PURGE): those that wait are posted 48. Returns what
+    /// is active then.
+    ///
+    /// With `Halt` the active request is covered too (profile):
+    ///
+    /// - A running program is halted, and the next `interrupt` posts it 48.
+    /// - A pending status is posted 48 only if it would be tried again.
+    /// - A request that awaits its restart is posted 48 at once, after the others.
     pub fn purge(&mut self, dcb: u16, mode: Mode) -> Result<Purging, DcbError>
         ensures opened { OnOk result (is_opened dcb self.old.trace ≡ true) }
         ensures ok { IfOk result (λ answer. PurgesBook D.meaning self.old (Scope.Dcb dcb) mode answer self.new) }

@@ -20,7 +20,7 @@ impl<D: Device> UnitBook<D> {
         self.entries.trace()
     }
 
-    /// The device with its medium as it stands.
+    /// The device with its medium as it is now.
     pub fn device(&self) -> &D
         ensures { result.now ≡ device D.meaning self.now.mounted self.now.trace }
     {

@@ -1,6 +1,7 @@
 //! Purges, closes and resets.
 
-ghost use Rattle.std.specs.Prelude.{◌≡◌, ◌≤◌, ◌+◌, ◌∷◌, true, false, Some, length};
+ghost use Rattle.std.specs.Prelude.{◌≡◌, ◌≤◌, ◌<◌, ◌+◌, ◌-◌, ◌∷◌, true, false, Some, length, reverse, vec_len, vec_capacity};
+ghost use Rattle.subchannel.specs.Subchannel.{halted_phase};
 ghost use Rattle.unit_book.specs.Answers.{Adds};
 ghost use Rattle.unit_book.specs.Controls.{active_of, after_halt, covers_awaiting, PurgeHalts, PurgesAwaiting};
 ghost use Rattle.unit_book.specs.Dcbs.{doomed, is_open};
@@ -8,13 +9,25 @@ ghost use Rattle.unit_book.specs.Legal.{CanPurge, Settled, ToHalt, due, doomed_f
 ghost use Rattle.unit_book.specs.Selected.{DoomedBy};
 ghost use Rattle.unit_book.specs.Trace.{waiting};
 
-use crate::entries::posts::{post_all, posted_from};
+use crate::entries::posts::{post_all, posted_from, write_post};
 use crate::entries::{Entries, hand_out, write};
 use crate::entry::{Entry, Mode};
 use device_port::Device;
 use io_images::Code;
 use request_piece::{Name, Scope};
+use subchannel::Subchannel;
 use unit_queue::Selection;
+
+/// Halts the program on a channel, and adds the entry of the halt where there is room.
+fn halt<D: Device>(channel: &mut Subchannel<D>, trace: &mut Vec<Entry>, name: Name)
+    requires { vec_len trace.old < vec_capacity trace.old }
+    ensures state { channel.new ≡ record channel.old { phase = halted_phase channel.old.phase } }
+    ensures items { reverse trace.new.items ≡ Entry.Halted name ∷ reverse trace.old.items }
+    ensures spare { vec_capacity trace.old - vec_len trace.old ≤ vec_capacity trace.new - vec_len trace.new + 1 }
+{
+    channel.hsch();
+    write(trace, Entry::Halted(name));
+}
 
 impl<D: Device> Entries<D> {
     /// The active request, if it is of a scope.
@@ -69,8 +82,7 @@ impl<D: Device> Entries<D> {
             self.active = Some(active);
             return;
         };
-        self.channel.hsch();
-        write(&mut self.trace, Entry::Halted(name));
+        halt(&mut self.channel, &mut self.trace, name);
         self.active = Some(active.once_halted());
     }
 
@@ -96,12 +108,11 @@ impl<D: Device> Entries<D> {
         self.waiting
             .sweep(&Selection::Scope(scope), &mut self.swept);
         post_all(&mut self.swept, &mut self.trace, &mut self.out);
-        let (csw, sense) = active.kept_status();
+        let kept = active.kept_status();
         let name = active.name();
         let code = Code::Purged;
-        let shown = csw;
-        write(&mut self.trace, Entry::Post(name, shown, sense, code));
-        hand_out(&mut self.out, posted_from(active.piece, csw, sense, code));
+        write_post(&mut self.trace, name, &kept, code);
+        hand_out(&mut self.out, posted_from(active.piece, &kept, code));
         true
     }
 

@@ -21,17 +21,27 @@ use crate::entries::{Entries, hand_back, hand_out, write};
 use crate::entry::Entry;
 use circular_buffer::HeapCircularBuffer;
 use device_port::Device;
-use io_images::{Code, Csw};
+use io_images::Code;
 use request_piece::{Issued, Name, Piece, Posted};
 use std::alloc::AllocError;
+use subchannel::Status;
 use unit_queue::{Selection, WaitQueue};
 
 /// The value that a post hands out.
-pub(super) fn posted_from(piece: Box<Piece>, csw: Csw, sense: u16, code: Code) -> Posted
+pub(super) fn posted_from(piece: Box<Piece>, status: &Status, code: Code) -> Posted
     requires { Placed piece.value }
-    ensures { result ≡ posted_value piece.value csw sense code piece.value.area }
+    ensures { result ≡ posted_value piece.value status.now.csw status.now.sense code piece.value.area }
 {
-    Posted::new(piece, code, csw, sense)
+    Posted::new(piece, code, status.csw, status.sense)
+}
+
+/// Adds the entry of a post where there is room.
+pub(super) fn write_post(trace: &mut Vec<Entry>, name: Name, status: &Status, code: Code)
+    requires { vec_len trace.old < vec_capacity trace.old }
+    ensures items { reverse trace.new.items ≡ Entry.Post name status.now.csw status.now.sense code ∷ reverse trace.old.items }
+    ensures spare { vec_capacity trace.old - vec_len trace.old ≤ vec_capacity trace.new - vec_len trace.new + 1 }
+{
+    write(trace, Entry::Post(name, status.csw, status.sense, code));
 }
 
 /// Posts a request as purged that was never started.
@@ -43,9 +53,9 @@ fn post_purged(piece: Box<Piece>, trace: &mut Vec<Entry>, out: &mut HeapCircular
     ensures spare { vec_capacity trace.old - vec_len trace.old ≤ vec_capacity trace.new - vec_len trace.new + 1 }
     ensures out { out.new ≡ buffer (out.old.items ++ purged piece.value ∷ []) out.old.capacity }
 {
-    let entry = Entry::Post(piece.name, Csw::empty(), 0, Code::Purged);
-    write(trace, entry);
-    hand_out(out, posted_from(piece, Csw::empty(), 0, Code::Purged));
+    let status = Status::empty();
+    write_post(trace, piece.name, &status, Code::Purged);
+    hand_out(out, posted_from(piece, &status, Code::Purged));
 }
 
 /// Posts all requests of a queue as purged, in order.
@@ -92,16 +102,16 @@ impl<D: Device> Entries<D> {
         ensures full { OnErr result (InterruptLacks D.meaning self.old) }
         ensures pending { OnErr result (is_pending D.meaning self.old ≡ true) }
     {
-        let Some((csw, sense)) = self.channel.status() else {
+        let Some(status) = self.channel.status() else {
             return Ok(Taken::Quiet);
         };
         let Some(active) = self.active.take() else {
             return Ok(Taken::Quiet);
         };
         let name = active.name();
-        let Some(code) = active.code(self.mounted.kind(), &csw, sense) else {
+        let Some(code) = active.code(self.mounted.kind(), &status) else {
             self.channel.tsch();
-            self.active = Some(active.awaiting(csw, sense));
+            self.active = Some(active.awaiting(status));
             return Ok(Taken::Again(name));
         };
         let _capacity = self.out.capacity();
@@ -113,12 +123,12 @@ impl<D: Device> Entries<D> {
             }
         }
         self.channel.tsch();
-        let shown = csw;
-        write(&mut self.trace, Entry::Post(name, shown, sense, code));
+        write_post(&mut self.trace, name, &status, code);
         let piece = active.piece;
-        let doom = doomed_by_post(&piece, code);
-        self.dcbs.note_post(&piece, code);
-        hand_out(&mut self.out, posted_from(piece, csw, sense, code));
+        let request: &Piece = &piece;
+        let doom = doomed_by_post(request, code);
+        self.dcbs.note_post(request, code);
+        hand_out(&mut self.out, posted_from(piece, &status, code));
         Ok(Taken::Posted { name, code, doom })
     }
 
@@ -136,11 +146,13 @@ impl<D: Device> Entries<D> {
             unreachable!();
         };
         let code = Code::ExtentViolated;
-        let name = piece.name;
-        write(&mut self.trace, Entry::Post(name, Csw::empty(), 0, code));
-        let doom = doomed_by_post(&piece, code);
-        self.dcbs.note_post(&piece, code);
-        hand_out(&mut self.out, posted_from(piece, Csw::empty(), 0, code));
+        let status = Status::empty();
+        let request: &Piece = &piece;
+        let name = request.name;
+        write_post(&mut self.trace, name, &status, code);
+        let doom = doomed_by_post(request, code);
+        self.dcbs.note_post(request, code);
+        hand_out(&mut self.out, posted_from(piece, &status, code));
         Ok(Begun::Violated { name, doom })
     }
 

@@ -63,8 +63,9 @@ impl<D: Device> Entries<D> {
             }
         }
         let name = active.name();
-        let mask = self.dcbs.mask(active.piece.dcb);
-        launch(&mut self.channel, &active.piece, mask);
+        let request: &Piece = &active.piece;
+        let mask = self.dcbs.mask(request.dcb);
+        launch(&mut self.channel, request, mask);
         write(&mut self.trace, Entry::Start(name));
         self.active = Some(active.restarted());
         Ok(Begun::Started(name))

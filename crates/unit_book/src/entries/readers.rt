@@ -25,7 +25,7 @@ impl<D: Device> Entries<D> {
         self.trace.as_slice()
     }
 
-    /// The device as it stands.
+    /// The device as it is now.
     pub fn device(&self) -> &D
         ensures { result.now ≡ device D.meaning self.now.mounted self.now.trace }
     {
@@ -61,7 +61,7 @@ impl<D: Device> Entries<D> {
         match &self.active {
             Some(active) => match active.standing {
                 Standing::OnChannel => !self.channel.pending(),
-                Standing::AwaitsRestart(_, _) => false,
+                Standing::AwaitsRestart(_) => false,
             },
             None => false,
         }

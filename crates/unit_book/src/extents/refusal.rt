@@ -25,11 +25,11 @@ pub enum ExtentRefusal {
     Outside,
     /// Its end lies before its start.
     Reversed,
-    /// It has, from its start to its end, so many tracks, and says another number.
+    /// It has this many tracks from its start to its end, and says another number.
     Tracks(u64),
 }
 
-/// What is wrong with the extents of a DCB, where a device with so many cylinders and heads does not take them.
+/// Returns what is wrong with the extents of a DCB, if a device with these cylinders and heads does not take them.
 pub fn extents_refusal(
     kind: Kind,
     cylinders: u16,

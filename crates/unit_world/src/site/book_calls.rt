@@ -6,8 +6,9 @@ ghost use Rattle.unit_book.specs.Controls.{ClosesBook, DcbRefused, PurgesBook, R
 ghost use Rattle.unit_book.specs.Dcbs.{is_open, is_opened};
 ghost use Rattle.unit_book.specs.Refusals.{CloseLacks, InterruptLacks, PurgeLacks, ResetLacks, RunLacks, SettleLacks, StartLacks};
 ghost use Rattle.unit_book.specs.Settle.{IsIdle};
+ghost use Rattle.unit_world.specs.Parts.{GrowsSpare};
 ghost use Rattle.unit_world.specs.Purges.{PurgesSite};
-ghost use Rattle.unit_world.specs.Sites.{GrowsSpare, OnBook, OnPart, SettlesBook, StepsOfUnit, StepsUnit};
+ghost use Rattle.unit_world.specs.Sites.{OnBook, OnPart, SettlesBook};
 
 use crate::purges::purge_everywhere;
 use crate::site::PlainSite;
@@ -31,7 +32,6 @@ impl<D: Device> PlainSite<D> {
     ) -> Result<u16, OpenError>
         requires unit { unit < length self.old.units }
         ensures ok { IfOk result (λ dcb. OnBook self.old unit (λ b c. OpensBook D.meaning b dcb method extents.now c) self.new) }
-        ensures step { OnOk result (StepsUnit D.meaning self.old unit self.new) }
         ensures refused { IfErr result (λ e. OnPart self.old unit (λ p. OpenRefused D.meaning p.book extents.now e)) }
         ensures err { OnErr result (OnBook self.old unit (λ b c. GrowsSpare b c) self.new) }
     {
@@ -43,7 +43,6 @@ impl<D: Device> PlainSite<D> {
     pub fn start(&mut self, unit: u16) -> Result<Starting, AllocError>
         requires unit { unit < length self.old.units }
         ensures ok { IfOk result (λ answer. OnBook self.old unit (λ b c. StartsBook D.meaning b answer c) self.new) }
-        ensures step { OnOk result (StepsUnit D.meaning self.old unit self.new) }
         ensures full { OnErr result (OnPart self.old unit (λ p. StartLacks D.meaning p.book)) }
         ensures err { OnErr result (self.new ≡ self.old) }
     {
@@ -56,7 +55,6 @@ impl<D: Device> PlainSite<D> {
         requires unit { unit < length self.old.units }
         requires some { 1 ≤ max }
         ensures ok { IfOk result (λ answer. OnBook self.old unit (λ b c. RunsBook D.meaning b max answer c) self.new) }
-        ensures step { OnOk result (StepsUnit D.meaning self.old unit self.new) }
         ensures full { OnErr result (OnPart self.old unit (λ p. RunLacks D.meaning p.book)) }
         ensures err { OnErr result (self.new ≡ self.old) }
     {
@@ -68,7 +66,6 @@ impl<D: Device> PlainSite<D> {
     pub fn interrupt(&mut self, unit: u16) -> Result<Interruption, AllocError>
         requires unit { unit < length self.old.units }
         ensures ok { IfOk result (λ answer. OnBook self.old unit (λ b c. InterruptsBook D.meaning b answer c) self.new) }
-        ensures step { OnOk result (StepsUnit D.meaning self.old unit self.new) }
         ensures full { OnErr result (OnPart self.old unit (λ p. InterruptLacks D.meaning p.book)) }
         ensures err { OnErr result (self.new ≡ self.old) }
     {
@@ -81,7 +78,6 @@ impl<D: Device> PlainSite<D> {
         requires unit { unit < length self.old.units }
         ensures opened { OnOk result (OnPart self.old unit (λ p. is_opened dcb p.book.trace ≡ true)) }
         ensures ok { IfOk result (λ answer. OnBook self.old unit (λ b c. PurgesBook D.meaning b (Scope.Dcb dcb) mode answer c) self.new) }
-        ensures step { OnOk result (StepsUnit D.meaning self.old unit self.new) }
         ensures refused { IfErr result (λ e. OnPart self.old unit (λ p. DcbRefused p.book dcb e)) }
         ensures full { IfErr result (λ e. OnPart self.old unit (λ p. e ≡ DcbError.NoMemory → PurgeLacks p.book)) }
         ensures err { OnErr result (self.new ≡ self.old) }
@@ -94,7 +90,6 @@ impl<D: Device> PlainSite<D> {
     pub fn purge_task_at(&mut self, unit: u16, task: u16, mode: Mode) -> Result<Purging, AllocError>
         requires unit { unit < length self.old.units }
         ensures ok { IfOk result (λ answer. OnBook self.old unit (λ b c. PurgesBook D.meaning b (Scope.Task task) mode answer c) self.new) }
-        ensures step { OnOk result (StepsUnit D.meaning self.old unit self.new) }
         ensures full { OnErr result (OnPart self.old unit (λ p. PurgeLacks p.book)) }
         ensures err { OnErr result (self.new ≡ self.old) }
     {
@@ -121,7 +116,6 @@ impl<D: Device> PlainSite<D> {
     pub fn close(&mut self, unit: u16, dcb: u16) -> Result<Closing, DcbError>
         requires unit { unit < length self.old.units }
         ensures ok { IfOk result (λ answer. OnBook self.old unit (λ b c. ClosesBook D.meaning b dcb answer c) self.new) }
-        ensures step { OnOk result (StepsUnit D.meaning self.old unit self.new) }
         ensures refused { IfErr result (λ e. OnPart self.old unit (λ p. DcbRefused p.book dcb e)) }
         ensures full { IfErr result (λ e. OnPart self.old unit (λ p. e ≡ DcbError.NoMemory → CloseLacks p.book dcb)) }
         ensures err { OnErr result (self.new ≡ self.old) }
@@ -135,7 +129,6 @@ impl<D: Device> PlainSite<D> {
         requires unit { unit < length self.old.units }
         ensures ok { OnOk result (OnBook self.old unit (λ b c. Adds b (Entry.Reset dcb) c) self.new) }
         ensures opened { OnOk result (OnPart self.old unit (λ p. is_open dcb p.book.trace ≡ true)) }
-        ensures step { OnOk result (StepsUnit D.meaning self.old unit self.new) }
         ensures refused { IfErr result (λ e. OnPart self.old unit (λ p. ResetRefused p.book dcb e)) }
         ensures full { IfErr result (λ e. OnPart self.old unit (λ p. e ≡ DcbError.NoMemory → ResetLacks p.book)) }
         ensures err { OnErr result (self.new ≡ self.old) }
@@ -149,7 +142,6 @@ impl<D: Device> PlainSite<D> {
     pub fn settle(&mut self, unit: u16) -> Result<(), AllocError>
         requires unit { unit < length self.old.units }
         ensures settles { OnBook self.old unit (λ b c. SettlesBook D.meaning b c) self.new }
-        ensures steps { StepsOfUnit D.meaning self.old unit self.new }
         ensures idle { OnOk result (OnPart self.new unit (λ p. IsIdle p.book.trace)) }
         ensures full { OnErr result (OnPart self.new unit (λ p. SettleLacks D.meaning p.book)) }
     {

@@ -3,11 +3,11 @@
 ghost use Rattle.std.specs.Prelude.{◌≡◌, ◌<◌, ◌↔◌, length, option_map, slice_get, IsTrue};
 ghost use Rattle.std.specs.Option.{option_copied};
 ghost use Rattle.unit_book.specs.Trace.{active};
-ghost use Rattle.unit_world.specs.Parts.{IsFinishedPart, active_phase_shown, next_name_of};
+ghost use Rattle.unit_world.specs.Parts.{IsFinishedPart, active_state, next_name_of};
 ghost use Rattle.unit_world.specs.PostLists.{list_of};
 ghost use Rattle.unit_world.specs.Sites.{OnPart};
 
-use crate::answer::ActivePhase;
+use crate::active::{ActiveState, active_request};
 use crate::site::PlainSite;
 use device_port::Device;
 use request_piece::{Name, Posted};
@@ -95,13 +95,13 @@ impl<D: Device> PlainSite<D> {
         self.rows.get(task, at)
     }
 
-    /// The active request of a unit, and what it waits for.
-    pub fn active(&self, unit: u16) -> Option<(Name, ActivePhase)>
+    /// The active request of a unit, and what it waits for, as [`active_request`] of its book.
+    pub fn active(&self, unit: u16) -> Option<(Name, ActiveState)>
         requires unit { unit < length self.now.units }
-        ensures { OnPart self.now unit (λ p. result ≡ option_map (λ name. (name, active_phase_shown D.meaning p.book)) (active p.book.trace)) }
+        ensures { OnPart self.now unit (λ p. result ≡ option_map (λ name. (name, active_state D.meaning p.book)) (active p.book.trace)) }
     {
         let side = &self.units[usize::from(unit)];
-        side.active()
+        active_request(&side.book)
     }
 
     /// Whether nothing is left to do at a unit: nothing is in flight to it or waits, and nothing is active.

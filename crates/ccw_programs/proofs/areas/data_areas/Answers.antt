@@ -9,4 +9,5 @@ pub returns-clause-can : goal.returns-clause-can
 returns-clause-can c =
     let none : drop c.loop-link.link-index c.args.links.now ≡ _ = drop_of_length-le c.args.links.now (omega arith) in
     areas-can c.args.flow c.args.area.now c.args.links.now _ c.requires.some c.requires.sound
-    (c.loop-link.invariant.told ∙ ap (λ ls. preceded c.loop-link.chain (areas c.args.flow c.args.area.now ls)) none ∙ ap Parts (append-nil _))
+    (c.loop-link.invariant.told ∙ ap (λ ls. preceded c.loop-link.chain.items (areas c.args.flow c.args.area.now ls)) none
+    ∙ ap Parts (append-nil _))

@@ -6,18 +6,20 @@ use Rattle.ccw_programs.proofs.areas.push_words.Goals as goal
 
 pub returns-in-Err-clause-parts : goal.returns-in-Err-clause-parts
 returns-in-Err-clause-parts c =
-    no_part c.args.area.now c.args.skip (nat_eq c.loop-place.place 0) c.loop-place.chain _ c.loop-place.at c.args.words c.loop-place.place c.loop-place.count (omega arith) c.loop-place.invariant.told c.in-Err.ensures.answer
+    no_part c.args.area.now c.args.skip (nat_eq c.loop-place.place 0) c.loop-place.chain.items _ c.loop-place.at c.args.words c.loop-place.place
+    c.loop-place.count (omega arith) c.loop-place.invariant.told c.in-Err.ensures.answer
     ∙ ap Err (sym c.in-Err.ensures.rule)
 
 pub loop-place-preserved : goal.loop-place-preserved
 loop-place-preserved c = record {
-  room = omega (arith, ap length c.push.ensures, length-append c.loop-place.chain (c.in-Ok.part ∷ []));
-  told = part_more c.args.area.now c.args.skip (nat_eq c.loop-place.place 0) c.loop-place.chain _ c.loop-place.at c.args.words c.loop-place.place c.loop-place.count (omega arith) c.loop-place.invariant.told
-      c.in-Ok.part c.in-Ok.ensures.answer.0 c.in-Ok.ensures.answer.1 c.in-Ok.ensures.bound.2 ∙ rw c.push.ensures refl;
+  room = omega (arith, ap length c.push.ensures.items, length-append c.loop-place.chain.items (c.in-Ok.part ∷ []));
+  told = part_more c.args.area.now c.args.skip (nat_eq c.loop-place.place 0) c.loop-place.chain.items _ c.loop-place.at c.args.words
+      c.loop-place.place c.loop-place.count (omega arith) c.loop-place.invariant.told
+      c.in-Ok.part c.in-Ok.ensures.answer.0 c.in-Ok.ensures.answer.1 c.in-Ok.ensures.bound.2 ∙ rw c.push.ensures.items refl;
 }
 
 pub returns-clause-parts : goal.returns-clause-parts
 returns-clause-parts c =
     c.loop-place.invariant.told
-    ∙ ap (parts_after c.loop-place.chain) (parts_from-none _ _ _ _ (c.args.words - c.loop-place.place) _ (omega arith))
+    ∙ ap (parts_after c.loop-place.chain.items) (parts_from-none _ _ _ _ (c.args.words - c.loop-place.place) _ (omega arith))
     ∙ ap Ok (append-nil _)

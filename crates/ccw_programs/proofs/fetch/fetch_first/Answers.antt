@@ -3,8 +3,11 @@ use Rattle.ccw_programs.proofs.Chains.{refused, transferred, last, one_more, cha
 use Rattle.ccw_programs.proofs.fetch.fetch_first.Goals as goal
 
 pub returns-in-Refused-clause-chain : goal.returns-in-Refused-clause-chain
-returns-in-Refused-clause-chain c =
-    (_, refused _ _ [] c.loop-done.done c.loop-done.may_transfer _ 0 (omega arith) refl c.loop-done.invariant.told c.in-Refused.ensures.value)
+returns-in-Refused-clause-chain c = (
+  _,
+  refused _ _ [] c.loop-done.done c.loop-done.may_transfer _ 0 (omega arith) refl c.loop-done.invariant.told
+      c.in-Refused.ensures.value,
+)
 
 pub returns-in-More-clause-chain : goal.returns-in-More-clause-chain
 returns-in-More-clause-chain c =
@@ -16,7 +19,8 @@ returns-in-Last-clause-chain c =
 
 pub loop-done-preserved : goal.loop-done-preserved
 loop-done-preserved c = record {
-  told = transferred _ _ [] c.loop-done.done c.loop-done.may_transfer _ 0 (omega arith) refl c.loop-done.invariant.told _ c.in-Transfer.ensures.value;
+  told = transferred _ _ [] c.loop-done.done c.loop-done.may_transfer _ 0 (omega arith) refl c.loop-done.invariant.told _
+      c.in-Transfer.ensures.value;
 }
 
 pub returns-clause-chain : goal.returns-clause-chain

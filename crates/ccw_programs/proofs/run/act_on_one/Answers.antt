@@ -9,11 +9,21 @@ use Rattle.ccw_programs.proofs.run.act_on_one.Goals as goal
 
 pub act-acted-requires : goal.act-acted-requires
 act-acted-requires g c =
-    rw c.of.ensures (areas-can _ c.args.area.now (c.args.link.now ∷ []) _ (omega arith) (All-cons Sound c.args.link.now [] c.requires.sound (All-nil Sound)) (rw (← c.requires.flow) c.requires.parts))
+    rw c.of.ensures (areas-can _ c.args.area.now (c.args.link.now ∷ []) _ (omega arith)
+    (All-cons Sound c.args.link.now [] c.requires.sound (All-nil Sound)) (rw (← c.requires.flow) c.requires.parts))
 
 pub returns-clause-step : goal.returns-clause-step
 returns-clause-step g c =
-    let lies : areas (g.D.Device.meaning.flow c.args.device.now c.args.link.now.ccw.command) c.args.area.now (c.args.link.now ∷ []) ≡ Parts c.args.parts.now =
+    let lies : areas (g.D.Device.meaning.flow c.args.device.now c.args.link.now.ccw.command) c.args.area.now
+    (c.args.link.now ∷ []) ≡ Parts c.args.parts.now =
     rw (← c.requires.flow) c.requires.parts in
-    rw (c.advance_one.ensures, c.act-acted.ensures.acted, c.act-acted.ensures.device, c.act-acted.ensures.area, c.of.ensures, c.requires.flow)
-    (sym (step-acted g.D.Device.meaning (program c.args.context.now c.args.device.now c.args.area.now) c.requires.running (c.args.link.now ∷ []) c.args.fetches c.args.link.now.ccw.command c.requires.fetched refl _ lies))
+    rw (
+      c.advance_one.ensures,
+      c.act-acted.ensures.acted,
+      c.act-acted.ensures.device,
+      c.act-acted.ensures.area,
+      c.of.ensures,
+      c.requires.flow,
+    )
+    (sym (step-acted g.D.Device.meaning (program c.args.context.now c.args.device.now c.args.area.now) c.requires.running
+    (c.args.link.now ∷ []) c.args.fetches c.args.link.now.ccw.command c.requires.fetched refl _ lies))

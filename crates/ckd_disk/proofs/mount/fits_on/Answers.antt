@@ -26,4 +26,5 @@ loop-initial-preserved c =
     record { counted = omega (arith, more, c.bytes_on-total.ensures.bytes, c.loop-initial.invariant.counted); room = omega arith }
 
 pub returns : goal.returns
-returns c = sym (room_of_all c.args.geometry c.args.records.now c.loop-initial.initial-index c.args.track (omega arith) (omega (arith, c.loop-initial.invariant.counted, c.loop-initial.invariant.room)))
+returns c = sym (room_of_all c.args.geometry c.args.records.now c.loop-initial.initial-index c.args.track (omega arith)
+    (omega (arith, c.loop-initial.invariant.counted, c.loop-initial.invariant.room)))

@@ -12,12 +12,14 @@ returns-then-done-clause-met c = elim c.then-done.either [
 
 pub returns-then-fault-done-clause-met : goal.returns-then-fault-done-clause-met
 returns-then-fault-done-clause-met c =
-    let f : Fault = get_or c.args.faults.now c.args.next (record { ordinal = 0; unit = record { 0 = 0 }; sub = record { 0 = 0 }; sense = 0 }) in
+    let f : Fault = get_or c.args.faults.now c.args.next
+    (record { ordinal = 0; unit = record { 0 = 0 }; sub = record { 0 = 0 }; sense = 0 }) in
     let yes : (f.ordinal == c.args.done + 1) ≡ true = grind (arith, nat_tests, c.if-fault-done.true) in
     sym (met-there c.args.faults.now c.args.next c.args.done f c.requires (omega arith) c.if-next-faults.false (search rules) ∙ rw yes refl)
 
 pub returns-else-fault-done-clause-met : goal.returns-else-fault-done-clause-met
 returns-else-fault-done-clause-met c =
-    let f : Fault = get_or c.args.faults.now c.args.next (record { ordinal = 0; unit = record { 0 = 0 }; sub = record { 0 = 0 }; sense = 0 }) in
+    let f : Fault = get_or c.args.faults.now c.args.next
+    (record { ordinal = 0; unit = record { 0 = 0 }; sub = record { 0 = 0 }; sense = 0 }) in
     let no : (f.ordinal == c.args.done + 1) ≡ false = grind (arith, nat_tests, c.if-fault-done.false) in
     sym (met-there c.args.faults.now c.args.next c.args.done f c.requires (omega arith) c.if-next-faults.false (search rules) ∙ rw no refl)

@@ -12,6 +12,12 @@ loop-segment-preserved c =
     let i = c.loop-segment.segment-index in
     let s = get_or segments i d in
     let n = min s.count (length c.loop-segment.into - c.loop-segment.at) in
-    let on = gathers-on m segments i d c.loop-segment.into c.gather_part-at.new.into (padded (length c.loop-segment.into) (gathered m segments)) c.loop-segment.at n
-    c.loop-segment-test.true c.loop-segment.invariant.within (search rules) refl c.gather_part-at.ensures.wrote c.loop-segment.invariant.rest in
-    record { within = omega (arith, c.gather_part-at.auto.into); rest = rw c.gather_part-at.ensures.place (on ∙ ap (λ (k : ℕ). padded k (gathered m segments)) (sym c.gather_part-at.auto.into)) }
+    let on = gathers-on m segments i d c.loop-segment.into c.gather_part-at.new.into
+    (padded (length c.loop-segment.into) (gathered m segments)) c.loop-segment.at n
+    c.loop-segment-test.true c.loop-segment.invariant.within (search rules) refl c.gather_part-at.ensures.wrote
+    c.loop-segment.invariant.rest in
+    record {
+      within = omega (arith, c.gather_part-at.auto.into);
+      rest =
+          rw c.gather_part-at.ensures.place (on ∙ ap (λ (k : ℕ). padded k (gathered m segments)) (sym c.gather_part-at.auto.into));
+    }

@@ -9,6 +9,7 @@ use Rattle.excp_speed.proofs.cycles.admit.Goals.{in-Ok, in-Err}
 
 pub returns-clause-ok : goal.returns-clause-ok
 returns-clause-ok c = elim c.match-arrive.branch [
-  | in-Ok w ↦ rw w.result-is (ap (λ (b : Book DiskState). arrivals b.trace) w.in-Ok.ensures.ok ∙ arrivals-after_dooms (Arrive c.args.request ∷ c.args.book.now.trace))
+  | in-Ok w ↦ rw w.result-is (ap (λ (b : Book DiskState). arrivals b.trace) w.in-Ok.ensures.ok
+      ∙ arrivals-after_dooms (Arrive c.args.request ∷ c.args.book.now.trace))
   | in-Err w ↦ rw w.result-is tt
 ]

@@ -10,7 +10,8 @@ use Rattle.excp_system.specs.Sites.{task_of, for_task}
 use Rattle.excp_system.proofs.laws.rows_flow.Goals as goal
 
 -- what was posted of a task is what the unit has sent it, and then what is out
-posted-of : {D : Type 0} (meaning : Meaning D) (b : Book D) (task : _) (sent on_rows : List PostedState) → HasSent meaning b task sent → on_rows ≡ sent →
+posted-of : {D : Type 0} (meaning : Meaning D) (b : Book D) (task : _) (sent on_rows : List PostedState) → HasSent meaning b task sent →
+    on_rows ≡ sent →
     of for_task task (posted meaning b.mounted b.trace) ≡ on_rows ++ of for_task task b.out
 posted-of meaning b task sent on_rows has all =
     ap (of for_task task) (sym has.given_is) ∙ of-append for_task task (given meaning b) b.out

@@ -25,7 +25,8 @@ deal-requires-clause-ends g c =
     let row = c.in-Some.row.now in
     let is = c.requires.rows k row (drop_get k c.args.rows.now.items c.next.new.self.s.now row (sym i.rest ∙ c.in-Some.ensures.steps)) in
     let at : k ≡ c.len-place.result = omega (arith, c.len-place.ensures, c.loop-row.takers.ok.0) in
-    λ t s e. seat_ends r c.args.senders k row is c.in_ok-ends.ends.items c.in_ok-ends.taker c.in_ok-ends.ensures t s e ∙ ap (λ j. end_of r t j []) at
+    λ t s e. seat_ends r c.args.senders k row is c.in_ok-ends.ends.items c.in_ok-ends.taker c.in_ok-ends.ensures t s e
+    ∙ ap (λ j. end_of r t j []) at
 
 pub loop-row-preserved : goal.loop-row-preserved
 loop-row-preserved g c =
@@ -41,7 +42,8 @@ loop-row-preserved g c =
     let taker = c.in_ok-ends.taker in
     let seats = c.in_ok-ends.ensures in
     let count = seat_count r c.args.senders k row is ends taker seats in
-    let at : c.len-place.result + 1 ≡ length (old ++ taker ∷ []) = omega (arith, c.len-place.ensures, c.loop-row.takers.ok.0, length-append old (taker ∷ [])) in
+    let at : c.len-place.result + 1 ≡ length (old ++ taker ∷ []) =
+    omega (arith, c.len-place.ensures, c.loop-row.takers.ok.0, length-append old (taker ∷ [])) in
     let more : c.push.new.self.items ≡ old ++ taker ∷ [] = c.in_ok-push.ensures.items in
     let one : length (old ++ taker ∷ []) ≡ k + 1 = length-append old (taker ∷ []) in
     subst (λ (l : List (Taking _)). record {

@@ -33,7 +33,8 @@ new-unit-requires g c =
     let book_at = drop_get u c.args.books.items (into_iter_items (zip_first rest)) b (sym i.books ∙ steps.0.0) in
     let intake_at = drop_get u c.args.ends.intake.items (into_iter_items (zip_first rows)) intake (sym i.intakes ∙ steps.1.0.0.0) in
     let back_at = drop_get u c.args.ends.back.items (into_iter_items (zip_second rows)) back (sym i.backs ∙ steps.1.0.1.0) in
-    let notice_at = drop_get u c.args.ends.notice.items (into_iter_items (zip_second (zip_second rest))) fan (sym i.notices ∙ steps.1.1.0) in
+    let notice_at = drop_get u c.args.ends.notice.items (into_iter_items (zip_second (zip_second rest))) fan
+    (sym i.notices ∙ steps.1.1.0) in
     is_unit g.D.Device.meaning s u c.number.result b intake back fan c.into_end-notice.result c.number.ensures
     (c.requires.books.opened u b book_at)
     (c.args.ends.intake_are.each u intake intake_at)
@@ -70,7 +71,8 @@ loop-book-preserved g c =
           ∙ ap (λ n. drop n ends.intake.items) (sym one);
       backs = drop_next u ends.back.items (into_iter_items (zip_second rows)) c.in-Some.back (sym i.backs ∙ steps.1.0.1.0)
           ∙ ap (λ n. drop n ends.back.items) (sym one);
-      notices = drop_next u ends.notice.items (into_iter_items (zip_second (zip_second rest))) c.in-Some.notice (sym i.notices ∙ steps.1.1.0)
+      notices = drop_next u ends.notice.items (into_iter_items (zip_second (zip_second rest))) c.in-Some.notice
+          (sym i.notices ∙ steps.1.1.0)
           ∙ ap (λ n. drop n ends.notice.items) (sym one);
     }
 
@@ -82,12 +84,48 @@ returns g c =
     let u = length c.loop-book.yielded in
     let ends = c.args.ends in
     elim c.in-None.ensures.steps [
-      | inl e ↦ omega (arith, i.here, i.few, ap length i.books, length-drop u c.args.books.items, c.requires.books.count_is, e.1.0, it.a.rest.ok)
+      | inl e ↦ omega (
+        arith,
+        i.here,
+        i.few,
+        ap length i.books,
+        length-drop u c.args.books.items,
+        c.requires.books.count_is,
+        e.1.0,
+        it.a.rest.ok,
+      )
       | inr e ↦ elim e.1 [
         | inl f ↦ elim f.1 [
-          | inl h ↦ omega (arith, i.here, i.few, ap length i.intakes, length-drop u ends.intake.items, ends.intake_are.count_is, h.1.0, it.b.a.a.rest.ok)
-          | inr h ↦ omega (arith, i.here, i.few, ap length i.backs, length-drop u ends.back.items, ends.back_are.count_is, h.1.0, it.b.a.b.rest.ok)
+          | inl h ↦ omega (
+            arith,
+            i.here,
+            i.few,
+            ap length i.intakes,
+            length-drop u ends.intake.items,
+            ends.intake_are.count_is,
+            h.1.0,
+            it.b.a.a.rest.ok,
+          )
+          | inr h ↦ omega (
+            arith,
+            i.here,
+            i.few,
+            ap length i.backs,
+            length-drop u ends.back.items,
+            ends.back_are.count_is,
+            h.1.0,
+            it.b.a.b.rest.ok,
+          )
         ]
-        | inr f ↦ omega (arith, i.here, i.few, ap length i.notices, length-drop u ends.notice.items, ends.notice_are.count_is, f.1.0, it.b.b.rest.ok)
+        | inr f ↦ omega (
+          arith,
+          i.here,
+          i.few,
+          ap length i.notices,
+          length-drop u ends.notice.items,
+          ends.notice_are.count_is,
+          f.1.0,
+          it.b.b.rest.ok,
+        )
       ]
     ]

@@ -15,8 +15,10 @@ new-requires g c =
     let end = c.in-Some.taker in
     let t = length c.loop-fan.yielded in
     let there = drop_get t c.args.out.items (into_iter_items (zip_first c.next.new.self)) fan (sym i.fans ∙ c.in-Some.ensures.steps.0.0) in
-    let there' = drop_get t c.args.collected.items (into_iter_items (zip_second c.next.new.self)) end (sym i.takers ∙ c.in-Some.ensures.steps.1.0) in
-    is_task g.S.Site.rows t c.number.result fan end c.number.ensures (c.requires.out.each t fan there) (c.requires.collected.each t end there')
+    let there' = drop_get t c.args.collected.items (into_iter_items (zip_second c.next.new.self)) end
+    (sym i.takers ∙ c.in-Some.ensures.steps.1.0) in
+    is_task g.S.Site.rows t c.number.result fan end c.number.ensures (c.requires.out.each t fan there)
+    (c.requires.collected.each t end there')
 
 pub loop-fan-preserved : goal.loop-fan-preserved
 loop-fan-preserved g c =
@@ -35,9 +37,12 @@ loop-fan-preserved g c =
     let none : end.taken ≡ [] = ap (λ (e : Taking _). e.taken) (c.requires.collected.each t end there') in
     record {
       here = ap length c.in_ok-push.ensures.items ∙ omega (arith, i.here, one, length-append old (c.new.result ∷ []));
-      fans = drop_next t c.args.out.items (into_iter_items (zip_first c.next.new.self)) fan came ∙ ap (λ n. drop n c.args.out.items) (sym one);
-      takers = drop_next t c.args.collected.items (into_iter_items (zip_second c.next.new.self)) end came' ∙ ap (λ n. drop n c.args.collected.items) (sym one);
+      fans = drop_next t c.args.out.items (into_iter_items (zip_first c.next.new.self)) fan came
+          ∙ ap (λ n. drop n c.args.out.items) (sym one);
+      takers = drop_next t c.args.collected.items (into_iter_items (zip_second c.next.new.self)) end came'
+          ∙ ap (λ n. drop n c.args.collected.items) (sym one);
       tasks = subst (λ (l : List _). AreTasks (length (yielded ++ (fan, end) ∷ [])) units l) (sym c.in_ok-push.ensures.items)
           (subst (λ n. AreTasks n units (old ++ c.new.result ∷ [])) (sym one)
-          (tasks_next units t old c.new.result c.number.result fan end.taken i.here i.tasks c.new.ensures c.number.ensures (c.requires.out.each t fan there) none));
+          (tasks_next units t old c.new.result c.number.result fan end.taken i.here i.tasks c.new.ensures c.number.ensures
+          (c.requires.out.each t fan there) none));
     }

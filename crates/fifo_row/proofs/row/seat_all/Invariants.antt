@@ -14,5 +14,6 @@ invariant-loop-number g l = record {
   pass : IsPassOf l.queue l.pass × (known l.pass ≡ taker_view (known l.pass).tag l.number [] []);
   tagged : 0 < l.number → (known l.pass).tag ≡ l.tag;
   count : length l.ends.items ≡ l.number;
-  each : (k : ℕ) → k < l.number → slice_get l.ends.items k ≡ Some (fresh_sender (unseated l.queue.table.shared.table_id (ruled_capacity l.queue) l.tag l.senders) k);
+  each : (k : ℕ) → k < l.number → slice_get l.ends.items k ≡ Some
+      (fresh_sender (unseated l.queue.table.shared.table_id (ruled_capacity l.queue) l.tag l.senders) k);
 }

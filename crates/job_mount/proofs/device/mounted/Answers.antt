@@ -21,8 +21,10 @@ pub returns-in-Err : goal.returns-in-Err
 returns-in-Err c =
     subst (λ (m : Medium). MountsDevice (mounted (medium_said m) c.args.unit.now.faults.items) (Err c.in-Err.error)) (sym c.in-Disk.is)
     (disk_refused c.in-Disk.geometry c.in-Disk.records.items c.args.unit.now.faults.items c.in-Err.error
-    (subst (λ (on : List InitialRecord). MountsDisk c.in-Disk.geometry on c.args.unit.now.faults.items (Err c.in-Err.error)) c.deref.ensures.value
-    (subst (λ (faults : List Fault). MountsDisk c.in-Disk.geometry c.deref.result.now faults (Err c.in-Err.error)) c.deref-in-Disk.ensures.value c.in-Err.ensures)))
+    (subst (λ (on : List InitialRecord). MountsDisk c.in-Disk.geometry on c.args.unit.now.faults.items (Err c.in-Err.error))
+    c.deref.ensures.value
+    (subst (λ (faults : List Fault). MountsDisk c.in-Disk.geometry c.deref.result.now faults (Err c.in-Err.error))
+    c.deref-in-Disk.ensures.value c.in-Err.ensures)))
 
 pub returns-in-Ok-mount : goal.returns-in-Ok-mount
 returns-in-Ok-mount c =
@@ -32,7 +34,10 @@ returns-in-Ok-mount c =
 
 pub returns-in-Err-mount : goal.returns-in-Err-mount
 returns-in-Err-mount c =
-    subst (λ (m : Medium). MountsDevice (mounted (medium_said m) c.args.unit.now.faults.items) (Err c.in-Err-mount.error)) (sym c.in-Tape.is)
+    subst (λ (m : Medium). MountsDevice (mounted (medium_said m) c.args.unit.now.faults.items) (Err c.in-Err-mount.error))
+    (sym c.in-Tape.is)
     (tape_refused c.in-Tape.bytes c.in-Tape.items.items c.args.unit.now.faults.items c.in-Err-mount.error
-    (subst (λ (on : List InitialItem). MountsTape c.in-Tape.bytes on c.args.unit.now.faults.items (Err c.in-Err-mount.error)) c.deref-in-Tape.ensures.value
-    (subst (λ (faults : List Fault). MountsTape c.in-Tape.bytes c.deref-in-Tape.result.now faults (Err c.in-Err-mount.error)) c.deref-in-Tape-2.ensures.value c.in-Err-mount.ensures)))
+    (subst (λ (on : List InitialItem). MountsTape c.in-Tape.bytes on c.args.unit.now.faults.items (Err c.in-Err-mount.error))
+    c.deref-in-Tape.ensures.value
+    (subst (λ (faults : List Fault). MountsTape c.in-Tape.bytes c.deref-in-Tape.result.now faults (Err c.in-Err-mount.error))
+    c.deref-in-Tape-2.ensures.value c.in-Err-mount.ensures)))

@@ -21,21 +21,24 @@ pub loop-unit-init : goal.loop-unit-init
 loop-unit-init c =
     let units = map unit_said c.args.units.now in
     record {
-      exact = subst (λ (books : List (Book AnyDevice)). after c.args.capacity None (map without_spare books) units ≡ units_with c.args.capacity units)
+      exact = subst (λ (books : List (Book AnyDevice)). after c.args.capacity None
+          (map without_spare books) units ≡ units_with c.args.capacity units)
           (sym c.new-books.ensures.items) (no_unit_yet c.args.capacity units);
       count = search rules;
       fresh = search rules;
       room = search rules;
     }
 
-gives_as : {X S : Type 0} (view : X → S) (r : Result X JobError) (fault : JobError) (read : Result S FaultAt) → IsErr r → IsErrAnd r (λ e. e ≡ fault)
+gives_as : {X S : Type 0} (view : X → S) (r : Result X JobError) (fault : JobError) (read : Result S FaultAt) → IsErr r →
+    IsErrAnd r (λ e. e ≡ fault)
     → Gives view (Err fault) read → Gives view r read
 gives_as view (Ok x) fault read is_err same given = absurd (false≢true is_err)
 gives_as view (Err e) fault read is_err same given = subst (λ (f : JobError). Gives view (Err f) read) (sym same) given
 
 pub returns-in_err-book-clause-exact : goal.returns-in_err-book-clause-exact
 returns-in_err-book-clause-exact c =
-    let refused = unit_refused c.args.capacity c.loop-unit.first c.loop-unit.books.items c.args.units.now c.loop-unit.unit-index c.unit-item.result
+    let refused = unit_refused c.args.capacity c.loop-unit.first c.loop-unit.books.items c.args.units.now c.loop-unit.unit-index
+    c.unit-item.result
     c.in_err-book.field-0.0 _ c.loop-unit-test.true c.unit-item.is c.in_err-book.ensures.exact c.loop-unit.invariant.exact in
     gives_as all_without_spare c.from_residual.result c.in_err-book.field-0.0 _ c.from_residual.ensures.0 c.from_residual.ensures.1 refused
 
@@ -49,27 +52,32 @@ loop-unit-preserved c =
     let so_far = c.loop-unit.invariant in
     elim c.match-branch-3.branch [
       | in-None+in_ok-push-in-None w ↦
-          let opens = subst (λ (openings : List Opening). open_all (without_spare mounted) (map opening_said openings) ≡ Ok (without_spare book)) c.deref.ensures.value
+          let opens = subst (λ (openings : List Opening). open_all (without_spare mounted) (map opening_said openings) ≡ Ok
+          (without_spare book)) c.deref.ensures.value
           (subst (λ (at_fault : Option ℕ). Opens mounted (map opening_said c.deref.result.now) (Ok at_fault) book) w.in-None.is
           c.in_ok-open_dcbs.ensures.exact) in
           let items = w.in_ok-push-in-None.ensures.items in
           record {
             exact = rw (w.books-is, w.first-is, items)
-                (unit_opened c.args.capacity c.loop-unit.first c.loop-unit.books.items units index unit mounted book _ c.loop-unit-test.true c.unit-item.is
+                (unit_opened c.args.capacity c.loop-unit.first c.loop-unit.books.items units index unit mounted book _
+                c.loop-unit-test.true c.unit-item.is
                 c.in_ok-book.ensures.exact opens so_far.exact);
             count = λ none. rw w.books-is (omega (arith, w.in_ok-push-in-None.ensures.len, so_far.count (sym w.first-is ∙ none)));
             fresh = rw (w.books-is, items) (All-push IsFresh c.loop-unit.books.items book so_far.fresh c.open_dcbs.ensures.fresh);
             room = rw (w.books-is, items)
-                (All-push (HasRoom c.args.capacity) c.loop-unit.books.items book so_far.room (c.open_dcbs.ensures.room ∙ c.in_ok-book.ensures.room));
+                (All-push (HasRoom c.args.capacity) c.loop-unit.books.items book so_far.room
+                (c.open_dcbs.ensures.room ∙ c.in_ok-book.ensures.room));
           }
       | in-Some w ↦
           let line = w.in-Some.line in
-          let opens = subst (λ (openings : List Opening). open_all (without_spare mounted) (map opening_said openings) ≡ Err line) c.deref.ensures.value
+          let opens = subst (λ (openings : List Opening). open_all (without_spare mounted) (map opening_said openings) ≡ Err line)
+          c.deref.ensures.value
           (subst (λ (at_fault : Option ℕ). Opens mounted (map opening_said c.deref.result.now) (Ok at_fault) book) w.in-Some.is
           c.in_ok-open_dcbs.ensures.exact) in
           record {
             exact = rw (w.books-is, w.first-is, w.earlier.ensures)
-                (unit_at_fault c.args.capacity c.loop-unit.first c.loop-unit.books.items units index unit mounted line _ c.loop-unit-test.true
+                (unit_at_fault c.args.capacity c.loop-unit.first c.loop-unit.books.items units index unit mounted line _
+                c.loop-unit-test.true
                 c.unit-item.is c.in_ok-book.ensures.exact opens so_far.exact);
             count = λ none. search rules;
             fresh = rw w.books-is so_far.fresh;
@@ -83,7 +91,8 @@ returns-in-None-first-clause-exact c =
     let all : length units ≤ c.loop-unit.unit-index = omega (arith, c.loop-unit-test.false) in
     units_opened c.args.capacity c.loop-unit.books.items units c.loop-unit.unit-index _ all
     (subst
-    (λ (first : Option ℕ). after c.args.capacity first (all_without_spare c.loop-unit.books) (map unit_said (drop c.loop-unit.unit-index units))
+    (λ (first : Option ℕ). after c.args.capacity first (all_without_spare c.loop-unit.books)
+    (map unit_said (drop c.loop-unit.unit-index units))
     ≡ units_with c.args.capacity (map unit_said units))
     c.in-None-first.is c.loop-unit.invariant.exact)
 
@@ -93,6 +102,7 @@ returns-in-Some-first-clause-exact c =
     let all : length units ≤ c.loop-unit.unit-index = omega (arith, c.loop-unit-test.false) in
     units_at_fault c.args.capacity c.in-Some-first.line c.loop-unit.books.items units c.loop-unit.unit-index _ all
     (subst
-    (λ (first : Option ℕ). after c.args.capacity first (all_without_spare c.loop-unit.books) (map unit_said (drop c.loop-unit.unit-index units))
+    (λ (first : Option ℕ). after c.args.capacity first (all_without_spare c.loop-unit.books)
+    (map unit_said (drop c.loop-unit.unit-index units))
     ≡ units_with c.args.capacity (map unit_said units))
     c.in-Some-first.is c.loop-unit.invariant.exact)

@@ -9,7 +9,8 @@ use Rattle.job_mount.proofs.mounting.opened_books.Given as goal
 
 abbrev pub invariant-loop-unit : goal.invariant-loop-unit
 invariant-loop-unit l = record {
-  exact : after l.capacity l.first (all_without_spare l.books) (map unit_said (drop l.unit-index l.units)) ≡ units_with l.capacity (map unit_said l.units);
+  exact : after l.capacity l.first (all_without_spare l.books) (map unit_said (drop l.unit-index l.units)) ≡ units_with l.capacity
+      (map unit_said l.units);
   count : l.first ≡ None → vec_len l.books ≡ l.unit-index;
   fresh : All IsFresh l.books.items;
   room : All (HasRoom l.capacity) l.books.items;

@@ -20,7 +20,9 @@ returns-in_err-rows-clause-fault g c =
     let whole = subst (ReadsAll LIMIT old new) (sym c.deref.ensures.value) c.in_ok-text.ensures.whole in
     let fault = c.in_err-rows.field-0.0 in
     ends_with c.from_residual-in_err-rows.result fault (EndsBy LIMIT old new) c.from_residual-in_err-rows.ensures.1
-    (not_mounted (λ (made : RowsState × Vec (Book AnyDevice) Global). all_without_spare made.1) LIMIT old new c.deref.result.now (said c.in_ok-script.script) (room_of_a_unit c.in_ok-script.script) fault whole c.in_ok-script.ensures.grammar c.in_err-rows.ensures.exact)
+    (not_mounted (λ (made : RowsState × Vec (Book AnyDevice) Global). all_without_spare made.1) LIMIT old new c.deref.result.now
+    (said c.in_ok-script.script) (room_of_a_unit c.in_ok-script.script) fault whole c.in_ok-script.ensures.grammar
+    c.in_err-rows.ensures.exact)
 
 pub returns-in_err-run-clause-fault : goal.returns-in_err-run-clause-fault
 returns-in_err-run-clause-fault g c =
@@ -30,7 +32,8 @@ returns-in_err-run-clause-fault g c =
     let runs : RunsWhole LIMIT old new = record {
       text = c.deref.result.now;
       whole = whole;
-      faultless = faultless c.deref.result.now (said c.in_ok-script.script) (room_of_a_unit c.in_ok-script.script) (all_without_spare c.in_ok-rows.books) c.in_ok-script.ensures.grammar c.in_ok-rows.ensures.exact;
+      faultless = faultless c.deref.result.now (said c.in_ok-script.script) (room_of_a_unit c.in_ok-script.script)
+          (all_without_spare c.in_ok-rows.books) c.in_ok-script.ensures.grammar c.in_ok-rows.ensures.exact;
     } in
     let fault = c.in_err-run.field-0.0 in
     ends_with c.from_residual-in_err-run.result fault (EndsBy LIMIT old new) c.from_residual-in_err-run.ensures.1
@@ -43,5 +46,6 @@ returns-clause-ran g c =
     record {
       text = c.deref.result.now;
       whole = subst (ReadsAll LIMIT old new) (sym c.deref.ensures.value) c.in_ok-text.ensures.whole;
-      faultless = faultless c.deref.result.now (said c.in_ok-script.script) (room_of_a_unit c.in_ok-script.script) (all_without_spare c.in_ok-rows.books) c.in_ok-script.ensures.grammar c.in_ok-rows.ensures.exact;
+      faultless = faultless c.deref.result.now (said c.in_ok-script.script) (room_of_a_unit c.in_ok-script.script)
+          (all_without_spare c.in_ok-rows.books) c.in_ok-script.ensures.grammar c.in_ok-rows.ensures.exact;
     }

@@ -8,7 +8,8 @@ use Rattle.job_script.proofs.forms.extents.Goals as goal
 pub returns-in_default-extent : goal.returns-in_default-extent
 returns-in_default-extent c =
     let one : extent c.in-Some.word.now ≡ None = search rules in
-    rw (each_stops extent c.words.extents.items c.in-Some.word.now (words c.words.left.now) (words c.in-Some.rest.now) _ c.in-Some.ensures one c.words.invariant)
+    rw (each_stops extent c.words.extents.items c.in-Some.word.now (words c.words.left.now)
+    (words c.in-Some.rest.now) _ c.in-Some.ensures one c.words.invariant)
     (ap (λ (n : FaultName). Err n) (sym c.wrong_digits.ensures))
 
 pub words-preserved : goal.words-preserved

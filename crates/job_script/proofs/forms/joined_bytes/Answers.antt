@@ -11,7 +11,8 @@ words-preserved c =
 
 pub returns-in-Err : goal.returns-in-Err
 returns-in-Err c =
-    joined_fails c.in-Err.error c.no_bytes.result c.words.bytes.items c.push_bytes.new.bytes.items c.in-Some.word.now (words c.words.left.now)
+    joined_fails c.in-Err.error c.no_bytes.result c.words.bytes.items c.push_bytes.new.bytes.items c.in-Some.word.now
+    (words c.words.left.now)
     (words c.in-Some.rest.now) _ c.in-Some.ensures c.in-Err.ensures c.words.invariant c.no_bytes.ensures
 
 pub returns : goal.returns

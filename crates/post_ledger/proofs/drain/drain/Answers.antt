@@ -50,4 +50,5 @@ loop-preserved g c = record {
 
 pub returns-then-drained-clause-drained : goal.returns-then-drained-clause-drained
 returns-then-drained-clause-drained g c =
-    subst (λ (q : List (Locked _) × List TaskState). Drained g.D.Device.meaning q.0 q.1) (λ i. (c.as_slice.ensures.value i, c.as_slice-in-loop.ensures.value i)) (c.drained.ensures.0 c.if-drained.true)
+    subst (λ (q : List (Locked _) × List TaskState). Drained g.D.Device.meaning q.0 q.1)
+    (λ i. (c.as_slice.ensures.value i, c.as_slice-in-loop.ensures.value i)) (c.drained.ensures.0 c.if-drained.true)

@@ -13,28 +13,34 @@ join_row-requires-clause-row g c =
     let from = g.I.Item.from in
     let before = c.pop.new.self.items in
     let rest : Rest from c.args.takers.items (before ++ c.in-Some.taker ∷ []) c.args.fans.now.items c.loop-taker.fans.items =
-    subst (λ (l : List (Taking _)). Rest from c.args.takers.items l c.args.fans.now.items c.loop-taker.fans.items) c.in-Some.ensures.items c.loop-taker.invariant in
+    subst (λ (l : List (Taking _)). Rest from c.args.takers.items l c.args.fans.now.items c.loop-taker.fans.items) c.in-Some.ensures.items
+    c.loop-taker.invariant in
     let k : length before ≡ c.len-k.result = omega (arith, c.len-k.ensures, c.pop.new.self.ok.0) in
-    taker_row from g.F.Reach.reached c.args.takers.items c.args.fans.now.items c.requires before c.in-Some.taker c.loop-taker.fans.items rest ∙ ap g.F.Reach.reached.row k
+    taker_row from g.F.Reach.reached c.args.takers.items c.args.fans.now.items c.requires before c.in-Some.taker c.loop-taker.fans.items
+    rest ∙ ap g.F.Reach.reached.row k
 
 pub join_row-requires-clause-drained : goal.join_row-requires-clause-drained
 join_row-requires-clause-drained g c =
     let from = g.I.Item.from in
     let before = c.pop.new.self.items in
     let rest : Rest from c.args.takers.items (before ++ c.in-Some.taker ∷ []) c.args.fans.now.items c.loop-taker.fans.items =
-    subst (λ (l : List (Taking _)). Rest from c.args.takers.items l c.args.fans.now.items c.loop-taker.fans.items) c.in-Some.ensures.items c.loop-taker.invariant in
+    subst (λ (l : List (Taking _)). Rest from c.args.takers.items l c.args.fans.now.items c.loop-taker.fans.items) c.in-Some.ensures.items
+    c.loop-taker.invariant in
     let k : length before ≡ c.len-k.result = omega (arith, c.len-k.ensures, c.pop.new.self.ok.0) in
     subst (λ j. AreDrained from c.in-Some.taker.taken j c.loop-taker.fans.items) k
-    (rest_drained from g.F.Reach.reached c.args.takers.items c.args.fans.now.items c.requires before c.in-Some.taker c.loop-taker.fans.items rest)
+    (rest_drained from g.F.Reach.reached c.args.takers.items c.args.fans.now.items c.requires before c.in-Some.taker
+    c.loop-taker.fans.items rest)
 
 pub loop-taker-preserved : goal.loop-taker-preserved
 loop-taker-preserved g c =
     let from = g.I.Item.from in
     let before = c.pop.new.self.items in
     let rest : Rest from c.args.takers.items (before ++ c.in-Some.taker ∷ []) c.args.fans.now.items c.loop-taker.fans.items =
-    subst (λ (l : List (Taking _)). Rest from c.args.takers.items l c.args.fans.now.items c.loop-taker.fans.items) c.in-Some.ensures.items c.loop-taker.invariant in
+    subst (λ (l : List (Taking _)). Rest from c.args.takers.items l c.args.fans.now.items c.loop-taker.fans.items) c.in-Some.ensures.items
+    c.loop-taker.invariant in
     let k : c.len-k.result ≡ length before = omega (arith, c.len-k.ensures, c.pop.new.self.ok.0) in
-    rest_next from g.F.Reach.reached c.args.takers.items c.args.fans.now.items c.requires before c.in-Some.taker c.loop-taker.fans.items rest c.join_row.new.fans.items
+    rest_next from g.F.Reach.reached c.args.takers.items c.args.fans.now.items c.requires before c.in-Some.taker c.loop-taker.fans.items
+    rest c.join_row.new.fans.items
     (λ t f e. c.join_row.ensures.all t f e ∙ ap (sent_to f) k)
     (λ t f e. c.join_row.ensures.fans t f e ∙ ap (λ j. Some (shorter j f)) k)
     c.join_row.ensures.count

@@ -13,11 +13,17 @@ loop-task-preserved g c =
     let s = g.S.Site.rows in
     let w = c.in-Some.task in
     let e = c.into_parts-out.ensures in
-    let all : c.args.tasks.items ≡ c.loop-task.yielded ++ w ∷ into_iter_items c.next.new.self = first_of (search rules, grind (arith, common_steps)) in
+    let all : c.args.tasks.items ≡ c.loop-task.yielded ++ w ∷ into_iter_items c.next.new.self =
+    first_of (search rules, grind (arith, common_steps)) in
     record {
       all = all ∙ sym (append_assoc c.loop-task.yielded (w ∷ []) (into_iter_items c.next.new.self));
-      outs = c.push_reserved.ensures.items ∙ map_snoc out_of c.loop-task.yielded w c.loop-task.outs.items c.into_parts-out.result.0 i.outs e.out_is;
-      collected = c.push_reserved-in-loop-task.ensures.items ∙ map_snoc (post_end s) c.loop-task.yielded w c.loop-task.collected.items c.into_parts-out.result.1 i.collected e.collected_is;
+      outs = c.push_reserved.ensures.items ∙ map_snoc out_of c.loop-task.yielded w c.loop-task.outs.items c.into_parts-out.result.0 i.outs
+          e.out_is;
+      collected = c.push_reserved-in-loop-task.ensures.items
+          ∙ map_snoc (post_end s) c.loop-task.yielded w c.loop-task.collected.items c.into_parts-out.result.1 i.collected e.collected_is;
       counts = All-push (λ (x : TaskState). length x.sent ≡ s.units) c.loop-task.yielded w i.counts e.count;
-      room = (omega (arith, i.room.0, c.push_reserved.ensures.capacity), omega (arith, i.room.1, c.push_reserved-in-loop-task.ensures.capacity));
+      room = (
+        omega (arith, i.room.0, c.push_reserved.ensures.capacity),
+        omega (arith, i.room.1, c.push_reserved-in-loop-task.ensures.capacity),
+      );
     }

@@ -16,15 +16,25 @@ loop-unit-preserved g c =
     let s = g.S.Site.rows in
     let v = c.in-Some.unit in
     let e = c.into_parts-book.ensures in
-    let all : c.args.units.items ≡ c.loop-unit.yielded ++ v ∷ into_iter_items c.next.new.self = first_of (search rules, grind (arith, common_steps)) in
+    let all : c.args.units.items ≡ c.loop-unit.yielded ++ v ∷ into_iter_items c.next.new.self =
+    first_of (search rules, grind (arith, common_steps)) in
     record {
       all = all ∙ sym (append_assoc c.loop-unit.yielded (v ∷ []) (into_iter_items c.next.new.self));
-      books = c.push_reserved.ensures.items ∙ map_snoc book_of c.loop-unit.yielded v c.loop-unit.books.items c.into_parts-book.result.0 i.books e.book;
-      intakes = c.push_reserved-in-loop-unit.ensures.items ∙ map_snoc (intake_end s) c.loop-unit.yielded v c.loop-unit.intakes.items c.into_parts-book.result.1 i.intakes e.ends.intake_is;
-      backs = subst (Paired (IsBack g.D.Device.meaning s) (c.loop-unit.yielded ++ v ∷ [])) (sym c.push_reserved-in-loop-unit-2.ensures.items)
-          (paired_snoc (IsBack g.D.Device.meaning s) c.loop-unit.yielded c.loop-unit.backs.items v c.into_parts-book.result.2 i.backs (record { number_is = e.ends.back_is; count = e.ends.count; sent = e.ends.sent }));
-      sound = All-push (λ (u : Locked _). BookKeeps g.D.Device.meaning u.book) c.loop-unit.yielded v i.sound (record { legal = c.holds.ensures.legal; given = c.holds.ensures.given });
-      room = (omega (arith, i.room.0, c.push_reserved.ensures.capacity), omega (arith, i.room.1, c.push_reserved-in-loop-unit.ensures.capacity), omega (arith, i.room.2, c.push_reserved-in-loop-unit-2.ensures.capacity));
+      books = c.push_reserved.ensures.items ∙ map_snoc book_of c.loop-unit.yielded v c.loop-unit.books.items c.into_parts-book.result.0
+          i.books e.book;
+      intakes = c.push_reserved-in-loop-unit.ensures.items
+          ∙ map_snoc (intake_end s) c.loop-unit.yielded v c.loop-unit.intakes.items c.into_parts-book.result.1 i.intakes e.ends.intake_is;
+      backs = subst (Paired (IsBack g.D.Device.meaning s) (c.loop-unit.yielded ++ v ∷ []))
+          (sym c.push_reserved-in-loop-unit-2.ensures.items)
+          (paired_snoc (IsBack g.D.Device.meaning s) c.loop-unit.yielded c.loop-unit.backs.items v c.into_parts-book.result.2 i.backs
+          (record { number_is = e.ends.back_is; count = e.ends.count; sent = e.ends.sent }));
+      sound = All-push (λ (u : Locked _). BookKeeps g.D.Device.meaning u.book) c.loop-unit.yielded v i.sound
+          (record { legal = c.holds.ensures.legal; given = c.holds.ensures.given });
+      room = (
+        omega (arith, i.room.0, c.push_reserved.ensures.capacity),
+        omega (arith, i.room.1, c.push_reserved-in-loop-unit.ensures.capacity),
+        omega (arith, i.room.2, c.push_reserved-in-loop-unit-2.ensures.capacity),
+      );
     }
 
 pub loop-unit-init : goal.loop-unit-init
@@ -43,28 +53,45 @@ push_reserved-requires g c =
     let v = c.in-Some.unit in
     let rest = into_iter_items c.next.new.self in
     let all : c.args.units.items ≡ c.loop-unit.yielded ++ v ∷ rest = first_of (search rules, grind (arith, common_steps)) in
-    omega (arith, i.room.0, c.loop-unit.books.ok.0, c.args.units.ok.0, ap length i.books, length-map c.loop-unit.yielded book_of, ap length all, length-append c.loop-unit.yielded (v ∷ rest))
+    omega (
+      arith,
+      i.room.0,
+      c.loop-unit.books.ok.0,
+      c.args.units.ok.0,
+      ap length i.books,
+      length-map c.loop-unit.yielded book_of,
+      ap length all,
+      length-append c.loop-unit.yielded (v ∷ rest),
+    )
 
 pub returns-clause-books : goal.returns-clause-books
 returns-clause-books g c =
-    let none : into_iter_items c.loop-unit.unit-iterator ≡ [] = none_left (into_iter_items c.loop-unit.unit-iterator) (omega (arith, c.loop-unit.unit-iterator.rest.ok, c.in-None.ensures.steps.0)) in
-    let all : c.args.units.items ≡ c.loop-unit.yielded = c.loop-unit.invariant.all ∙ (ap (λ r. c.loop-unit.yielded ++ r) none ∙ append-nil c.loop-unit.yielded) in
+    let none : into_iter_items c.loop-unit.unit-iterator ≡ [] = none_left (into_iter_items c.loop-unit.unit-iterator)
+    (omega (arith, c.loop-unit.unit-iterator.rest.ok, c.in-None.ensures.steps.0)) in
+    let all : c.args.units.items ≡ c.loop-unit.yielded = c.loop-unit.invariant.all
+    ∙ (ap (λ r. c.loop-unit.yielded ++ r) none ∙ append-nil c.loop-unit.yielded) in
     c.loop-unit.invariant.books ∙ ap (map book_of) (sym all)
 
 pub returns-clause-intakes : goal.returns-clause-intakes
 returns-clause-intakes g c =
-    let none : into_iter_items c.loop-unit.unit-iterator ≡ [] = none_left (into_iter_items c.loop-unit.unit-iterator) (omega (arith, c.loop-unit.unit-iterator.rest.ok, c.in-None.ensures.steps.0)) in
-    let all : c.args.units.items ≡ c.loop-unit.yielded = c.loop-unit.invariant.all ∙ (ap (λ r. c.loop-unit.yielded ++ r) none ∙ append-nil c.loop-unit.yielded) in
+    let none : into_iter_items c.loop-unit.unit-iterator ≡ [] = none_left (into_iter_items c.loop-unit.unit-iterator)
+    (omega (arith, c.loop-unit.unit-iterator.rest.ok, c.in-None.ensures.steps.0)) in
+    let all : c.args.units.items ≡ c.loop-unit.yielded = c.loop-unit.invariant.all
+    ∙ (ap (λ r. c.loop-unit.yielded ++ r) none ∙ append-nil c.loop-unit.yielded) in
     c.loop-unit.invariant.intakes ∙ ap (map (intake_end g.S.Site.rows)) (sym all)
 
 pub returns-clause-backs : goal.returns-clause-backs
 returns-clause-backs g c =
-    let none : into_iter_items c.loop-unit.unit-iterator ≡ [] = none_left (into_iter_items c.loop-unit.unit-iterator) (omega (arith, c.loop-unit.unit-iterator.rest.ok, c.in-None.ensures.steps.0)) in
-    let all : c.args.units.items ≡ c.loop-unit.yielded = c.loop-unit.invariant.all ∙ (ap (λ r. c.loop-unit.yielded ++ r) none ∙ append-nil c.loop-unit.yielded) in
+    let none : into_iter_items c.loop-unit.unit-iterator ≡ [] = none_left (into_iter_items c.loop-unit.unit-iterator)
+    (omega (arith, c.loop-unit.unit-iterator.rest.ok, c.in-None.ensures.steps.0)) in
+    let all : c.args.units.items ≡ c.loop-unit.yielded = c.loop-unit.invariant.all
+    ∙ (ap (λ r. c.loop-unit.yielded ++ r) none ∙ append-nil c.loop-unit.yielded) in
     subst (λ l. Paired (IsBack g.D.Device.meaning g.S.Site.rows) l c.loop-unit.backs.items) (sym all) c.loop-unit.invariant.backs
 
 pub returns-clause-sound : goal.returns-clause-sound
 returns-clause-sound g c =
-    let none : into_iter_items c.loop-unit.unit-iterator ≡ [] = none_left (into_iter_items c.loop-unit.unit-iterator) (omega (arith, c.loop-unit.unit-iterator.rest.ok, c.in-None.ensures.steps.0)) in
-    let all : c.args.units.items ≡ c.loop-unit.yielded = c.loop-unit.invariant.all ∙ (ap (λ r. c.loop-unit.yielded ++ r) none ∙ append-nil c.loop-unit.yielded) in
+    let none : into_iter_items c.loop-unit.unit-iterator ≡ [] = none_left (into_iter_items c.loop-unit.unit-iterator)
+    (omega (arith, c.loop-unit.unit-iterator.rest.ok, c.in-None.ensures.steps.0)) in
+    let all : c.args.units.items ≡ c.loop-unit.yielded = c.loop-unit.invariant.all
+    ∙ (ap (λ r. c.loop-unit.yielded ++ r) none ∙ append-nil c.loop-unit.yielded) in
     subst (All (λ (u : Locked _). BookKeeps g.D.Device.meaning u.book)) (sym all) c.loop-unit.invariant.sound

@@ -13,5 +13,6 @@ invariant-loop-unit g l = record {
   intakes : l.intakes.items ≡ map (intake_end g.S.Site.rows) l.yielded;
   backs : Paired (IsBack g.D.Device.meaning g.S.Site.rows) l.yielded l.backs.items;
   sound : All (λ (v : Locked _). BookKeeps g.D.Device.meaning v.book) l.yielded;
-  room : (vec_len l.fn.units ≤ vec_capacity l.books) × (vec_len l.fn.units ≤ vec_capacity l.intakes) × (vec_len l.fn.units ≤ vec_capacity l.backs);
+  room : (vec_len l.fn.units ≤ vec_capacity l.books) × (vec_len l.fn.units ≤ vec_capacity l.intakes)
+      × (vec_len l.fn.units ≤ vec_capacity l.backs);
 }

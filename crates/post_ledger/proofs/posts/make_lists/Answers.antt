@@ -16,6 +16,7 @@ loop-preserved c =
       count = omega (arith, ap length pushed, length-append posts (x ∷ []), i.count);
       few = omega (arith, c.loop-test.true);
       lists = subst (All (λ lists. length lists ≡ c.args.units)) (sym pushed)
-          (All-push (λ lists. length lists ≡ c.args.units) posts x i.lists (ap length c.in_ok-new.ensures ∙ length-replicate c.args.units []));
+          (All-push (λ lists. length lists ≡ c.args.units) posts x i.lists
+          (ap length c.in_ok-new.ensures ∙ length-replicate c.args.units []));
       values = λ t u. ap (λ l. list_of (lists_of l t) u) pushed ∙ lists_more posts x c.args.units c.in_ok-new.ensures t u ∙ i.values t u;
     }

@@ -4,7 +4,8 @@ use Rattle.std.proofs.lemmas.List.{take_all}
 use Rattle.std.proofs.lemmas.Int.Digits.{digits_value_more, digits_more}
 use Rattle.script_words.proofs.Numbers.{decimal_none, decimal_long, decimal_other, decimal_is, small}
 use Rattle.script_words.proofs.forms.decimal.Goals as goal
-use Rattle.script_words.proofs.forms.decimal.Goals.{then-is_empty-via-then-is_empty, then-is_empty-via-else-is_empty+then-word-gt-MOST_DIGITS}
+use Rattle.script_words.proofs.forms.decimal.Goals.{then-is_empty-via-then-is_empty}
+use Rattle.script_words.proofs.forms.decimal.Goals.{then-is_empty-via-else-is_empty+then-word-gt-MOST_DIGITS}
 
 pub returns-then-is_empty : goal.returns-then-is_empty
 returns-then-is_empty c =

@@ -16,8 +16,10 @@ returns-clause-placed g c =
           let within : k < length old = omega (arith, behind, as_many) in
           let change = (c.for_each_mut.ensures k x within).1 in
           let call = change.call in
-          let kept : change.after_call.now.client.number ≡ change.argument.now.client.number = first_of (search (rules, call), grind (call, arith, common_steps)) in
+          let kept : change.after_call.now.client.number ≡ change.argument.now.client.number =
+          first_of (search (rules, call), grind (call, arith, common_steps)) in
           let is : slice_index_or new k x ≡ x = some_is (slice_index_or new k x) x (sym (slice_get-get_or new k x behind) ∙ at) in
-          ap (λ r. r.client.number) (sym is) ∙ ap (λ r. r.client.number) (sym change.left) ∙ kept ∙ ap (λ r. r.client.number) change.argument_is
+          ap (λ r. r.client.number) (sym is) ∙ ap (λ r. r.client.number) (sym change.left) ∙ kept
+          ∙ ap (λ r. r.client.number) change.argument_is
           ∙ c.requires.placed.each k (slice_index_or old k x) (slice_get-get_or old k x within);
     }

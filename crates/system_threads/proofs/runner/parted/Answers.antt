@@ -16,7 +16,11 @@ loop-runner-preserved g c =
     let all : c.args.runners.items ≡ yielded ++ runner ∷ rest = first_of (search rules, grind (arith, common_steps)) in
     record {
       all = all ∙ sym (append_assoc yielded (runner ∷ []) rest);
-      made = subst (λ (l : List TaskState). ArePlaced (λ task. task.number) (length (yielded ++ runner ∷ [])) l) (sym c.in_ok-push.ensures.items)
-          (placed_more (λ runner. runner.client.number) (λ (task : TaskState). task.number) g.S.Site.rows.tasks c.args.runners.items yielded rest runner c.loop-runner.tasks.items task c.requires.placed all i.made (ap (λ (w : TaskState). w.number) c.into_task.ensures));
-      kept = ap length c.in_ok-push-2.ensures.items ∙ length-append c.loop-runner.outcomes.items (c.in-Some-outcome.outcome ∷ []) ∙ ap (λ n. n + 1) i.kept ∙ sym (length-append yielded (runner ∷ []));
+      made = subst (λ (l : List TaskState). ArePlaced (λ task. task.number) (length (yielded ++ runner ∷ [])) l)
+          (sym c.in_ok-push.ensures.items)
+          (placed_more (λ runner. runner.client.number) (λ (task : TaskState). task.number) g.S.Site.rows.tasks c.args.runners.items
+          yielded rest runner c.loop-runner.tasks.items task c.requires.placed all i.made
+          (ap (λ (w : TaskState). w.number) c.into_task.ensures));
+      kept = ap length c.in_ok-push-2.ensures.items ∙ length-append c.loop-runner.outcomes.items (c.in-Some-outcome.outcome ∷ [])
+          ∙ ap (λ n. n + 1) i.kept ∙ sym (length-append yielded (runner ∷ []));
     }

@@ -18,6 +18,9 @@ loop-task-preserved g c =
     let all : c.args.tasks.items ≡ yielded ++ task ∷ rest = first_of (search rules, grind (arith, common_steps)) in
     record {
       all = all ∙ sym (append_assoc yielded (task ∷ []) rest);
-      made = subst (λ (l : List _). ArePlaced (λ runner. runner.client.number) (length (yielded ++ task ∷ [])) l) (sym c.in_ok-push.ensures.items)
-          (placed_more (λ (task : TaskState). task.number) (λ runner. runner.client.number) g.S.Site.rows.tasks c.args.tasks.items yielded rest task c.loop-task.runners.items _ placed all c.loop-task.invariant.made (ap (λ (w : TaskState). w.number) c.in_ok-client.ensures));
+      made = subst (λ (l : List _). ArePlaced (λ runner. runner.client.number) (length (yielded ++ task ∷ [])) l)
+          (sym c.in_ok-push.ensures.items)
+          (placed_more (λ (task : TaskState). task.number) (λ runner. runner.client.number) g.S.Site.rows.tasks c.args.tasks.items yielded
+          rest task c.loop-task.runners.items _ placed all c.loop-task.invariant.made
+          (ap (λ (w : TaskState). w.number) c.in_ok-client.ensures));
     }

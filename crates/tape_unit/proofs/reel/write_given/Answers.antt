@@ -12,4 +12,5 @@ returns c =
     let len-is : length bytes ≡ c.args.len = length-take-le c.args.len c.args.given.now c.requires.given in
     item_written image c.write_length.new.image c.fill_at.new.image c.args.at bytes (omega (arith, len-is, c.requires.room))
     (c.write_length.ensures ∙ ap (λ (n : ℕ). written image c.args.at (big_bytes 4 n)) (sym len-is))
-    (c.fill_at.ensures.image ∙ ap (written c.write_length.new.image (c.args.at + 4)) (padded-take c.args.len c.args.given.now c.requires.given))
+    (c.fill_at.ensures.image ∙ ap (written c.write_length.new.image (c.args.at + 4))
+    (padded-take c.args.len c.args.given.now c.requires.given))

@@ -1,4 +1,4 @@
-use Rattle.std.proofs.Common.{◌≡◌, ◌<◌, ◌+◌, ◌∙◌, subst, ap, arith, length, map, refl}
+use Rattle.std.proofs.Common.{◌≡◌, ◌<◌, ◌+◌, ◌∙◌, subst, ap, arith, length, map}
 use Rattle.std.specs.Prelude.{slice_get, Some}
 use Rattle.std.proofs.lemmas.List.{length-map, length_push}
 use Rattle.std.proofs.Math.ListN.{length-set}
@@ -25,14 +25,15 @@ loop-place-preserved g c =
     let e = c.purge_task.ensures in
     let lt : place < length old = omega (arith, c.loop-place-test.true, length-map c.args.units.now.items unit_part) in
     let within : place < length now = omega (arith, lt, i.units) in
-    let at = side-at items place place refl within side c.index_mut-side.ensures.value in
-    let put = side-put items place place refl within side c.index_mut-side.ensures.value (side_with side book) in
+    let at = side-at items place side (omega (arith, within, length-map items unit_part)) c.index_mut-side.ensures.value in
+    let put = side-put items place (side_with side book) in
     let here : P (unit_part side) a w = purged-part meaning c.args.task c.args.mode (unit_part side) book a e.ok e.full e.err in
     record {
       room = omega (arith, i.room, c.push_reserved.ensures.capacity);
       units = ap length put ∙ length-set now place w ∙ i.units;
       count = ap length c.push_reserved.ensures.items ∙ length_push answers a ∙ ap (λ n. n + 1) i.count;
-      rest = λ k le. ap (λ l. slice_get l k) put ∙ rest-stays P old now answers place (unit_part side) w a i.units i.count lt i.rest at k le;
+      rest = λ k le. ap (λ l. slice_get l k) put ∙ rest-stays P old now answers place
+          (unit_part side) w a i.units i.count lt i.rest at k le;
       each = λ k x b y ex eb ey. each-more P old now answers place (unit_part side) w a i.units i.count lt i.rest at i.each here k x b y ex
           (subst (λ l. slice_get l k ≡ Some b) c.push_reserved.ensures.items eb) (subst (λ l. slice_get l k ≡ Some y) put ey);
     }

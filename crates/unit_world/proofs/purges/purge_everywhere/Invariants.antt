@@ -11,5 +11,6 @@ invariant-loop-place g l = record {
   count : length l.answers.items ≡ l.place;
   rest : (at : ℕ) → l.place ≤ at → slice_get (map unit_part l.units.items) at ≡ slice_get (map unit_part l.fn.units.items) at;
   each : (at : ℕ) (p : _) (answer : _) (q : _) → slice_get (map unit_part l.fn.units.items) at ≡ Some p →
-      slice_get l.answers.items at ≡ Some answer → slice_get (map unit_part l.units.items) at ≡ Some q → PurgesPart g.D.Device.meaning l.task l.mode p answer q;
+      slice_get l.answers.items at ≡ Some answer → slice_get (map unit_part l.units.items) at ≡ Some q →
+      PurgesPart g.D.Device.meaning l.task l.mode p answer q;
 }

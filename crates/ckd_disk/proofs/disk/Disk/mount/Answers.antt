@@ -12,4 +12,5 @@ invariant_of-result c =
     let ok : IsGeometry c.args.geometry = search rules in
     let placed : c.place.new.tracks ≡ opening_tracks c.args.geometry c.args.records.now = search rules in
     let tracks = (with_items c.in-Ok.tracks c.place.new.tracks).items in
-    IsDisk-opening c.args.geometry c.args.records.now tracks c.start.result c.in-Ok-new.faults ok (with_items_is c.in-Ok.tracks c.place.new.tracks same ∙ placed) c.start.ensures
+    IsDisk-opening c.args.geometry c.args.records.now tracks c.start.result c.in-Ok-new.faults ok
+    (with_items_is c.in-Ok.tracks c.place.new.tracks same ∙ placed) c.start.ensures

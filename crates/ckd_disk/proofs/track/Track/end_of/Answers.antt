@@ -17,7 +17,14 @@ returns c =
     let within = begins-within ckd reads c.from.result.now r b in
     let size = c.size_of_first.ensures ∙ size_at-begins ckd reads c.from.result.now r b ∙ length-packed r b.fits in
     record {
-      end = omega (arith, size, length-packed r b.fits, offset_of-more ckd c.args.self.now.records c.args.spot.place blank c.requires.there, c.requires.offset);
+      end = omega (
+        arith,
+        size,
+        length-packed r b.fits,
+        offset_of-more ckd c.args.self.now.records c.args.spot.place blank
+            c.requires.there,
+        c.requires.offset,
+      );
       within = omega (arith, within, c.size_of_first.ensures, c.from.ensures.start);
       behind = omega (arith, size);
     }

@@ -6,7 +6,8 @@ use Rattle.ckd_disk.specs.Track.{record_of, bytes_before, with_key_and_content}
 use Rattle.ckd_disk.proofs.Tracks.{Rewritten, parts_written}
 use Rattle.ckd_disk.proofs.track.Track.set_parts.Goals as goal
 
-rewritten : (c : goal.After-self-1) → Rewritten (with_key_and_content c.args.self.now c.args.spot.place c.args.given.now) (with_items c.self.inside.bytes c.fill_at.new.image).items c.self.inside.used c.self.inside.count c.args.spot
+rewritten : (c : goal.After-self-1) → Rewritten (with_key_and_content c.args.self.now c.args.spot.place c.args.given.now)
+    (with_items c.self.inside.bytes c.fill_at.new.image).items c.self.inside.used c.self.inside.count c.args.spot
 rewritten c =
     let t = c.args.self.now in
     let v = c.self.inside.bytes in
@@ -16,9 +17,12 @@ rewritten c =
     let from = c.end_of.result - len in
     let same : length image ≡ v.len = search rules in
     let len-is : len ≡ length r.key + length r.content = ap length c.parts-len.ensures.parts ∙ length-append r.key r.content in
-    let end : from + len ≡ bytes_before t.records (c.args.spot.place + 1) = omega (arith, len-is, c.end_of.ensures.end, c.end_of.ensures.behind) in
-    let after-is = with_items_is v image same ∙ c.fill_at.ensures.image ∙ ap (λ (x : List ℕ). written x from (padded len c.args.given.now)) c.deref_mut.ensures.value in
-    parts_written t v.items (with_items v image).items c.self.inside.used c.self.inside.count c.args.spot c.args.given.now from len c.self.invariant c.self.view_is c.requires len-is end after-is
+    let end : from + len ≡ bytes_before t.records (c.args.spot.place + 1) =
+    omega (arith, len-is, c.end_of.ensures.end, c.end_of.ensures.behind) in
+    let after-is = with_items_is v image same ∙ c.fill_at.ensures.image
+    ∙ ap (λ (x : List ℕ). written x from (padded len c.args.given.now)) c.deref_mut.ensures.value in
+    parts_written t v.items (with_items v image).items c.self.inside.used c.self.inside.count c.args.spot c.args.given.now from len
+    c.self.invariant c.self.view_is c.requires len-is end after-is
 
 pub invariant_of-self : goal.invariant_of-self
 invariant_of-self c = (rewritten c).kept.holds

@@ -10,6 +10,7 @@ invariant_of-self c =
     let done = c.self.inside.done in
     let missed = clear-here script done c.self.inside.clear c.self.invariant.1 c.if-self.false in
     let counted : next_ordinal done ≡ done + 1 = omega (arith, c.if-self.false) in (
-      subst (λ (n : ℕ). Follows script next n) counted (follows-missed script next done (omega (arith, c.if-self.false)) c.self.invariant.0 missed),
+      subst (λ (n : ℕ). Follows script next n) counted
+          (follows-missed script next done (omega (arith, c.if-self.false)) c.self.invariant.0 missed),
       clear-later script done (done + 1) c.self.inside.clear c.self.invariant.1 (omega arith),
     )

@@ -8,4 +8,5 @@ use Rattle.excp_speed.proofs.cycles.Cycles.new.Goals as goal
 
 pub returns : goal.returns
 unfolding arrivals
-returns c = (ap (λ (l : List Piece). length (filter (λ (r : Piece). r.name.task == 0) l)) (c.open.ensures ∙ ap (λ (b : Book DiskState). arrivals b.trace) c.in_ok-book.ensures.ok))
+returns c = (ap (λ (l : List Piece). length (filter (λ (r : Piece). r.name.task == 0) l))
+    (c.open.ensures ∙ ap (λ (b : Book DiskState). arrivals b.trace) c.in_ok-book.ensures.ok))

@@ -16,9 +16,14 @@ returns-clause-sent g c =
     let number = c.self.inside.number in
     let ends = c.self.inside.ends.items in
     let e = c.index_mut-end.result.now in
-    let lt : k < length ends = omega (arith, c.requires.row, ap (λ (v : FanState _). length v.sent) is, length-map ends (λ (s : Sending _). s.sent)) in
+    let lt : k < length ends =
+    omega (arith, c.requires.row, ap (λ (v : FanState _). length v.sent) is, length-map ends (λ (s : Sending _). s.sent)) in
     on_ok_weaker c.send.result
-    (λ same. (λ j. record { number = number; sent = fan_ok g.F.Reach.reached number ends c.self.invariant c.from.result k c.from.ensures lt e c.index_mut-end.ensures.value c.send.new.self c.args.item same j })
+    (λ same. (λ j. record {
+      number = number;
+      sent = fan_ok g.F.Reach.reached number ends c.self.invariant c.from.result k c.from.ensures lt e
+          c.index_mut-end.ensures.value c.send.new.self c.args.item same j;
+    })
     ∙ ap (λ (v : FanState _). record { number = v.number; sent = slice_set v.sent k (sent_to v k ++ c.args.item ∷ []) }) is)
     c.send.ensures.sent
 
@@ -30,8 +35,10 @@ returns-clause-was_full g c =
     let number = c.self.inside.number in
     let ends = c.self.inside.ends.items in
     let e = c.index_mut-end.result.now in
-    let lt : k < length ends = omega (arith, c.requires.row, ap (λ (v : FanState _). length v.sent) is, length-map ends (λ (s : Sending _). s.sent)) in
+    let lt : k < length ends =
+    omega (arith, c.requires.row, ap (λ (v : FanState _). length v.sent) is, length-map ends (λ (s : Sending _). s.sent)) in
     on_err_weaker c.send.result
     (λ full. subst (λ (v : FanState _). WasFull g.I.Item.from g.I.Item.fact (end_of r v.number k (sent_to v k))) is
-    (fan_full r number ends c.self.invariant c.from.result k c.from.ensures lt e c.index_mut-end.ensures.value g.I.Item.from g.I.Item.fact full))
+    (fan_full r number ends c.self.invariant c.from.result k c.from.ensures lt e c.index_mut-end.ensures.value g.I.Item.from g.I.Item.fact
+    full))
     c.send.ensures.was_full

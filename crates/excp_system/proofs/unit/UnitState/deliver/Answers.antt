@@ -14,26 +14,37 @@ use Rattle.excp_system.proofs.unit.UnitState.deliver.Goals as goal
 
 pub send-requires-clause-row : goal.send-requires-clause-row
 send-requires-clause-row g c =
-    let f = first-is g.D.Device.meaning g.S.Site.rows c.self.inside.unit c.self.inside.book c.self.inside.intake c.self.inside.back c.self.inside.notice c.self.inside.owes c.self.invariant c.holds.ensures.given
+    let f = first-is g.D.Device.meaning g.S.Site.rows c.self.inside.unit c.self.inside.book c.self.inside.intake c.self.inside.back
+    c.self.inside.notice c.self.inside.owes c.self.invariant c.holds.ensures.given
     c.in-Some.value c.holds.ensures.legal c.in-Some.ensures.first in
     omega (arith, f.0, c.self.invariant.count, ap (λ (n : Name). n.task) c.name-name.ensures)
 
 pub send-requires-clause-number : goal.send-requires-clause-number
 send-requires-clause-number g c =
-    let f = first-is g.D.Device.meaning g.S.Site.rows c.self.inside.unit c.self.inside.book c.self.inside.intake c.self.inside.back c.self.inside.notice c.self.inside.owes c.self.invariant c.holds.ensures.given
+    let f = first-is g.D.Device.meaning g.S.Site.rows c.self.inside.unit c.self.inside.book c.self.inside.intake c.self.inside.back
+    c.self.inside.notice c.self.inside.owes c.self.invariant c.holds.ensures.given
     c.in-Some.value c.holds.ensures.legal c.in-Some.ensures.first in
     ap (λ (v : PostedState). v.unit) c.new.ensures ∙ f.1 ∙ sym c.self.invariant.back_is
 
 pub invariant_of-self-in-Ok : goal.invariant_of-self-in-Ok
 invariant_of-self-in-Ok g c =
-    let f = first-is g.D.Device.meaning g.S.Site.rows c.self.inside.unit c.self.inside.book c.self.inside.intake c.self.inside.back c.self.inside.notice c.self.inside.owes c.self.invariant c.holds.ensures.given
+    let f = first-is g.D.Device.meaning g.S.Site.rows c.self.inside.unit c.self.inside.book c.self.inside.intake c.self.inside.back
+    c.self.inside.notice c.self.inside.owes c.self.invariant c.holds.ensures.given
     c.in-Some.value c.holds.ensures.legal c.in-Some.ensures.first in
     let back = c.self.inside.back in
-    let sends : c.send.new.self ≡ record { number = back.number; sent = slice_set back.sent c.in-Some.value.name.task (sent_to back c.in-Some.value.name.task ++ c.in-Some.value ∷ []) } =
+    let sends : c.send.new.self ≡ record {
+      number = back.number;
+      sent = slice_set back.sent c.in-Some.value.name.task (sent_to back c.in-Some.value.name.task ++ c.in-Some.value ∷ []);
+    } =
     c.in-Ok.ensures.sent
-    ∙ ap (λ (n : Name). record { number = back.number; sent = slice_set back.sent n.task (sent_to back n.task ++ c.new.result ∷ []) }) c.name-name.ensures
-    ∙ ap (λ (v : PostedState). record { number = back.number; sent = slice_set back.sent c.in-Some.value.name.task (sent_to back c.in-Some.value.name.task ++ v ∷ []) }) c.new.ensures in
-    unit-delivers g.D.Device.meaning g.S.Site.rows c.self.inside.unit c.self.inside.book c.self.inside.intake c.self.inside.back c.self.inside.notice c.self.inside.owes c.self.invariant c.holds.ensures.given
+    ∙ ap (λ (n : Name). record { number = back.number; sent = slice_set back.sent n.task (sent_to back n.task ++ c.new.result ∷ []) })
+    c.name-name.ensures
+    ∙ ap (λ (v : PostedState). record {
+      number = back.number;
+      sent = slice_set back.sent c.in-Some.value.name.task (sent_to back c.in-Some.value.name.task ++ v ∷ []);
+    }) c.new.ensures in
+    unit-delivers g.D.Device.meaning g.S.Site.rows c.self.inside.unit c.self.inside.book c.self.inside.intake c.self.inside.back
+    c.self.inside.notice c.self.inside.owes c.self.invariant c.holds.ensures.given
     c.take_out.new.self c.in-Some.value c.send.new.self c.in-Some.ensures.book c.in-Some.ensures.given f.0 sends
 
 pub returns-in-Ok : goal.returns-in-Ok
@@ -42,12 +53,19 @@ returns-in-Ok g c =
     let s = g.S.Site.rows in
     let value = c.in-Some.value in
     let is = c.self.view_is in
-    let f = first-is meaning s c.self.inside.unit c.self.inside.book c.self.inside.intake c.self.inside.back c.self.inside.notice c.self.inside.owes c.self.invariant c.holds.ensures.given
+    let f = first-is meaning s c.self.inside.unit c.self.inside.book c.self.inside.intake c.self.inside.back c.self.inside.notice
+    c.self.inside.owes c.self.invariant c.holds.ensures.given
     value c.holds.ensures.legal c.in-Some.ensures.first in
-    let first : IsFirst meaning s c.self.inside.book c.name-name.result value = record { first = sym c.in-Some.ensures.first; named = sym c.name-name.ensures; of_task = f.0 } in (
+    let first : IsFirst meaning s c.self.inside.book c.name-name.result value =
+    record { first = sym c.in-Some.ensures.first; named = sym c.name-name.ensures; of_task = f.0 } in (
       value,
       subst (λ (v : Locked _). IsFirst meaning s v.book c.name-name.result value) is first,
-      (λ i. record { unit = c.self.inside.unit; book = c.in-Some.ensures.book i; notified = c.self.inside.notice.sent; owes = c.self.inside.owes }) ∙ ap (λ (v : Locked _). record v { book = record v.book { out = drop 1 v.book.out } }) is,
+      (λ i. record {
+        unit = c.self.inside.unit;
+        book = c.in-Some.ensures.book i;
+        notified = c.self.inside.notice.sent;
+        owes = c.self.inside.owes;
+      }) ∙ ap (λ (v : Locked _). record v { book = record v.book { out = drop 1 v.book.out } }) is,
       c.in-Some.ensures.given ∙ ap (λ (v : Locked _). given meaning v.book ++ value ∷ []) is,
     )
 
@@ -58,14 +76,21 @@ returns-in-Err g c =
     let value = c.in-Some.value in
     let is = c.self.view_is in
     let inv = c.self.invariant in
-    let f = first-is meaning s c.self.inside.unit c.self.inside.book c.self.inside.intake c.self.inside.back c.self.inside.notice c.self.inside.owes inv c.holds.ensures.given
+    let f = first-is meaning s c.self.inside.unit c.self.inside.book c.self.inside.intake c.self.inside.back c.self.inside.notice
+    c.self.inside.owes inv c.holds.ensures.given
     value c.holds.ensures.legal c.in-Some.ensures.first in
-    let first : IsFirst meaning s c.self.inside.book c.name-name.result value = record { first = sym c.in-Some.ensures.first; named = sym c.name-name.ensures; of_task = f.0 } in
-    let full : WasFull unit_of NoFact (end_of (post_rows s) c.self.inside.unit value.name.task (of for_task value.name.task (given meaning c.self.inside.book))) =
-    subst (λ (q : ℕ × List PostedState). WasFull unit_of NoFact (end_of (post_rows s) q.0 value.name.task q.1)) (λ j. (inv.back_is j, inv.sent value.name.task f.0 j))
-    (subst (λ (n : Name). WasFull unit_of NoFact (end_of (post_rows s) c.self.inside.back.number n.task (sent_to c.self.inside.back n.task))) c.name-name.ensures c.in-Err.ensures.was_full) in (
+    let first : IsFirst meaning s c.self.inside.book c.name-name.result value =
+    record { first = sym c.in-Some.ensures.first; named = sym c.name-name.ensures; of_task = f.0 } in
+    let full : WasFull unit_of NoFact
+    (end_of (post_rows s) c.self.inside.unit value.name.task (of for_task value.name.task (given meaning c.self.inside.book))) =
+    subst (λ (q : ℕ × List PostedState). WasFull unit_of NoFact (end_of (post_rows s) q.0 value.name.task q.1))
+    (λ j. (inv.back_is j, inv.sent value.name.task f.0 j))
+    (subst (λ (n : Name). WasFull unit_of NoFact
+    (end_of (post_rows s) c.self.inside.back.number n.task (sent_to c.self.inside.back n.task))) c.name-name.ensures
+    c.in-Err.ensures.was_full) in (
       value,
       subst (λ (v : Locked _). IsFirst meaning s v.book c.name-name.result value) is first,
       (search rules),
-      subst (λ (v : Locked _). WasFull unit_of NoFact (end_of (post_rows s) v.unit value.name.task (of for_task value.name.task (given meaning v.book)))) is full,
+      subst (λ (v : Locked _). WasFull unit_of NoFact
+          (end_of (post_rows s) v.unit value.name.task (of for_task value.name.task (given meaning v.book)))) is full,
     )

@@ -8,5 +8,8 @@ pub invariant_of-self : goal.invariant_of-self
 invariant_of-self g c =
     let old = c.self.inside.book in
     let new = c.purge-answer.new.self in
-    unit-call g.D.Device.meaning g.S.Site.rows c.self.inside.unit old c.self.inside.intake c.self.inside.back c.self.inside.notice c.self.inside.owes c.self.invariant c.holds.ensures.given
-    c.purge-answer.result new c.self.inside.owes c.holds.ensures.legal c.holds.ensures.settled (done_and _ _ c.purge-answer.result c.purge-answer.ensures.ok c.purge-answer.ensures.opened) c.purge-answer.ensures.err (λ sound answer h. keeps-purge g.D.Device.meaning old new (Dcb c.args.dcb) c.args.mode answer sound h.1 h.0)
+    unit-call g.D.Device.meaning g.S.Site.rows c.self.inside.unit old c.self.inside.intake c.self.inside.back c.self.inside.notice
+    c.self.inside.owes c.self.invariant c.holds.ensures.given
+    c.purge-answer.result new c.self.inside.owes c.holds.ensures.legal c.holds.ensures.settled
+    (done_and _ _ c.purge-answer.result c.purge-answer.ensures.ok c.purge-answer.ensures.opened) c.purge-answer.ensures.err
+    (λ sound answer h. keeps-purge g.D.Device.meaning old new (Dcb c.args.dcb) c.args.mode answer sound h.1 h.0)

@@ -7,5 +7,8 @@ pub invariant_of-self : goal.invariant_of-self
 invariant_of-self g c =
     let old = c.self.inside.book in
     let new = c.purge_task-answer.new.self in
-    unit-call g.D.Device.meaning g.S.Site.rows c.self.inside.unit old c.self.inside.intake c.self.inside.back c.self.inside.notice c.self.inside.owes c.self.invariant c.holds.ensures.given
-    c.purge_task-answer.result new c.self.inside.owes c.holds.ensures.legal c.holds.ensures.settled c.purge_task-answer.ensures.ok c.purge_task-answer.ensures.err (λ sound answer h. keeps-purge g.D.Device.meaning old new (Task c.args.task) c.args.mode answer sound tt h)
+    unit-call g.D.Device.meaning g.S.Site.rows c.self.inside.unit old c.self.inside.intake c.self.inside.back c.self.inside.notice
+    c.self.inside.owes c.self.invariant c.holds.ensures.given
+    c.purge_task-answer.result new c.self.inside.owes c.holds.ensures.legal c.holds.ensures.settled c.purge_task-answer.ensures.ok
+    c.purge_task-answer.ensures.err
+    (λ sound answer h. keeps-purge g.D.Device.meaning old new (Task c.args.task) c.args.mode answer sound tt h)

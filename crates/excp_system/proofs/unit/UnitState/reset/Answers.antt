@@ -7,5 +7,8 @@ pub invariant_of-self : goal.invariant_of-self
 invariant_of-self g c =
     let old = c.self.inside.book in
     let new = c.reset.new.self in
-    unit-call g.D.Device.meaning g.S.Site.rows c.self.inside.unit old c.self.inside.intake c.self.inside.back c.self.inside.notice c.self.inside.owes c.self.invariant c.holds.ensures.given
-    c.reset.result new c.self.inside.owes c.holds.ensures.legal c.holds.ensures.settled (done_and _ _ c.reset.result c.reset.ensures.ok c.reset.ensures.opened) c.reset.ensures.err (λ sound answer h. keeps-reset g.D.Device.meaning old new c.args.dcb sound h.1 h.0)
+    unit-call g.D.Device.meaning g.S.Site.rows c.self.inside.unit old c.self.inside.intake c.self.inside.back c.self.inside.notice
+    c.self.inside.owes c.self.invariant c.holds.ensures.given
+    c.reset.result new c.self.inside.owes c.holds.ensures.legal c.holds.ensures.settled
+    (done_and _ _ c.reset.result c.reset.ensures.ok c.reset.ensures.opened) c.reset.ensures.err
+    (λ sound answer h. keeps-reset g.D.Device.meaning old new c.args.dcb sound h.1 h.0)

@@ -6,5 +6,7 @@ pub invariant_of-self-2 : goal.invariant_of-self-2
 invariant_of-self-2 g c =
     let old = c.self.inside.book in
     let new = c.run.new.self in
-    unit-call g.D.Device.meaning g.S.Site.rows c.self.inside.unit old c.self.inside.intake c.self.inside.back c.self.inside.notice c.self.inside.owes c.self.invariant c.holds.ensures.given
-    c.run.result new c.self.inside.owes c.holds.ensures.legal c.holds.ensures.settled c.run.ensures.ok c.run.ensures.err (λ sound answer h. keeps-run g.D.Device.meaning old new c.args.max answer sound c.requires h)
+    unit-call g.D.Device.meaning g.S.Site.rows c.self.inside.unit old c.self.inside.intake c.self.inside.back c.self.inside.notice
+    c.self.inside.owes c.self.invariant c.holds.ensures.given
+    c.run.result new c.self.inside.owes c.holds.ensures.legal c.holds.ensures.settled c.run.ensures.ok c.run.ensures.err
+    (λ sound answer h. keeps-run g.D.Device.meaning old new c.args.max answer sound c.requires h)

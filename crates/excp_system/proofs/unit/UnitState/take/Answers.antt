@@ -28,8 +28,10 @@ invariant_of-self-in-Some g c =
     ap (λ (t : Taking Piece). length (of task_of r.name.task t.taken)) is
     ∙ ap (λ (b : Book _). arrived_of r.name.task b.trace) (sym c.in_ok-reserve.ensures.book) in
     let number : r.name.seq ≡ arrived_of r.name.task mid.trace + 1 = omega (arith, next.lawful.0, counted) in
-    let kept = keeps-then meaning old mid new [] (r ∷ []) reserved (keeps-arrive meaning mid new r (sound-kept meaning old mid [] reserved) number c.arrive_reserved.ensures.book) in
-    unit-takes meaning s c.self.inside.unit old taker c.self.inside.back c.self.inside.notice c.self.inside.owes c.self.invariant c.holds.ensures.given new r c.take.new.self kept
+    let kept = keeps-then meaning old mid new [] (r ∷ []) reserved
+    (keeps-arrive meaning mid new r (sound-kept meaning old mid [] reserved) number c.arrive_reserved.ensures.book) in
+    unit-takes meaning s c.self.inside.unit old taker c.self.inside.back c.self.inside.notice c.self.inside.owes c.self.invariant
+    c.holds.ensures.given new r c.take.new.self kept
     (subst (λ n. r.name.task < n) (ap (λ (t : Taking Piece). t.senders) is) next.of_row)
     (next.lawful.1 ∙ ap (λ (t : Taking Piece). t.tag) is)
     (c.in-Some.ensures.taken ∙ ap (λ (x : Piece). record taker { taken = taker.taken ++ x ∷ [] }) (sym same))

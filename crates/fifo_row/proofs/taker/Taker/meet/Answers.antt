@@ -16,5 +16,8 @@ returns-clause-begins g c =
     let before = known c.self.inside.pass in
     let ended = c.into_pass.ensures.known in
     let taken = ap (λ t. t.taken) c.self.view_is in
-    let after_meeting = c.absorb.ensures.rule ∙ (λ i. taker_view before.tag before.made (taken i) (((ended i).number, (ended i).sent) ∷ before.met)) in
-    begins_as g.I.Item.from g.I.Item.fact (known c.absorb.new.pass) before.tag before.made c.args.self.now.taken ((c.args.sender.number, c.args.sender.sent) ∷ before.met) c.args.sender.number c.args.sender.sent after_meeting c.learn_as.ensures.rule (0, refl)
+    let after_meeting = c.absorb.ensures.rule
+    ∙ (λ i. taker_view before.tag before.made (taken i) (((ended i).number, (ended i).sent) ∷ before.met)) in
+    begins_as g.I.Item.from g.I.Item.fact (known c.absorb.new.pass) before.tag before.made c.args.self.now.taken
+    ((c.args.sender.number, c.args.sender.sent) ∷ before.met) c.args.sender.number c.args.sender.sent after_meeting
+    c.learn_as.ensures.rule (0, refl)

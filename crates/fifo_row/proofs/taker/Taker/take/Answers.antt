@@ -5,7 +5,8 @@ use Rattle.fifo_row.proofs.Fitting.{is_state}
 use Rattle.fifo_row.proofs.taker.Taker.take.Goals as goal
 
 pub pop_as-requires-clause-rule : goal.pop_as-requires-clause-rule
-pop_as-requires-clause-rule g c = (takes_as g.I.Item.from g.I.Item.fact _ _ _ _ c.self.invariant.1, is_state g.I.Item.from g.I.Item.fact _ _)
+pop_as-requires-clause-rule g c =
+    (takes_as g.I.Item.from g.I.Item.fact _ _ _ _ c.self.invariant.1, is_state g.I.Item.from g.I.Item.fact _ _)
 
 pub returns-in-None-clause-was_empty : goal.returns-in-None-clause-was_empty
 returns-in-None-clause-was_empty g c =

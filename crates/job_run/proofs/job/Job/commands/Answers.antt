@@ -16,10 +16,8 @@ command-requires-clause-request g c =
     subst CanBeDone (sym is) (All-get_or CanBeDone commands place command within c.args.self.now.requests_can_be_made)
 
 pub loop-place-init : goal.loop-place-init
-loop-place-init g c = record {
-  number = refl;
-  reached = begins c.args.client.now.number c.args.self.now.script.now.commands.items c.args.client.now.sent;
-}
+loop-place-init g c =
+    record { number = refl; reached = begins c.args.client.now.number c.args.self.now.script.now.commands.items c.args.client.now.sent }
 
 pub loop-place-preserved : goal.loop-place-preserved
 loop-place-preserved g c =
@@ -31,7 +29,8 @@ loop-place-preserved g c =
     let command = c.index-command.result.now in
     let number = c.loop-place.invariant.number in
     let done = rw c.in_default.is at c.command.ensures.sent in
-    let n = at_place task c.number.result commands old sent c.places_of-place-items.result.now i command c.places_of-place-items.ensures.value c.number.ensures
+    let n = at_place task c.number.result commands old sent c.places_of-place-items.result.now i command
+    c.places_of-place-items.ensures.value c.number.ensures
     c.loop-place-test.true c.loop-place.invariant.reached c.index-command.ensures in
     record {
       number = c.command.ensures.number ∙ number;
@@ -42,8 +41,10 @@ loop-place-preserved g c =
 pub returns : goal.returns
 returns g c = record {
   number = c.loop-place.invariant.number;
-  sent = ends c.args.client.now.number c.number.result c.args.self.now.script.now.commands.items c.args.client.now.sent c.loop-place.client.sent
-      c.places_of-place-items.result.now c.loop-place.place-index c.places_of-place-items.ensures.value c.number.ensures c.loop-place-test.false
+  sent = ends c.args.client.now.number c.number.result c.args.self.now.script.now.commands.items c.args.client.now.sent
+      c.loop-place.client.sent
+      c.places_of-place-items.result.now c.loop-place.place-index c.places_of-place-items.ensures.value c.number.ensures
+      c.loop-place-test.false
       c.loop-place.invariant.reached;
   stopped = tt;
 }
@@ -56,11 +57,13 @@ returns-in-Err g c =
     let i = c.loop-place.place-index in
     let sent = c.loop-place.client.sent in
     let command = c.index-command.result.now in
-    let n = at_place task c.number.result commands old sent c.places_of-place-items.result.now i command c.places_of-place-items.ensures.value c.number.ensures
+    let n = at_place task c.number.result commands old sent c.places_of-place-items.result.now i command
+    c.places_of-place-items.ensures.value c.number.ensures
     c.loop-place-test.true c.loop-place.invariant.reached c.index-command.ensures in
     record {
       number = c.command.ensures.number ∙ c.loop-place.invariant.number;
       sent = tt;
-      stopped = stops task commands old command (drop (i + 1) (places_of task commands)) sent c.command.new.client.sent c.in-Err.fault c.at.result n
+      stopped = stops task commands old command (drop (i + 1) (places_of task commands)) sent c.command.new.client.sent c.in-Err.fault
+          c.at.result n
           c.in-Err.ensures.unsent c.in-Err.ensures.fails c.at.ensures;
     }

@@ -8,7 +8,8 @@ abbrev pub invariant-loop : goal.invariant-loop
 invariant-loop g l = record {
   number : l.client.number ≡ l.fn.client.number;
   sent : l.client.sent ≡ l.fn.client.sent;
-  request : l.request ≡ request_of (next_name l.fn.client l.excp.dcb.unit) l.excp.dcb.unit l.excp.dcb.number l.excp.iob (arc_value l.excp.area);
+  request : l.request ≡ request_of (next_name l.fn.client l.excp.dcb.unit) l.excp.dcb.unit l.excp.dcb.number l.excp.iob
+      (arc_value l.excp.area);
   unit : l.request.unit < g.S.Site.rows.units;
   name : l.request.name ≡ next_name l.client l.request.unit;
 }

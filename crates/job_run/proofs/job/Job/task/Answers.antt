@@ -5,4 +5,5 @@ pub returns-in_err-lines-clause-stopped : goal.returns-in_err-lines-clause-stopp
 returns-in_err-lines-clause-stopped g c =
     let client = c.args.client.now in
     let commands = c.args.self.now.script.now.commands.items in
-    ends_full c.from_residual.result client.number commands client.sent client.sent c.from_residual.ensures.1 (sends_none client.number commands client.sent)
+    ends_full c.from_residual.result client.number commands client.sent client.sent c.from_residual.ensures.1
+    (sends_none client.number commands client.sent)

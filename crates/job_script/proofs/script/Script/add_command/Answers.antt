@@ -30,6 +30,7 @@ invariant_of-self-2 c =
     record {
       declared = rw is (pushed (NamesUnits (vec_len set_up.units)) commands command c.args.self.now.declared c.in_ok-names.ensures.units);
       of_tasks = rw is (pushed (λ x. x.task < set_up.tasks) commands command c.args.self.now.of_tasks c.in_ok-names.ensures.task);
-      grouped = rw is (grouped-more c.args.self.now.places.items c.add_place.new.lists.items commands command c.from.result c.len-place.result
+      grouped = rw is (grouped-more c.args.self.now.places.items c.add_place.new.lists.items commands command c.from.result
+          c.len-place.result
           c.from.ensures place c.args.self.now.grouped c.in_ok-add_place.ensures.added);
     }

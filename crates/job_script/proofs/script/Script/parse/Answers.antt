@@ -20,7 +20,8 @@ lines-preserved c =
     let is : option_copied c.lines.left ≡ Some text = rw c.in-Some.is refl in
     let size : bytes_left (option_copied c.lines.left) ≡ length text + 1 = rw is refl in
     record {
-      read = goes_on c.lines.number (said c.lines.script) (said c.numbered_line.new.self) (option_copied c.lines.left) (option_copied c.scan-after.result) text
+      read = goes_on c.lines.number (said c.lines.script) (said c.numbered_line.new.self) (option_copied c.lines.left)
+          (option_copied c.scan-after.result) text
           c.scan-after.new.self.line.now _ is c.scan-after.ensures.line c.in_default-numbered_line.ensures c.lines.invariant.read;
       few = omega (arith, size, c.scan-after.ensures.shorter, c.lines.invariant.few);
     }
@@ -36,7 +37,8 @@ pub returns-in-Err-clause-grammar : goal.returns-in-Err-clause-grammar
 returns-in-Err-clause-grammar c =
     let text = c.in-Some.text.now in
     let is : option_copied c.lines.left ≡ Some text = rw c.in-Some.is refl in
-    stops _ c.lines.number (said c.lines.script) (said c.numbered_line.new.self) (option_copied c.lines.left) (option_copied c.scan-after.result) text
+    stops _ c.lines.number (said c.lines.script) (said c.numbered_line.new.self) (option_copied c.lines.left)
+    (option_copied c.scan-after.result) text
     c.scan-after.new.self.line.now c.args.text.now is c.scan-after.ensures.line c.in-Err.ensures c.lines.invariant.read
 
 pub returns-then-lacks-clause-grammar : goal.returns-then-lacks-clause-grammar

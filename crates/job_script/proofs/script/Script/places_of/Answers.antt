@@ -15,7 +15,8 @@ value c =
     let list = c.index-places.result.now in
     let within : c.args.task < length lists = search rules in
     let is : list ≡ get_or lists c.args.task list = rw (sym c.from-task.ensures) c.index-places.ensures in
-    c.deref.ensures.value ∙ ap (λ (v : Vec ℕ). v.items) is ∙ sym (list_of-at lists c.args.task list within) ∙ c.args.self.now.grouped c.args.task
+    c.deref.ensures.value ∙ ap (λ (v : Vec ℕ). v.items) is ∙ sym (list_of-at lists c.args.task list within)
+    ∙ c.args.self.now.grouped c.args.task
 
 pub returns-clause-value : goal.returns-clause-value
 returns-clause-value c = value c

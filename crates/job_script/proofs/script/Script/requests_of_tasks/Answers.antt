@@ -49,15 +49,18 @@ loop-command-preserved c =
       | in-Excp w ↦
           let is : Contains commands item = subst (Contains commands) (sym at) (Contains-get_or commands index item within) in
           let task = c.args.self.now.of_tasks item is in
-          let few : w.from.result < length counts = omega (arith, task, c.args.self.now.set_up.few_tasks, w.from.ensures, c.loop-command.invariant.room) in
+          let few : w.from.result < length counts =
+          omega (arith, task, c.args.self.now.set_up.few_tasks, w.from.ensures, c.loop-command.invariant.room) in
           let tests : (k : ℕ) → issues_of k item ≡ (w.from.result == k) =
           λ k. ap (λ a. is_excp a && (item.task == k)) w.in-Excp.is ∙ ap (λ (n : ℕ). n == k) (sym w.from.ensures) in
           record {
             room = rw w.counts-is (search rules);
-            counted = counts_one counts c.match-command.counts issues_of commands index w.from.result item within at few all tests w.counts-is;
+            counted = counts_one counts c.match-command.counts issues_of commands index w.from.result item within at few all tests
+                w.counts-is;
           }
       | in_default w ↦ record {
         room = rw w.counts-is c.loop-command.invariant.room;
-        counted = counts_none counts c.match-command.counts issues_of commands index item within at all (λ k. ap (λ (b : Bool). b && (item.task == k)) (of_no_task item.action w.in_default.not-Excp)) w.counts-is;
+        counted = counts_none counts c.match-command.counts issues_of commands index item within at all
+            (λ k. ap (λ (b : Bool). b && (item.task == k)) (of_no_task item.action w.in_default.not-Excp)) w.counts-is;
       }
     ]

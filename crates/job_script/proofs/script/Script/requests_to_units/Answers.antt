@@ -49,14 +49,18 @@ loop-command-preserved c =
       | in-Excp w ↦
           let is : Contains commands item = subst (Contains commands) (sym at) (Contains-get_or commands index item within) in
           let unit = c.args.self.now.declared item is w.in-Excp.excp.dcb (ap named_dcb w.in-Excp.is) in
-          let few : w.from.result < length counts = omega (arith, unit, c.args.self.now.set_up.few_units, w.from.ensures, c.loop-command.invariant.room) in
-          let tests : (k : ℕ) → issues_to k item ≡ (w.from.result == k) = λ k. ap (excp_is_to k) w.in-Excp.is ∙ ap (λ (n : ℕ). n == k) (sym w.from.ensures) in
+          let few : w.from.result < length counts =
+          omega (arith, unit, c.args.self.now.set_up.few_units, w.from.ensures, c.loop-command.invariant.room) in
+          let tests : (k : ℕ) → issues_to k item ≡ (w.from.result == k) = λ k. ap (excp_is_to k) w.in-Excp.is
+          ∙ ap (λ (n : ℕ). n == k) (sym w.from.ensures) in
           record {
             room = rw w.counts-is (search rules);
-            counted = counts_one counts c.match-command.counts issues_to commands index w.from.result item within at few all tests w.counts-is;
+            counted = counts_one counts c.match-command.counts issues_to commands index w.from.result item within at few all tests
+                w.counts-is;
           }
       | in_default w ↦ record {
         room = rw w.counts-is c.loop-command.invariant.room;
-        counted = counts_none counts c.match-command.counts issues_to commands index item within at all (to_no_unit item.action w.in_default.not-Excp) w.counts-is;
+        counted = counts_none counts c.match-command.counts issues_to commands index item within at all
+            (to_no_unit item.action w.in_default.not-Excp) w.counts-is;
       }
     ]

@@ -7,12 +7,14 @@ use Rattle.job_script.proofs.set_up.SetUp.add_opening.Goals as goal
 
 pub returns-then-place-len-clause-adds : goal.returns-then-place-len-clause-adds
 returns-then-place-len-clause-adds c =
-    rw (unchanged (add_opening (opening_said c.args.opening)) (set_up_said c.args.self.now) c.args.self.now.units.items c.args.place refl (search rules))
+    rw (unchanged (add_opening (opening_said c.args.opening)) (set_up_said c.args.self.now) c.args.self.now.units.items c.args.place refl
+    (search rules))
     (ap (λ (n : FaultName). Err n) (sym c.no_unit.ensures))
 
 pub returns-clause-adds : goal.returns-clause-adds
 returns-clause-adds c =
-    changes _ (add_opening (opening_said c.args.opening)) (set_up_said c.args.self.now) c.args.self.now.units.items c.args.place c.index_mut-unit.result.now
+    changes _ (add_opening (opening_said c.args.opening)) (set_up_said c.args.self.now) c.args.self.now.units.items c.args.place
+    c.index_mut-unit.result.now
     c.add_opening.new.self refl (search rules) c.index_mut-unit.ensures.value c.add_opening.ensures.adds
 
 pub returns-clause-kept : goal.returns-clause-kept

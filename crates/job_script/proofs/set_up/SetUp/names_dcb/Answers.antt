@@ -8,7 +8,8 @@ use Rattle.job_script.proofs.set_up.SetUp.names_dcb.Goals as goal
 pub returns-then-unit-len-clause-read : goal.returns-then-unit-len-clause-read
 returns-then-unit-len-clause-read c =
     let past : length c.args.self.now.units.items ≤ c.args.dcb.unit = search rules in
-    dcb_past c.args.dcb (set_up_said c.args.self.now) c.args.self.now.units.items refl past ∙ ap (λ (n : FaultName). Err n) (sym c.no_unit.ensures)
+    dcb_past c.args.dcb (set_up_said c.args.self.now) c.args.self.now.units.items refl past
+    ∙ ap (λ (n : FaultName). Err n) (sym c.no_unit.ensures)
 
 pub returns-then-from-len-clause-read : goal.returns-then-from-len-clause-read
 returns-then-from-len-clause-read c =

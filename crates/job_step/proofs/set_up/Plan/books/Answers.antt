@@ -19,6 +19,12 @@ pub returns : goal.returns
 returns c =
     let books = c.loop-number.books.items in
     record {
-      count_is = omega (arith, c.loop-number.invariant.count, c.loop-number-test.false, c.deref-unit-items.ensures.len, c.loop-number.auto.number-end);
+      count_is = omega (
+        arith,
+        c.loop-number.invariant.count,
+        c.loop-number-test.false,
+        c.deref-unit-items.ensures.len,
+        c.loop-number.auto.number-end,
+      );
       opened = λ unit (b : Book AnyDevice) at. (all_get IsFresh books unit b c.loop-number.invariant.fresh at).opened;
     }

@@ -8,5 +8,6 @@ use Rattle.line_printer.proofs.printer.PrinterDevice.act.Goals as goal
 -- a command that meets a fault moves nothing
 pub returns-in-Some-clause-area : goal.returns-in-Some-clause-area
 returns-in-Some-clause-area c =
-    let met : fault_met c.args.self.now.ordinals ≡ Some c.in-Some.fault = ap (λ (p : PrinterState). fault_met p.ordinals) (sym c.self.view_is) ∙ sym c.count.ensures.fault ∙ c.in-Some.is in
+    let met : fault_met c.args.self.now.ordinals ≡ Some c.in-Some.fault =
+    ap (λ (p : PrinterState). fault_met p.ordinals) (sym c.self.view_is) ∙ sym c.count.ensures.fault ∙ c.in-Some.is in
     rw met (sym (received-nothing (flow_of (command_of c.args.command)) c.args.chain.now c.args.area.now))

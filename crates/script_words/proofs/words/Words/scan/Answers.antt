@@ -1,8 +1,10 @@
 use Rattle.std.proofs.Common.{◌≡◌, ◌<◌, ◌≤◌, ◌≢◌, get_or, length, arith}
 use Rattle.std.proofs.lemmas.Bool.{ne_eqb}
-use Rattle.script_words.proofs.Scans.{closed_line, after_space, after_byte, plain_byte, other_byte, plain_more, plain_less, line_goes_on, line_stops, line_is_last}
+use Rattle.script_words.proofs.Scans.{closed_line, after_space, after_byte, plain_byte, other_byte, plain_more, plain_less, line_goes_on}
+use Rattle.script_words.proofs.Scans.{line_stops, line_is_last}
 use Rattle.script_words.proofs.words.Words.scan.Goals as goal
-use Rattle.script_words.proofs.words.Words.scan.Goals.{in-32, in_default, else-byte-ge33-via-else-byte-ge33, else-byte-ge33-via-then-byte-ge33+else-byte-le126}
+use Rattle.script_words.proofs.words.Words.scan.Goals.{in-32, in_default, else-byte-ge33-via-else-byte-ge33}
+use Rattle.script_words.proofs.words.Words.scan.Goals.{else-byte-ge33-via-then-byte-ge33+else-byte-le126}
 
 pub invariant_of-self : goal.invariant_of-self
 invariant_of-self c =
@@ -16,7 +18,8 @@ invariant_of-self c =
 pub returns-in-10-clause-line : goal.returns-in-10-clause-line
 returns-in-10-clause-line c =
     rw c.split_at.ensures.front
-    (line_stops c.args.text.now c.split_at-in-10.result.1.now c.loop-place.place c.loop-place-test.true c.loop-place.invariant.line c.in-10.is
+    (line_stops c.args.text.now c.split_at-in-10.result.1.now c.loop-place.place c.loop-place-test.true c.loop-place.invariant.line
+    c.in-10.is
     c.split_at-in-10.ensures.back)
 
 pub returns-clause-line : goal.returns-clause-line

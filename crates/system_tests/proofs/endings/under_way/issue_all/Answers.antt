@@ -9,4 +9,5 @@ pub loop-preserved : goal.loop-preserved
 loop-preserved g c =
     let tasks = c.loop.tasks.items in
     let lt : 0 < length tasks = omega (arith, c.loop.invariant.count_is, c.requires.one) in
-    placed_set g.S.Site.rows.tasks tasks 0 c.index_mut-task.result.now c.issue.new.task lt c.index_mut-task.ensures.value c.issue.ensures c.loop.invariant
+    placed_set g.S.Site.rows.tasks tasks 0 c.index_mut-task.result.now c.issue.new.task lt c.index_mut-task.ensures.value c.issue.ensures
+    c.loop.invariant

@@ -9,4 +9,5 @@ pub returns : goal.returns
 returns g c =
     let tasks = c.args.tasks.items in
     let lt : 0 < length tasks = omega (arith, c.requires.tasks.count_is, c.requires.one) in
-    placed_set g.S.Site.rows.tasks tasks 0 c.index_mut-task.result.now c.exchange.new.task lt c.index_mut-task.ensures.value c.exchange.ensures c.requires.tasks
+    placed_set g.S.Site.rows.tasks tasks 0 c.index_mut-task.result.now c.exchange.new.task lt c.index_mut-task.ensures.value
+    c.exchange.ensures c.requires.tasks

@@ -8,7 +8,8 @@ use Rattle.system_threads.proofs.crew.ChannelWorker.new.Goals.{then-unit-count+i
 pub loop-unit-init : goal.loop-unit-init
 unfolding below
 loop-unit-init g c = record {
-  of_the_site = All-same (λ unit. unit < g.S.Site.rows.units) _ [] c.new-served.ensures.items (All-nil (λ unit. unit < g.S.Site.rows.units));
+  of_the_site = All-same (λ unit. unit < g.S.Site.rows.units) _ [] c.new-served.ensures.items
+      (All-nil (λ unit. unit < g.S.Site.rows.units));
   share = c.new-served.ensures.items;
 }
 
@@ -19,16 +20,20 @@ loop-unit-preserved g c =
       | then-unit-count+in_ok-push w ↦
           let here : unit < g.S.Site.rows.units = omega (arith, c.loop-unit-test.true, c.loop-unit.auto.unit-end, c.requires.units) in
           let is : unit % c.args.count ≡ c.args.number = search rules in
-          let grown : c.if-unit-count.served.items ≡ c.loop-unit.served.items ++ unit ∷ [] = ap (λ v. v.items) w.served-is ∙ w.in_ok-push.ensures.items in
+          let grown : c.if-unit-count.served.items ≡ c.loop-unit.served.items ++ unit ∷ [] =
+          ap (λ v. v.items) w.served-is ∙ w.in_ok-push.ensures.items in
           record {
-            of_the_site = All-same (λ n. n < g.S.Site.rows.units) c.if-unit-count.served.items (c.loop-unit.served.items ++ unit ∷ []) grown (All-push (λ n. n < g.S.Site.rows.units) c.loop-unit.served.items unit c.loop-unit.invariant.of_the_site here);
+            of_the_site = All-same (λ n. n < g.S.Site.rows.units) c.if-unit-count.served.items
+                (c.loop-unit.served.items ++ unit ∷ []) grown
+                (All-push (λ n. n < g.S.Site.rows.units) c.loop-unit.served.items unit c.loop-unit.invariant.of_the_site here);
             share = grown ∙ ap (λ l. l ++ unit ∷ []) c.loop-unit.invariant.share ∙ sym (share_next c.args.count c.args.number unit is);
           }
       | else-unit-count w ↦
           let is_not : unit % c.args.count ≢ c.args.number = search rules in
           let same : c.if-unit-count.served.items ≡ c.loop-unit.served.items = ap (λ v. v.items) w.served-is in
           record {
-            of_the_site = All-same (λ n. n < g.S.Site.rows.units) c.if-unit-count.served.items c.loop-unit.served.items same c.loop-unit.invariant.of_the_site;
+            of_the_site = All-same (λ n. n < g.S.Site.rows.units) c.if-unit-count.served.items c.loop-unit.served.items same
+                c.loop-unit.invariant.of_the_site;
             share = same ∙ c.loop-unit.invariant.share ∙ sym (share_stays c.args.count c.args.number unit is_not);
           }
     ]

@@ -19,4 +19,9 @@ returns-then-is_mark c =
 pub returns : goal.returns
 returns c =
     let ahead = drop c.args.place c.args.self.now.items in
-    record { blocks = sym (no_mark ahead c.loop-passed.passed (omega (arith, length-drop c.args.place c.args.self.now.items, c.len.ensures)) c.loop-passed.invariant); within = tt }
+    record {
+      blocks = sym
+          (no_mark ahead c.loop-passed.passed (omega (arith, length-drop c.args.place c.args.self.now.items, c.len.ensures))
+          c.loop-passed.invariant);
+      within = tt;
+    }

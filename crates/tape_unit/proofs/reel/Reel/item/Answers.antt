@@ -12,5 +12,6 @@ pub returns : goal.returns
 unfolding item_at
 returns c =
     let x = item_of c.args.self.now.items c.args.place in
-    let e : c.new.result ≡ x = c.new.ensures ∙ ap item_with c.first_content.ensures ∙ item_at-begins on_tape reads c.from.result.now x c.from.ensures in
+    let e : c.new.result ≡ x = c.new.ensures ∙ ap item_with c.first_content.ensures
+    ∙ item_at-begins on_tape reads c.from.result.now x c.from.ensures in
     record { item = e; short = subst (λ (y : Item). length (content_of y) ≤ 65_535) (sym e) (short x c.from.ensures.fits) }

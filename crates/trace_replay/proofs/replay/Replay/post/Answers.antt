@@ -17,17 +17,21 @@ invariant_of-self g c =
     elim c.match-self.branch [
       | in-Some+then-eq+in-Some-1 w ↦
           let t = subst (λ x. ReplayTies m i.book.now.mounted entries i.done i.ran i.device x) w.in-Some.is c.self.invariant in
-          rw (w.self-inside-is, next) (posted-active m i.book.now.mounted entries i.done i.ran c.args.name i.device l entry w.in-Some.attempt
+          rw (w.self-inside-is, next)
+          (posted-active m i.book.now.mounted entries i.done i.ran c.args.name i.device l entry w.in-Some.attempt
           (sym w.name.ensures ∙ same-true w.name.result c.args.name (sym w.eq.ensures ∙ w.if-eq.true)) t)
       | in-Some+then-eq+in-None-1 w ↦
           let t = subst (λ x. ReplayTies m i.book.now.mounted entries i.done i.ran i.device x) w.in-Some.is c.self.invariant in
-          rw (w.self-inside-is, next) (posted-active m i.book.now.mounted entries i.done i.ran c.args.name i.device l entry w.in-Some.attempt
+          rw (w.self-inside-is, next)
+          (posted-active m i.book.now.mounted entries i.done i.ran c.args.name i.device l entry w.in-Some.attempt
           (sym w.name.ensures ∙ same-true w.name.result c.args.name (sym w.eq.ensures ∙ w.if-eq.true)) t)
       | in-Some+else-eq w ↦
           let t = subst (λ x. ReplayTies m i.book.now.mounted entries i.done i.ran i.device x) w.in-Some.is c.self.invariant in
-          rw (w.self-inside-is, next, w.in-Some.is) (posted-other m i.book.now.mounted entries i.done i.ran c.args.name i.device l entry w.in-Some.attempt
+          rw (w.self-inside-is, next, w.in-Some.is)
+          (posted-other m i.book.now.mounted entries i.done i.ran c.args.name i.device l entry w.in-Some.attempt
           (λ e. no_both w.eq.result (w.eq.ensures ∙ same-is w.name.result c.args.name (w.name.ensures ∙ e)) w.if-eq.false) t)
       | in_default w ↦
           let t = subst (λ x. ReplayTies m i.book.now.mounted entries i.done i.ran i.device x) w.in_default.is c.self.invariant in
-          rw (w.self-inside-is, next, w.in_default.is) (posted-none m i.book.now.mounted entries i.done i.ran c.args.name i.device l entry t)
+          rw (w.self-inside-is, next, w.in_default.is)
+          (posted-none m i.book.now.mounted entries i.done i.ran c.args.name i.device l entry t)
     ]

@@ -12,7 +12,8 @@ arrival_of-place-requires g c =
     let i = c.self.inside in
     let l = legal-reversed m i.book.now.mounted i.book.now.trace (rw (← c.self.view_is) at c.requires.legal) in
     let here = rw (← c.self.view_is) at c.requires.entry in
-    let t = subst (λ x. ReplayTies m i.book.now.mounted (reverse i.book.now.trace) i.done i.ran i.device x) (sym c.take.ensures.value ∙ c.in-None.is) c.self.invariant in
+    let t = subst (λ x. ReplayTies m i.book.now.mounted (reverse i.book.now.trace) i.done i.ran i.device x)
+    (sym c.take.ensures.value ∙ c.in-None.is) c.self.invariant in
     let e : c.trace.result.now ≡ reverse i.book.now.trace = sym (reverse-reverse c.trace.result.now) ∙ ap reverse c.trace.ensures in
     rw e (start-arrived m i.book.now.mounted (reverse i.book.now.trace) i.done i.ran c.args.name i.device l here t)
 
@@ -24,18 +25,26 @@ prefix-requires g c =
     let here = rw (← c.self.view_is) at c.requires.entry in
     elim c.match-take.branch [
       | in-Some w ↦
-          let t = subst (λ x. ReplayTies m i.book.now.mounted (reverse i.book.now.trace) i.done i.ran i.device x) (sym c.take.ensures.value ∙ w.in-Some.is) c.self.invariant in
-          let b = begins-again m i.book.now.mounted (reverse i.book.now.trace) i.done i.ran c.args.name i.device l here _ c.match-take.attempt t (w.attempt-is ∙ w.again-attempt.ensures) in
-          rw (c.seek.ensures, w.self-inside-is) (begun-seeks m i.book.now.mounted (reverse i.book.now.trace) i.done i.ran c.args.name i.device l here g.met.D.Device.lawful t c.match-take.attempt b)
+          let t = subst (λ x. ReplayTies m i.book.now.mounted (reverse i.book.now.trace) i.done i.ran i.device x)
+          (sym c.take.ensures.value ∙ w.in-Some.is) c.self.invariant in
+          let b = begins-again m i.book.now.mounted (reverse i.book.now.trace) i.done i.ran c.args.name i.device l here _
+          c.match-take.attempt t (w.attempt-is ∙ w.again-attempt.ensures) in
+          rw (c.seek.ensures, w.self-inside-is)
+          (begun-seeks m i.book.now.mounted (reverse i.book.now.trace) i.done i.ran c.args.name i.device l here g.met.D.Device.lawful t
+          c.match-take.attempt b)
       | in-None+in_ok-attempt-in-None w ↦
-          let t = subst (λ x. ReplayTies m i.book.now.mounted (reverse i.book.now.trace) i.done i.ran i.device x) (sym c.take.ensures.value ∙ w.in-None.is) c.self.invariant in
+          let t = subst (λ x. ReplayTies m i.book.now.mounted (reverse i.book.now.trace) i.done i.ran i.device x)
+          (sym c.take.ensures.value ∙ w.in-None.is) c.self.invariant in
           let e : w.trace.result.now ≡ reverse i.book.now.trace = sym (reverse-reverse w.trace.result.now) ∙ ap reverse w.trace.ensures in
           let a = w.arrival_of-place.ensures in
           let k = w.in_ok-attempt-in-None.ensures in
           let at = subst (λ x. ArrivesAt (take i.done x) c.args.name a.0 w.arrival_of-place.result.1.now) e a.1 in
-          let b = begins-first m i.book.now.mounted (reverse i.book.now.trace) i.done i.ran c.args.name i.device l here c.match-take.attempt a.0 t
+          let b = begins-first m i.book.now.mounted (reverse i.book.now.trace) i.done i.ran c.args.name i.device l here
+          c.match-take.attempt a.0 t
           (rw (w.attempt-is, k.issued) at) (rw (w.attempt-is, k.issued) k.area) (rw (w.attempt-is, k.issued) k.context) in
-          rw (c.seek.ensures, w.self-inside-is) (begun-seeks m i.book.now.mounted (reverse i.book.now.trace) i.done i.ran c.args.name i.device l here g.met.D.Device.lawful t c.match-take.attempt b)
+          rw (c.seek.ensures, w.self-inside-is)
+          (begun-seeks m i.book.now.mounted (reverse i.book.now.trace) i.done i.ran c.args.name i.device l here g.met.D.Device.lawful t
+          c.match-take.attempt b)
     ]
 
 pub invariant_of-self-2 : goal.invariant_of-self-2
@@ -48,18 +57,26 @@ invariant_of-self-2 g c =
     let twice = reverse-reverse i.book.now.trace in
     elim c.match-take.branch [
       | in-Some w ↦
-          let t = subst (λ x. ReplayTies m i.book.now.mounted (reverse i.book.now.trace) i.done i.ran i.device x) (sym c.take.ensures.value ∙ w.in-Some.is) c.self.invariant in
-          let b = begins-again m i.book.now.mounted (reverse i.book.now.trace) i.done i.ran c.args.name i.device l here _ c.match-take.attempt t (w.attempt-is ∙ w.again-attempt.ensures) in
-          rw (w.self-inside-is, next) (begun m i.book.now.mounted (reverse i.book.now.trace) i.done i.ran c.args.name i.device l here t c.match-take.attempt b
-          c.mask-mask.result (rw (twice, ← c.dcb.ensures) (rw w.self-inside-is at c.mask-mask.ensures)) c.prefix.new.self (rw (← c.seek.ensures) (rw w.self-inside-is at c.prefix.ensures)))
+          let t = subst (λ x. ReplayTies m i.book.now.mounted (reverse i.book.now.trace) i.done i.ran i.device x)
+          (sym c.take.ensures.value ∙ w.in-Some.is) c.self.invariant in
+          let b = begins-again m i.book.now.mounted (reverse i.book.now.trace) i.done i.ran c.args.name i.device l here _
+          c.match-take.attempt t (w.attempt-is ∙ w.again-attempt.ensures) in
+          rw (w.self-inside-is, next)
+          (begun m i.book.now.mounted (reverse i.book.now.trace) i.done i.ran c.args.name i.device l here t c.match-take.attempt b
+          c.mask-mask.result (rw (twice, ← c.dcb.ensures) (rw w.self-inside-is at c.mask-mask.ensures)) c.prefix.new.self
+          (rw (← c.seek.ensures) (rw w.self-inside-is at c.prefix.ensures)))
       | in-None+in_ok-attempt-in-None w ↦
-          let t = subst (λ x. ReplayTies m i.book.now.mounted (reverse i.book.now.trace) i.done i.ran i.device x) (sym c.take.ensures.value ∙ w.in-None.is) c.self.invariant in
+          let t = subst (λ x. ReplayTies m i.book.now.mounted (reverse i.book.now.trace) i.done i.ran i.device x)
+          (sym c.take.ensures.value ∙ w.in-None.is) c.self.invariant in
           let e : w.trace.result.now ≡ reverse i.book.now.trace = sym (reverse-reverse w.trace.result.now) ∙ ap reverse w.trace.ensures in
           let a = w.arrival_of-place.ensures in
           let k = w.in_ok-attempt-in-None.ensures in
           let at = subst (λ x. ArrivesAt (take i.done x) c.args.name a.0 w.arrival_of-place.result.1.now) e a.1 in
-          let b = begins-first m i.book.now.mounted (reverse i.book.now.trace) i.done i.ran c.args.name i.device l here c.match-take.attempt a.0 t
+          let b = begins-first m i.book.now.mounted (reverse i.book.now.trace) i.done i.ran c.args.name i.device l here
+          c.match-take.attempt a.0 t
           (rw (w.attempt-is, k.issued) at) (rw (w.attempt-is, k.issued) k.area) (rw (w.attempt-is, k.issued) k.context) in
-          rw (w.self-inside-is, next) (begun m i.book.now.mounted (reverse i.book.now.trace) i.done i.ran c.args.name i.device l here t c.match-take.attempt b
-          c.mask-mask.result (rw (twice, ← c.dcb.ensures) (rw w.self-inside-is at c.mask-mask.ensures)) c.prefix.new.self (rw (← c.seek.ensures) (rw w.self-inside-is at c.prefix.ensures)))
+          rw (w.self-inside-is, next)
+          (begun m i.book.now.mounted (reverse i.book.now.trace) i.done i.ran c.args.name i.device l here t c.match-take.attempt b
+          c.mask-mask.result (rw (twice, ← c.dcb.ensures) (rw w.self-inside-is at c.mask-mask.ensures)) c.prefix.new.self
+          (rw (← c.seek.ensures) (rw w.self-inside-is at c.prefix.ensures)))
     ]

@@ -1,4 +1,4 @@
-use Rattle.unit_book.proofs.Names.{sym, refl, ◌∙◌}
+use Rattle.unit_book.proofs.Names.{sym}
 use Rattle.unit_book.proofs.Calls.{pending-arrive}
 use Rattle.unit_book.proofs.book.UnitBook.arrive_reserved.Goals as goal
 
@@ -18,7 +18,8 @@ returns-then-refused-clause-pending g c =
     let book = rw request_is at c.refuse.ensures.book in
     let next = rw (← c.self.view_is) at c.requires.number in
     rw (← c.self.view_is)
-    (pending-arrive g.D.Device.meaning c.self.inside.entries c.refuse.new.self c.args.request c.holds.ensures.legal c.self.invariant next book)
+    (pending-arrive g.D.Device.meaning c.self.inside.entries c.args.request
+    (record { legal = c.holds.ensures.legal; settled = c.self.invariant }) next book)
 
 pub returns-else-refused-clause-pending : goal.returns-else-refused-clause-pending
 returns-else-refused-clause-pending g c =
@@ -26,4 +27,5 @@ returns-else-refused-clause-pending g c =
     let book = rw request_is at c.arrive.ensures.book in
     let next = rw (← c.self.view_is) at c.requires.number in
     rw (← c.self.view_is)
-    (pending-arrive g.D.Device.meaning c.self.inside.entries c.arrive.new.self c.args.request c.holds.ensures.legal c.self.invariant next book)
+    (pending-arrive g.D.Device.meaning c.self.inside.entries c.args.request
+    (record { legal = c.holds.ensures.legal; settled = c.self.invariant }) next book)

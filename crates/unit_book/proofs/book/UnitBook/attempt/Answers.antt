@@ -3,11 +3,17 @@ use Rattle.unit_book.specs.declared.answer.Starting.TheVariants.{Idle}
 use Rattle.unit_book.specs.Settle.{Stays, Then, ByStart, ByRun, ByInterrupt}
 use Rattle.unit_book.proofs.Lists.{no_both}
 use Rattle.unit_book.proofs.Settling.{nearer}
+use Rattle.unit_book.proofs.Same.{on-err}
+use Rattle.unit_book.specs.Refusals.{AtStart}
 use Rattle.unit_book.proofs.book.UnitBook.attempt.Goals as goal
 use Rattle.unit_book.proofs.book.UnitBook.attempt.Goals.{in-Idle, in_default}
 
 pub returns-in_err-start-clause-steps : goal.returns-in_err-start-clause-steps
 returns-in_err-start-clause-steps g c = let e = c.in_err-start.ensures.err in rw e Stays
+
+pub returns-in_err-start-clause-full : goal.returns-in_err-start-clause-full
+returns-in_err-start-clause-full g c =
+    let e = c.in_err-start.ensures.err in on-err c.from_residual.result _ (rw e (AtStart c.in_err-start.ensures.full))
 
 pub returns-then-matches-clause-steps : goal.returns-then-matches-clause-steps
 returns-then-matches-clause-steps g c = Then Stays (ByStart c.in_ok-start.field-0 c.in_ok-start.ensures.ok)
@@ -34,6 +40,15 @@ returns-clause-ok g c =
       | in-Idle w ↦ no_both c.match-matches.matches w.matches-is c.if-matches.false
       | in_default w ↦ w.in_default.not-Idle
     ] in
-    nearer g.D.Device.meaning c.args.self.now c.start.new.self c.run.new.self c.interrupt.new.self c.in_ok-start.field-0 c.in_ok-run.field-0
-    c.in_ok-interrupt.field-0 k c.in_ok-start.ensures.ok
-    c.in_ok-run.ensures.ok c.holds.ensures.legal c.in_ok-interrupt.ensures.ok
+    nearer g.D.Device.meaning c.args.self.now c.interrupt.new.self (record {
+      mid = c.start.new.self;
+      ran = c.run.new.self;
+      starting = c.in_ok-start.field-0;
+      running = c.in_ok-run.field-0;
+      ending = c.in_ok-interrupt.field-0;
+      found = k;
+      started_as = c.in_ok-start.ensures.ok;
+      ran_as = c.in_ok-run.ensures.ok;
+      legal = c.holds.ensures.legal;
+      ended_as = c.in_ok-interrupt.ensures.ok;
+    })

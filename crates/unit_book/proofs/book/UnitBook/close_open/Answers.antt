@@ -9,7 +9,7 @@ returns-clause-ok g c =
     let r = c.in_ok-reserve_posts.ensures.book in
     let a = rw r at c.close.ensures.book in
     rw (← c.self.view_is)
-    (add-then-sweep m old c.close.new.self c.sweep.new.self (Close c.args.dcb ∷ old.trace)
+    (add-then-sweep m old (Close c.args.dcb ∷ old.trace)
     (posted-close m old.mounted c.args.dcb old.trace) a c.sweep.ensures.book)
 
 pub returns-clause-pending : goal.returns-clause-pending

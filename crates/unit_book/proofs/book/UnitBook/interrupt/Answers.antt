@@ -1,4 +1,4 @@
-use Rattle.unit_book.proofs.Names.{refl, subst, WasPosted}
+use Rattle.unit_book.proofs.Names.{subst, WasPosted}
 use Rattle.unit_book.specs.declared.decision.Taken.{Taken}
 use Rattle.unit_book.specs.Answers.{Takes, TakesByPost}
 use Rattle.unit_book.specs.Book.{is_pending}
@@ -15,22 +15,24 @@ taken g c =
     subst (λ (x : Taken). Takes g.D.Device.meaning c.self.inside.entries x c.take_status.new.self) c.in-Posted.is
     c.in_ok-take_status.ensures.ok
 
+pub sweep-requires-clause-spare : goal.sweep-requires-clause-spare
+sweep-requires-clause-spare g c = (taken g (goal.at.sweep-requires-clause-spare g c).In-Posted).1.posts.room
+
+pub sweep-requires-clause-doomed : goal.sweep-requires-clause-doomed
+sweep-requires-clause-doomed g c = (taken g (goal.at.sweep-requires-clause-doomed g c).In-Posted).1.posts.dooms
+
 pub sweep-requires-clause-due : goal.sweep-requires-clause-due
 sweep-requires-clause-due g c =
-    let old = c.self.inside.entries in
-    let k = (taken g (goal.at.sweep-requires-clause-due g c).In-Posted).1 in
-    let new = c.take_status.new.self in
-    sweep-due g.D.Device.meaning old old new new c.in-Posted.name k.csw k.sense c.in-Posted.code k.extends
+    sweep-due g.D.Device.meaning (taken g (goal.at.sweep-requires-clause-due g c).In-Posted).1.posts
 
 pub returns-in-Posted-clause-ok : goal.returns-in-Posted-clause-ok
 returns-in-Posted-clause-ok g c =
-    let m = g.D.Device.meaning in
-    let old = c.self.inside.entries in
     let t = taken g (goal.at.returns-in-Posted-clause-ok g c).In-Posted in
     let k = t.1 in
-    let swept = post-then-sweep m old old c.take_status.new.self c.sweep.new.self c.in-Posted.name k.csw k.sense c.in-Posted.code
-    refl k.extends c.sweep.ensures.book in
-    rw (← c.self.view_is) (t.0, record { csw = k.csw; sense = k.sense; fits = k.fits; extends = swept })
+    rw (← c.self.view_is) (
+      t.0,
+      record { status = k.status; fits = k.fits; extends = post-then-sweep g.D.Device.meaning k.posts c.sweep.ensures.book },
+    )
 
 pub returns-in-Posted-clause-taken : goal.returns-in-Posted-clause-taken
 returns-in-Posted-clause-taken g c =

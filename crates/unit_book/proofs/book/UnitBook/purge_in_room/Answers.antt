@@ -14,6 +14,6 @@ returns g c =
     let old = c.self.inside.entries in
     let same = c.purge_awaiting.ensures.uncovered c.if-purge_awaiting.false in
     let b = sym c.purge_awaiting.ensures.covered ∙ c.if-purge_awaiting.false in
-    let p = add-then-sweep m old c.purge.new.self c.sweep.new.self (after_halt m old.mounted (Purge c.args.scope c.args.mode ∷ old.trace))
+    let p = add-then-sweep m old (after_halt m old.mounted (Purge c.args.scope c.args.mode ∷ old.trace))
     (posted-halt m old.mounted c.args.scope c.args.mode old.trace) (rw same at c.purge.ensures.book) c.sweep.ensures.book in
     rw (← c.self.view_is) (rw b p)

@@ -1,6 +1,7 @@
-use Rattle.unit_book.proofs.Names.{refl, subst, ExtentViolated, no_status, Started, Violated}
+use Rattle.unit_book.proofs.Names.{subst, ExtentViolated, empty_status, Started, Violated}
 use Rattle.unit_book.specs.declared.decision.Begun.{Begun}
-use Rattle.unit_book.specs.Answers.{IsBegun, PostsViolated, MayStart, StartsOne}
+use Rattle.unit_book.specs.Answers.{IsBegun, PostsOne, MayStart, StartsOne}
+use Rattle.unit_book.specs.Legal.{FailsCheck}
 use Rattle.unit_book.proofs.Dooms.{settled-start}
 use Rattle.unit_book.proofs.Calls.{post-then-sweep, sweep-due, pending-start}
 use Rattle.unit_book.proofs.book.UnitBook.start.Given.{Over}
@@ -14,8 +15,8 @@ started g c =
     subst (λ (x : Begun). IsBegun g.D.Device.meaning c.self.inside.entries x c.start.new.self) c.in-Started.is c.in_ok-start.ensures.ok
 
 -- or the request that waited first was posted
-violated : (g : Over) (c : In-Violated g) →
-    PostsViolated g.D.Device.meaning c.self.inside.entries c.in-Violated.name c.in-Violated.doom c.start.new.self
+violated : (g : Over) (c : In-Violated g) → let m = g.D.Device.meaning in let old = c.self.inside.entries in let n = c.in-Violated.name in
+    FailsCheck m old.mounted n old.trace × PostsOne m old n empty_status ExtentViolated c.in-Violated.doom c.start.new.self
 violated g c =
     subst (λ (x : Begun). IsBegun g.D.Device.meaning c.self.inside.entries x c.start.new.self) c.in-Violated.is c.in_ok-start.ensures.ok
 
@@ -25,12 +26,15 @@ invariant_of-self-in-Started g c =
     let e = (started g (goal.at.invariant_of-self-in-Started g c).In-Started).1 in
     rw e (settled-start g.D.Device.meaning old.mounted c.in-Started.name old.trace c.self.invariant)
 
+pub sweep-requires-clause-spare : goal.sweep-requires-clause-spare
+sweep-requires-clause-spare g c = (violated g (goal.at.sweep-requires-clause-spare g c).In-Violated).1.room
+
+pub sweep-requires-clause-doomed : goal.sweep-requires-clause-doomed
+sweep-requires-clause-doomed g c = (violated g (goal.at.sweep-requires-clause-doomed g c).In-Violated).1.dooms
+
 pub sweep-requires-clause-due : goal.sweep-requires-clause-due
 sweep-requires-clause-due g c =
-    let old = c.self.inside.entries in
-    let new = c.start.new.self in
-    sweep-due g.D.Device.meaning old old new new c.in-Violated.name no_status 0 ExtentViolated
-    (violated g (goal.at.sweep-requires-clause-due g c).In-Violated).extends
+    sweep-due g.D.Device.meaning (violated g (goal.at.sweep-requires-clause-due g c).In-Violated).1
 
 pub returns-in-Started-clause-pending : goal.returns-in-Started-clause-pending
 returns-in-Started-clause-pending g c =
@@ -39,13 +43,8 @@ returns-in-Started-clause-pending g c =
 
 pub returns-in-Violated-clause-ok : goal.returns-in-Violated-clause-ok
 returns-in-Violated-clause-ok g c =
-    let old = c.self.inside.entries in
     let k = violated g (goal.at.returns-in-Violated-clause-ok g c).In-Violated in
-    rw (← c.self.view_is) (
-      k.fits,
-      post-then-sweep g.D.Device.meaning old old c.start.new.self c.sweep.new.self c.in-Violated.name no_status 0 ExtentViolated refl k.extends
-          c.sweep.ensures.book,
-    )
+    rw (← c.self.view_is) (k.0, post-then-sweep g.D.Device.meaning k.1 c.sweep.ensures.book)
 
 pub returns-in-Violated-clause-pending : goal.returns-in-Violated-clause-pending
 returns-in-Violated-clause-pending g c =

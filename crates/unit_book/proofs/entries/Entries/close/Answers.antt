@@ -6,11 +6,9 @@ use Rattle.unit_book.proofs.entries.Entries.close.Goals as goal
 
 pub invariant_of-self : goal.invariant_of-self
 invariant_of-self g c =
-    let m = g.D.Device.meaning in
-    let i = c.self.inside in
     let settled = rw (← c.self.view_is) at c.requires.settled in
     let can = rw (← c.self.view_is) at c.requires.can in
-    let k = ties-close m i.mounted settled can c.self.invariant.0 c.close.ensures.dcbs c.close.ensures.count in
+    let k = ties-close settled can c.self.invariant.0 c.close.ensures.dcbs c.close.ensures.count in
     let w = c.write.ensures.items in
     (rw w k, c.self.invariant.1)
 
@@ -27,18 +25,17 @@ returns-clause-dooms g c =
     let i = c.self.inside in
     let settled = rw (← c.self.view_is) at c.requires.settled in
     let w = c.write.ensures.items in
-    rw w (doomed-close m i.mounted c.args.dcb (reverse i.trace.items) (due-doomed m i.mounted (reverse i.trace.items) settled))
+    rw w (doomed-close c.args.dcb (reverse i.trace.items) (due-doomed m i.mounted (reverse i.trace.items) settled))
 
 pub returns-clause-few : goal.returns-clause-few
 returns-clause-few g c =
-    let m = g.D.Device.meaning in
     let i = c.self.inside in
     let w = c.write.ensures.items in
-    rw (← c.self.view_is) (rw w (doomed-close_few m i.mounted c.args.dcb (reverse i.trace.items)))
+    rw (← c.self.view_is) (rw w (doomed-close_few c.args.dcb (reverse i.trace.items)))
 
 pub close-requires : goal.close-requires
 close-requires g c =
     let i = c.self.inside in
     let t = c.self.invariant.0 in
     let can = rw (← c.self.view_is) at c.requires.can in
-    open-row g.D.Device.meaning i.mounted c.args.dcb (reverse i.trace.items) i.dcbs t.legal t.count can
+    open-row g.D.Device.meaning i.mounted c.args.dcb t can

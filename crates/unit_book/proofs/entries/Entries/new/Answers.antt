@@ -9,9 +9,9 @@ invariant_of-result g c =
     let waiting_is = c.in-Ok.ensures.waiting in
     let swept_is = c.in-Ok.ensures.swept in
     let out_is = c.in-Ok.ensures.out in
-    let channel_is = c.new-in-Ok.ensures in
-    let dcbs_is = c.new-in-Ok-2.ensures in
-    let trace_is = ap reverse c.new-in-Ok-3.ensures.items in (
+    let channel_is = c.new-channel.ensures in
+    let dcbs_is = c.new-dcbs.ensures in
+    let trace_is = ap reverse c.new-trace.ensures.items in (
       rw (mounted_is, waiting_is, out_is, trace_is, channel_is, dcbs_is) (ties-new m c.args.device c.args.isc),
       rw (waiting_is, swept_is, out_is) (record { occupancy = omega arith; waiting_room = refl; swept_is = refl }),
     )

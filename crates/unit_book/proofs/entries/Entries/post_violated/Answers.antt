@@ -1,6 +1,6 @@
 use Rattle.unit_book.proofs.Names.{◌≡◌, ◌∷◌, [], Some, List, length, reverse, arith, refl, sym, ap, subst, ◌∙◌, length-append, slice_get}
 use Rattle.unit_book.proofs.Names.{ExtentViolated, no_status, Name, Piece, Post, OfFirst, doomed_by_post, waiting}
-use Rattle.unit_book.specs.Answers.{Violated}
+use Rattle.unit_book.specs.Refusals.{ForPost}
 use Rattle.unit_book.specs.Legal.{FailsCheck}
 use Rattle.unit_book.proofs.Dooms.{doomed-post, doomed-few, due-doomed}
 use Rattle.unit_book.proofs.LegalFacts.{facts, first-waits}
@@ -35,7 +35,7 @@ returns-in_err-reserve-clause-full g c =
     let count = c.len.ensures.len in
     let queue = ap length c.self.invariant.0.queue in
     on-err c.from_residual.result _
-    (rw (← c.self.view_is) (record { next = Violated s.0; is = s.1; room = omega (arith, full, count, queue) }))
+    (rw (← c.self.view_is) (ForPost s.0 s.1 (omega (arith, full, count, queue))))
 
 pub note_post-requires : goal.note_post-requires
 note_post-requires g c =
@@ -46,8 +46,8 @@ note_post-requires g c =
     let t = c.self.invariant.0 in
     let settled = rw (← c.self.view_is) at c.requires.settled in
     let opened = first-opened m i.mounted b (reverse i.trace.items) settled f.1 in
-    let piece_is = c.deref-3.ensures in
-    rw piece_is (opened-row m i.mounted b.dcb (reverse i.trace.items) i.dcbs t.legal t.count opened)
+    let piece_is = c.deref-request.ensures in
+    rw piece_is (opened-row m i.mounted b.dcb t opened)
 
 pub invariant_of-self-2 : goal.invariant_of-self-2
 invariant_of-self-2 g c =
@@ -59,19 +59,18 @@ invariant_of-self-2 g c =
     let settled = rw (← c.self.view_is) at c.requires.settled in
     let fits = fits-free m i.mounted (Post b.name no_status 0 ExtentViolated) (reverse i.trace.items) settled
     (OfFirst (record { fails = f.0; code_is = refl; csw_is = refl; sense_is = refl })) in
-    let noted_is = c.deref-3.ensures in
+    let noted_is = c.deref-request.ensures in
     let noted = rw noted_is at c.note_post.ensures.dcbs in
-    let k = ties-first_post m i.mounted b no_status 0 ExtentViolated t fits f.1 noted c.note_post.ensures.count in
-    let n = c.deref.ensures in
-    let w = c.write.ensures.items in
+    let k = ties-first_post t fits f.1 noted c.note_post.ensures.count in
+    let n = c.deref-request.ensures in
+    let w = c.write_post.ensures.items in
     let r = c.reserve.ensures.items in
-    let y = c.empty.ensures in
-    let x = c.empty-2.ensures in
+    let y = c.empty-status.ensures in
     let q = c.hand_out.ensures in
     let v = c.posted_from.ensures in
     let h = c.pop.ensures.rest in
     let count = ap length (first-rest i.waiting.pieces b f.2) in (
-      rw (w, r, n, y, h, q, v, x) k,
+      rw (w, r, n, h, q, v, y) k,
       record {
         occupancy = rw (h, q) (omega (arith, length-append i.out.items (c.posted_from.result ∷ []), c.self.invariant.1.occupancy, count));
         waiting_room = rw (h, q) c.self.invariant.1.waiting_room;
@@ -88,27 +87,29 @@ returns-clause-ok g c =
     let f = found g (goal.at.returns-clause-ok g c).In-Some in
     let t = c.self.invariant.0 in
     let settled = rw (← c.self.view_is) at c.requires.settled in
-    let value = waiting-value m i.mounted b no_status 0 ExtentViolated t 0 f.1 in
+    let value = waiting-value t f.1 in
     let none = (none-in_field m i.mounted H i.channel.phase i.active f.0.none t.activity).1 in
-    let issued = (first-waits m i.mounted b H (facts m i.mounted H t.legal) f.1).known.0 in
-    let dooms = doomed-post m i.mounted b.name no_status 0 ExtentViolated H (due-doomed m i.mounted H settled) in
-    let few = doomed-few m i.mounted b.name no_status 0 ExtentViolated H in
-    let n = c.deref.ensures in
-    let w = c.write.ensures.items in
+    let issued = (first-waits b H (facts m i.mounted H t.legal) f.1).known.0 in
+    let dooms = doomed-post b.name no_status 0 ExtentViolated H (due-doomed m i.mounted H settled) in
+    let few = doomed-few b.name no_status 0 ExtentViolated H in
+    let n = c.deref-request.ensures in
+    let w = c.write_post.ensures.items in
     let r = c.reserve.ensures.items in
-    let y = c.empty.ensures in
-    let x = c.empty-2.ensures in
+    let y = c.empty-status.ensures in
     let q = c.hand_out.ensures in
     let v = c.posted_from.ensures in
-    let doom_is = c.doomed_by_post-doom.ensures ∙ ap (λ (x : Piece). doomed_by_post x ExtentViolated) (c.deref-2.ensures ∙ sym issued) in
+    let doom_is = c.doomed_by_post-doom.ensures ∙ ap (λ (x : Piece). doomed_by_post x ExtentViolated) (c.deref-request.ensures
+    ∙ sym issued) in
     let ok = c.in_ok-reserve.ensures.ok in
     let len = c.in_ok-reserve.ensures.len in
-    let spare = c.write.ensures.spare in
+    let spare = c.write_post.ensures.spare in
     let count = c.len.ensures.len in
     let queue = ap length t.queue in
-    rw (← c.self.view_is, n) (record {
-      fits = f.0;
-      extends = rw (w, r, n, y, q, v, x, value, none) refl;
-      room = rw (w, r, n, y) (omega arith);
-      dooms = rw (w, r, n, y, doom_is) dooms;
-    })
+    rw (← c.self.view_is, n) (
+      f.0,
+      record {
+        extends = rw (w, r, n, q, v, y, value, none) refl;
+        room = rw (w, r, n, y) (omega arith);
+        dooms = rw (w, r, n, y, doom_is) dooms;
+      },
+    )

@@ -1,4 +1,5 @@
-use Rattle.unit_book.proofs.Names.{◌≡◌, ◌∷◌, Some, None, reverse, arith, refl, sym, ap, subst, ◌∙◌, is_some, Name, ToHalt, due, doomed, Purge, Halted}
+use Rattle.unit_book.proofs.Names.{◌≡◌, ◌∷◌, Some, None, reverse, arith, refl, sym, ap, subst, ◌∙◌, is_some, Name, ToHalt, due, doomed}
+use Rattle.unit_book.proofs.Names.{Purge, Halted}
 use Rattle.unit_book.proofs.Names.{DoomedBy, halted_by, after_halt, running_name_by, active}
 use Rattle.unit_queue.specs.declared.selection.Selection.TheVariants as selection
 use Rattle.unit_book.specs.Controls.{due_after}
@@ -18,16 +19,15 @@ dooms g c =
     let m = g.D.Device.meaning in
     let i = c.self.inside in
     let settled = rw (← c.self.view_is) at c.requires.settled in
-    doomed-purge m i.mounted c.args.scope c.args.mode (reverse i.trace.items) (due-doomed m i.mounted (reverse i.trace.items) settled)
+    doomed-purge c.args.scope c.args.mode (reverse i.trace.items) (due-doomed m i.mounted (reverse i.trace.items) settled)
 
 pub invariant_of-self : goal.invariant_of-self
 invariant_of-self g c =
-    let m = g.D.Device.meaning in
     let i = c.self.inside in
     let settled = rw (← c.self.view_is) at c.requires.settled in
     let can = rw (← c.self.view_is) at c.requires.can in
     let o : i.active ≡ None = sym c.take.ensures.value ∙ c.in_default.is in
-    let k = ties-purge_none m i.mounted c.args.scope c.args.mode settled can (ties-found o c.self.invariant.0) in
+    let k = ties-purge_none c.args.scope c.args.mode settled can (ties-found o c.self.invariant.0) in
     let w = c.write.ensures.items in
     let z = c.take.ensures.after in
     let room = rooms-found o c.self.invariant.1 in
@@ -52,19 +52,18 @@ returns-in_default g c =
       spare = rw (← c.self.view_is) (omega (arith, spare));
       due = rw w d;
       dooms = rw w (dooms g (goal.at.returns-in_default g c).After-take);
-      few = rw (← c.self.view_is, w) (doomed-purge_few m i.mounted c.args.scope c.args.mode H);
+      few = rw (← c.self.view_is, w) (doomed-purge_few c.args.scope c.args.mode H);
     }
 
 pub invariant_of-self-in_default-halted : goal.invariant_of-self-in_default-halted
 invariant_of-self-in_default-halted g c =
-    let m = g.D.Device.meaning in
     let i = c.self.inside in
     let settled = rw (← c.self.view_is) at c.requires.settled in
     let can = rw (← c.self.view_is) at c.requires.can in
     let uncovered = rw (← c.self.view_is) at c.requires.uncovered in
     let o : i.active ≡ Some c.in-Some.active = sym c.take.ensures.value ∙ c.in-Some.is in
     let u = rw o at uncovered in
-    let k = ties-purge m i.mounted c.args.scope c.args.mode settled can u (ties-found o c.self.invariant.0) in
+    let k = ties-purge c.args.scope c.args.mode settled can u (ties-found o c.self.invariant.0) in
     let w = c.write.ensures.items in
     let v = c.purged-active.ensures in
     let room = rooms-found o c.self.invariant.1 in
@@ -78,7 +77,7 @@ pub returns-in_default-halted-clause-few : goal.returns-in_default-halted-clause
 returns-in_default-halted-clause-few g c =
     let i = c.self.inside in
     let w = c.write.ensures.items in
-    rw (← c.self.view_is, w) (doomed-purge_few g.D.Device.meaning i.mounted c.args.scope c.args.mode (reverse i.trace.items))
+    rw (← c.self.view_is, w) (doomed-purge_few c.args.scope c.args.mode (reverse i.trace.items))
 
 pub invariant_of-self-2 : goal.invariant_of-self-2
 invariant_of-self-2 g c =
@@ -91,23 +90,25 @@ invariant_of-self-2 g c =
     let halts = rw (← c.self.view_is) at c.to_halt-halted.ensures in
     let o : i.active ≡ Some c.in-Some.active = sym c.take.ensures.value ∙ c.in-Some.is in
     let u = rw o at uncovered in
-    let k = ties-purge m i.mounted c.args.scope c.args.mode settled can u (ties-found o c.self.invariant.0) in
+    let k = ties-purge c.args.scope c.args.mode settled can u (ties-found o c.self.invariant.0) in
     let d : due m i.mounted P ≡ ToHalt c.in-Some-halted.name = halts ∙ ap (λ x. due_after x (doomed P)) c.in-Some-halted.is in
     let n = name-found ((due-halt m i.mounted P c.in-Some-halted.name d).0) k in
     let h = ties-halt m i.mounted (subst (λ (x : Name). due m i.mounted P ≡ ToHalt x) n d) k in
     let w = c.write.ensures.items in
-    let w2 = c.write-2.ensures.items in
-    let s = c.hsch.ensures.state in
+    let w2 = c.halt.ensures.items in
+    let s = c.halt.ensures.state in
     let v = c.purged-active.ensures in
     let x = c.once_halted.ensures in
-    let room = rooms-found o c.self.invariant.1 in
-    (rw (w2, w, s, x, v, n) h, rw (x, v) (record { occupancy = room.occupancy; waiting_room = room.waiting_room; swept_is = room.swept_is }))
+    let room = rooms-found o c.self.invariant.1 in (
+      rw (w2, w, s, x, v, n) h,
+      rw (x, v) (record { occupancy = room.occupancy; waiting_room = room.waiting_room; swept_is = room.swept_is }),
+    )
 
 pub returns-clause-due : goal.returns-clause-due
 returns-clause-due g c =
     let i = c.self.inside in
     let w = c.write.ensures.items in
-    let w2 = c.write-2.ensures.items in
+    let w2 = c.halt.ensures.items in
     rw (w2, w) (due-no_halt g.D.Device.meaning i.mounted (Halted c.in-Some-halted.name ∷ Purge c.args.scope c.args.mode
     ∷ reverse i.trace.items) (λ n a. refl))
 
@@ -115,13 +116,14 @@ pub returns-clause-dooms : goal.returns-clause-dooms
 returns-clause-dooms g c =
     let i = c.self.inside in
     let w = c.write.ensures.items in
-    let w2 = c.write-2.ensures.items in
-    rw (w2, w) (dooms-halted g.D.Device.meaning i.mounted c.in-Some-halted.name c.args.scope c.args.mode (reverse i.trace.items)
+    let w2 = c.halt.ensures.items in
+    rw (w2, w) (dooms-halted c.in-Some-halted.name c.args.scope c.args.mode (reverse i.trace.items)
     (dooms g (goal.at.returns-clause-dooms g c).After-take))
 
 pub returns-clause-few : goal.returns-clause-few
 returns-clause-few g c =
     let i = c.self.inside in
     let w = c.write.ensures.items in
-    let w2 = c.write-2.ensures.items in
-    rw (← c.self.view_is, w2, w) (doomed-halted_few g.D.Device.meaning i.mounted c.in-Some-halted.name c.args.scope c.args.mode (reverse i.trace.items))
+    let w2 = c.halt.ensures.items in
+    rw (← c.self.view_is, w2, w)
+    (doomed-halted_few c.in-Some-halted.name c.args.scope c.args.mode (reverse i.trace.items))

@@ -2,9 +2,9 @@ use Rattle.unit_book.proofs.Names.{◌≡◌, ◌++◌, [], ◌∷◌, Some, len
 use Rattle.unit_book.proofs.Names.{true, Ties, PostsActive, and_parts, ◌&&◌, is_halt, awaits_by, covers_awaiting}
 use Rattle.unit_book.proofs.Names.{subst, Purged, filter, Queue, queue, Placed, covers, purged}
 use Rattle.unit_book.proofs.Names.{posted_value}
-use Rattle.unit_book.specs.Fields.{kept_by}
+use Rattle.unit_book.specs.Fields.{kept_by, fields_of}
 use Rattle.unit_book.proofs.Facts.{Each-filter}
-use Rattle.unit_book.proofs.Posting.{length-map}
+use Rattle.std.proofs.lemmas.List.{length-map}
 use Rattle.unit_book.proofs.Dooms.{length-filters}
 use Rattle.unit_book.proofs.Awaiting.{ties-awaiting, settled-awaiting, since-awaiting, after-is, fits-purged, FoundAwaiting}
 use Rattle.unit_book.proofs.Controls.{awaiting-is}
@@ -27,8 +27,8 @@ post_all-requires g c =
       placed = rw sw (Each-filter Placed p i.waiting.pieces c.self.invariant.0.placed);
     }
 
-pub write-requires-2 : goal.write-requires-2
-write-requires-2 g c =
+pub write_post-requires : goal.write_post-requires
+write_post-requires g c =
     let i = c.self.inside in
     let p = covers c.args.scope in
     let spare = rw (← c.self.view_is) at c.requires.spare in
@@ -60,16 +60,15 @@ hand_out-requires g c =
       room.occupancy,
       length-filters p i.waiting.pieces,
       length-append i.out.items (map purged (filter p i.waiting.pieces)),
-      length-map (filter p i.waiting.pieces),
+      length-map (filter p i.waiting.pieces) purged,
     ))
 
 -- what was found: the active request awaits its restart, and the purge covers it
 found : (g : Over) (c : After-is_covered_awaiting g) → let i = c.self.inside in let m = g.D.Device.meaning in
     c.is_covered_awaiting.result ≡ true → (i.active ≡ Some c.in-Some.active)
-    × Ties m i.mounted (reverse i.trace.items) i.channel (Some c.in-Some.active) i.waiting.pieces i.dcbs i.out.items
+    × Ties m i.mounted (fields_of (reverse i.trace.items) i.channel i.waiting.pieces i.dcbs i.out.items) (Some c.in-Some.active)
     × FoundAwaiting m i.mounted (reverse i.trace.items) c.in-Some.active c.args.scope c.args.mode
 found g c covered =
-    let m = g.D.Device.meaning in
     let i = c.self.inside in
     let o : i.active ≡ Some c.in-Some.active = sym c.take.ensures.value ∙ c.in-Some.is in
     let both = and_parts (is_halt c.args.mode && awaits_by c.in-Some.active.standing) (covers c.args.scope c.in-Some.active.piece.value)
@@ -99,8 +98,8 @@ invariant_of-self-2 g c =
     let out_is = rw items_is at c.post_all.ensures.out in
     let kept = c.sweep.ensures.kept in
     let w = c.write.ensures.items in
-    let w2 = c.write-2.ensures.items in
-    let st = c.kept_status-sense.ensures in
+    let w2 = c.write_post.ensures.items in
+    let st = c.kept_status-kept.ensures in
     let nm = c.name-name.ensures in
     let q = c.hand_out.ensures in
     let v = c.posted_from.ensures in
@@ -114,7 +113,7 @@ invariant_of-self-2 g c =
           room.occupancy,
           few,
           length-append i.out.items purges,
-          length-map (filter p i.waiting.pieces),
+          length-map (filter p i.waiting.pieces) purged,
           length-append (i.out.items ++ purges) (c.posted_from.result ∷ []),
         ));
         waiting_room = rw (kept, q, out_is) room.waiting_room;
@@ -131,26 +130,24 @@ returns-clause-book g c =
     let fits = fits-purged m i.mounted f.1 f.2 in
     let since = since-awaiting m i.mounted f.1 f.2 in
     let after = after-is m i.mounted f.1 f.2 in
-    let csw = (kept_by a.standing).0 in
-    let sense = (kept_by a.standing).1 in
+    let status = kept_by a.standing in
     let sw = swept-found c.sweep.ensures.swept c.self.invariant.1.swept_is in
     let items_is = ap (λ (x : Queue). x.pieces) sw in
     let trace_is = rw items_is at c.post_all.ensures.trace in
     let out_is = rw items_is at c.post_all.ensures.out in
     let w = c.write.ensures.items in
-    let w2 = c.write-2.ensures.items in
-    let st = c.kept_status-sense.ensures in
+    let w2 = c.write_post.ensures.items in
+    let st = c.kept_status-kept.ensures in
     let nm = c.name-name.ensures in
     let q = c.hand_out.ensures in
     let v = c.posted_from.ensures in
     let z = c.take.ensures.after in
-    let value = posted_value a.piece.value csw sense Purged a.piece.value.area in
+    let value = posted_value a.piece.value status.csw status.sense Purged a.piece.value.area in
     let joined = append_assoc i.out.items (map purged (filter (covers c.args.scope) i.waiting.pieces)) (value ∷ []) in
     rw (← c.self.view_is) (λ is. record {
       name = a.piece.value.name;
-      csw = csw;
-      sense = sense;
-      fits = subst (PostsActive m i.mounted a.piece.value.name csw sense Purged) (sym after) fits;
+      status = status;
+      fits = subst (PostsActive m i.mounted a.piece.value.name status Purged) (sym after) fits;
       extends = rw after (rw since (rw (w2, trace_is, w, q, out_is, v, st, nm, z, joined) refl));
     })
 
@@ -161,8 +158,8 @@ returns-clause-settled g c =
     let items_is = ap (λ (x : Queue). x.pieces) sw in
     let trace_is = rw items_is at c.post_all.ensures.trace in
     let w = c.write.ensures.items in
-    let w2 = c.write-2.ensures.items in
-    let st = c.kept_status-sense.ensures in
+    let w2 = c.write_post.ensures.items in
+    let st = c.kept_status-kept.ensures in
     let nm = c.name-name.ensures in
     rw (w2, trace_is, w, st, nm) (settled-awaiting g.D.Device.meaning c.self.inside.mounted f.1 f.2)
 
@@ -182,4 +179,5 @@ returns-clause-covered g c =
 
 pub returns-then-not-is_covered_awaiting-clause-covered : goal.returns-then-not-is_covered_awaiting-clause-covered
 returns-then-not-is_covered_awaiting-clause-covered g c =
-    sym c.if-not-is_covered_awaiting.true ∙ told g (goal.at.returns-then-not-is_covered_awaiting-clause-covered g c).After-is_covered_awaiting
+    sym c.if-not-is_covered_awaiting.true
+    ∙ told g (goal.at.returns-then-not-is_covered_awaiting-clause-covered g c).After-is_covered_awaiting

@@ -12,7 +12,7 @@ invariant_of-self g c =
     let refused = rw (← c.self.view_is) at c.requires.refused in
     let room = rw (← c.self.view_is) at c.requires.room in
     let t = c.self.invariant.0 in
-    let k = ties-refused m i.mounted fits c.requires.placed settled refused t in
+    let k = ties-refused fits c.requires.placed settled refused t in
     let r = room-of m i.mounted t room in
     let w = c.write.ensures.items in
     let p = c.post_purged.ensures.trace in
@@ -30,15 +30,13 @@ invariant_of-self g c =
 
 pub returns : goal.returns
 returns g c =
-    let m = g.D.Device.meaning in
-    let i = c.self.inside in
     let fits = rw (← c.self.view_is) at c.requires.fits in
     let settled = rw (← c.self.view_is) at c.requires.settled in
     let refused = rw (← c.self.view_is) at c.requires.refused in
     let t = c.self.invariant.0 in
-    let after = after-refusal m i.mounted fits c.requires.placed settled refused t in
-    let since = since-refused m i.mounted fits c.requires.placed settled refused t in
-    let k = settled-refused m i.mounted fits c.requires.placed settled refused t in
+    let after = after-refusal fits c.requires.placed settled refused t in
+    let since = since-refused fits c.requires.placed settled refused t in
+    let k = settled-refused fits c.requires.placed settled refused t in
     let w = c.write.ensures.items in
     let p = c.post_purged.ensures.trace in
     let q = c.post_purged.ensures.out in

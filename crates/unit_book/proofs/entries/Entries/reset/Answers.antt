@@ -5,11 +5,9 @@ use Rattle.unit_book.proofs.entries.Entries.reset.Goals as goal
 
 pub invariant_of-self : goal.invariant_of-self
 invariant_of-self g c =
-    let m = g.D.Device.meaning in
-    let i = c.self.inside in
     let settled = rw (← c.self.view_is) at c.requires.settled in
     let can = rw (← c.self.view_is) at c.requires.can in
-    let k = ties-reset m i.mounted settled can c.self.invariant.0 c.reset.ensures.dcbs c.reset.ensures.count in
+    let k = ties-reset settled can c.self.invariant.0 c.reset.ensures.dcbs c.reset.ensures.count in
     let w = c.write.ensures.items in
     (rw w k, c.self.invariant.1)
 
@@ -26,4 +24,4 @@ reset-requires g c =
     let i = c.self.inside in
     let t = c.self.invariant.0 in
     let can = rw (← c.self.view_is) at c.requires.can in
-    open-row g.D.Device.meaning i.mounted c.args.dcb (reverse i.trace.items) i.dcbs t.legal t.count can
+    open-row g.D.Device.meaning i.mounted c.args.dcb t can

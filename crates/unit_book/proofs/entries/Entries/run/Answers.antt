@@ -6,13 +6,14 @@ use Rattle.unit_book.proofs.Runs.{Bursts, ties-ran, told, runs-quiet}
 use Rattle.unit_book.proofs.Same.{ties-found, rooms-found}
 use Rattle.unit_book.proofs.entries.Entries.run.Given.{Over}
 use Rattle.unit_book.proofs.entries.Entries.run.Goals.{In-Some-run, In_default-run, After-run}
-use Rattle.unit_book.specs.Fields.{with_area}
+use Rattle.unit_book.specs.Fields.{with_area, fields_of}
 use Rattle.unit_book.proofs.entries.Entries.run.Goals as goal
 
 -- what was found: the active request
 found : (g : Over) (c : After-run g) → let i = c.self.inside in
     (i.active ≡ Some c.in-Some.active)
-    × Ties g.D.Device.meaning i.mounted (reverse i.trace.items) i.channel (Some c.in-Some.active) i.waiting.pieces i.dcbs i.out.items
+    × Ties g.D.Device.meaning i.mounted (fields_of (reverse i.trace.items) i.channel i.waiting.pieces i.dcbs i.out.items)
+    (Some c.in-Some.active)
 found g c =
     let o : c.self.inside.active ≡ Some c.in-Some.active = sym c.take.ensures.value ∙ c.in-Some.is in
     (o, ties-found o c.self.invariant.0)
@@ -70,8 +71,9 @@ invariant_of-self-2 g c =
     let s = c.run.ensures.same in
     let room = rooms-found f.0 c.self.invariant.1 in
     let n = c.name.ensures ∙ ap (λ (x : Active). x.piece.value.name) s in
-    let whole = subst (λ (x : Active). Ties m i.mounted (reverse c.write.new.trace.items) c.run.new.channel (Some x)
-    i.waiting.pieces i.dcbs i.out.items) (sym s) (rw (e, n) k) in
+    let whole = subst (λ (x : Active). Ties m i.mounted
+    (fields_of (reverse c.write.new.trace.items) c.run.new.channel i.waiting.pieces i.dcbs i.out.items) (Some x)) (sym s)
+    (rw (e, n) k) in
     (whole, record { occupancy = room.occupancy; waiting_room = room.waiting_room; swept_is = room.swept_is })
 
 pub returns : goal.returns

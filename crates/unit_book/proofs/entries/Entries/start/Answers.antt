@@ -1,6 +1,6 @@
 use Rattle.unit_book.proofs.Names.{◌≡◌, true, Some, reverse, arith, sym, ap, ◌∙◌, Piece, ssch_started, awaits_by, MayAgain}
-use Rattle.unit_book.specs.Answers.{Again}
-use Rattle.unit_book.specs.Fields.{awaits_of}
+use Rattle.unit_book.specs.Refusals.{ForStart}
+use Rattle.unit_book.specs.Fields.{awaits_of, fields_of}
 use Rattle.std.proofs.Common.{rules}
 use Rattle.unit_book.proofs.Restarts.{FoundAgain, may-restart, restart-fits, ties-restart}
 use Rattle.unit_book.proofs.Same.{ties-found, rooms-found}
@@ -10,7 +10,8 @@ use Rattle.unit_book.proofs.entries.Entries.start.Goals as goal
 
 -- what was found: the active request awaits its restart
 found : (g : Over) (c : After-awaits g) → let i = c.self.inside in let a = c.in-Some.active in c.awaits.result ≡ true →
-    (i.active ≡ Some a) × FoundAgain g.D.Device.meaning i.mounted (reverse i.trace.items) i.channel a i.waiting.pieces i.dcbs i.out.items
+    (i.active ≡ Some a) × FoundAgain g.D.Device.meaning i.mounted
+    (fields_of (reverse i.trace.items) i.channel i.waiting.pieces i.dcbs i.out.items) a
     × (awaits_of i.active ≡ true)
 found g c again =
     let o : c.self.inside.active ≡ Some c.in-Some.active = sym c.take.ensures.value ∙ c.in-Some.is in
@@ -24,16 +25,13 @@ pub returns-in-Err-clause-full : goal.returns-in-Err-clause-full
 returns-in-Err-clause-full g c =
     let f = found g (goal.at.returns-in-Err-clause-full g c).After-awaits c.if-not-awaits.false in
     let full = c.in-Err.ensures.full in
-    rw (← c.self.view_is) (record {
-      next = Again c.in-Some.active.piece.value.name;
-      is = (f.2, may-restart g.D.Device.meaning c.self.inside.mounted f.1);
-      room = omega (arith, full);
-    })
+    rw (← c.self.view_is) (ForStart c.in-Some.active.piece.value.name
+    (MayAgain f.2 (may-restart g.D.Device.meaning c.self.inside.mounted f.1)) (omega (arith, full)))
 
 pub launch-requires : goal.launch-requires
 launch-requires g c =
     let f = found g (goal.at.launch-requires g c).After-awaits c.if-not-awaits.false in
-    let piece_is = c.deref-2.ensures in
+    let piece_is = c.deref-request.ensures in
     rw piece_is (restart-fits g.D.Device.meaning c.self.inside.mounted f.1 g.met.D.Device.lawful)
 
 pub invariant_of-self-2 : goal.invariant_of-self-2
@@ -41,13 +39,13 @@ invariant_of-self-2 g c =
     let m = g.D.Device.meaning in
     let i = c.self.inside in
     let f = found g (goal.at.invariant_of-self-2 g c).After-awaits c.if-not-awaits.false in
-    let dcb_is = ap (λ (x : Piece). x.dcb) c.deref.ensures in
+    let dcb_is = ap (λ (x : Piece). x.dcb) c.deref-request.ensures in
     let k = ties-restart m i.mounted f.1 (rw dcb_is at c.mask-mask.ensures) in
     let w = c.write.ensures.items in
     let r = c.reserve.ensures.items in
     let n = c.name-name.ensures in
     let l = c.launch.ensures
-    ∙ ap (λ (x : Piece). ssch_started m i.channel x.start x.seek c.mask-mask.result i.channel.phase) c.deref-2.ensures in
+    ∙ ap (λ (x : Piece). ssch_started m i.channel x.start x.seek c.mask-mask.result i.channel.phase) c.deref-request.ensures in
     let v = c.restarted.ensures in
     let room = rooms-found f.0 c.self.invariant.1 in
     (rw (w, r, n, l, v) k, record { occupancy = room.occupancy; waiting_room = room.waiting_room; swept_is = room.swept_is })

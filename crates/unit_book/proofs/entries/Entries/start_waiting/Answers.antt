@@ -1,6 +1,6 @@
-use Rattle.unit_book.proofs.Names.{◌≡◌, Some, length, reverse, arith, refl, sym, ap, ◌∙◌, slice_get, waiting, StartsFirst}
+use Rattle.unit_book.proofs.Names.{◌≡◌, Some, length, reverse, arith, refl, sym, ap, ◌∙◌, slice_get, waiting, StartsFirst, MayFirst}
 use Rattle.std.specs.Option.{option_copied}
-use Rattle.unit_book.specs.Answers.{First}
+use Rattle.unit_book.specs.Refusals.{ForStart}
 use Rattle.unit_book.specs.Legal.{passes}
 use Rattle.unit_book.proofs.Seeks.{first-fits, fits-device}
 use Rattle.unit_book.proofs.Starts.{no-first, first-told, ties-first, none-in_field}
@@ -26,7 +26,7 @@ returns-in_default-clause-ok g c =
     let i = c.self.inside in
     let z = sym c.front.ensures ∙ ap option_copied c.in_default.is in
     let none = rw (← c.self.view_is) at c.requires.none in
-    rw (← c.self.view_is) (none, sym c.self.invariant.0.queue ∙ no-first g.D.Device.meaning i.mounted i.waiting.pieces z, refl)
+    rw (← c.self.view_is) (none, sym c.self.invariant.0.queue ∙ no-first i.waiting.pieces z, refl)
 
 pub post_violated-requires-clause-first : goal.post_violated-requires-clause-first
 post_violated-requires-clause-first g c =
@@ -42,11 +42,9 @@ returns-in_err-reserve-clause-full g c =
     let none = rw (← c.self.view_is) at c.requires.none in
     let full = c.in_err-reserve.ensures.full in
     let r = c.in-Some.piece.now in
-    on-err c.from_residual.result _ (rw (← c.self.view_is) (record {
-      next = First r.name;
-      is = record { none = none; request = r; first = f.0; name = refl; passes = f.1 ∙ c.if-not-passes_check.false };
-      room = omega (arith, full);
-    }))
+    on-err c.from_residual.result _ (rw (← c.self.view_is) (ForStart r.name
+    (MayFirst (record { none = none; request = r; first = f.0; name = refl; passes = f.1 ∙ c.if-not-passes_check.false }))
+    (omega (arith, full))))
 
 pub launch-requires : goal.launch-requires
 launch-requires g c =
@@ -55,7 +53,11 @@ launch-requires g c =
     let f = found g (goal.at.launch-requires g c).After-passes_check in
     let t = c.self.invariant.0 in
     let settled = rw (← c.self.view_is) at c.requires.settled in
-    let fits = first-fits m i.mounted c.in-Some.piece.now (reverse i.trace.items) t.legal settled f.0 (f.1 ∙ c.if-not-passes_check.false) in
+    let none = rw (← c.self.view_is) at c.requires.none in
+    let r = c.in-Some.piece.now in
+    let starts : StartsFirst m i.mounted r.name (reverse i.trace.items) =
+    record { none = none; request = r; first = f.0; name = refl; passes = f.1 ∙ c.if-not-passes_check.false } in
+    let fits = first-fits m i.mounted (reverse i.trace.items) t.legal settled starts in
     let device_is = t.device in
     rw device_is (fits-device m i.mounted g.met.D.Device.lawful (reverse i.trace.items) c.in-Some.piece.now.seek fits)
 
@@ -68,8 +70,10 @@ invariant_of-self-2 g c =
     let t = c.self.invariant.0 in
     let settled = rw (← c.self.view_is) at c.requires.settled in
     let none = rw (← c.self.view_is) at c.requires.none in
-    let starts : StartsFirst m i.mounted c.in-Some.piece.now.name H = record { none = none; request = c.in-Some.piece.now; first = f.0; name = refl; passes = f.1 ∙ c.if-not-passes_check.false } in
-    let k = ties-first m i.mounted c.pop.result c.map.result settled starts t f.0 c.mask-mask.ensures (c.pop.ensures.first ∙ f.2)
+    let starts : StartsFirst m i.mounted c.in-Some.piece.now.name H =
+    record { none = none; request = c.in-Some.piece.now; first = f.0; name = refl; passes = f.1 ∙ c.if-not-passes_check.false } in
+    let k = ties-first m i.mounted c.pop.result c.map.result t
+    (record { first = f.0; settled = settled; starts = starts; mask_is = c.mask-mask.ensures }) (c.pop.ensures.first ∙ f.2)
     c.map.ensures.cases in
     let w = c.write.ensures.items in
     let r = c.reserve.ensures.items in

@@ -2,10 +2,11 @@ use Rattle.unit_book.proofs.Names.{◌≡◌, ◌++◌, [], List, Option, length
 use Rattle.unit_book.proofs.Names.{append-nil, filter, Buffer, Queue, queue, PostedState, Placed, Piece, Entry, DoomedBy, waiting, doomed}
 use Rattle.unit_book.proofs.Names.{all_posted, after_dooms, purged, due, doomed_first, Ties, posted}
 use Rattle.unit_queue.specs.Selection.{selects}
+use Rattle.unit_book.specs.Fields.{fields_of}
 use Rattle.unit_queue.specs.declared.selection.Selection.{Selection}
 use Rattle.unit_book.proofs.Facts.{Each-filter}
 use Rattle.unit_book.proofs.Dooms.{filter-never, length-filters, ties-dooms, since-is, since-same, dooms-none}
-use Rattle.unit_book.proofs.Posting.{length-map}
+use Rattle.std.proofs.lemmas.List.{length-map}
 use Rattle.unit_book.proofs.Same.{swept-found}
 use Rattle.unit_book.proofs.entries.Entries.sweep.Goals as goal
 
@@ -26,7 +27,6 @@ returns-in_default-clause-settled g c =
 
 pub post_all-requires : goal.post_all-requires
 post_all-requires g c =
-    let m = g.D.Device.meaning in
     let i = c.self.inside in
     let p = selects c.in-Some.selection in
     let spare = rw (← c.self.view_is) at c.requires.spare in
@@ -60,8 +60,9 @@ invariant_of-self g c =
     let out_is = rw items_is at c.post_all.ensures.out in
     let kept = c.sweep.ensures.kept in
     let left_is = k.1 in
-    let ties = subst (λ (x : List Piece). Ties m i.mounted (all_posted (filter p i.waiting.pieces) (reverse i.trace.items)) i.channel
-    i.active x i.dcbs (i.out.items ++ map purged (filter p i.waiting.pieces))) left_is k.0.ties in (
+    let ties = subst (λ (x : List Piece). Ties m i.mounted
+    (fields_of (all_posted (filter p i.waiting.pieces) (reverse i.trace.items)) i.channel x i.dcbs (i.out.items
+    ++ map purged (filter p i.waiting.pieces))) i.active) left_is k.0.ties in (
       rw (trace_is, kept, out_is) ties,
       record {
         occupancy = rw (kept, out_is)
@@ -70,7 +71,7 @@ invariant_of-self g c =
               room.occupancy,
               length-filters p i.waiting.pieces,
               length-append i.out.items (map purged (filter p i.waiting.pieces)),
-              length-map (filter p i.waiting.pieces),
+              length-map (filter p i.waiting.pieces) purged,
             ));
         waiting_room = rw (kept, out_is) room.waiting_room;
         swept_is = c.post_all.ensures.swept ∙ ap (λ (x : Queue). queue [] x.capacity) sw

@@ -1,7 +1,7 @@
-use Rattle.unit_book.proofs.Names.{◌≡◌, ◌-◌, ◌∷◌, [], Some, None, length, length-append, reverse, arith, refl, sym, ap, ◌∙◌, Piece}
-use Rattle.unit_book.proofs.Names.{Ties, waiting, request_named}
+use Rattle.unit_book.proofs.Names.{◌≡◌, ◌∷◌, [], Some, None, length, length-append, reverse, arith, refl, sym, ap, ◌∙◌, Piece}
+use Rattle.unit_book.proofs.Names.{Ties, request_named}
 use Rattle.subchannel.specs.Subchannel.{status_of}
-use Rattle.unit_book.specs.Fields.{pending_code}
+use Rattle.unit_book.specs.Fields.{pending_code, fields_of}
 use Rattle.unit_book.proofs.ActivePosts.{ties-post, value-is, doom-is}
 use Rattle.unit_book.proofs.Decisions.{decided, decided_pending, ties-await}
 use Rattle.unit_book.proofs.Dooms.{doomed-post, doomed-few, due-doomed}
@@ -15,15 +15,13 @@ use Rattle.unit_book.proofs.entries.Entries.take_status.Goals as goal
 -- what was found: the active request, whose status is pending, and its code
 found : (g : Over) (c : After-code g) → let i = c.self.inside in let a = c.in-Some-take.active in
     (i.active ≡ Some a)
-    × Ties g.D.Device.meaning i.mounted (reverse i.trace.items) i.channel (Some a) i.waiting.pieces i.dcbs i.out.items
-    × (status_of i.channel.phase ≡ Some (c.in-Some.csw, c.in-Some.sense))
-    × (pending_code (g.D.Device.meaning.kind i.mounted) c.in-Some.csw c.in-Some.sense a.starts a.halted a.covered ≡ c.code.result)
+    × Ties g.D.Device.meaning i.mounted (fields_of (reverse i.trace.items) i.channel i.waiting.pieces i.dcbs i.out.items) (Some a)
+    × (status_of i.channel.phase ≡ Some c.in-Some.status)
+    × (pending_code (g.D.Device.meaning.kind i.mounted) c.in-Some.status a.starts a.halted a.covered ≡ c.code.result)
 found g c =
     let o : c.self.inside.active ≡ Some c.in-Some-take.active = sym c.take.ensures.value ∙ c.in-Some-take.is in
     let kind_is = c.kind.ensures in
-    let csw_is = c.in-Some.csw-is in
-    let sense_is = c.in-Some.sense-is in
-    (o, ties-found o c.self.invariant.0, cc (c.status.ensures, c.in-Some.is), sym (rw kind_is at c.code.ensures))
+    (o, ties-found o c.self.invariant.0, sym c.status.ensures ∙ c.in-Some.is, sym (rw kind_is at c.code.ensures))
 
 pub invariant_of-self-in_default-code : goal.invariant_of-self-in_default-code
 invariant_of-self-in_default-code g c =
@@ -55,8 +53,7 @@ returns-in-Err-clause-full g c =
     let queue = ap length f.1.queue in
     rw (← c.self.view_is) (record {
       name = c.in-Some-take.active.piece.value.name;
-      csw = c.in-Some.csw;
-      sense = c.in-Some.sense;
+      status = c.in-Some.status;
       code = c.in-Some-code.code;
       fits = fits;
       room = omega arith;
@@ -77,8 +74,8 @@ note_post-requires g c =
     let H = reverse i.trace.items in
     let opened = started-opened m i.mounted a.piece.value.name H t.legal (active-is a.piece.value.name H t.activity.is).0 in
     let same = ap (λ (r : Piece). r.dcb) t.activity.request in
-    let piece_is = c.deref-2.ensures in
-    rw (piece_is, same) (opened-row m i.mounted (request_named a.piece.value.name H).dcb H i.dcbs t.legal t.count opened)
+    let piece_is = c.deref-request.ensures in
+    rw (piece_is, same) (opened-row m i.mounted (request_named a.piece.value.name H).dcb t opened)
 
 pub invariant_of-self-2 : goal.invariant_of-self-2
 invariant_of-self-2 g c =
@@ -86,11 +83,11 @@ invariant_of-self-2 g c =
     let i = c.self.inside in
     let f = found g (goal.at.invariant_of-self-2 g c).After-code in
     let fits = decided m i.mounted f.1 f.2 (Some c.in-Some-code.code) (f.3 ∙ c.in-Some-code.is) in
-    let piece_is = c.deref-2.ensures in
+    let piece_is = c.deref-request.ensures in
     let noted = rw piece_is at c.note_post.ensures.dcbs in
     let settled = rw (← c.self.view_is) at c.requires in
-    let k = ties-post m i.mounted settled f.1 fits noted c.note_post.ensures.count in
-    let w = c.write.ensures.items in
+    let k = ties-post settled f.1 fits noted c.note_post.ensures.count in
+    let w = c.write_post.ensures.items in
     let r = c.reserve.ensures.items in
     let n = c.name-name.ensures in
     let q = c.hand_out.ensures in
@@ -115,12 +112,12 @@ returns-clause-ok g c =
     let f = found g (goal.at.returns-clause-ok g c).After-code in
     let fits = decided m i.mounted f.1 f.2 (Some c.in-Some-code.code) (f.3 ∙ c.in-Some-code.is) in
     let settled = rw (← c.self.view_is) at c.requires in
-    let value = value-is m i.mounted settled f.1 fits in
-    let dooms = doomed-post m i.mounted a.piece.value.name c.in-Some.csw c.in-Some.sense c.in-Some-code.code H
+    let value = value-is settled f.1 fits in
+    let dooms = doomed-post a.piece.value.name c.in-Some.status.csw c.in-Some.status.sense c.in-Some-code.code H
     (due-doomed m i.mounted H settled) in
     let same = doom-is m i.mounted c.in-Some-code.code f.1 in
-    let few = doomed-few m i.mounted a.piece.value.name c.in-Some.csw c.in-Some.sense c.in-Some-code.code H in
-    let w = c.write.ensures.items in
+    let few = doomed-few a.piece.value.name c.in-Some.status.csw c.in-Some.status.sense c.in-Some-code.code H in
+    let w = c.write_post.ensures.items in
     let r = c.reserve.ensures.items in
     let n = c.name-name.ensures in
     let q = c.hand_out.ensures in
@@ -128,21 +125,22 @@ returns-clause-ok g c =
     let h = c.tsch-2.ensures.state in
     let z = c.take.ensures.after in
     let o = f.0 in
-    let piece_is = c.deref.ensures in
+    let piece_is = c.deref-request.ensures in
     let doom_is = c.doomed_by_post-doom.ensures in
     let ok = c.in-Ok.ensures.ok in
     let len = c.in-Ok.ensures.len in
-    let spare = c.write.ensures.spare in
+    let spare = c.write_post.ensures.spare in
     let count = c.len.ensures.len in
     let queue = ap length f.1.queue in
     rw (← c.self.view_is) (
       rw o (decided_pending m i.mounted f.1 f.2),
       record {
-        csw = c.in-Some.csw;
-        sense = c.in-Some.sense;
+        status = c.in-Some.status;
         fits = rw n fits;
-        extends = rw (w, r, n, q, v, h, z, value) refl;
-        room = rw (w, r, n) (omega arith);
-        dooms = rw (w, r, n, doom_is, piece_is, same) dooms;
+        posts = record {
+          extends = rw (w, r, n, q, v, h, z, value) refl;
+          room = rw (w, r, n) (omega arith);
+          dooms = rw (w, r, n, doom_is, piece_is, same) dooms;
+        };
       },
     )

@@ -4,8 +4,10 @@ use Rattle.unit_book.proofs.Posting.{Posting}
 use Rattle.unit_book.proofs.entries.posts.post_all.Given as goal
 
 abbrev pub invariant-loop-piece : goal.invariant-loop-piece
-invariant-loop-piece l = Posting l.initial.swept (reverse l.initial.trace.items) l.initial.out
-    (vec_capacity l.initial.trace - vec_len l.initial.trace) l.swept (reverse l.trace.items) l.out (vec_capacity l.trace - vec_len l.trace)
+invariant-loop-piece l =
+    let b = l.initial in
+    Posting (record { queue = b.swept; trace = reverse b.trace.items; out = b.out; spare = vec_capacity b.trace - vec_len b.trace })
+    (record { queue = l.swept; trace = reverse l.trace.items; out = l.out; spare = vec_capacity l.trace - vec_len l.trace })
 
 abbrev pub decreases-loop-piece : goal.decreases-loop-piece
 decreases-loop-piece l = length l.swept.pieces

@@ -13,8 +13,10 @@ returns-clause-rest c =
     let here : c.from-task.result ≡ c.args.task = c.from-task.ensures in
     let lt : c.args.task < length lists = omega (arith, c.if-task-len.false, c.len.ensures, c.from-task.ensures) in
     let now = slice_set lists c.from-task.result c.pop_front.new.self in
-    subst (λ (v : PostLists). record { lists = lists_of now; room = c.self.inside.room } ≡ record v { lists = without_value v.lists c.args.task }) c.self.view_is
+    subst (λ (v : PostLists). record { lists = lists_of now; room = c.self.inside.room } ≡ record v
+    { lists = without_value v.lists c.args.task }) c.self.view_is
     (ap (λ l. record { lists = l; room = c.self.inside.room })
-    (put-is lists c.from-task.result c.args.task here lt ring c.index_mut-ring.ensures.value c.pop_front.new.self (drop 1 (list_of (lists_of lists) c.args.task))
+    (put-is lists c.from-task.result c.args.task here lt ring c.index_mut-ring.ensures.value c.pop_front.new.self
+    (drop 1 (list_of (lists_of lists) c.args.task))
     (ap (λ (r : Buffer PostedState). r.items) c.pop_front.ensures.items
     ∙ ap (drop 1) (sym (list-is lists c.from-task.result c.args.task here lt ring c.index_mut-ring.ensures.value)))))

@@ -1,63 +1,43 @@
-use Rattle.std.proofs.Common.{◌<◌, length, map, ap, subst, arith}
-use Rattle.unit_world.specs.Parts.{unit_part}
-use Rattle.unit_world.specs.Sites.{SiteState, DeliversAs, OnDelivered, StepsUnit}
-use Rattle.unit_world.proofs.Sends.{for-rows, sends-answer, sends-keeps, sends-step, site_after}
+use Rattle.unit_world.proofs.Sends.{SendCall, for-rows, sends-answer, sends-keeps}
+use Rattle.unit_world.proofs.Sites.{UnitPlace}
+use Rattle.unit_world.proofs.site.PlainSite.deliver.Given.{Over}
+use Rattle.unit_world.proofs.site.PlainSite.deliver.Goals.{After-holds, After-send_back}
 use Rattle.unit_world.proofs.site.PlainSite.deliver.Goals as goal
+
+-- the unit that is called
+abbrev called : (g : Over) (c : After-holds g) → UnitPlace g.D.Device.meaning
+called g c = record {
+  items = c.self.inside.units.items;
+  rows = c.self.inside.rows;
+  place = c.from.result;
+  unit = c.args.unit;
+  side = c.index_mut-side.result.now;
+  old = c.args.self.now;
+  here = c.from.ensures;
+  within = c.requires.unit;
+  is = c.index_mut-side.ensures.value;
+  view_is = c.self.view_is;
+  site = c.self.invariant;
+}
+
+-- and what it delivers
+abbrev sent : (g : Over) (c : After-send_back g) → SendCall g.D.Device.meaning
+sent g c = record {
+  at = called g c.before.before.before;
+  legal = c.holds.ensures.legal;
+  all = c.holds.ensures.given;
+  book = c.send_back.new.book;
+  rows = c.send_back.new.rows;
+  answer = c.send_back.result;
+  sends = c.send_back.ensures;
+}
 
 pub send_back-requires : goal.send_back-requires
 send_back-requires g c =
-    let meaning = g.D.Device.meaning in
-    let i = c.self.inside in
-    let items = i.units.items in
-    let place = c.from.result in
-    let unit = c.args.unit in
-    let side = c.index_mut-side.result.now in
-    let lt : unit < length (map unit_part items) = omega (arith, c.requires, ap (λ (s : SiteState _). length s.units) c.self.view_is) in
-    let here = c.from.ensures in
-    let is = c.index_mut-side.ensures.value in
-    for-rows meaning items i.rows place unit here lt side is c.self.invariant c.holds.ensures.legal c.holds.ensures.given
+    for-rows g.D.Device.meaning (called g (goal.at.send_back-requires g c).After-holds) c.holds.ensures.legal c.holds.ensures.given
 
 pub invariant_of-self : goal.invariant_of-self
-invariant_of-self g c =
-    let meaning = g.D.Device.meaning in
-    let i = c.self.inside in
-    let items = i.units.items in
-    let place = c.from.result in
-    let unit = c.args.unit in
-    let side = c.index_mut-side.result.now in
-    let lt : unit < length (map unit_part items) = omega (arith, c.requires, ap (λ (s : SiteState _). length s.units) c.self.view_is) in
-    let here = c.from.ensures in
-    let is = c.index_mut-side.ensures.value in
-    sends-keeps meaning items i.rows place unit here lt side is c.self.invariant c.holds.ensures.legal c.holds.ensures.given c.send_back.new.book c.send_back.new.rows c.send_back.result c.send_back.ensures
+invariant_of-self g c = sends-keeps g.D.Device.meaning (sent g (goal.at.invariant_of-self g c).After-send_back)
 
-pub returns-clause-answer : goal.returns-clause-answer
-returns-clause-answer g c =
-    let meaning = g.D.Device.meaning in
-    let i = c.self.inside in
-    let items = i.units.items in
-    let place = c.from.result in
-    let unit = c.args.unit in
-    let side = c.index_mut-side.result.now in
-    let lt : unit < length (map unit_part items) = omega (arith, c.requires, ap (λ (s : SiteState _). length s.units) c.self.view_is) in
-    let here = c.from.ensures in
-    let is = c.index_mut-side.ensures.value in
-    let call = c.send_back in
-    let new = site_after meaning items i.rows place unit here lt side is c.self.invariant c.holds.ensures.legal c.holds.ensures.given call.new.book call.new.rows in
-    subst (λ (s : SiteState _). DeliversAs s unit call.result new) c.self.view_is
-    (sends-answer meaning items i.rows place unit here lt side is c.self.invariant c.holds.ensures.legal c.holds.ensures.given call.new.book call.new.rows call.result call.ensures)
-
-pub returns-clause-step : goal.returns-clause-step
-returns-clause-step g c =
-    let meaning = g.D.Device.meaning in
-    let i = c.self.inside in
-    let items = i.units.items in
-    let place = c.from.result in
-    let unit = c.args.unit in
-    let side = c.index_mut-side.result.now in
-    let lt : unit < length (map unit_part items) = omega (arith, c.requires, ap (λ (s : SiteState _). length s.units) c.self.view_is) in
-    let here = c.from.ensures in
-    let is = c.index_mut-side.ensures.value in
-    let call = c.send_back in
-    let new = site_after meaning items i.rows place unit here lt side is c.self.invariant c.holds.ensures.legal c.holds.ensures.given call.new.book call.new.rows in
-    subst (λ (s : SiteState _). OnDelivered call.result (StepsUnit meaning s unit new)) c.self.view_is
-    (sends-step meaning items i.rows place unit here lt side is c.self.invariant c.holds.ensures.legal c.holds.ensures.given call.new.book call.new.rows call.result call.ensures)
+pub returns : goal.returns
+returns g c = record { answer = sends-answer g.D.Device.meaning (sent g (goal.at.returns g c).After-send_back) }

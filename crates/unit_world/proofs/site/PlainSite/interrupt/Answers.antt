@@ -1,99 +1,49 @@
-use Rattle.std.proofs.Common.{◌≡◌, ◌<◌, length, map, refl, set, ap, subst, arith}
-use Rattle.std.specs.Prelude.{IfOk, OnErr, OnOk}
+use Rattle.std.proofs.Common.{refl}
 use Rattle.unit_book.specs.Answers.{InterruptsBook}
 use Rattle.unit_book.specs.Refusals.{InterruptLacks}
-use Rattle.unit_world.specs.Parts.{unit_part}
-use Rattle.unit_world.specs.Sites.{SiteState, OnBook, OnPart, StepsUnit, world_at}
-use Rattle.unit_world.proofs.Sites.{call-err, call-full, call-keeps, call-ok, call-steps, side_with, view_of}
+use Rattle.unit_world.proofs.Sites.{UnitPlace, book-err, book-full, book-keeps, book-ok, part_after, world_before}
 use Rattle.unit_world.proofs.Steps.{interrupts}
+use Rattle.unit_world.proofs.site.PlainSite.interrupt.Given.{Over}
+use Rattle.unit_world.proofs.site.PlainSite.interrupt.Goals.{After-interrupt}
 use Rattle.unit_world.proofs.site.PlainSite.interrupt.Goals as goal
+
+-- the unit that is called
+abbrev called : (g : Over) (c : After-interrupt g) → UnitPlace g.D.Device.meaning
+called g c = record {
+  items = c.self.inside.units.items;
+  rows = c.self.inside.rows;
+  place = c.from.result;
+  unit = c.args.unit;
+  side = c.index_mut-side.result.now;
+  old = c.args.self.now;
+  here = c.from.ensures;
+  within = c.requires.unit;
+  is = c.index_mut-side.ensures.value;
+  view_is = c.self.view_is;
+  site = c.self.invariant;
+}
 
 pub invariant_of-self : goal.invariant_of-self
 invariant_of-self g c =
-    let meaning = g.D.Device.meaning in
-    let i = c.self.inside in
-    let items = i.units.items in
-    let place = c.from.result in
-    let unit = c.args.unit in
-    let side = c.index_mut-side.result.now in
-    let call = c.interrupt in
-    let book = call.new.self in
-    let lt : unit < length (map unit_part items) = omega (arith, c.requires, ap (λ (s : SiteState _). length s.units) c.self.view_is) in
-    let here = c.from.ensures in
-    let is = c.index_mut-side.ensures.value in
-    let old = view_of items i.rows in
-    let new = view_of (set items place (side_with side book)) i.rows in
-    call-keeps meaning items i.rows place unit here lt side is book call.result c.self.invariant (call.ensures.ok) call.ensures.err
-    (λ a h. interrupts meaning (world_at old unit (unit_part side)) (world_at old unit (unit_part (side_with side book))) a refl h)
-
-pub returns-clause-step : goal.returns-clause-step
-returns-clause-step g c =
-    let meaning = g.D.Device.meaning in
-    let i = c.self.inside in
-    let items = i.units.items in
-    let place = c.from.result in
-    let unit = c.args.unit in
-    let side = c.index_mut-side.result.now in
-    let call = c.interrupt in
-    let book = call.new.self in
-    let lt : unit < length (map unit_part items) = omega (arith, c.requires, ap (λ (s : SiteState _). length s.units) c.self.view_is) in
-    let here = c.from.ensures in
-    let is = c.index_mut-side.ensures.value in
-    let old = view_of items i.rows in
-    let new = view_of (set items place (side_with side book)) i.rows in
-    subst (λ (s : SiteState _). OnOk call.result (StepsUnit meaning s unit new)) c.self.view_is
-    (call-steps meaning items i.rows place unit here lt side is book call.result (call.ensures.ok)
-    (λ a h. interrupts meaning (world_at old unit (unit_part side)) (world_at old unit (unit_part (side_with side book))) a refl h))
+    let m = g.D.Device.meaning in
+    let k = called g (goal.at.invariant_of-self g c).After-interrupt in
+    book-keeps m k c.interrupt.new.self c.interrupt.result (c.interrupt.ensures.ok) c.interrupt.ensures.err
+    (λ a h. interrupts m (world_before m k) (part_after m k c.interrupt.new.self) a refl h)
 
 pub returns-clause-ok : goal.returns-clause-ok
 returns-clause-ok g c =
-    let meaning = g.D.Device.meaning in
-    let i = c.self.inside in
-    let items = i.units.items in
-    let place = c.from.result in
-    let unit = c.args.unit in
-    let side = c.index_mut-side.result.now in
-    let call = c.interrupt in
-    let book = call.new.self in
-    let lt : unit < length (map unit_part items) = omega (arith, c.requires, ap (λ (s : SiteState _). length s.units) c.self.view_is) in
-    let here = c.from.ensures in
-    let is = c.index_mut-side.ensures.value in
-    let old = view_of items i.rows in
-    let new = view_of (set items place (side_with side book)) i.rows in
-    subst (λ (s : SiteState _). IfOk call.result (λ a. OnBook s unit (λ b d. InterruptsBook meaning b a d) new)) c.self.view_is
-    (call-ok meaning items i.rows place unit here lt side is book call.result (λ a b d. InterruptsBook meaning b a d) call.ensures.ok)
+    let m = g.D.Device.meaning in
+    let k = called g (goal.at.returns-clause-ok g c).After-interrupt in
+    book-ok m k c.interrupt.new.self c.interrupt.result (λ a b d. InterruptsBook m b a d) c.interrupt.ensures.ok
 
 pub returns-clause-err : goal.returns-clause-err
 returns-clause-err g c =
-    let meaning = g.D.Device.meaning in
-    let i = c.self.inside in
-    let items = i.units.items in
-    let place = c.from.result in
-    let unit = c.args.unit in
-    let side = c.index_mut-side.result.now in
-    let call = c.interrupt in
-    let book = call.new.self in
-    let lt : unit < length (map unit_part items) = omega (arith, c.requires, ap (λ (s : SiteState _). length s.units) c.self.view_is) in
-    let here = c.from.ensures in
-    let is = c.index_mut-side.ensures.value in
-    let old = view_of items i.rows in
-    let new = view_of (set items place (side_with side book)) i.rows in
-    subst (λ (s : SiteState _). OnErr call.result (new ≡ s)) c.self.view_is (call-err meaning items i.rows place unit here lt side is book call.result call.ensures.err)
+    let m = g.D.Device.meaning in
+    let k = called g (goal.at.returns-clause-err g c).After-interrupt in
+    book-err m k c.interrupt.new.self c.interrupt.result c.interrupt.ensures.err
 
 pub returns-clause-full : goal.returns-clause-full
 returns-clause-full g c =
-    let meaning = g.D.Device.meaning in
-    let i = c.self.inside in
-    let items = i.units.items in
-    let place = c.from.result in
-    let unit = c.args.unit in
-    let side = c.index_mut-side.result.now in
-    let call = c.interrupt in
-    let book = call.new.self in
-    let lt : unit < length (map unit_part items) = omega (arith, c.requires, ap (λ (s : SiteState _). length s.units) c.self.view_is) in
-    let here = c.from.ensures in
-    let is = c.index_mut-side.ensures.value in
-    let old = view_of items i.rows in
-    let new = view_of (set items place (side_with side book)) i.rows in
-    subst (λ (s : SiteState _). OnErr call.result (OnPart s unit (λ p. InterruptLacks meaning p.book))) c.self.view_is
-    (call-full meaning items i.rows place unit here lt side is book call.result (λ b. InterruptLacks meaning b) call.ensures.full)
+    let m = g.D.Device.meaning in
+    let k = called g (goal.at.returns-clause-full g c).After-interrupt in
+    book-full m k c.interrupt.new.self c.interrupt.result (InterruptLacks m) c.interrupt.ensures.full

@@ -1,100 +1,50 @@
-use Rattle.std.proofs.Common.{◌<◌, length, map, refl, set, ap, subst, arith}
-use Rattle.std.specs.Prelude.{IfErr, IfOk, OnErr, OnOk}
+use Rattle.std.proofs.Common.{refl}
 use Rattle.unit_book.specs.Answers.{OpensBook, OpenRefused}
-use Rattle.unit_world.specs.Parts.{unit_part}
-use Rattle.unit_world.specs.Sites.{SiteState, GrowsSpare, OnBook, OnPart, StepsUnit, world_at}
-use Rattle.unit_world.proofs.Sites.{call-given, call-grows, call-ok, call-refused, call-steps, side_with, two-refused, view_of}
+use Rattle.unit_world.specs.Parts.{GrowsSpare}
+use Rattle.unit_world.proofs.Sites.{UnitPlace, book-given, book-grows, book-ok, book-refused, part_after, two-refused, world_before}
 use Rattle.unit_world.proofs.Steps.{opens}
+use Rattle.unit_world.proofs.site.PlainSite.open.Given.{Over}
+use Rattle.unit_world.proofs.site.PlainSite.open.Goals.{After-open}
 use Rattle.unit_world.proofs.site.PlainSite.open.Goals as goal
+
+-- the unit that is called
+abbrev called : (g : Over) (c : After-open g) → UnitPlace g.D.Device.meaning
+called g c = record {
+  items = c.self.inside.units.items;
+  rows = c.self.inside.rows;
+  place = c.from.result;
+  unit = c.args.unit;
+  side = c.index_mut-side.result.now;
+  old = c.args.self.now;
+  here = c.from.ensures;
+  within = c.requires.unit;
+  is = c.index_mut-side.ensures.value;
+  view_is = c.self.view_is;
+  site = c.self.invariant;
+}
 
 pub invariant_of-self : goal.invariant_of-self
 invariant_of-self g c =
-    let meaning = g.D.Device.meaning in
-    let i = c.self.inside in
-    let items = i.units.items in
-    let place = c.from.result in
-    let unit = c.args.unit in
-    let side = c.index_mut-side.result.now in
-    let call = c.open in
-    let book = call.new.self in
-    let lt : unit < length (map unit_part items) = omega (arith, c.requires, ap (λ (s : SiteState _). length s.units) c.self.view_is) in
-    let here = c.from.ensures in
-    let is = c.index_mut-side.ensures.value in
-    let old = view_of items i.rows in
-    let new = view_of (set items place (side_with side book)) i.rows in
-    call-grows meaning items i.rows place unit here lt side is book call.result c.self.invariant call.ensures.ok call.ensures.err
-    (λ a h. opens meaning (world_at old unit (unit_part side)) (world_at old unit (unit_part (side_with side book))) a c.args.method c.args.extents.now refl h)
-
-pub returns-clause-step : goal.returns-clause-step
-returns-clause-step g c =
-    let meaning = g.D.Device.meaning in
-    let i = c.self.inside in
-    let items = i.units.items in
-    let place = c.from.result in
-    let unit = c.args.unit in
-    let side = c.index_mut-side.result.now in
-    let call = c.open in
-    let book = call.new.self in
-    let lt : unit < length (map unit_part items) = omega (arith, c.requires, ap (λ (s : SiteState _). length s.units) c.self.view_is) in
-    let here = c.from.ensures in
-    let is = c.index_mut-side.ensures.value in
-    let old = view_of items i.rows in
-    let new = view_of (set items place (side_with side book)) i.rows in
-    subst (λ (s : SiteState _). OnOk call.result (StepsUnit meaning s unit new)) c.self.view_is
-    (call-steps meaning items i.rows place unit here lt side is book call.result (call.ensures.ok)
-    (λ a h. opens meaning (world_at old unit (unit_part side)) (world_at old unit (unit_part (side_with side book))) a c.args.method c.args.extents.now refl h))
+    let m = g.D.Device.meaning in
+    let k = called g (goal.at.invariant_of-self g c).After-open in
+    book-grows m k c.open.new.self c.open.result (c.open.ensures.ok) c.open.ensures.err
+    (λ a h. opens m (world_before m k) (part_after m k c.open.new.self) a c.args.method c.args.extents.now refl h)
 
 pub returns-clause-ok : goal.returns-clause-ok
 returns-clause-ok g c =
-    let meaning = g.D.Device.meaning in
-    let i = c.self.inside in
-    let items = i.units.items in
-    let place = c.from.result in
-    let unit = c.args.unit in
-    let side = c.index_mut-side.result.now in
-    let call = c.open in
-    let book = call.new.self in
-    let lt : unit < length (map unit_part items) = omega (arith, c.requires, ap (λ (s : SiteState _). length s.units) c.self.view_is) in
-    let here = c.from.ensures in
-    let is = c.index_mut-side.ensures.value in
-    let old = view_of items i.rows in
-    let new = view_of (set items place (side_with side book)) i.rows in
-    subst (λ (s : SiteState _). IfOk call.result (λ a. OnBook s unit (λ b d. OpensBook meaning b a c.args.method c.args.extents.now d) new)) c.self.view_is
-    (call-ok meaning items i.rows place unit here lt side is book call.result (λ a b d. OpensBook meaning b a c.args.method c.args.extents.now d) call.ensures.ok)
+    let m = g.D.Device.meaning in
+    let k = called g (goal.at.returns-clause-ok g c).After-open in
+    book-ok m k c.open.new.self c.open.result (λ a b d. OpensBook m b a c.args.method c.args.extents.now d) c.open.ensures.ok
 
 pub returns-clause-err : goal.returns-clause-err
 returns-clause-err g c =
-    let meaning = g.D.Device.meaning in
-    let i = c.self.inside in
-    let items = i.units.items in
-    let place = c.from.result in
-    let unit = c.args.unit in
-    let side = c.index_mut-side.result.now in
-    let call = c.open in
-    let book = call.new.self in
-    let lt : unit < length (map unit_part items) = omega (arith, c.requires, ap (λ (s : SiteState _). length s.units) c.self.view_is) in
-    let here = c.from.ensures in
-    let is = c.index_mut-side.ensures.value in
-    let old = view_of items i.rows in
-    let new = view_of (set items place (side_with side book)) i.rows in
-    subst (λ (s : SiteState _). OnErr call.result (OnBook s unit (λ b d. GrowsSpare b d) new)) c.self.view_is
-    (call-refused meaning items i.rows place unit here lt side is book call.result (λ b d. GrowsSpare b d)
-    (two-refused call.result (λ same more. record { is = same; more = more }) call.ensures.err call.ensures.kept))
+    let m = g.D.Device.meaning in
+    let k = called g (goal.at.returns-clause-err g c).After-open in
+    book-refused m k c.open.new.self c.open.result GrowsSpare
+    (two-refused c.open.result (λ same more. record { is = same; more = more }) c.open.ensures.err c.open.ensures.kept)
 
 pub returns-clause-refused : goal.returns-clause-refused
 returns-clause-refused g c =
-    let meaning = g.D.Device.meaning in
-    let i = c.self.inside in
-    let items = i.units.items in
-    let place = c.from.result in
-    let unit = c.args.unit in
-    let side = c.index_mut-side.result.now in
-    let call = c.open in
-    let book = call.new.self in
-    let lt : unit < length (map unit_part items) = omega (arith, c.requires, ap (λ (s : SiteState _). length s.units) c.self.view_is) in
-    let here = c.from.ensures in
-    let is = c.index_mut-side.ensures.value in
-    let old = view_of items i.rows in
-    let new = view_of (set items place (side_with side book)) i.rows in
-    subst (λ (s : SiteState _). IfErr call.result (λ e. OnPart s unit (λ p. OpenRefused meaning p.book c.args.extents.now e))) c.self.view_is
-    (call-given meaning items i.rows place unit here lt side is book call.result (λ e b. OpenRefused meaning b c.args.extents.now e) call.ensures.refused)
+    let m = g.D.Device.meaning in
+    let k = called g (goal.at.returns-clause-refused g c).After-open in
+    book-given m k c.open.new.self c.open.result (λ e b. OpenRefused m b c.args.extents.now e) c.open.ensures.refused

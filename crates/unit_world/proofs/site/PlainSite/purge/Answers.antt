@@ -1,139 +1,65 @@
-use Rattle.std.proofs.Common.{◌≡◌, ◌<◌, length, map, refl, set, ap, subst, arith, true}
-use Rattle.std.specs.Prelude.{IfErr, IfOk, OnErr, OnOk}
+use Rattle.std.proofs.Common.{◌≡◌, refl, true}
 use Rattle.request_piece.specs.declared.scope.Scope.TheVariants.{Dcb}
 use Rattle.unit_book.specs.declared.answer.DcbError.TheVariants.{NoMemory}
 use Rattle.unit_book.specs.Controls.{DcbRefused, PurgesBook}
 use Rattle.unit_book.specs.Dcbs.{is_opened}
 use Rattle.unit_book.specs.Refusals.{PurgeLacks}
-use Rattle.unit_world.specs.Parts.{unit_part}
-use Rattle.unit_world.specs.Sites.{SiteState, OnBook, OnPart, StepsUnit, world_at}
-use Rattle.unit_world.proofs.Sites.{call-err, call-fact, call-given, call-keeps, call-ok, call-steps, side_with, view_of}
 use Rattle.unit_world.proofs.States.{both}
+use Rattle.unit_world.proofs.Sites.{UnitPlace, book-err, book-fact, book-given, book-keeps, book-ok, part_after, world_before}
 use Rattle.unit_world.proofs.Steps.{purges}
+use Rattle.unit_world.proofs.site.PlainSite.purge.Given.{Over}
+use Rattle.unit_world.proofs.site.PlainSite.purge.Goals.{After-purge}
 use Rattle.unit_world.proofs.site.PlainSite.purge.Goals as goal
+
+-- the unit that is called
+abbrev called : (g : Over) (c : After-purge g) → UnitPlace g.D.Device.meaning
+called g c = record {
+  items = c.self.inside.units.items;
+  rows = c.self.inside.rows;
+  place = c.from.result;
+  unit = c.args.unit;
+  side = c.index_mut-side.result.now;
+  old = c.args.self.now;
+  here = c.from.ensures;
+  within = c.requires.unit;
+  is = c.index_mut-side.ensures.value;
+  view_is = c.self.view_is;
+  site = c.self.invariant;
+}
 
 pub invariant_of-self : goal.invariant_of-self
 invariant_of-self g c =
-    let meaning = g.D.Device.meaning in
-    let i = c.self.inside in
-    let items = i.units.items in
-    let place = c.from.result in
-    let unit = c.args.unit in
-    let side = c.index_mut-side.result.now in
-    let call = c.purge in
-    let book = call.new.self in
-    let lt : unit < length (map unit_part items) = omega (arith, c.requires, ap (λ (s : SiteState _). length s.units) c.self.view_is) in
-    let here = c.from.ensures in
-    let is = c.index_mut-side.ensures.value in
-    let old = view_of items i.rows in
-    let new = view_of (set items place (side_with side book)) i.rows in
-    call-keeps meaning items i.rows place unit here lt side is book call.result c.self.invariant (both _ _ call.result call.ensures.ok call.ensures.opened) call.ensures.err
-    (λ a h. purges meaning (world_at old unit (unit_part side)) (world_at old unit (unit_part (side_with side book))) (Dcb c.args.dcb) c.args.mode a refl h.1 h.0)
-
-pub returns-clause-step : goal.returns-clause-step
-returns-clause-step g c =
-    let meaning = g.D.Device.meaning in
-    let i = c.self.inside in
-    let items = i.units.items in
-    let place = c.from.result in
-    let unit = c.args.unit in
-    let side = c.index_mut-side.result.now in
-    let call = c.purge in
-    let book = call.new.self in
-    let lt : unit < length (map unit_part items) = omega (arith, c.requires, ap (λ (s : SiteState _). length s.units) c.self.view_is) in
-    let here = c.from.ensures in
-    let is = c.index_mut-side.ensures.value in
-    let old = view_of items i.rows in
-    let new = view_of (set items place (side_with side book)) i.rows in
-    subst (λ (s : SiteState _). OnOk call.result (StepsUnit meaning s unit new)) c.self.view_is
-    (call-steps meaning items i.rows place unit here lt side is book call.result (both _ _ call.result call.ensures.ok call.ensures.opened)
-    (λ a h. purges meaning (world_at old unit (unit_part side)) (world_at old unit (unit_part (side_with side book))) (Dcb c.args.dcb) c.args.mode a refl h.1 h.0))
+    let m = g.D.Device.meaning in
+    let k = called g (goal.at.invariant_of-self g c).After-purge in
+    book-keeps m k c.purge.new.self c.purge.result (both _ _ c.purge.result c.purge.ensures.ok c.purge.ensures.opened) c.purge.ensures.err
+    (λ a h. purges m (world_before m k) (part_after m k c.purge.new.self) (Dcb c.args.dcb) c.args.mode a refl h.1 h.0)
 
 pub returns-clause-ok : goal.returns-clause-ok
 returns-clause-ok g c =
-    let meaning = g.D.Device.meaning in
-    let i = c.self.inside in
-    let items = i.units.items in
-    let place = c.from.result in
-    let unit = c.args.unit in
-    let side = c.index_mut-side.result.now in
-    let call = c.purge in
-    let book = call.new.self in
-    let lt : unit < length (map unit_part items) = omega (arith, c.requires, ap (λ (s : SiteState _). length s.units) c.self.view_is) in
-    let here = c.from.ensures in
-    let is = c.index_mut-side.ensures.value in
-    let old = view_of items i.rows in
-    let new = view_of (set items place (side_with side book)) i.rows in
-    subst (λ (s : SiteState _). IfOk call.result (λ a. OnBook s unit (λ b d. PurgesBook meaning b (Dcb c.args.dcb) c.args.mode a d) new)) c.self.view_is
-    (call-ok meaning items i.rows place unit here lt side is book call.result (λ a b d. PurgesBook meaning b (Dcb c.args.dcb) c.args.mode a d) call.ensures.ok)
+    let m = g.D.Device.meaning in
+    let k = called g (goal.at.returns-clause-ok g c).After-purge in
+    book-ok m k c.purge.new.self c.purge.result (λ a b d. PurgesBook m b (Dcb c.args.dcb) c.args.mode a d) c.purge.ensures.ok
 
 pub returns-clause-err : goal.returns-clause-err
 returns-clause-err g c =
-    let meaning = g.D.Device.meaning in
-    let i = c.self.inside in
-    let items = i.units.items in
-    let place = c.from.result in
-    let unit = c.args.unit in
-    let side = c.index_mut-side.result.now in
-    let call = c.purge in
-    let book = call.new.self in
-    let lt : unit < length (map unit_part items) = omega (arith, c.requires, ap (λ (s : SiteState _). length s.units) c.self.view_is) in
-    let here = c.from.ensures in
-    let is = c.index_mut-side.ensures.value in
-    let old = view_of items i.rows in
-    let new = view_of (set items place (side_with side book)) i.rows in
-    subst (λ (s : SiteState _). OnErr call.result (new ≡ s)) c.self.view_is (call-err meaning items i.rows place unit here lt side is book call.result call.ensures.err)
+    let m = g.D.Device.meaning in
+    let k = called g (goal.at.returns-clause-err g c).After-purge in
+    book-err m k c.purge.new.self c.purge.result c.purge.ensures.err
 
 pub returns-clause-opened : goal.returns-clause-opened
 returns-clause-opened g c =
-    let meaning = g.D.Device.meaning in
-    let i = c.self.inside in
-    let items = i.units.items in
-    let place = c.from.result in
-    let unit = c.args.unit in
-    let side = c.index_mut-side.result.now in
-    let call = c.purge in
-    let book = call.new.self in
-    let lt : unit < length (map unit_part items) = omega (arith, c.requires, ap (λ (s : SiteState _). length s.units) c.self.view_is) in
-    let here = c.from.ensures in
-    let is = c.index_mut-side.ensures.value in
-    let old = view_of items i.rows in
-    let new = view_of (set items place (side_with side book)) i.rows in
-    subst (λ (s : SiteState _). OnOk call.result (OnPart s unit (λ p. is_opened c.args.dcb (p.book).trace ≡ true))) c.self.view_is
-    (call-fact meaning items i.rows place unit here lt side is book call.result (λ b. is_opened c.args.dcb (b).trace ≡ true) call.ensures.opened)
+    let m = g.D.Device.meaning in
+    let k = called g (goal.at.returns-clause-opened g c).After-purge in
+    book-fact m k c.purge.new.self c.purge.result (λ b. is_opened c.args.dcb b.trace ≡ true) c.purge.ensures.opened
 
 pub returns-clause-refused : goal.returns-clause-refused
 returns-clause-refused g c =
-    let meaning = g.D.Device.meaning in
-    let i = c.self.inside in
-    let items = i.units.items in
-    let place = c.from.result in
-    let unit = c.args.unit in
-    let side = c.index_mut-side.result.now in
-    let call = c.purge in
-    let book = call.new.self in
-    let lt : unit < length (map unit_part items) = omega (arith, c.requires, ap (λ (s : SiteState _). length s.units) c.self.view_is) in
-    let here = c.from.ensures in
-    let is = c.index_mut-side.ensures.value in
-    let old = view_of items i.rows in
-    let new = view_of (set items place (side_with side book)) i.rows in
-    subst (λ (s : SiteState _). IfErr call.result (λ e. OnPart s unit (λ p. DcbRefused p.book c.args.dcb e))) c.self.view_is
-    (call-given meaning items i.rows place unit here lt side is book call.result (λ e b. DcbRefused b c.args.dcb e) call.ensures.refused)
+    let m = g.D.Device.meaning in
+    let k = called g (goal.at.returns-clause-refused g c).After-purge in
+    book-given m k c.purge.new.self c.purge.result (λ e b. DcbRefused b c.args.dcb e) c.purge.ensures.refused
 
 pub returns-clause-full : goal.returns-clause-full
 returns-clause-full g c =
-    let meaning = g.D.Device.meaning in
-    let i = c.self.inside in
-    let items = i.units.items in
-    let place = c.from.result in
-    let unit = c.args.unit in
-    let side = c.index_mut-side.result.now in
-    let call = c.purge in
-    let book = call.new.self in
-    let lt : unit < length (map unit_part items) = omega (arith, c.requires, ap (λ (s : SiteState _). length s.units) c.self.view_is) in
-    let here = c.from.ensures in
-    let is = c.index_mut-side.ensures.value in
-    let old = view_of items i.rows in
-    let new = view_of (set items place (side_with side book)) i.rows in
-    subst (λ (s : SiteState _). IfErr call.result (λ e. OnPart s unit (λ p. (e ≡ NoMemory → PurgeLacks p.book)))) c.self.view_is
-    (call-given meaning items i.rows place unit here lt side is book call.result (λ e b. (e ≡ NoMemory → PurgeLacks b)) call.ensures.full)
+    let m = g.D.Device.meaning in
+    let k = called g (goal.at.returns-clause-full g c).After-purge in
+    book-given m k c.purge.new.self c.purge.result (λ e b. e ≡ NoMemory → PurgeLacks b) c.purge.ensures.full

@@ -1,10 +1,10 @@
-use Rattle.std.proofs.Common.{◌≡◌, Vec, map, sym, ap, subst}
+use Rattle.std.proofs.Common.{◌≡◌, Vec, map, refl, sym, ap, subst}
 use Rattle.std.specs.Prelude.{IfOk, OnErr}
 use Rattle.std.proofs.lemmas.Result.{on_err_weaker}
 use Rattle.unit_world.specs.Parts.{unit_part}
 use Rattle.unit_world.specs.Purges.{PurgesSite}
 use Rattle.unit_world.specs.Sites.{SiteState, IsSite}
-use Rattle.unit_world.proofs.PurgedUnits.{purges-keeps, purges-site}
+use Rattle.unit_world.proofs.PurgedUnits.{purges-keeps}
 use Rattle.unit_world.proofs.Sites.{if-ok, view_of}
 use Rattle.unit_world.proofs.States.{either}
 use Rattle.unit_world.proofs.site.PlainSite.purge_task.Goals as goal
@@ -26,8 +26,9 @@ returns-clause-ok g c =
     let old = view_of i.units.items i.rows in
     let units = c.purge_everywhere.new.units in
     let r = c.purge_everywhere.result in
-    subst (λ (s : SiteState _). IfOk r (λ answers. PurgesSite meaning c.args.task c.args.mode s answers.items (view_of units.items i.rows))) c.self.view_is
-    (if-ok r (λ answers h. purges-site meaning c.args.task c.args.mode old answers.items (map unit_part units.items) h) c.purge_everywhere.ensures.ok)
+    subst (λ (s : SiteState _). IfOk r
+    (λ answers. PurgesSite meaning c.args.task c.args.mode s answers.items (view_of units.items i.rows))) c.self.view_is
+    (if-ok r (λ answers h. record { parts = h; is = refl }) c.purge_everywhere.ensures.ok)
 
 pub returns-clause-err : goal.returns-clause-err
 returns-clause-err g c =

@@ -1,102 +1,55 @@
-use Rattle.std.proofs.Common.{◌<◌, length, map, set, ap, subst, arith}
 use Rattle.unit_book.specs.Refusals.{SettleLacks}
 use Rattle.unit_book.specs.Settle.{IsIdle}
-use Rattle.unit_world.specs.Parts.{unit_part}
-use Rattle.unit_world.specs.Sites.{SiteState, OnBook, SettlesBook, StepsOfUnit, world_at}
-use Rattle.unit_world.proofs.Sites.{call-always, call-list, call-now, call-now-err, call-settles, two-done, side_with, view_of}
+use Rattle.unit_world.specs.Sites.{SettlesBook}
+use Rattle.unit_world.proofs.Sites.{UnitPlace, book-does, book-now, book-now-err, book-settles, two-done, world_before}
 use Rattle.unit_world.proofs.Steps.{settles}
+use Rattle.unit_world.proofs.site.PlainSite.settle.Given.{Over}
+use Rattle.unit_world.proofs.site.PlainSite.settle.Goals.{After-settle}
 use Rattle.unit_world.proofs.site.PlainSite.settle.Goals as goal
+
+-- the unit that is called
+abbrev called : (g : Over) (c : After-settle g) → UnitPlace g.D.Device.meaning
+called g c = record {
+  items = c.self.inside.units.items;
+  rows = c.self.inside.rows;
+  place = c.from.result;
+  unit = c.args.unit;
+  side = c.index_mut-side.result.now;
+  old = c.args.self.now;
+  here = c.from.ensures;
+  within = c.requires.unit;
+  is = c.index_mut-side.ensures.value;
+  view_is = c.self.view_is;
+  site = c.self.invariant;
+}
 
 pub invariant_of-self : goal.invariant_of-self
 invariant_of-self g c =
-    let meaning = g.D.Device.meaning in
-    let i = c.self.inside in
-    let items = i.units.items in
-    let place = c.from.result in
-    let unit = c.args.unit in
-    let side = c.index_mut-side.result.now in
-    let call = c.settle in
-    let book = call.new.self in
-    let lt : unit < length (map unit_part items) = omega (arith, c.requires, ap (λ (s : SiteState _). length s.units) c.self.view_is) in
-    let here = c.from.ensures in
-    let is = c.index_mut-side.ensures.value in
-    let old = view_of items i.rows in
-    let new = view_of (set items place (side_with side book)) i.rows in
-    call-settles meaning items i.rows place unit here lt side is book c.self.invariant (settles meaning (world_at old unit (unit_part side)) book call.ensures.steps)
+    let m = g.D.Device.meaning in
+    let k = called g (goal.at.invariant_of-self g c).After-settle in
+    book-settles m k c.settle.new.self (settles m (world_before m k) c.settle.new.self c.settle.ensures.steps)
 
 pub returns-clause-settles : goal.returns-clause-settles
 returns-clause-settles g c =
-    let meaning = g.D.Device.meaning in
-    let i = c.self.inside in
-    let items = i.units.items in
-    let place = c.from.result in
-    let unit = c.args.unit in
-    let side = c.index_mut-side.result.now in
-    let call = c.settle in
-    let book = call.new.self in
-    let lt : unit < length (map unit_part items) = omega (arith, c.requires, ap (λ (s : SiteState _). length s.units) c.self.view_is) in
-    let here = c.from.ensures in
-    let is = c.index_mut-side.ensures.value in
-    let old = view_of items i.rows in
-    let new = view_of (set items place (side_with side book)) i.rows in
-    subst (λ (s : SiteState _). OnBook s unit (λ b d. SettlesBook meaning b d) new) c.self.view_is
-    (call-always meaning items i.rows place unit here lt side is book (λ b d. SettlesBook meaning b d) (record {
-      settles = call.ensures.steps;
-      adds = call.ensures.adds;
-      mounted = call.ensures.mounted;
-      isc = call.ensures.isc;
-      capacity = call.ensures.capacity;
-    }))
-
-pub returns-clause-steps : goal.returns-clause-steps
-returns-clause-steps g c =
-    let meaning = g.D.Device.meaning in
-    let i = c.self.inside in
-    let items = i.units.items in
-    let place = c.from.result in
-    let unit = c.args.unit in
-    let side = c.index_mut-side.result.now in
-    let call = c.settle in
-    let book = call.new.self in
-    let lt : unit < length (map unit_part items) = omega (arith, c.requires, ap (λ (s : SiteState _). length s.units) c.self.view_is) in
-    let here = c.from.ensures in
-    let is = c.index_mut-side.ensures.value in
-    let old = view_of items i.rows in
-    let new = view_of (set items place (side_with side book)) i.rows in
-    subst (λ (s : SiteState _). StepsOfUnit meaning s unit new) c.self.view_is
-    (call-list meaning items i.rows place unit here lt side is book (settles meaning (world_at old unit (unit_part side)) book call.ensures.steps))
+    let m = g.D.Device.meaning in
+    let k = called g (goal.at.returns-clause-settles g c).After-settle in
+    book-does m k c.settle.new.self (SettlesBook m) (record {
+      settles = c.settle.ensures.steps;
+      adds = c.settle.ensures.adds;
+      mounted = c.settle.ensures.mounted;
+      isc = c.settle.ensures.isc;
+      capacity = c.settle.ensures.capacity;
+    })
 
 pub returns-clause-idle : goal.returns-clause-idle
 returns-clause-idle g c =
-    let meaning = g.D.Device.meaning in
-    let i = c.self.inside in
-    let items = i.units.items in
-    let place = c.from.result in
-    let unit = c.args.unit in
-    let side = c.index_mut-side.result.now in
-    let call = c.settle in
-    let book = call.new.self in
-    let lt : unit < length (map unit_part items) = omega (arith, c.requires, ap (λ (s : SiteState _). length s.units) c.self.view_is) in
-    let here = c.from.ensures in
-    let is = c.index_mut-side.ensures.value in
-    let old = view_of items i.rows in
-    let new = view_of (set items place (side_with side book)) i.rows in
-    call-now meaning items i.rows place unit here lt side is book call.result (λ b. IsIdle b.trace)
-    (two-done call.result (λ w a. record { none_waits = w; none_active = a }) call.ensures.waiting call.ensures.active)
+    let m = g.D.Device.meaning in
+    let k = called g (goal.at.returns-clause-idle g c).After-settle in
+    book-now m k c.settle.new.self c.settle.result (λ b. IsIdle b.trace)
+    (two-done c.settle.result (λ w a. record { none_waits = w; none_active = a }) c.settle.ensures.waiting c.settle.ensures.active)
 
 pub returns-clause-full : goal.returns-clause-full
 returns-clause-full g c =
-    let meaning = g.D.Device.meaning in
-    let i = c.self.inside in
-    let items = i.units.items in
-    let place = c.from.result in
-    let unit = c.args.unit in
-    let side = c.index_mut-side.result.now in
-    let call = c.settle in
-    let book = call.new.self in
-    let lt : unit < length (map unit_part items) = omega (arith, c.requires, ap (λ (s : SiteState _). length s.units) c.self.view_is) in
-    let here = c.from.ensures in
-    let is = c.index_mut-side.ensures.value in
-    let old = view_of items i.rows in
-    let new = view_of (set items place (side_with side book)) i.rows in
-    call-now-err meaning items i.rows place unit here lt side is book call.result (λ b. SettleLacks meaning b) call.ensures.full
+    let m = g.D.Device.meaning in
+    let k = called g (goal.at.returns-clause-full g c).After-settle in
+    book-now-err m k c.settle.new.self c.settle.result (SettleLacks m) c.settle.ensures.full

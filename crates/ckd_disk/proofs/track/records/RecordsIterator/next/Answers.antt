@@ -33,8 +33,10 @@ overflow_sub-self c =
 pub invariant_of-self : goal.invariant_of-self
 invariant_of-self c =
     let t = splits ckd reads c.self.inside.rest.now c.self.inside.used c.self.inside.left c.self.invariant c.if-self-eq0.false in
-    subst (λ (x : List ℕ). HoldsItems ckd x (c.self.inside.used - c.size_of_first-size.result) (c.self.inside.left - 1)) (sym c.split_at.ensures.back)
-    (subst (λ (k : ℕ). HoldsItems ckd (drop k c.self.inside.rest.now) (c.self.inside.used - k) (c.self.inside.left - 1)) (sym c.size_of_first-size.ensures) t.rest)
+    subst (λ (x : List ℕ). HoldsItems ckd x (c.self.inside.used - c.size_of_first-size.result) (c.self.inside.left - 1))
+    (sym c.split_at.ensures.back)
+    (subst (λ (k : ℕ). HoldsItems ckd (drop k c.self.inside.rest.now) (c.self.inside.used - k) (c.self.inside.left - 1))
+    (sym c.size_of_first-size.ensures) t.rest)
 
 pub returns-clause-steps : goal.returns-clause-steps
 returns-clause-steps c =
@@ -42,8 +44,10 @@ returns-clause-steps c =
     let n = c.self.inside.left - 1 in
     let t = splits ckd reads bytes c.self.inside.used c.self.inside.left c.self.invariant c.if-self-eq0.false in
     let size = c.size_of_first-size.ensures in
-    let front : c.split_at.result.0.now ≡ packed (record_at bytes) = c.split_at.ensures.front ∙ ap (λ (k : ℕ). take k bytes) size ∙ t.front in
-    let first : record_at c.split_at.result.0.now ≡ record_at bytes = ap record_at front ∙ item_at-packed ckd reads (record_at bytes) t.begins.fits in
+    let front : c.split_at.result.0.now ≡ packed (record_at bytes) = c.split_at.ensures.front ∙ ap (λ (k : ℕ). take k bytes) size
+    ∙ t.front in
+    let first : record_at c.split_at.result.0.now ≡ record_at bytes = ap record_at front
+    ∙ item_at-packed ckd reads (record_at bytes) t.begins.fits in
     let back = c.split_at.ensures.back ∙ ap (λ (k : ℕ). drop k bytes) size in
     sym c.self.view_is ∙ t.items ∙ ap (λ (r : Record). r ∷ items_at ckd n (drop (size_at bytes) bytes)) (sym first)
     ∙ ap (λ (x : List ℕ). record_at c.split_at.result.0.now ∷ items_at ckd n x) (sym back)

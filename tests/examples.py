@@ -1,0 +1,179 @@
+"""The examples of the pages: code blocks that are a job with its posts, and code blocks of commands."""
+
+import os
+import re
+import shlex
+import tempfile
+from dataclasses import dataclass
+
+from harness import TOP, expect, outcome, read, require, run
+
+# The pages whose jobs have their posts in the next code block.
+JOBS = ["docs/MANUAL.md"]
+
+# A line that is a command, and how the shell sees it.
+COMMAND = re.compile(r"(?:\$ )?(?:\./|tests/|tools/|cd |rt )")
+
+# ./excp of a folder in which commands run: it runs the program that is tested, on a file or with a subcommand.
+EXCP = """#!/usr/bin/env bash
+case "$1" in
+    run | report | check | assemble | step) exec {program} "$@" ;;
+    -) exec {program} run ;;
+    *) exec {program} run < "$1" ;;
+esac
+"""
+
+
+@dataclass
+class Block:
+    """A code block: its page, the number of its first line, and its lines."""
+
+    page: str
+    line: int
+    lines: list
+
+    def text(self):
+        return "\n".join(self.lines) + "\n"
+
+
+def blocks(page):
+    """The code blocks of a page, indented by four blanks or fenced."""
+    found, block, is_fenced, is_after_blank = [], None, False, True
+    for number, line in enumerate(read(f"{TOP}/{page}").split("\n"), 1):
+        if line.startswith("```"):
+            is_fenced = not is_fenced
+            block = Block(page, number + 1, []) if is_fenced else None
+            if is_fenced:
+                found.append(block)
+        elif is_fenced:
+            block.lines.append(line)
+        elif line.startswith("    ") and (block or is_after_blank):
+            if block is None:
+                block = Block(page, number, [])
+                found.append(block)
+            block.lines.append(line[4:])
+        elif line or not block:
+            block = None
+        else:
+            block.lines.append("")
+        is_after_blank = not line
+    for it in found:
+        while it.lines and not it.lines[-1]:
+            it.lines.pop()
+    return [it for it in found if it.lines]
+
+
+def jobs(page):
+    """The jobs of a page whose posts are in the next code block, with these."""
+    all_blocks = blocks(page)
+    for job, posts in zip(all_blocks, all_blocks[1:]):
+        if job.lines[0].startswith("tasks ") and posts.lines[0].startswith("post "):
+            yield job, posts
+
+
+def prints_posts(setup, job, posts):
+    """A job, assembled and run, prints the posts of its page, or the report."""
+    assembled = setup.run("assemble", script=job.text())
+    require(assembled.status == 0, f"{job.page}, line {job.line}: the job is not assembled", assembled)
+    order = "report" if any(line.startswith("# ") for line in posts.lines) else "run"
+    expect(setup.run(order, script=assembled.out), (0, posts.text()))
+
+
+# What the commands of a block print.
+SESSION = "the lines after each `$ `"
+NEXT = "the next block"
+AMONG = "the lines of the next block, among others"
+NOTHING = "nothing"
+ANYTHING = "anything"
+
+# Blocks of commands by their page and first command: what they print, and the files that they read, each a block of the page
+# by its first line, or a file of the repository.
+RUN = {
+    ("README.md", "./excp samples/read.script"): (SESSION, {}),
+    ("README.md", "./excp report samples/read.script --steps"): (ANYTHING, {}),
+    ("samples/README.md", "./excp report samples/read-a-tape.script | grep -v '^# unit\\|^#  '"): (ANYTHING, {}),
+    ("samples/README.md", "./excp step samples/scenarios/halt-an-active-request.scenario"): (ANYTHING, {}),
+    ("samples/README.md", "./excp assemble samples/read.symbolic > /tmp/read.script"): (ANYTHING, {}),
+    ("docs/MANUAL.md", "./excp assemble tape | ./excp - | bash to_print > copy"): (
+        AMONG,
+        {"tape": "tape 0 0 100", "to_print": "#!/usr/bin/env bash"},
+    ),
+    ("docs/MANUAL.md", "./excp job.script | awk"): (NOTHING, {"job.script": "samples/read.script"}),
+    ("docs/MANUAL.md", "./excp report first.script | awk"): (
+        NOTHING,
+        {"first.script": "samples/read.script", "rest.script": "samples/read.script"},
+    ),
+    ("docs/ASSEMBLER.md", "./excp assemble job | ./excp -"): (NEXT, {"job": "tasks 1"}),
+    ("docs/ASSEMBLER.md", "./excp assemble job > job.script"): (NOTHING, {"job": "tasks 1"}),
+}
+
+# Blocks of commands that the tests do not run, and why.
+NOT_RUN = {
+    ("README.md", "./excp --build"): "it proves every crate, which takes half an hour and more",
+    ("docs/CLIENT.md", "cd crates/print_tape && rt run"): "`rt ci` proves the program and runs it",
+    ("docs/SPEED.md", "cd crates/excp_speed && rt run -- 2000"): "it proves the program and takes minutes",
+}
+
+
+def named(block, table):
+    """The entry of a table whose first command the block begins with."""
+    first = block.lines[0].removeprefix("$ ")
+    for (page, command), entry in table.items():
+        if page == block.page and first.startswith(command):
+            return entry
+    return None
+
+
+def commands(page):
+    """The blocks of a page that have commands, each with the block after it."""
+    all_blocks = blocks(page)
+    for place, block in enumerate(all_blocks):
+        if COMMAND.match(block.lines[0]):
+            yield block, (all_blocks[place + 1 :] or [None])[0]
+
+
+def content(page, source):
+    """The text of a file of the repository, or of the block of a page that has this line first or second."""
+    if os.path.isfile(f"{TOP}/{source}"):
+        return read(f"{TOP}/{source}")
+    for block in blocks(page):
+        if source in block.lines[:2]:
+            return block.text()
+    raise AssertionError(f"{page} has no block with the line {source}")
+
+
+def prints_page(setup, block, following):
+    """The commands of a block succeed, and print what the page says."""
+    kind, sources = named(block, RUN)
+    typed = [line.removeprefix("$ ") for line in block.lines if kind != SESSION or line.startswith("$ ")]
+    with tempfile.TemporaryDirectory() as folder:
+        for name in "samples", "tests":
+            os.symlink(f"{TOP}/{name}", f"{folder}/{name}")
+        files = {name: content(block.page, source) for name, source in sources.items()}
+        files["excp"] = EXCP.format(program=shlex.quote(os.path.abspath(setup.program)))
+        for name, text in files.items():
+            with open(f"{folder}/{name}", "w", encoding="utf-8") as file:
+                file.write(text)
+        os.chmod(f"{folder}/excp", 0o755)
+        ran = run(["bash", "-e", "-o", "pipefail", "-c", "\n".join(typed)], cwd=folder)
+    require(ran.status == 0, f"{block.page}, line {block.line}: {outcome(ran.status, ran.out, ran.err)}", ran)
+    shown = ran.out.split("\n")[:-1]
+    if kind == SESSION:
+        due = [line for line in block.lines if not line.startswith(("$ ", "excp: "))]
+        require(shown == due, f"{block.page}, line {block.line}: other lines", ran)
+    elif kind == NEXT:
+        require(shown == following.lines, f"{block.page}, line {block.line}: other lines than in line {following.line}", ran)
+    elif kind == AMONG:
+        left = iter(shown)
+        require(all(line in left for line in following.lines), f"{block.page}, line {following.line}: not all is printed", ran)
+    elif kind == NOTHING:
+        require(not shown, f"{block.page}, line {block.line}: something is printed", ran)
+
+
+def are_known(pages):
+    """Each block of commands is one that is run, or one that is not, with its reason; and each of those is in its page."""
+    found = {(page, block.lines[0].removeprefix("$ ")) for page in pages for block, _ in commands(page)}
+    known = [*RUN, *NOT_RUN]
+    unknown = [it for it in found if not any(it[0] == page and it[1].startswith(first) for page, first in known)]
+    gone = [it for it in known if not any(it[0] == page and first.startswith(it[1]) for page, first in found)]
+    require(not unknown and not gone, f"tests/examples.py: unknown {sorted(unknown)}, in no page {sorted(gone)}")
