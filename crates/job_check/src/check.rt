@@ -329,23 +329,23 @@ impl<'a> Check<'a> {
         }
     }
 
-    /// Adds an EXCP, and tries its request unless its area is only assumed.
+    /// Adds an EXCP, after its request is tried, unless its area is only assumed. A request that a run would reject is not
+    /// issued.
     fn add_excp(&mut self, alloc: Global, excp: ExcpLine) -> Result<(), Refusal> {
         let is_assumed = self.use_area(excp.area);
         let number = excp.area;
         let command = self.set_up.excp(excp)?;
-        self.add_command(alloc, &command)?;
+        self.begin_command(&command)?;
+        if let (Action::Excp(excp), false) = (&command.action, is_assumed) {
+            if let Some(cause) = why_rejected(excp, self.set_up.place_of_area(number)) {
+                return Err(Refusal::Caused(cause));
+            }
+        }
+        self.issue(alloc, &command)?;
         let Command { line, action, .. } = command;
-        let Action::Excp(excp) = action else {
-            return Ok(());
-        };
-        if is_assumed {
-            return Ok(());
+        if let (Action::Excp(excp), false) = (action, is_assumed) {
+            self.requests.push(Issued { line, excp })?;
         }
-        if let Some(cause) = why_rejected(&excp, self.set_up.place_of_area(number)) {
-            return Err(Refusal::Caused(cause));
-        }
-        self.requests.push(Issued { line, excp })?;
         Ok(())
     }
 
@@ -356,10 +356,22 @@ impl<'a> Check<'a> {
         }
     }
 
-    /// Adds a command, if all that it names is declared.
+    /// Adds a command other than an EXCP, if all that it names is declared.
     fn add_command(&mut self, alloc: Global, command: &Command) -> Result<(), Refusal> {
+        self.begin_command(command)?;
+        self.issue(alloc, command)?;
+        Ok(())
+    }
+
+    /// A command begins the commands, if all that it names is declared.
+    fn begin_command(&mut self, command: &Command) -> Result<(), Refusal> {
         self.set_up.names(command)?;
         self.begin_commands(command.line);
+        Ok(())
+    }
+
+    /// Adds what a command may race with, and notes what it may come before.
+    fn issue(&mut self, alloc: Global, command: &Command) -> Result<(), AllocError> {
         self.races.add(alloc, command)?;
         let Some(unwaited) = self.unwaited.get_mut(usize::from(command.task)) else {
             return Ok(());
