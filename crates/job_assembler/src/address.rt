@@ -2,7 +2,7 @@
 
 ghost use Rattle.std.specs.Prelude.{◌≤◌, IfOk};
 
-use crate::finding::Wrong;
+use crate::finding::{Refusal, Wrong};
 use crate::labels::{Labels, is_label};
 use crate::numbers::{TOP, hexadecimal, value_of};
 
@@ -28,9 +28,9 @@ const NO_NUMBER: &str =
 pub fn address<'a>(
     expression: &'a [u8],
     place: Option<u32>,
-    labels: &Labels,
+    labels: &Labels<'a>,
     unknown: &'static str,
-) -> Result<u32, Wrong<'a>> {
+) -> Result<u32, Refusal<'a>> {
     let end = expression
         .iter()
         .position(|byte| *byte == b'+' || *byte == b'-')
@@ -44,26 +44,28 @@ pub fn address<'a>(
     };
     match moved {
         Some(address) if address <= TOP => Ok(address),
-        _ => Err(Wrong::of(expression, OUTSIDE)),
+        _ => Err(Refusal::Wrong(Wrong::of(expression, OUTSIDE))),
     }
 }
 
 fn term_address<'a>(
     term: &'a [u8],
     place: Option<u32>,
-    labels: &Labels,
+    labels: &Labels<'a>,
     unknown: &'static str,
-) -> Result<u32, Wrong<'a>> {
+) -> Result<u32, Refusal<'a>> {
     if let b"*" = term {
-        return place.ok_or(Wrong::of(term, NO_PLACE));
+        return place.ok_or(Refusal::Wrong(Wrong::of(term, NO_PLACE)));
     }
     if let Some(address) = labels.address(term) {
         return Ok(address);
     }
     if is_label(term) {
-        return Err(Wrong::of(term, unknown));
+        let mut wrong = Wrong::of(term, unknown);
+        wrong.meant = labels.nearest(term)?;
+        return Err(Refusal::Wrong(wrong));
     }
-    value_to_top(term, NO_ADDRESS)
+    Ok(value_to_top(term, NO_ADDRESS)?)
 }
 
 /// A number, up to X'FFFFFF'.

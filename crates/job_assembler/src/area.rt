@@ -3,7 +3,7 @@
 ghost use Rattle.std.specs.Prelude.{◌≡◌, ◌≤◌, vec_len, OnOk};
 
 use crate::address::{NOT_EARLIER, UNDEFINED, address};
-use crate::finding::{Finding, Refusal, Wrong};
+use crate::finding::{Finding, Refusal, Wrong, note};
 use crate::labels::Labels;
 use crate::numbers::TOP;
 use std::alloc::{AllocError, Global};
@@ -39,7 +39,7 @@ pub struct Area<'a> {
     next: u32,
     /// Whether there was no room for a statement: nothing is added then, but the further lines are looked at.
     is_full: bool,
-    pub labels: Labels,
+    pub labels: Labels<'a>,
     references: Vec<Reference<'a>>,
 }
 
@@ -158,7 +158,7 @@ impl<'a> Area<'a> {
     }
 
     /// Puts in the addresses, and gives the bytes and the labels.
-    pub fn end(self, findings: &mut Vec<Finding<'a>>) -> Result<(Vec<u8>, Labels), AllocError> {
+    pub fn end(self, findings: &mut Vec<Finding<'a>>) -> Result<(Vec<u8>, Labels<'a>), AllocError> {
         let Area {
             line: _,
             number: _,
@@ -171,17 +171,10 @@ impl<'a> Area<'a> {
             references,
         } = self;
         for reference in &references {
-            match address(
-                reference.expression,
-                Some(reference.place),
-                &labels,
-                UNDEFINED,
-            ) {
+            let place = Some(reference.place);
+            match address(reference.expression, place, &labels, UNDEFINED) {
                 Ok(value) => put_address(&mut bytes, reference.offset, value),
-                Err(wrong) => {
-                    let line = reference.line;
-                    findings.push(Finding { line, wrong })?;
-                }
+                Err(refusal) => note(findings, reference.line, refusal)?,
             }
         }
         Ok((bytes, labels))

@@ -7,13 +7,14 @@ use crate::area::Area;
 use crate::excp::put_excp;
 use crate::finding::{Finding, Refusal, Wrong, note};
 use crate::labels::Labels;
-use crate::line::{Operands, first_word, is_printable, without_comment};
+use crate::line::{Operands, first_word, is_printable, is_readable, without_comment};
 use crate::numbers::{put_digits, value_of};
 use crate::statement::put_statement;
 use job_check::{Source, write_findings};
-use job_script::{JobError, LIMIT, Message, begins_line, read_script, unprintable};
+use job_script::{JobError, LIMIT, Message, begins_line, first_unprintable, read_script};
 use std::alloc::{AllocError, Global};
 use std::io::{Read, Write};
+use std::mem;
 
 const NO_AREA: &str = "this ends no area: no line 'area' comes before it";
 
@@ -49,6 +50,7 @@ pub fn assemble_script<R: Read, W: Write + Drop, E: Write + Drop>(
         lacks_end: _,
         is_long: _,
         has_returns: _,
+        has_tabs: _,
     } = assemble(alloc, &text)?;
     if findings.is_empty() {
         write_script(&script, writer)?;
@@ -81,6 +83,7 @@ fn assemble(alloc: Global, text: &[u8]) -> Result<Assembly<'_>, AllocError> {
         lacks_end: false,
         is_long: false,
         has_returns: false,
+        has_tabs: false,
     };
     let ended = text.iter().filter(|byte| **byte == b'\n').count();
     for (place, bytes) in text.split(|byte| *byte == b'\n').enumerate() {
@@ -104,7 +107,7 @@ struct Assembly<'a> {
     script: Vec<u8>,
     findings: Vec<Finding<'a>>,
     /// The labels of each area that has ended, in the order of their numbers; of a plain area none.
-    areas: Vec<Labels>,
+    areas: Vec<Labels<'a>>,
     /// The symbolic area that has not ended.
     open: Option<Area<'a>>,
     /// Whether a line of a script has ended the last area in place of its `endarea`.
@@ -113,6 +116,8 @@ struct Assembly<'a> {
     is_long: bool,
     /// Whether a finding says that lines end with carriage returns.
     has_returns: bool,
+    /// Whether a finding says that lines have tabs.
+    has_tabs: bool,
 }
 
 impl<'a> Assembly<'a> {
@@ -125,8 +130,9 @@ impl<'a> Assembly<'a> {
         bytes: &'a [u8],
         is_ended: bool,
     ) -> Result<(), AllocError> {
-        let read = self.read_line(alloc, number, bytes);
-        note(&mut self.findings, number, read)?;
+        if let Err(refusal) = self.read_line(alloc, number, bytes) {
+            note(&mut self.findings, number, refusal)?;
+        }
         if self.is_long {
             return Ok(());
         }
@@ -135,8 +141,11 @@ impl<'a> Assembly<'a> {
         }
         if self.script.len() > LIMIT {
             self.is_long = true;
-            let long = Err(Refusal::Wrong(Wrong::line(LONG)));
-            note(&mut self.findings, number, long)?;
+            let wrong = Wrong::line(LONG);
+            self.findings.push(Finding {
+                line: number,
+                wrong,
+            })?;
         }
         Ok(())
     }
@@ -147,8 +156,7 @@ impl<'a> Assembly<'a> {
         number: usize,
         bytes: &'a [u8],
     ) -> Result<(), Refusal<'a>> {
-        let line = self.without_return(number, without_comment(bytes))?;
-        is_printable(line)?;
+        let line = self.readable(number, without_comment(bytes))?;
         let (word, operands) = first_word(line);
         if begins_line(word) {
             self.leave_area(number)?;
@@ -162,24 +170,31 @@ impl<'a> Assembly<'a> {
         }
     }
 
-    /// A line without the carriage return at its end, if all other bytes are printable. The first one is a fault.
-    fn without_return(&mut self, number: usize, line: &'a [u8]) -> Result<&'a [u8], AllocError> {
-        let Some((last, rest)) = line.split_last() else {
+    /// A line without the carriage return at its end. That and a tab are faults, of each the first alone. Such a line is
+    /// read all the same, so that what it defines is defined.
+    fn readable(&mut self, number: usize, line: &'a [u8]) -> Result<&'a [u8], Refusal<'a>> {
+        let Some((_, byte)) = first_unprintable(line) else {
             return Ok(line);
         };
-        if *last != b'\r' || unprintable(rest).is_some() {
-            return Ok(line);
+        let read = match line.split_last() {
+            Some((b'\r', rest)) => rest,
+            _ => line,
+        };
+        if !is_readable(read) {
+            is_printable(line)?;
         }
-        if !self.has_returns {
-            self.has_returns = true;
+        let repeats = if byte == b'\t' {
+            mem::replace(&mut self.has_tabs, true)
+        } else {
+            mem::replace(&mut self.has_returns, true)
+        };
+        if !repeats {
             if let Err(wrong) = is_printable(line) {
-                self.findings.push(Finding {
-                    line: number,
-                    wrong,
-                })?;
+                let line = number;
+                self.findings.push(Finding { line, wrong })?;
             }
         }
-        Ok(rest)
+        Ok(read)
     }
 
     /// Ends the open area, if there is one, at a line of a script, where its `endarea` is wanting.

@@ -12,6 +12,8 @@ const LACKS: &str =
 const NO_OPERAND: &str =
     "not an operand of an IOB: expected ecb=, start=, dcb=, seek=, extent=, related or unrelated";
 
+const NO_VALUE: &str = "expected a value after this, as ecb=LABEL, with no blank around =";
+
 const TWICE: &str = "this operand comes twice";
 
 const NO_DCB: &str = "not a DCB: expected a number from 1 to 65535";
@@ -141,6 +143,9 @@ impl<'a> Operands<'a> {
         value: &'a [u8],
     ) -> Result<(), Wrong<'a>> {
         match name {
+            b"ecb" | b"start" | b"dcb" | b"seek" | b"extent" if value.is_empty() => {
+                return Err(Wrong::of(operand, NO_VALUE));
+            }
             b"ecb" => {
                 once(self.ecb.is_some(), operand)?;
                 self.ecb = Some(value);

@@ -3,6 +3,7 @@
 use crate::address::{UNDEFINED, address};
 use crate::finding::{Refusal, Wrong};
 use crate::labels::Labels;
+use crate::line::is_blank;
 use crate::numbers::{put_digits, value_of};
 use digits::digit;
 
@@ -13,7 +14,7 @@ const NO_AREA: &str = "no area before this line has this number: the first area 
 /// Writes a line `excp T U DCB IOB A SHOW LEN` with addresses in place of the labels of area A.
 pub fn put_excp<'a>(
     script: &mut Vec<u8>,
-    areas: &[Labels],
+    areas: &[Labels<'a>],
     line: &'a [u8],
 ) -> Result<(), Refusal<'a>> {
     let Words { words, count } = Words::of(line);
@@ -44,7 +45,7 @@ impl<'a> Words<'a> {
     fn of(line: &'a [u8]) -> Self {
         let mut words: [&'a [u8]; 8] = [&[]; 8];
         let mut count: usize = 0;
-        for word in line.split(|byte| *byte == b' ') {
+        for word in line.split(|byte| is_blank(*byte)) {
             if !word.is_empty() {
                 if let Some(place) = words.get_mut(count) {
                     *place = word;
@@ -59,7 +60,7 @@ impl<'a> Words<'a> {
 /// Writes an address. A word that begins with a digit, and six hexadecimal digits that are no label, are passed on.
 fn put_place<'a>(
     script: &mut Vec<u8>,
-    areas: &[Labels],
+    areas: &[Labels<'a>],
     area: &'a [u8],
     word: &'a [u8],
 ) -> Result<(), Refusal<'a>> {
@@ -77,13 +78,13 @@ fn put_place<'a>(
 }
 
 /// The labels of the area with this number.
-fn labels_of<'l>(areas: &'l [Labels], number: &[u8]) -> Option<&'l Labels> {
+fn labels_of<'l, 'a>(areas: &'l [Labels<'a>], number: &[u8]) -> Option<&'l Labels<'a>> {
     let number = value_of(number, 10)?;
     areas.get(number as usize)
 }
 
 /// Whether a word is an address as a script has it, or none by which anything is named.
-fn is_plain(word: &[u8], labels: Option<&Labels>) -> bool {
+fn is_plain(word: &[u8], labels: Option<&Labels<'_>>) -> bool {
     let is_label = match labels {
         Some(labels) => labels.address(word).is_some(),
         None => false,

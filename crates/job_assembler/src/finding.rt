@@ -11,7 +11,7 @@ pub struct Wrong<'a> {
     pub word: &'a [u8],
     pub message: Message,
     /// The known word that this one may mean.
-    pub meant: Option<&'static str>,
+    pub meant: Option<&'a str>,
 }
 
 impl<'a> Wrong<'a> {
@@ -92,16 +92,15 @@ impl<'a> fmt::Display for Finding<'a> {
     }
 }
 
-/// Adds what is wrong with a line, if anything is.
+/// Adds what is wrong with a line.
 pub fn note<'a>(
     findings: &mut Vec<Finding<'a>>,
     line: usize,
-    read: Result<(), Refusal<'a>>,
+    refusal: Refusal<'a>,
 ) -> Result<(), AllocError> {
-    match read {
-        Ok(()) => Ok(()),
-        Err(Refusal::NoMemory) => Err(AllocError),
-        Err(Refusal::Wrong(wrong)) => {
+    match refusal {
+        Refusal::NoMemory => Err(AllocError),
+        Refusal::Wrong(wrong) => {
             findings.push(Finding { line, wrong })?;
             Ok(())
         }

@@ -2,7 +2,8 @@
 
 use crate::finding::{Refusal, Wrong};
 use command_table::flag_bit;
-use std::alloc::Global;
+use job_check::nearest;
+use std::alloc::{AllocError, Global};
 use std::collections::BTreeMap;
 
 /// The most characters of a label.
@@ -15,27 +16,30 @@ const TWICE: &str = "this label comes twice in its area";
 
 const FLAG: &str = "a flag has this name: give the label another one";
 
+/// How many labels of an area an unknown one is compared with.
+const COMPARED: usize = 64;
+
 /// The labels of an area, each with its address.
 #[derive(Drop)]
-pub struct Labels {
+pub struct Labels<'a> {
+    alloc: Global,
     addresses: BTreeMap<Vec<u8>, u32>,
+    /// The labels that were first defined, with which an unknown one is compared.
+    first: Vec<&'a str>,
 }
 
-impl Labels {
+impl<'a> Labels<'a> {
     /// No label.
     pub fn new(alloc: Global) -> Self {
         Labels {
+            alloc,
             addresses: BTreeMap::new(alloc),
+            first: Vec::new(alloc),
         }
     }
 
     /// Gives a label its address, where it is a label and has none yet.
-    pub fn define<'a>(
-        &mut self,
-        alloc: Global,
-        label: &'a [u8],
-        address: u32,
-    ) -> Result<(), Refusal<'a>> {
+    pub fn define(&mut self, label: &'a [u8], address: u32) -> Result<(), Refusal<'a>> {
         if !is_label(label) {
             return Err(Refusal::Wrong(Wrong::of(label, NO_LABEL)));
         }
@@ -45,10 +49,23 @@ impl Labels {
         if self.address(label).is_some() {
             return Err(Refusal::Wrong(Wrong::of(label, TWICE)));
         }
-        let mut name = Vec::new(alloc);
+        let mut name = Vec::new(self.alloc);
         name.extend_from_slice(label)?;
         self.addresses.insert(name, address)?;
+        if self.first.len() < COMPARED {
+            if let Ok(label) = str::from_utf8(label) {
+                self.first.push(label)?;
+            }
+        }
         Ok(())
+    }
+
+    /// The label that may be meant by an unknown one. One or two characters mean no other label.
+    pub fn nearest(&self, label: &[u8]) -> Result<Option<&'a str>, AllocError> {
+        if label.len() < 3 {
+            return Ok(None);
+        }
+        nearest(self.alloc, label, &self.first)
     }
 
     /// The address of a label, if it has one.

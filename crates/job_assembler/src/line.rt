@@ -3,6 +3,11 @@
 use crate::finding::Wrong;
 use job_script::unprintable;
 
+/// Whether a byte parts words: a blank, or a tab in a line that has a fault for it.
+pub fn is_blank(byte: u8) -> bool {
+    byte == b' ' || byte == b'\t'
+}
+
 /// What a line says: all before a semicolon that is not between apostrophes, without the blanks at its end. A line
 /// whose first word begins with `#` says nothing.
 pub fn without_comment(bytes: &[u8]) -> &[u8] {
@@ -10,7 +15,7 @@ pub fn without_comment(bytes: &[u8]) -> &[u8] {
     let mut end = 0;
     for (place, byte) in bytes.iter().enumerate() {
         match *byte {
-            b' ' => continue,
+            b' ' | b'\t' => continue,
             b'#' if end == 0 => break,
             b';' if !is_quoted => break,
             b'\'' => is_quoted = !is_quoted,
@@ -22,6 +27,12 @@ pub fn without_comment(bytes: &[u8]) -> &[u8] {
     &bytes[..end]
 }
 
+/// Whether a line has printable characters and tabs alone.
+pub fn is_readable(line: &[u8]) -> bool {
+    line.iter()
+        .all(|byte| (*byte >= b' ' && *byte <= b'~') || *byte == b'\t')
+}
+
 /// That a line has printable characters alone.
 pub fn is_printable(line: &[u8]) -> Result<(), Wrong<'static>> {
     match unprintable(line) {
@@ -30,9 +41,9 @@ pub fn is_printable(line: &[u8]) -> Result<(), Wrong<'static>> {
     }
 }
 
-/// Whether a byte parts operands: a blank or a comma.
+/// Whether a byte parts operands: one that parts words, or a comma.
 pub fn parts_operands(byte: u8) -> bool {
-    byte == b' ' || byte == b','
+    is_blank(byte) || byte == b','
 }
 
 /// Whether a comma that is not between apostrophes has no operand before it or after it.
@@ -42,7 +53,7 @@ pub fn lacks_operand(operands: &[u8]) -> bool {
     let mut has_operand = false;
     for byte in operands {
         match *byte {
-            b' ' => {}
+            b' ' | b'\t' => {}
             b',' if !is_quoted && !has_operand => return true,
             b',' if !is_quoted => {
                 has_comma = true;
@@ -97,12 +108,12 @@ impl<'a> Operands<'a> {
 pub fn first_word(line: &[u8]) -> (&[u8], &[u8]) {
     let start = line
         .iter()
-        .position(|byte| *byte != b' ')
+        .position(|byte| !is_blank(*byte))
         .unwrap_or(line.len());
     let (_, words) = line.split_at(start);
     let end = words
         .iter()
-        .position(|byte| *byte == b' ')
+        .position(|byte| is_blank(*byte))
         .unwrap_or(words.len());
     words.split_at(end)
 }

@@ -47,7 +47,7 @@ pub fn put_statement<'a>(
     area.align(boundary)?;
     if let Some(label) = label {
         let place = area.place();
-        area.labels.define(alloc, label, place)?;
+        area.labels.define(label, place)?;
     }
     match operation {
         Some(Operation::Block | Operation::Event) if is_statement(operands) => {

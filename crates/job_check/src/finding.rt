@@ -92,10 +92,7 @@ impl<'a> fmt::Display for Finding<'a> {
 }
 
 /// Writes the known word that an unknown one may mean.
-pub fn write_meant<W: fmt::Write>(
-    f: &mut fmt::Formatter<W>,
-    meant: Option<&'static str>,
-) -> fmt::Result {
+pub fn write_meant<W: fmt::Write>(f: &mut fmt::Formatter<W>, meant: Option<&str>) -> fmt::Result {
     match meant {
         Some(word) => write!(f, "; did you mean '{word}'?"),
         None => Ok(()),

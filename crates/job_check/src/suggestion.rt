@@ -12,11 +12,11 @@ const MOST_BYTES: usize = 16;
 
 /// The known word that the fewest edits make of `word`, if they are few: one, or one for three bytes of `word`. An edit
 /// inserts, drops or changes a byte, or exchanges two neighbours.
-pub fn nearest(
+pub fn nearest<'k>(
     alloc: Global,
     word: &[u8],
-    known: &[&'static str],
-) -> Result<Option<&'static str>, AllocError> {
+    known: &[&'k str],
+) -> Result<Option<&'k str>, AllocError> {
     if word.len() > MOST_BYTES {
         return Ok(None);
     }

@@ -216,9 +216,10 @@ fn unknown(word: &[u8]) -> &'static str {
     if is_symbolic(word) { SYMBOLIC } else { UNKNOWN }
 }
 
-/// Whether only a line of a symbolic area begins with this word: a label with its colon, or a name in capitals.
+/// Whether only a line of a symbolic area begins with this word: a label with its colon, a semicolon, or a name in
+/// capitals.
 pub fn is_symbolic(word: &[u8]) -> bool {
-    if word.ends_with(b":") {
+    if word.ends_with(b":") || word.starts_with(b";") {
         return true;
     }
     let Some(first) = word.first() else {
