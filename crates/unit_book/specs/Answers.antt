@@ -99,11 +99,11 @@ module _ {D : Type 0} (meaning : Meaning D) where
     pub posts : PostsOne old n status code doom new
 
   -- or it awaits its restart
-  abbrev pub Takes : Book D → Taken → Book D → Type 0
-  Takes old taking.Quiet new = (is_pending meaning old ≡ false) × (new ≡ old)
-  Takes old (taking.Again n) new =
+  abbrev pub TakesStatus : Book D → Taken → Book D → Type 0
+  TakesStatus old taking.Quiet new = (is_pending meaning old ≡ false) × (new ≡ old)
+  TakesStatus old (taking.Again n) new =
       (is_pending meaning old ≡ true) × StartsAgain meaning old.mounted n old.trace × (new ≡ record old { awaits = true })
-  Takes old (taking.Posted n code doom) new = (is_pending meaning old ≡ true) × TakesByPost old n code doom new
+  TakesStatus old (taking.Posted n code doom) new = (is_pending meaning old ≡ true) × TakesByPost old n code doom new
 
   -- `start`: a first Start where nothing is active, a further one of what awaits its restart
   pub data MayStart (old : Book D) (n : Name) : Type 0 where

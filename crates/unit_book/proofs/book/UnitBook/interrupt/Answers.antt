@@ -1,6 +1,6 @@
 use Rattle.unit_book.proofs.Names.{subst, WasPosted}
 use Rattle.unit_book.specs.declared.decision.Taken.{Taken}
-use Rattle.unit_book.specs.Answers.{Takes, TakesByPost}
+use Rattle.unit_book.specs.Answers.{TakesStatus, TakesByPost}
 use Rattle.unit_book.specs.Book.{is_pending}
 use Rattle.std.proofs.Common.{◌≡◌, true}
 use Rattle.unit_book.proofs.Calls.{post-then-sweep, sweep-due, pending-interrupt}
@@ -12,7 +12,7 @@ use Rattle.unit_book.proofs.book.UnitBook.interrupt.Goals as goal
 taken : (g : Over) (c : In-Posted g) → (is_pending g.D.Device.meaning c.self.inside.entries ≡ true)
     × TakesByPost g.D.Device.meaning c.self.inside.entries c.in-Posted.name c.in-Posted.code c.in-Posted.doom c.take_status.new.self
 taken g c =
-    subst (λ (x : Taken). Takes g.D.Device.meaning c.self.inside.entries x c.take_status.new.self) c.in-Posted.is
+    subst (λ (x : Taken). TakesStatus g.D.Device.meaning c.self.inside.entries x c.take_status.new.self) c.in-Posted.is
     c.in_ok-take_status.ensures.ok
 
 pub sweep-requires-clause-spare : goal.sweep-requires-clause-spare
