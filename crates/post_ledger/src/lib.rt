@@ -18,5 +18,6 @@ mod report;
 mod unfinished;
 
 pub use cause::Cause;
+pub use posts::Posts;
 pub use report::Report;
-pub use unfinished::{Unfinished, finish};
+pub use unfinished::{Unfinished, Units, UnitsLeft, finish};

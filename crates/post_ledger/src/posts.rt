@@ -10,9 +10,9 @@ use std::alloc::{AllocError, Global};
 use std::marker::Model;
 use std::sync::Wait;
 
-/// Posted values of one task: a list for each unit, in order of posting.
+/// Posted values of one task: a list for each unit, in order of posting. Contracts see the lists, in order of unit.
 #[derive(Drop)]
-pub(crate) struct Posts {
+pub struct Posts {
     units: Vec<Vec<Posted>>,
 }
 
@@ -39,11 +39,18 @@ impl Posts {
     }
 
     /// The list of a unit.
-    pub(crate) fn of_unit(&self, unit: u16) -> &[Posted]
+    pub fn of_unit(&self, unit: u16) -> &[Posted]
         requires { unit < length self.now }
         ensures { result.now ≡ list_of self.now unit }
     {
         self.units[usize::from(unit)].as_slice()
+    }
+
+    /// The lists, in order of unit. It takes no memory.
+    pub fn into_units(self) -> Vec<Vec<Posted>>
+        ensures { items_of_all result.items ≡ self }
+    {
+        self.units
     }
 
     /// Collects what is on its way back to a task.

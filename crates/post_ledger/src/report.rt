@@ -50,4 +50,14 @@ impl<D: Device> Report<D> {
     {
         self.tasks[usize::from(task)].of_unit(unit)
     }
+
+    /// The books of the units, in order of number, and of each task what the units posted for it and it had not
+    /// collected. It takes no memory.
+    pub fn into_parts(self) -> (Vec<UnitBook<D>>, Vec<Posts>)
+        ensures books { result.0.items ≡ self.books }
+        ensures lists { result.1.items ≡ self.lists }
+    {
+        let Report { units, tasks } = self;
+        (units, tasks)
+    }
 }

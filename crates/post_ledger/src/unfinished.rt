@@ -1,10 +1,10 @@
 //! The end of a run.
 
-ghost use Rattle.std.specs.Prelude.{◌≡◌, ◌≤◌, [], Some, length, map, IfErr, IfOk, OnOk};
+ghost use Rattle.std.specs.Prelude.{◌≡◌, ◌≤◌, [], Some, length, map, IfErr, IfOk, IfSome, OnOk};
 ghost use Rattle.std.specs.List.{All};
 ghost use Rattle.unit_book.specs.Settle.{IsIdle};
 ghost use Rattle.excp_system.specs.Drained.{ArePlaced, Drained};
-ghost use Rattle.post_ledger.specs.Left.{AreLists, GrewInto, IsCause, WorkOn};
+ghost use Rattle.post_ledger.specs.Left.{AreLists, GrewInto, IsCause, WorkOn, free_states};
 ghost use Rattle.post_ledger.specs.Parting.{Paired, book_of};
 ghost use Rattle.post_ledger.specs.Report.{AreIdle, AreLegal, IsFor, PostedOnce, Received, Returned, ReturnedRest};
 ghost use Rattle.post_ledger.specs.Work.{CollectsAll, Works};
@@ -22,12 +22,17 @@ use std::marker::Model;
 use std::sync::Wait;
 use unit_book::laws::finished_posts_once;
 
-/// The units of a run, under their locks or free.
+/// The units of a run.
 #[derive(Drop)]
-enum Units<L, F> {
+pub enum Units<L, F> {
+    /// They are under their locks.
     Locked(L),
+    /// Their locks are off.
     Free(F),
 }
+
+/// The units of a run that was not brought to its end: the system, or the states of its units.
+pub type UnitsLeft<'r, S, D> = Units<System<'r, S, D>, Vec<UnitState<'r, S, D>>>;
 
 /// A run that was not brought to its end, with all that it has: its units, its tasks, and what was collected of
 /// each task for the report. What has changed in it is a list of lawful steps, and no row is joined. Contracts see
@@ -36,7 +41,7 @@ enum Units<L, F> {
 pub struct Unfinished<'r, S: Site, D: Device> {
     alloc: Global,
     cause: Cause,
-    units: Units<System<'r, S, D>, Vec<UnitState<'r, S, D>>>,
+    units: UnitsLeft<'r, S, D>,
     tasks: Vec<Task<'r, S>>,
     posts: Vec<Posts>,
 }
@@ -62,6 +67,49 @@ impl<'r, S: Site, D: Device> Unfinished<'r, S, D> {
         ensures { result ≡ self.now.cause }
     {
         self.cause
+    }
+
+    /// Its units.
+    pub fn units(&self) -> &UnitsLeft<'r, S, D>
+        ensures { free_states result.now ≡ self.now.units }
+    {
+        &self.units
+    }
+
+    /// Its tasks, in order of number.
+    pub fn tasks(&self) -> &[Task<'r, S>]
+        ensures tasks { result.now ≡ self.now.tasks }
+        ensures placed { ArePlaced (λ task. task.number) S.rows.tasks result.now }
+    {
+        self.tasks.as_slice()
+    }
+
+    /// What was collected for the report of each of the first tasks, or of all.
+    pub fn posts(&self) -> &[Posts]
+        ensures lists { result.now ≡ self.now.lists }
+        ensures sized { AreLists S.rows.units S.rows.tasks result.now }
+    {
+        self.posts.as_slice()
+    }
+
+    /// Its units, its tasks in order of number, and what was collected for the report of each of the first tasks, or of
+    /// all. It takes no memory.
+    pub fn into_parts(self) -> (UnitsLeft<'r, S, D>, Vec<Task<'r, S>>, Vec<Posts>)
+        ensures units { free_states result.0 ≡ self.entry.units }
+        ensures tasks { result.1.items ≡ self.entry.tasks }
+        ensures lists { result.2.items ≡ self.entry.lists }
+        ensures counted { IfSome self.entry.units (λ units. length units ≡ S.rows.units) }
+        ensures placed { ArePlaced (λ task. task.number) S.rows.tasks result.1.items }
+        ensures sized { AreLists S.rows.units S.rows.tasks result.2.items }
+    {
+        let Unfinished {
+            alloc: _,
+            cause: _,
+            units,
+            tasks,
+            posts,
+        } = self;
+        (units, tasks, posts)
     }
 
     /// Goes on to bring the run to its end, as [`finish`], from where it stands.

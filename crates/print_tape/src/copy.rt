@@ -8,7 +8,7 @@ use excp_system::{Site, System};
 use io_area::Area;
 use io_images::{Address, Ccw, CcwFlags, Code, Iob, UnitStatus};
 use std::alloc::Global;
-use std::sync::Wait;
+use std::sync::{Arc, Wait};
 use system_threads::{Alarm, Client, TaskProgram};
 
 pub const TAPE: u16 = 0;
@@ -35,8 +35,9 @@ impl TaskProgram<AnyDevice> for CopyTape {
         alarm: &Alarm,
         client: &mut Client<'_, S>,
     ) -> Result<()> {
+        let buffer = Arc::new(alloc, new_buffer(alloc)?)?;
         for _ in 0..2 {
-            issue(rt, alloc, client, TAPE, new_buffer(alloc)?)?;
+            read(rt, alloc, client, &buffer)?;
         }
         let mut at_mark = false;
         for _ in rt.forever() {
@@ -51,11 +52,11 @@ impl TaskProgram<AnyDevice> for CopyTape {
                     let count = MOST.saturating_sub(csw.residual).to_be_bytes();
                     let mut buffer = posted.into_area();
                     ensure!(buffer.put(iob_of(PRINTER) + 0x36, &count), "short buffer");
-                    issue(rt, alloc, client, PRINTER, buffer)?;
+                    print(rt, alloc, client, buffer)?;
                 }
                 (TAPE, Code::PermanentError) if is_mark => at_mark = true,
                 (TAPE, Code::Purged) | (PRINTER, Code::Ended) if at_mark => {}
-                (PRINTER, Code::Ended) => issue(rt, alloc, client, TAPE, posted.into_area())?,
+                (PRINTER, Code::Ended) => read(rt, alloc, client, &buffer)?,
                 (unit, code) => bail!("unit {unit} ended with code {:02X}", code.byte()),
             }
         }
@@ -63,22 +64,32 @@ impl TaskProgram<AnyDevice> for CopyTape {
     }
 }
 
-/// Clears the ECB of the request to a unit in a buffer, and issues it. The buffer comes back with the post.
-fn issue<S: Site, R: Wait>(
+/// Reads a block into a copy of the buffer, which comes with the post. All reads share the buffer as it is issued.
+fn read<S: Site, R: Wait>(
     rt: &R,
     alloc: Global,
     client: &mut Client<'_, S>,
-    unit: u16,
-    mut buffer: Area,
+    buffer: &Arc<Area, Global>,
 ) -> Result<()>
-    requires { unit < S.rows.units }
+    requires { TAPE < S.rows.units }
     ensures { client.new.number ≡ client.old.number }
 {
-    let iob = iob_of(unit);
-    ensure!(buffer.put(iob + 0x28, &[0; 4]), "short buffer");
+    Ok(client.issue_over(rt, alloc, TAPE, 1, iob_of(TAPE), buffer)?)
+}
+
+/// Prints the block of a buffer, whose ECB for this request nobody has posted yet.
+fn print<S: Site, R: Wait>(
+    rt: &R,
+    alloc: Global,
+    client: &mut Client<'_, S>,
+    buffer: Area,
+) -> Result<()>
+    requires { PRINTER < S.rows.units }
+    ensures { client.new.number ≡ client.old.number }
+{
     Ok(
         client
-            .issue(rt, alloc, unit, 1, iob, buffer)
+            .issue(rt, alloc, PRINTER, 1, iob_of(PRINTER), buffer)
             .map_err(|refused| refused.0)?,
     )
 }

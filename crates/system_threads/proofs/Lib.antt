@@ -1,3 +1,4 @@
--- Elements that stand at the places of their numbers, and what is dealt out to workers.
+-- Elements that stand at the places of their numbers, what is dealt out to workers, and the places of calls.
 pub mod Placing
 pub mod Sharing
+pub mod Turns

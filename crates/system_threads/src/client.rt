@@ -1,6 +1,7 @@
 //! A task that sleeps until its requests are posted.
 
 ghost use Rattle.std.specs.Prelude.{◌≡◌, ◌<◌, ◌≤◌, ◌-◌, ◌^◌, length, IfErr, IfNone, IfOk, IfSome, OnErr, OnOk};
+ghost use Rattle.std.specs.Arc.{arc_value};
 ghost use Rattle.request_piece.specs.Requests.{request_of};
 ghost use Rattle.excp_system.specs.Calls.{TaskCollects, IntakeWasFull, Issues, PostRowWasEmpty, next_name};
 ghost use Rattle.excp_system.specs.States.{sent_by};
@@ -15,7 +16,7 @@ use io_area::Area;
 use request_piece::{Name, Posted, Request, RequestError};
 use std::alloc::{AllocError, Global};
 use std::marker::Model;
-use std::sync::Wait;
+use std::sync::{Arc, Wait};
 use thiserror::Error;
 
 /// Why a request is not issued.
@@ -34,6 +35,10 @@ pub enum IssueError {
 
 /// A task that counts which of its requests it still awaits, and sleeps until the next of them is posted. Contracts see
 /// the task: its number, what it sent to each unit, and what it collected.
+///
+/// A run keeps each request as it was issued, in the trace of its unit, until its report is dropped. That of
+/// [`Client::issue`] has a copy of its area, at most 8,192 bytes. Requests of [`Client::issue_over`] share one area, so a
+/// client that issues the same request many times takes only the entries of the trace for each.
 #[derive(Drop)]
 pub struct Client<'r, S: Site> {
     task: Task<'r, S>,
@@ -128,6 +133,32 @@ impl<'r, S: Site> Client<'r, S> {
                 .excp(rt, request)
                 .map_err(|full| (IssueError::Full, area_of(full))),
             Err((error, area)) => Err((IssueError::Request(error), area)),
+        }
+    }
+
+    /// Issues the request that the IOB at the address `iob` of a shared area describes, as `issue`. The request works on
+    /// a copy, which its post has. The trace keeps the area itself, so issuing over it again takes no memory for a
+    /// further one.
+    pub fn issue_over<R: Wait>(
+        &mut self,
+        rt: &R,
+        alloc: Global,
+        unit: u16,
+        dcb: u16,
+        iob: u32,
+        area: &Arc<Area, Global>,
+    ) -> Result<(), IssueError>
+        requires { unit < S.rows.units }
+        ensures accepted { OnOk result (Issues self.old (request_of (next_name self.old unit) unit dcb iob (arc_value area.now)) self.new) }
+        ensures refused { IfErr result (IssueRefused S.rows self.old unit dcb iob (arc_value area.now)) }
+        ensures unchanged { OnErr result (self.new ≡ self.old) }
+    {
+        let Some(name) = self.name(unit) else {
+            return Err(IssueError::NoName);
+        };
+        match Request::over(alloc, name, unit, dcb, iob, area) {
+            Ok(request) => self.excp(rt, request).map_err(|_| IssueError::Full),
+            Err(error) => Err(IssueError::Request(error)),
         }
     }
 

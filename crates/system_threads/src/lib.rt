@@ -6,7 +6,7 @@
 //!
 //! Its parts are public too, for a run by a gate that does more than to wake the tasks. [`runners`] makes the clients
 //! of a system, [`Alarm::of`] what wakes them, and [`Crew`] the workers. [`run_beside`] lets the tasks run beside
-//! these, and [`parted`] gives them back.
+//! these, and [`parted`] gives them back, in the room that [`PartsRoom`] had for them before.
 //!
 //! Tests: job_tests, the groups random and costs of tests/run.
 #![tactic(auto)]
@@ -26,5 +26,5 @@ pub use crew::{ChannelWorker, Crew, Workers};
 pub use refusals::LASTING_TURNS;
 pub use run::{run_beside, run_program};
 pub use run_error::RunError;
-pub use runner::{Runner, parted, runners};
+pub use runner::{PartsRoom, Runner, parted, runners};
 pub use task_program::TaskProgram;

@@ -1,5 +1,8 @@
 //! How often in a row the calls of workers run out of memory.
 
+ghost use Rattle.std.specs.Prelude.{◌≡◌, ◌<◌};
+ghost use Rattle.system_threads.specs.Turns.{IsOwnPlace, call_number, place_at};
+
 use excp_system::Point;
 use std::alloc::{AllocError, Global};
 use std::sync::atomic::{AtomicBool, AtomicU32, Ordering};
@@ -65,14 +68,26 @@ impl Refusals {
     }
 }
 
-/// The place of a call on a unit.
-fn place_of(unit: u16, point: Point) -> usize {
-    let call = match point {
+/// The place of a call on a unit, which no other call and no other unit has. So memory for one call does not hide that
+/// another has none.
+fn place_of(unit: u16, point: Point) -> usize
+    ensures place { result ≡ place_at unit point }
+    ensures own { IsOwnPlace unit point result }
+    ensures within { unit < 64 → result < 320 }
+{
+    usize::from(unit) * POINTS + number_of(point)
+}
+
+/// The number of a call among the five.
+fn number_of(call: Point) -> usize
+    ensures number { result ≡ call_number call }
+    ensures few { result < 5 }
+{
+    match call {
         Point::Take => 0,
         Point::Start => 1,
         Point::Run => 2,
         Point::Interrupt => 3,
         Point::Deliver => 4,
-    };
-    usize::from(unit) * POINTS + call
+    }
 }

@@ -8,7 +8,7 @@ ghost use Rattle.post_ledger.specs.Report.{AreIdle, AreLegal, IsFor};
 use crate::alarm::Alarm;
 use crate::crew::{Crew, Workers, start};
 use crate::run_error::RunError;
-use crate::runner::{Runner, parted, runners};
+use crate::runner::{PartsRoom, Runner, parted, runners};
 use crate::task_program::TaskProgram;
 use device_port::Device;
 use excp_system::{Gate, IscTaker, Rows, Site, Stop, System, Task};
@@ -31,8 +31,14 @@ const MOST_TASKS: usize = 64;
 /// unit runs out of memory in [`LASTING_TURNS`](crate::LASTING_TURNS) turns in a row, the tasks are woken, and their
 /// [`Client::next_post`](crate::Client::next_post) returns an error.
 ///
-/// The run returns an error, and is dropped, if memory runs out for its parts, if no thread can be made for a worker,
-/// or if its end runs out of memory twice. The end is tried once more from where it stopped.
+/// The run returns an error, and is dropped, in three cases:
+///
+/// - Memory runs out for its parts, before the tasks run.
+/// - No thread can be made for a worker.
+/// - Its end runs out of memory twice, or finds a unit's state under the lock of another. It is tried once more from
+///   where it stopped.
+///
+/// A caller that keeps what is left of the end makes the run of its parts, and calls [`finish`].
 pub fn run_program<D: Device + Send + Sync, P: TaskProgram<D>, R: Threads + Wait + Sync>(
     rt: &R,
     alloc: Global,
@@ -80,10 +86,11 @@ fn run_at<
     let (system, tasks, mut takers) = System::<S, D>::new(alloc, rows, books)?;
     takers.retain(|taker| is_used(&used, taker));
     let crew = Crew::new(alloc, units, takers, workers)?;
+    let room = PartsRoom::new(alloc, tasks.len())?;
     let runners = runners(alloc, tasks)?;
     let alarm = Alarm::of(alloc, runners.as_slice())?;
     let runners = run_beside(rt, alloc, &system, &alarm, &alarm, crew, runners, program)?;
-    let (tasks, outcomes) = parted(alloc, runners)?;
+    let (tasks, outcomes) = parted(runners, room);
     let report = brought_to_end(rt, alloc, system, tasks)?;
     Ok((report, outcomes))
 }

@@ -1,6 +1,6 @@
 //! The tasks of a system before a run and after it.
 
-ghost use Rattle.std.specs.Prelude.{◌≡◌, All, IfOk, is_some, length, true};
+ghost use Rattle.std.specs.Prelude.{◌≡◌, ◌≤◌, [], All, IfOk, is_some, length, true, vec_capacity};
 ghost use Rattle.excp_system.specs.Drained.{ArePlaced};
 ghost use Rattle.excp_system.specs.Opening.{AreTasks};
 
@@ -34,25 +34,50 @@ pub fn runners<'r, S: Site, O: Drop>(
     Ok(runners)
 }
 
-/// The tasks of runners whose programs have ended, and what each has left behind.
+/// Room for what the runners of a run are taken apart into. It is made before the run, so that the run does not lose its
+/// tasks if memory runs out.
+#[derive(Drop)]
+pub struct PartsRoom<'r, S: Site, O> {
+    tasks: Vec<Task<'r, S>>,
+    outcomes: Vec<O>,
+    ghost no_tasks: { (tasks.items ≡ []) × (S.rows.tasks ≤ vec_capacity tasks) },
+    ghost no_outcomes: { (outcomes.items ≡ []) × (S.rows.tasks ≤ vec_capacity outcomes) },
+}
+
+impl<'r, S: Site, O: Drop> PartsRoom<'r, S, O> {
+    /// Room for all tasks of a site.
+    pub fn new(alloc: Global, tasks: usize) -> Result<PartsRoom<'r, S, O>, AllocError>
+        requires { tasks ≡ S.rows.tasks }
+    {
+        Ok(PartsRoom {
+            tasks: Vec::with_capacity(alloc, tasks)?,
+            outcomes: Vec::with_capacity(alloc, tasks)?,
+        })
+    }
+}
+
+/// The tasks of runners whose programs have ended, and what each has left behind, both in order of number. It takes no
+/// memory.
 pub fn parted<'r, S: Site, O: Drop>(
-    alloc: Global,
     runners: Vec<Runner<'r, S, O>>,
-) -> Result<(Vec<Task<'r, S>>, Vec<O>), AllocError>
+    room: PartsRoom<'r, S, O>,
+) -> (Vec<Task<'r, S>>, Vec<O>)
     requires placed { ArePlaced (λ runner. runner.client.number) S.rows.tasks runners.items }
     requires ran { All (λ runner. is_some runner.outcome ≡ true) runners.items }
-    ensures tasks { IfOk result (λ parts. ArePlaced (λ task. task.number) S.rows.tasks parts.0.items) }
-    ensures outcomes { IfOk result (λ parts. length parts.1.items ≡ S.rows.tasks) }
+    ensures tasks { ArePlaced (λ task. task.number) S.rows.tasks result.0.items }
+    ensures outcomes { length result.1.items ≡ S.rows.tasks }
 {
-    let mut tasks = Vec::with_capacity(alloc, runners.len())?;
-    let mut outcomes = Vec::with_capacity(alloc, runners.len())?;
+    let PartsRoom {
+        mut tasks,
+        mut outcomes,
+    } = room;
     for runner in runners {
         let Runner { client, outcome } = runner;
         let Some(outcome) = outcome else {
             unreachable!()
         };
-        tasks.push(client.into_task())?;
-        outcomes.push(outcome)?;
+        tasks.push_reserved(client.into_task());
+        outcomes.push_reserved(outcome);
     }
-    Ok((tasks, outcomes))
+    (tasks, outcomes)
 }

@@ -11,6 +11,10 @@ use std::sync::Wait;
 
 /// What the tasks of a run do. Each of them calls `run` with its client, on a thread of its own. If no thread can be
 /// made, it runs after another task, so a task must not wait for what another task does.
+///
+/// A task collects its posts until it awaits none, or its post row has room for all of them. Else that row fills once
+/// the task stops collecting, or ends. A unit sends its posts in order, so its next post to the full row holds back all
+/// later ones, and other tasks wait for theirs for ever.
 pub trait TaskProgram<D: Device>: Sync {
     /// What a task leaves behind when it has ended.
     type Outcome: Send + Drop;

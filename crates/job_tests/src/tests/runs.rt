@@ -22,7 +22,7 @@ use std::sync::atomic::{AtomicUsize, Ordering};
 use std::test::Fail;
 use std::thread::Threads;
 use system_threads::{
-    Alarm, Crew, LASTING_TURNS, Workers, parted, run_beside, run_program, runners,
+    Alarm, Crew, LASTING_TURNS, PartsRoom, Workers, parted, run_beside, run_program, runners,
 };
 use unit_book::{Entry, UnitBook};
 
@@ -242,6 +242,7 @@ fn tasks_alone<S: Site + Send + Sync, R: Threads + Wait + Sync + AllocGlobal>(
     let alloc = rt.alloc();
     let units = rows.units();
     let (system, tasks, takers) = System::<S, AnyDevice>::new(alloc, rows, books)?;
+    let room = PartsRoom::new(alloc, tasks.len())?;
     let runners = runners(alloc, tasks)?;
     let alarm = Alarm::of(alloc, runners.as_slice())?;
     run_out(&alarm, way.turns_before());
@@ -251,7 +252,7 @@ fn tasks_alone<S: Site + Send + Sync, R: Threads + Wait + Sync + AllocGlobal>(
     let runners = run_beside(rt, alloc, &system, &alarm, &gate, crew, runners, &program).or(Err(
         JobError::NoMemory,
     ))?;
-    let (_, outcomes) = parted(alloc, runners)?;
+    let (_, outcomes) = parted(runners, room);
     Ok(Outcome::Ended(how_many_short(outcomes)?, told(rt, &system, units)?))
 }
 

@@ -17,10 +17,14 @@ loop-runner-preserved g c =
     record {
       all = all ∙ sym (append_assoc yielded (runner ∷ []) rest);
       made = subst (λ (l : List TaskState). ArePlaced (λ task. task.number) (length (yielded ++ runner ∷ [])) l)
-          (sym c.in_ok-push.ensures.items)
+          (sym c.push_reserved.ensures.items)
           (placed_more (λ runner. runner.client.number) (λ (task : TaskState). task.number) g.S.Site.rows.tasks c.args.runners.items
           yielded rest runner c.loop-runner.tasks.items task c.requires.placed all i.made
           (ap (λ (w : TaskState). w.number) c.into_task.ensures));
-      kept = ap length c.in_ok-push-2.ensures.items ∙ length-append c.loop-runner.outcomes.items (c.in-Some-outcome.outcome ∷ [])
+      kept = ap length c.push_reserved-in-loop-runner.ensures.items ∙ length-append c.loop-runner.outcomes.items (c.in-Some-outcome.outcome ∷ [])
           ∙ ap (λ n. n + 1) i.kept ∙ sym (length-append yielded (runner ∷ []));
+      room = (
+        omega (arith, i.room.0, c.push_reserved.ensures.capacity),
+        omega (arith, i.room.1, c.push_reserved-in-loop-runner.ensures.capacity),
+      );
     }

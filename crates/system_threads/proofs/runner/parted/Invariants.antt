@@ -1,4 +1,5 @@
-use Rattle.std.proofs.Common.{◌≡◌, ◌++◌, length}
+use Rattle.std.proofs.Common.{◌≡◌, ◌≤◌, ◌++◌, length}
+use Rattle.std.specs.Prelude.{vec_capacity}
 use Rattle.std.specs.Vec.Iter.{into_iter_items}
 use Rattle.excp_system.specs.Drained.{ArePlaced}
 use Rattle.system_threads.proofs.runner.parted.Given as goal
@@ -8,4 +9,5 @@ invariant-loop-runner g l = record {
   all : l.fn.runners.items ≡ l.yielded ++ into_iter_items l.runner-iterator;
   made : ArePlaced (λ task. task.number) (length l.yielded) l.tasks.items;
   kept : length l.outcomes.items ≡ length l.yielded;
+  room : (g.S.Site.rows.tasks ≤ vec_capacity l.tasks) × (g.S.Site.rows.tasks ≤ vec_capacity l.outcomes);
 }
