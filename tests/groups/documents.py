@@ -1,11 +1,11 @@
 """The documents: their sentences and links, their definitions, what they quote of crates.txt and of the sources, and their
-examples.
+examples; and whether the mutants still apply.
 
 tests/sentences measures the sentences, and tests/definitions finds names of definitions that several crates have. tests/closure
 has the definitions that the headline rests on. The layers of crates.txt, the steps of a request in ARCHITECTURE.md and the code
 that CLIENT.md and ADDING-A-DEVICE.md quote are compared with the sources. tests/comments measures the comments of the code, and
-finds phrases of tests/phrases. tests/examples.py has the jobs and the commands of the pages. A README that names another kit is
-a warning.
+finds phrases of tests/phrases. tests/edits applies the mutants to the code as it is. tests/examples.py has the jobs and the
+commands of the pages. A README that names another kit is a warning.
 """
 
 import os
@@ -98,6 +98,8 @@ def cases(setup):
     yield Case("the list of definitions", lambda: passes("definitions", "--self-test"), "tests/definitions, crates with known faults")
     yield Case("definitions of the headline", lambda: passes("closure", "--check"), "docs/PROVED.md, by tests/closure")
     yield Case("the list of the headline", lambda: passes("closure", "--self-test"), "tests/closure, specs with a known list")
+    yield Case("edits of mutants", lambda: passes("edits"), "docs/TESTING.md, by tests/edits")
+    yield Case("the rules of edits", lambda: passes("edits", "--self-test"), "tests/edits, edits with known faults")
     yield Case("layers of crates.txt", layers_hold, "crates.txt, line 1")
     yield Case("steps of a request", steps_hold, "docs/ARCHITECTURE.md, by the sources")
     for page in QUOTING:

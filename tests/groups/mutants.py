@@ -9,8 +9,11 @@ line says what rejects it:
                                        one that is made with the edit; nothing is proved, as by `./excp --try`
 
 Kept work is what `rt check` or `rt lib` leaves in crates/CRATE/out. If a crate has none, as after `rt ci` in a new clone,
-the crate is proved first. The crates below have to be built by `rt lib`. An edit that cannot be read, applied or compiled
-fails as BAD EDIT, and is not counted as rejected.
+the crate is proved first. The crates below have to be built by `rt lib`.
+
+Each mutant that is rejected is a line of a table: crate, mutant, what rejects it, seconds, and for a check where. Any other
+fails: as NOT REJECTED if it survives, as BAD EDIT if it cannot be read, applied or compiled, and as NOT TRIED if its check or its
+build was killed or took too long. tests/edits has the rules for the files, which `tests/run documents` checks.
 """
 
 import glob
@@ -19,16 +22,24 @@ import importlib.util
 import os
 import re
 import shutil
+import signal
 import subprocess
 import sys
 import tempfile
+import time
 
-from harness import TOP, Case, Failed, require, run
+from harness import FEW, TOP, Case, Failed, Ran, decoded, require, run
 
 MUTANTS = f"{TOP}/tests/mutants"
 
-# The most seconds that a build of tests with nothing proved may take.
+# The most seconds that a build with nothing proved may take.
 SECONDS = 900
+
+# The statuses of a build that was killed: by `tools/prove.py try`, and of a process or of a shell whose child was.
+KILLED = (6, -9, 137)
+
+# The most characters of what a check says, in a line of the table.
+SHOWN = 90
 
 # What to do if no program is there to pass the cases of a mutant with no edit.
 NO_PROGRAM = (
@@ -85,15 +96,17 @@ def require_proved(rt, crate, kept):
 def rejected_by_check(name, edit):
     rt = loaded()
     crate = crate_of(rt, name)
-    is_rejected, text = rt.must_fail(crate, edit, ["--jobs", "1"], kept_work(rt, crate))
-    text = text.partition(": ")[2]
-    if not is_rejected:
-        raise Failed(text)
-    return f"{name}/{os.path.basename(edit)}: {text}"
+    kept = kept_work(rt, crate)
+    begun = time.monotonic()
+    kind, text = rt.must_fail(crate, edit, ["--jobs", "1"], kept)
+    if kind not in (rt.REFUSED, rt.AT_LIMIT):
+        raise Failed(text.partition(": ")[2])
+    return begun, text.partition("as it must be")[2].lstrip(": ")[:SHOWN]
 
 
 def rejected_by_test(name, edit, tests, test):
-    """The test of a crate of tests passes without the edit, and fails with it."""
+    """The test of a crate of tests fails with the edit."""
+    begun = time.monotonic()
     rt = loaded()
     texts, why = rt.read_edit(edit, f"{TOP}/crates/{name}")
     require(not why, f"BAD EDIT: {why}")
@@ -105,15 +118,20 @@ def rejected_by_test(name, edit, tests, test):
         for path, text in texts.items():
             with open(f"{room}/crates/{name}/{path}", "w", encoding="utf-8") as it:
                 it.write(text)
-        ran = run(["rt", "try", "--test", "--", test], cwd=f"{room}/crates/{tests}", timeout=SECONDS, stdin=subprocess.DEVNULL)
+        ran = built_by(["rt", "try", "--test", "--", test], cwd=f"{room}/crates/{tests}")
     said = ran.out + ran.err
-    require(re.search(rf"^test (\S+::)?{re.escape(test)} \.\.\. ", said, re.M), f"BAD EDIT: {test} of {tests} did not run", ran)
+    require_ended(ran, f"the build of {tests}")
+    has_run = re.search(rf"^test (\S+::)?{re.escape(test)} \.\.\. ", said, re.M)
+    is_told = re.search(r"\berror[\[:]", said)
+    require(has_run or is_told, f"NOT TRIED: {tests} ended with no error and no test, as if it was killed: run this again", ran)
+    require(has_run, f"BAD EDIT: {test} of {tests} did not run", ran)
     require(re.search(rf"^test (\S+::)?{re.escape(test)} \.\.\. FAILED", said, re.M), f"NOT REJECTED: {test} of {tests} passes", ran)
-    return f"{name}/{os.path.basename(edit)}: rejected: {test} of {tests} fails"
+    return begun, ""
 
 
 def rejected_by_run(name, edit, group, case, program):
     """The cases pass on the program, and fail on one with the edit."""
+    begun = time.monotonic()
     rt = loaded()
     texts, why = rt.read_edit(edit, f"{TOP}/crates/{name}")
     require(not why, f"BAD EDIT: {why}")
@@ -130,11 +148,47 @@ def rejected_by_run(name, edit, group, case, program):
         for path, text in texts.items():
             with open(f"{room}/crates/{name}/{path}", "w", encoding="utf-8") as it:
                 it.write(text)
-        built = run(["python3", f"{room}/tools/prove.py", "try"], timeout=SECONDS, stdin=subprocess.DEVNULL)
+        built = built_by(["python3", f"{room}/tools/prove.py", "try"])
+        built.err += last_lines(f"{room}/out/tried/log")
+        require_ended(built, "the build of the program with it")
         require(built.status == 0, "BAD EDIT: the program with it is not built", built)
         after = run([*words, f"{room}/out/tried/excp_job"], timeout=SECONDS, stdin=subprocess.DEVNULL)
     require(after.status == 1 and f"FAILED: {group}: " in after.out, f"NOT REJECTED: {group}: {case}: passes or is skipped", after)
-    return f"{name}/{os.path.basename(edit)}: rejected: {group}: {case}: fails"
+    return begun, ""
+
+
+def built_by(words, **how):
+    """A build. If it takes too long, all its processes are killed with it."""
+    how = {"stdin": subprocess.DEVNULL, "stdout": subprocess.PIPE, "stderr": subprocess.PIPE, "start_new_session": True, **how}
+    with subprocess.Popen(words, **how) as it:
+        try:
+            out, err = it.communicate(timeout=SECONDS)
+            return Ran(words, it.returncode, decoded(out), decoded(err))
+        except subprocess.TimeoutExpired:
+            os.killpg(it.pid, signal.SIGKILL)
+            out, err = it.communicate()
+            return Ran(words, f"none: it ran for more than {SECONDS} seconds", decoded(out), decoded(err))
+
+
+def last_lines(log):
+    """The last lines of the log of a build, or nothing if it has none."""
+    if not os.path.isfile(log):
+        return ""
+    with open(log, encoding="utf-8", errors="replace") as it:
+        return "".join(f"{line.rstrip()}\n" for line in it.readlines()[-FEW:])
+
+
+def require_ended(built, what):
+    """A build was not killed, and did not take too long: else nothing is known of its mutant."""
+    is_late = isinstance(built.status, str)
+    how = "took too long" if is_late else "was killed, most likely for memory"
+    require(not is_late and built.status not in KILLED, f"NOT TRIED: {what} {how}: run this again", built)
+
+
+def tried(name, mutant, by, judge):
+    """The line of the table for a mutant that the judge finds rejected: its seconds are those of the mutant alone."""
+    begun, where = judge()
+    return f"{name:15} {mutant:38} {by:50} {time.monotonic() - begun:5.0f} s  {where}".rstrip()
 
 
 def still_proved(name):
@@ -147,27 +201,41 @@ def still_proved(name):
     KEPT.pop(name).cleanup()
 
 
+def is_wanted(name, mutant, words):
+    """The words of the call name this mutant: by its name, its crate, or CRATE/NAME. No words name all."""
+    return not words or name in words or mutant in words or f"{name}/{mutant}" in words
+
+
 def cases(setup):
+    known = set()
     for folder in sorted(glob.glob(f"{MUTANTS}/*/")):
         name = os.path.basename(folder.rstrip("/"))
         by_check = 0
         for edit in sorted(glob.glob(f"{folder}*.edit")):
-            if setup.names and os.path.basename(edit).removesuffix(".edit") not in setup.names:
+            mutant = os.path.basename(edit).removesuffix(".edit")
+            known |= {name, mutant, f"{name}/{mutant}"}
+            if not is_wanted(name, mutant, setup.names):
                 continue
             with open(edit, encoding="utf-8") as it:
                 first = it.readline().split()
             origin = f"{os.path.relpath(edit, TOP)}, line 1"
-            title = f"{name} {os.path.basename(edit).removesuffix('.edit')}"
+            by = " ".join(first[2:])
+            chain = ""
             if first == ["rejected", "by:", "check"]:
                 by_check += 1
-                yield Case(title, lambda n=name, e=edit: rejected_by_check(n, e), origin, name)
+                chain = name
+                judge = lambda n=name, e=edit: rejected_by_check(n, e)
             elif first[:3] == ["rejected", "by:", "test"] and len(first) == 5:
-                yield Case(title, lambda n=name, e=edit, f=first: rejected_by_test(n, e, f[3], f[4]), origin)
+                judge = lambda n=name, e=edit, f=first: rejected_by_test(n, e, f[3], f[4])
             elif first[:3] == ["rejected", "by:", "run"] and len(first) > 4:
                 case = " ".join(first[4:])
-                yield Case(title, lambda n=name, e=edit, g=first[3], c=case: rejected_by_run(n, e, g, c, setup.program), origin)
+                judge = lambda n=name, e=edit, g=first[3], c=case: rejected_by_run(n, e, g, c, setup.program)
             else:
                 what = "BAD EDIT: line 1 is no `rejected by: check`, `test CRATE NAME` or `run GROUP CASE ..`"
-                yield Case(title, lambda w=what: require(False, w), origin)
+                judge = lambda w=what: require(False, w)
+            yield Case(f"{name} {mutant}", lambda n=name, m=mutant, b=by, j=judge: tried(n, m, b, j), origin, chain)
         if by_check:
             yield Case(f"{name}: proved after its mutants", lambda n=name: still_proved(n), "tests/groups/mutants.py", name)
+    for word in setup.names:
+        if word not in known:
+            yield Case(word, lambda w=word: require(False, f"no mutant and no crate with mutants is called {w}"), "tests/run")
