@@ -16,7 +16,7 @@ use Rattle.unit_book.specs.Posts.{posted, posted_value}
 use Rattle.unit_book.specs.Book.{Book, given}
 use Rattle.unit_book.proofs.WorldBooks.{Keeps, Sound, keeps-same}
 use Rattle.unit_book.proofs.Facts.{Each-behind}
-use Rattle.unit_book.proofs.Kept.{either_way, given-keeps, out-of}
+use Rattle.unit_book.proofs.Kept.{Inherits, either_way, given-keeps, out-of}
 use Rattle.fifo_row.specs.Ends.{Sending, Taking}
 use Rattle.fifo_row.specs.Lists.{of}
 use Rattle.fifo_row.proofs.Filters.{of-snoc_same, of-snoc_other}
@@ -52,7 +52,7 @@ module _ {D : Type 0} (meaning : Meaning D) where
           intake_is = is.intake_is ∙ ap (taker_of (intake_rows s) s.tasks unit) (sym a);
           back_is = is.back_is;
           count = is.count;
-          sent = λ task lt. is.sent task lt ∙ ap (of for_task task) (sym (given-keeps meaning old new [] all k));
+          sent = λ task lt. is.sent task lt ∙ ap (of for_task task) (sym (given-keeps meaning all k));
           notice_is = is.notice_is ∙ ap (λ isc. end_of (notice_rows s) unit isc notice.sent) (sym k.isc);
           of_unit = subst (AreOf s unit) (sym a) is.of_unit;
         }
@@ -63,8 +63,8 @@ module _ {D : Type 0} (meaning : Meaning D) where
         IfOk r Done → OnErr r (new ≡ old) → (Sound meaning old → (a : A) → Done a → Keeps meaning old [] new) →
         IsUnit meaning s (locked unit new notice owing) intake back notice
     unit-call r new owing legal settled done refused keeps =
-        let sound : Sound meaning old = (legal, settled) in
-        unit-keeps new owing (either_way r done refused (keeps sound) (keeps-same meaning old new sound))
+        let sound : Sound meaning old = record { legal = legal; settled = settled } in
+        unit-keeps new owing (either_way r done refused (keeps sound) (keeps-same meaning sound))
 
     -- a request that arrives
     pub unit-takes : (new : Book D) (r : Piece) (intake' : Taking Piece) → Keeps meaning old (r ∷ []) new → r.name.task < s.tasks →
@@ -75,7 +75,7 @@ module _ {D : Type 0} (meaning : Meaning D) where
           ∙ ap (taker_of (intake_rows s) s.tasks unit) (sym k.arrived);
       back_is = is.back_is;
       count = is.count;
-      sent = λ task lt. is.sent task lt ∙ ap (of for_task task) (sym (given-keeps meaning old new (r ∷ []) all k));
+      sent = λ task lt. is.sent task lt ∙ ap (of for_task task) (sym (given-keeps meaning all k));
       notice_is = is.notice_is ∙ ap (λ isc. end_of (notice_rows s) unit isc notice.sent) (sym k.isc);
       of_unit = subst (AreOf s unit) (sym k.arrived) (Each-behind _ (arrivals old.trace) r is.of_unit (lt, mine));
     }
@@ -85,9 +85,9 @@ module _ {D : Type 0} (meaning : Meaning D) where
         (value.name.task < s.tasks) × (value.unit ≡ unit)
     unfolding posted_value
     first-is value legal first =
-        Each-first (λ v. (v.name.task < s.tasks) × (v.unit ≡ unit)) old.out value
-        (out-of meaning old.mounted (λ r. (r.name.task < s.tasks) × (r.unit ≡ unit)) (λ v. (v.name.task < s.tasks) × (v.unit ≡ unit))
-        (λ r csw sense code m h. h) old legal all is.of_unit) first
+        let inherits : Inherits (λ r. (r.name.task < s.tasks) × (r.unit ≡ unit)) (λ v. (v.name.task < s.tasks) × (v.unit ≡ unit))
+        = record { posts = λ r csw sense code m h. h } in
+        Each-first (λ v. (v.name.task < s.tasks) × (v.unit ≡ unit)) old.out value (out-of meaning inherits old legal all is.of_unit) first
 
     -- a posted value that is sent back
     pub unit-delivers : (new : Book D) (value : PostedState) (back' : FanState PostedState) → new ≡ record old { out = drop 1 old.out } →

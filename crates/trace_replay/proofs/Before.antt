@@ -13,7 +13,8 @@ use Rattle.unit_book.specs.declared.entry.Entry.{Entry}
 use Rattle.unit_book.specs.declared.entry.Entry.TheVariants.{Opened, Arrive, Start, Ran, Halted, Purge, Close, Reset, Post}
 use Rattle.unit_book.specs.Trace.{opens_for_input}
 use Rattle.unit_book.specs.Dcbs.{is_opened, mask_of}
-use Rattle.unit_book.specs.Legal.{Due, Free, ToHalt, ToPost, FitsBy, Legal, OpenFits, due}
+use Rattle.unit_book.specs.Legal.{Legal}
+use Rattle.unit_book.proofs.Facts.{fits-freely}
 use Rattle.io_images.specs.declared.extent.Extent.{Extent}
 use Rattle.unit_book.proofs.Opens.{opened-few}
 
@@ -42,12 +43,6 @@ module _ {D : Type 0} (meaning : Meaning D) (mounted : D) where
   legal-before entries done l =
       legal-behind (reverse (drop done entries)) (before entries done) (subst (Legal meaning mounted) (parted entries done) l)
 
-  free-open : (d : ℕ) (method : ProcessingMethod) (x : List Extent) (H : List Entry) (k : Due) →
-      FitsBy meaning mounted k (Opened d method x) H → OpenFits meaning mounted d x H
-  free-open d method x H (ToHalt n) f = absurd cc
-  free-open d method x H (ToPost n) f = absurd cc
-  free-open d method x H Free f = f
-
   -- a DCB is opened once, so its file mask stays
   input-stays : (d : ℕ) (later earlier : List Entry) → Legal meaning mounted (later ++ earlier) → is_opened d earlier ≡ true →
       (is_opened d (later ++ earlier) ≡ true) × (list_any (opens_for_input d) (later ++ earlier) ≡ list_any (opens_for_input d) earlier)
@@ -56,7 +51,7 @@ module _ {D : Type 0} (meaning : Meaning D) (mounted : D) where
   input-stays d (Opened c i x ∷ later) H l o =
       let ih = input-stays d later H l.1 o in
       let few = opened-few meaning mounted d (later ++ H) l.1 ih.0 in
-      let next = (free-open c i x (later ++ H) (due meaning mounted (later ++ H)) l.0).next in
+      let next = (fits-freely meaning mounted (Opened c i x) (later ++ H) refl l.0).1.next in
       elim (cases_Bool (eqb c d)) [
         | inl e ↦ absurd (let k : c ≡ d = eqb-true c d e in omega (arith, k, few.1, next))
         | inr e ↦ rw e ih

@@ -1,7 +1,7 @@
 -- What a replay keeps over each kind of entry.
 use Rattle.std.proofs.Common.{◌≡◌, ℕ, zero, suc, ◌+◌, ◌≤◌, ◌<◌, true, false, Option, Some, None, List, ◌∷◌, refl, sym, ap, ◌∙◌, arith, inl}
 use Rattle.std.proofs.Common.{inr, subst}
-use Rattle.std.proofs.lemmas.Bool.{cases_Bool, or_left}
+use Rattle.std.proofs.lemmas.Bool.{or_left}
 use Rattle.io_images.specs.declared.code.Code.{Code}
 use Rattle.io_images.specs.declared.csw.Csw.{Csw}
 use Rattle.device_port.specs.Meaning.{Meaning, Lawful, fits}
@@ -14,13 +14,14 @@ use Rattle.unit_book.specs.declared.entry.Entry.{Entry}
 use Rattle.unit_book.specs.declared.entry.Entry.TheVariants.{Opened, Arrive, Start, Ran, Halted, Purge, Close, Reset, Post}
 use Rattle.unit_book.specs.Trace.{same, active, has_arrived, has_started, request_named, started}
 use Rattle.unit_book.specs.Dcbs.{is_opened, mask_of}
-use Rattle.unit_book.specs.Legal.{Again, First, Legal, StartFits, due}
+use Rattle.unit_book.specs.Legal.{Again, First, Legal, RanFits, StartFits}
 use Rattle.unit_book.specs.Media.{area, attempts, current, device, newest, stand}
 use Rattle.unit_book.proofs.ActivePosts.{area-current}
-use Rattle.unit_book.proofs.Facts.{NewestIs, active-is, active-post, active-post_waiting, active-start, fits-arrive, fits-ran, fits-start}
-use Rattle.unit_book.proofs.Facts.{fresh, post-whom}
-use Rattle.unit_book.proofs.LegalFacts.{facts, first-waits, newest-ran}
-use Rattle.unit_book.proofs.Lists.{no_both, same-refl, same-true}
+use Rattle.unit_book.proofs.Names.{Status}
+use Rattle.unit_book.proofs.Facts.{NameWaits, NewestIs, PostOf, active-is, active-post, active-post_waiting, active-start, fits-freely, fresh}
+use Rattle.unit_book.proofs.Facts.{new-name, post-whom}
+use Rattle.unit_book.proofs.LegalFacts.{facts, first-named, newest-ran, request-named}
+use Rattle.unit_book.proofs.Lists.{same-refl}
 use Rattle.unit_book.proofs.Opens.{started-opened}
 use Rattle.unit_book.proofs.Runs.{current-ran, device-current}
 use Rattle.unit_book.proofs.Seeks.{fits-device, seeks}
@@ -64,12 +65,8 @@ module _ {D : Type 0} (meaning : Meaning D) (mounted : D) where
     other : (n : Name) → active H ≡ Some n → request_named n (Arrive r ∷ H) ≡ request_named n H
     other n a =
         let f = facts meaning mounted H l.1 in
-        let new = fresh r H f (fits-arrive meaning mounted r H (due meaning mounted H) l.0) in
-        elim (cases_Bool (same r.name n)) [
-          | inl e ↦ no_both (has_arrived n H) (f.0 n (active-is n H a).0)
-              (subst (λ (x : Name). has_arrived x H ≡ false) (same-true r.name n e) new)
-          | inr e ↦ rw e refl
-        ]
+        let new = fresh r H f (fits-freely meaning mounted (Arrive r) H refl l.0).1 in
+        let e = new-name r n H new (f.0 n (active-is n H a).0) in rw e refl
   silent (Start n) H now attempt k l s = absurd k
   silent (Ran n j) H now attempt k l s = absurd k
   silent (Halted n) H now attempt k l s = unmoved H (Halted n ∷ H) now attempt refl refl (λ n a. refl) s
@@ -82,7 +79,7 @@ module _ {D : Type 0} (meaning : Meaning D) (mounted : D) where
   module _ (n : Name) (H : List Entry) (l : Legal meaning mounted (Start n ∷ H)) where
     begins : StartFits meaning mounted n H
     unfolding Legal
-    begins = fits-start meaning mounted n H (due meaning mounted H) l.0
+    begins = (fits-freely meaning mounted (Start n) H refl l.0).1
 
     earlier : Legal meaning mounted H
     unfolding Legal
@@ -123,13 +120,8 @@ module _ {D : Type 0} (meaning : Meaning D) (mounted : D) where
 
       by_start : StartFits meaning mounted n H → IsFirst
       by_start (First s) =
-          let w = first-waits s.request H (facts meaning mounted H earlier) s.first in
-          let e = s.name in
-          record {
-            arrived = subst (λ (x : Name). has_arrived x H ≡ true) e w.known.1;
-            named = subst (λ (x : Name). (request_named x H).name ≡ x) e (ap (λ (r : Piece). r.name) w.known.0);
-            unstarted = subst (λ (x : Name). has_started x H ≡ false) e w.unstarted;
-          }
+          let w = first-named H (facts meaning mounted H earlier) s.first s.name in
+          record { arrived = w.arrived; named = request-named n H w.arrived; unstarted = w.unstarted }
       by_start (Again s) = absurd (clash a s.active)
 
     -- the attempt that begins, on a request of this name with its storage as it stands
@@ -163,14 +155,16 @@ module _ {D : Type 0} (meaning : Meaning D) (mounted : D) where
 
   -- POSTS
   module _ (n : Name) (csw : Csw) (sense : ℕ) (code : Code) (H : List Entry) (l : Legal meaning mounted (Post n csw sense code ∷ H)) where
+    abbrev status : Status
+    status = record { csw = csw; sense = sense }
+
     -- a post of a name that is not active leaves what is active
     waits-on : (active H ≡ Some n → ⊥) → active (Post n csw sense code ∷ H) ≡ active H
     unfolding Legal
-    waits-on other =
-        elim (post-whom meaning mounted n csw sense code H (facts meaning mounted H l.1) l.0) [
-          | inl a ↦ absurd (other a)
-          | inr w ↦ active-post_waiting n csw sense code H (subst (λ (x : Name). has_started x H ≡ false) w.2 w.1.unstarted)
-        ]
+    waits-on other = by_whom (post-whom meaning mounted status code (facts meaning mounted H l.1) l.0) where
+      by_whom : PostOf n H → active (Post n csw sense code ∷ H) ≡ active H
+      by_whom (inl a) = absurd (other a)
+      by_whom (inr w) = active-post_waiting n status code H w.unstarted
 
     pub post-none : (now : D) → Stands H now None → Stands (Post n csw sense code ∷ H) now None
     unfolding attempts
@@ -184,7 +178,7 @@ module _ {D : Type 0} (meaning : Meaning D) (mounted : D) where
 
     pub post-active : (now : D) (a : Attempt) → a.issued.now.name ≡ n → Stands H now (Some a) → Stands (Post n csw sense code ∷ H) now None
     unfolding Legal attempts
-    post-active now a e s = (s.0, active-post n csw sense code H (facts meaning mounted H l.1) (s.1.is ∙ ap Some e))
+    post-active now a e s = (s.0, active-post status code H (facts meaning mounted H l.1) (s.1.is ∙ ap Some e))
 
   -- COMMANDS
   module _ (n : Name) (j : ℕ) (H : List Entry) (l : Legal meaning mounted (Ran n j ∷ H)) (k : ℕ) (few : k < j) (now : D) (a : Attempt)
@@ -192,15 +186,17 @@ module _ {D : Type 0} (meaning : Meaning D) (mounted : D) where
     abbrev here : List Entry
     here = partly k (Some (Ran n j)) H
 
+    fits-run : RanFits meaning mounted n j H
+    unfolding Legal
+    fits-run = (fits-freely meaning mounted (Ran n j) H refl l.0).1
+
     newest-is : NewestIs n H
     unfolding Legal
-    newest-is = (facts meaning mounted H l.1).4 n (fits-ran meaning mounted n j H (due meaning mounted H) l.0).active
+    newest-is = (facts meaning mounted H l.1).4 n fits-run.active
 
     newest-here : (c : ℕ) → NewestIs n (partly c (Some (Ran n j)) H)
-    unfolding Legal
     newest-here zero = newest-is
-    newest-here (suc c) = newest-ran n (suc c) H (fits-ran meaning mounted n j H (due meaning mounted H) l.0).active
-        newest-is
+    newest-here (suc c) = newest-ran n (suc c) H fits-run.active newest-is
 
     current-here : (c : ℕ) → current meaning mounted (partly c (Some (Ran n j)) H) ≡ after meaning c (current meaning mounted H)
     unfolding after
@@ -215,10 +211,8 @@ module _ {D : Type 0} (meaning : Meaning D) (mounted : D) where
         rw (d, p, m) (current-here k)
 
     pub runs : is_running (program a.context now a.area).place.state ≡ true
-    unfolding Legal
     runs =
-        let f = fits-ran meaning mounted n j H (due meaning mounted H) l.0 in
-        let left = f.left in
+        let left = fits-run.left in
         subst (λ (p : Program D). is_running p.place.state ≡ true) (sym program-is)
         (runs-before meaning 4097 k (current meaning mounted H) (omega (arith, few, left)))
 
@@ -240,14 +234,12 @@ module _ {D : Type 0} (meaning : Meaning D) (mounted : D) where
     pub run-stands : (now_after : D) (b : Attempt) → b.issued ≡ a.issued →
         program b.context now_after b.area ≡ after meaning 1 (program a.context now a.area) →
         Stands (Ran n (suc k) ∷ H) now_after (Some b)
-    unfolding Legal
     run-stands now_after b same_request stepped =
         let G = Ran n (suc k) ∷ H in
         let one = after-add meaning k 1 (current meaning mounted H) in
         let more : k + 1 ≡ suc k = omega arith in
         let c : program b.context now_after b.area ≡ current meaning mounted G = stepped ∙ ap (after meaning 1) program-is ∙ sym one
-        ∙ ap (λ x. after meaning x (current meaning mounted H)) more ∙ sym (current-here (suc k)) in
-        let active_is = (fits-ran meaning mounted n j H (due meaning mounted H) l.0).active in (
+        ∙ ap (λ x. after meaning x (current meaning mounted H)) more ∙ sym (current-here (suc k)) in (
           ap (λ (p : Program D). p.device) c ∙ sym (device-current meaning mounted n G (newest-here (suc k))),
           record {
             is = moved-active k s ∙ ap (λ i. Some i.now.name) (sym same_request);

@@ -8,8 +8,8 @@ use Rattle.request_piece.specs.declared.piece.Name.{Name}
 use Rattle.unit_book.specs.declared.entry.Entry.{Entry}
 use Rattle.unit_book.specs.declared.entry.Entry.TheVariants.{Ran}
 use Rattle.unit_book.specs.Trace.{active, started}
-use Rattle.unit_book.specs.Legal.{Legal, due}
-use Rattle.unit_book.proofs.Facts.{fits-ran}
+use Rattle.unit_book.specs.Legal.{Legal}
+use Rattle.unit_book.proofs.Facts.{fits-freely}
 use Rattle.trace_replay.specs.declared.attempt.Attempt.{Attempt}
 use Rattle.trace_replay.specs.Replayed.{IsRan, partly}
 use Rattle.trace_replay.specs.Ties.{IsWithin, ReplayTies}
@@ -30,11 +30,11 @@ module _ {D : Type 0} (meaning : Meaning D) (mounted : D) (entries : List Entry)
 
   active-before : active (before entries done) ≡ Some n
   unfolding Legal
-  active-before = (fits-ran meaning mounted n j (before entries done) (due meaning mounted (before entries done)) legal.0).active
+  active-before = (fits-freely meaning mounted (Ran n j) (before entries done) refl legal.0).1.active
 
   some : 1 ≤ j
   unfolding Legal
-  some = (fits-ran meaning mounted n j (before entries done) (due meaning mounted (before entries done)) legal.0).some
+  some = (fits-freely meaning mounted (Ran n j) (before entries done) refl legal.0).1.some
 
   active-within : (k : ℕ) → active (partly k (Some (Ran n j)) (before entries done)) ≡ Some n
   unfolding active started

@@ -17,7 +17,7 @@ use Rattle.unit_book.specs.Trace.{active, request_named, started}
 use Rattle.unit_book.specs.Legal.{Legal, due}
 use Rattle.unit_book.specs.Media.{area, attempts, stand}
 use Rattle.unit_book.proofs.ActivePosts.{area-current}
-use Rattle.unit_book.proofs.Facts.{NewestIs, fits-ran}
+use Rattle.unit_book.proofs.Facts.{NewestIs, fits-freely}
 use Rattle.unit_book.proofs.LegalFacts.{facts, newest-ran}
 use Rattle.trace_replay.specs.declared.attempt.Attempt.{Attempt}
 use Rattle.trace_replay.specs.Replayed.{IsPost, IsRan, partly, replayed}
@@ -94,7 +94,7 @@ module _ {D : Type 0} (meaning : Meaning D) (mounted : D) where
   newest-at (suc k) (Some (Arrive r)) H l next w m a = absurd w
   newest-at (suc k) (Some (Start n)) H l next w m a = absurd w
   newest-at (suc k) (Some (Ran n j)) H l next w m a =
-      let running = (fits-ran meaning mounted n j H (due meaning mounted H) (next (Ran n j) refl).0).active in
+      let running = (fits-freely meaning mounted (Ran n j) H refl (next (Ran n j) refl).0).1.active in
       let named : Some n ≡ Some m = sym running ∙ a in
       let e : n ≡ m = cc in
       subst (λ x. NewestIs x (Ran n (suc k) ∷ H)) e

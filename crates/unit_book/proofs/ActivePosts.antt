@@ -95,7 +95,7 @@ module _ {D : Type 0} {meaning : Meaning D} {mounted : D} {held : BookFields D} 
         placed = t.placed;
         device = t.device;
         activity = (
-          active-post n status.csw status.sense code held.trace f t.activity.is,
+          active-post status code held.trace f t.activity.is,
           tested-idle held.channel.phase a.standing t.activity.standing,
         );
         count = count ∙ t.count;

@@ -7,23 +7,16 @@ use Rattle.unit_book.proofs.Names.{not, ◌&&◌, ◌||◌, if◌then◌else◌,
 use Rattle.unit_book.proofs.Names.{doomed, is_doomed, is_open, Free, doomed_first, after_dooms, purged, posted_since, Each}
 use Rattle.unit_book.specs.Dcbs.{is_refused}
 use Rattle.unit_book.proofs.Lists.{same-true, no_both, same-refl, without, none_named, filter-all}
-use Rattle.unit_book.proofs.Facts.{Each-behind, fresh, fits-arrive, waiting-arrive, active-is, Facts, waits, WaitsAmong, Known, not-true}
-use Rattle.unit_book.proofs.LegalFacts.{facts, none-named}
+use Rattle.unit_book.proofs.Facts.{Each-behind, fresh, new-name, fits-freely, waiting-arrive, active-is, Facts, waits, WaitsAmong, Known, not-true}
+use Rattle.unit_book.proofs.LegalFacts.{SoundTrace, facts, none-named}
 use Rattle.unit_book.proofs.Same.{Silent, activity-same}
 use Rattle.unit_book.proofs.Dooms.{filter-agree, due-no_halt, due-doomed, Swept, ties-dooms_by, since-is}
-
-other : (r : Piece) (n : Name) (H : List Entry) → has_arrived r.name H ≡ false → has_arrived n H ≡ true → same r.name n ≡ false
-other r n H new a =
-    elim (cases_Bool (same r.name n)) [
-      | inl s ↦ no_both (has_arrived n H) a (subst (λ (x : Name). has_arrived x H ≡ false) (same-true r.name n s) new)
-      | inr s ↦ s
-    ]
 
 silent : (r : Piece) (n : Name) (H : List Entry) → has_arrived r.name H ≡ false → has_arrived n H ≡ true →
     Silent H (Arrive r ∷ H) n
 unfolding active started request_named attempts
 silent r n H new a =
-    let s = other r n H new a in
+    let s = new-name r n H new a in
     let q : request_named n (Arrive r ∷ H) ≡ request_named n H = rw s refl in
     record { active = refl; request = q; starts = refl; attempts = refl; halted = refl; covered = ap (λ x. is_covered x H) q }
 
@@ -34,7 +27,7 @@ module _ {D : Type 0} (meaning : Meaning D) (mounted : D) where
   unfolding Legal active started request_named attempts extents_of flag posted
   ties-arrive {r} {held} {o} h p t =
       let f = facts meaning mounted held.trace t.legal in
-      let new = fresh r held.trace f (fits-arrive meaning mounted r held.trace (due meaning mounted held.trace) h) in
+      let new = fresh r held.trace f (fits-freely meaning mounted (Arrive r) held.trace refl h).1 in
       record {
         legal = (h, t.legal);
         queue = ap (λ q. q ++ r ∷ []) t.queue ∙ sym (waiting-arrive r held.trace f new);
@@ -57,32 +50,33 @@ each-known H (r ∷ rs) e = (e.0.known, each-known H rs e.1)
 none-waiting : (r : Piece) (H : List Entry) → Facts H → has_arrived r.name H ≡ false → none_named r.name (waiting H) ≡ true
 none-waiting r H f h = none-named r.name H h (waiting H) (each-known H (waiting H) (waits H f))
 
-module _ {D : Type 0} (meaning : Meaning D) (mounted : D) where
-  -- WHAT AN ARRIVAL DOOMS: itself at most
-  pub doomed-arrive : (r : Piece) (H : List Entry) → Facts H → has_arrived r.name H ≡ false → doomed H ≡ [] →
-      doomed (Arrive r ∷ H) ≡ (if is_refused r H then r ∷ [] else [])
-  unfolding flag
-  doomed-arrive r H f h e =
-      let G = Arrive r ∷ H in
-      let agree = filter-agree (is_doomed G) (is_doomed H) (λ q. not (same r.name q.name))
-      (λ q k. let s = not-true (same r.name q.name) k in rw s refl) (waiting H) (none-waiting r H f h) in
-      let self = same-refl r.name in
-      ap (filter (is_doomed G)) (waiting-arrive r H f h)
-      ∙ filter-append (is_doomed G) (waiting H) (r ∷ [])
-      ∙ ap (λ x. x ++ filter (is_doomed G) (r ∷ [])) (agree ∙ e)
-      ∙ rw self (by_bools (not (is_open r.dcb H)) (r.related && flag r.dcb H)) where
-        by_bools : (a b : Bool) → (if (a || false) || b then r ∷ [] else []) ≡ (if a || b then r ∷ [] else [])
-        by_bools true b = refl
-        by_bools false b = refl
+-- WHAT AN ARRIVAL DOOMS: itself at most
+doomed-arrive : (r : Piece) (H : List Entry) → Facts H → has_arrived r.name H ≡ false → doomed H ≡ [] →
+    doomed (Arrive r ∷ H) ≡ (if is_refused r H then r ∷ [] else [])
+unfolding flag
+doomed-arrive r H f h e =
+    let G = Arrive r ∷ H in
+    let agree = filter-agree (is_doomed G) (is_doomed H) (λ q. not (same r.name q.name))
+    (λ q k. let s = not-true (same r.name q.name) k in rw s refl) (waiting H) (none-waiting r H f h) in
+    let self = same-refl r.name in
+    ap (filter (is_doomed G)) (waiting-arrive r H f h)
+    ∙ filter-append (is_doomed G) (waiting H) (r ∷ [])
+    ∙ ap (λ x. x ++ filter (is_doomed G) (r ∷ [])) (agree ∙ e)
+    ∙ rw self (by_bools (not (is_open r.dcb H)) (r.related && flag r.dcb H)) where
+      by_bools : (a b : Bool) → (if (a || false) || b then r ∷ [] else []) ≡ (if a || b then r ∷ [] else [])
+      by_bools true b = refl
+      by_bools false b = refl
 
+module _ {D : Type 0} (meaning : Meaning D) (mounted : D) where
   pub arrive-fresh : (r : Piece) (H : List Entry) → Facts H → Fits meaning mounted (Arrive r) H → has_arrived r.name H ≡ false
-  arrive-fresh r H f h = fresh r H f (fits-arrive meaning mounted r H (due meaning mounted H) h)
+  arrive-fresh r H f h = fresh r H f (fits-freely meaning mounted (Arrive r) H refl h).1
 
   -- an arrival that is not refused leaves a trace settled
-  pub settled-arrive : (r : Piece) (H : List Entry) → Facts H → Fits meaning mounted (Arrive r) H → due meaning mounted H ≡ Free →
+  pub settled-arrive : (r : Piece) {H : List Entry} → SoundTrace meaning mounted H → Fits meaning mounted (Arrive r) H →
       is_refused r H ≡ false → (doomed (Arrive r ∷ H) ≡ []) × (due meaning mounted (Arrive r ∷ H) ≡ Free)
-  settled-arrive r H f h d n =
-      let e : doomed (Arrive r ∷ H) ≡ [] = doomed-arrive r H f (arrive-fresh r H f h) (due-doomed meaning mounted H d) ∙ rw n refl in
+  settled-arrive r {H} s h n =
+      let f = facts meaning mounted H s.legal in
+      let e : doomed (Arrive r ∷ H) ≡ [] = doomed-arrive r H f (arrive-fresh r H f h) (due-doomed meaning mounted H s.settled) ∙ rw n refl in
       (e, due-no_halt meaning mounted (Arrive r ∷ H) (λ m a. refl) ∙ ap doomed_first e)
 
 -- one that is refused is posted at once
@@ -95,7 +89,7 @@ module _ {D : Type 0} {meaning : Meaning D} {mounted : D} {r : Piece} {held : Bo
   doomed-is : doomed G ≡ r ∷ []
   doomed-is =
       let f = facts meaning mounted held.trace t.legal in
-      doomed-arrive meaning mounted r held.trace f (arrive-fresh meaning mounted r held.trace f fits)
+      doomed-arrive r held.trace f (arrive-fresh meaning mounted r held.trace f fits)
       (due-doomed meaning mounted held.trace settled) ∙ rw refused refl
 
   swept : Swept meaning mounted (r ∷ []) (record held { trace = G; waiting = held.waiting ++ r ∷ [] }) o

@@ -9,7 +9,7 @@ use Rattle.unit_book.proofs.Names.{NothingPending, TriedAgain, WasPosted, Quiesc
 use Rattle.unit_book.proofs.Names.{has_started, is_posted, is_halt, is_halted, arrived_of, is_doomed, all_posted, attempts, newest}
 use Rattle.unit_book.proofs.Names.{still_runs, active_phase, Legal, CanPurge, due_by, is_to_halt, running_name_by, MayStart, MayFirst}
 use Rattle.unit_book.proofs.Names.{MayAgain, StartsBook, InterruptsBook, covered_by, after_purge, Each}
-use Rattle.unit_book.proofs.Names.{ProcessingMethod}
+use Rattle.unit_book.proofs.Names.{ProcessingMethod, empty_status}
 use Rattle.std.proofs.Common.{Result}
 use Rattle.std.specs.declared.alloc.AllocError.{AllocError}
 use Rattle.unit_book.specs.declared.answer.Running.{Running}
@@ -18,16 +18,17 @@ use Rattle.unit_book.specs.Answers.{PostsOne, RunsOn, pending_after}
 use Rattle.unit_queue.specs.declared.selection.Selection.{Selection}
 use Rattle.unit_book.specs.Legal.{Settled}
 use Rattle.unit_book.specs.Book.{running_name, is_pending, pending_by}
-use Rattle.unit_book.specs.Controls.{ClosesBy, halts_program}
+use Rattle.unit_book.specs.declared.answer.Purging.{Purging}
+use Rattle.unit_book.specs.Controls.{PurgesBook, halts_program}
 use Rattle.unit_book.proofs.Dooms.{settled-ran, settled-open, due-no_halt, since-post, halted-first}
 use Rattle.unit_book.proofs.Lists.{same-refl}
 use Rattle.unit_book.proofs.Facts.{Facts, WaitsAmong, waits, Each-weaker, Each-filter, active-is, active-start, active-post}
 use Rattle.unit_book.proofs.Facts.{active-post_waiting}
-use Rattle.unit_book.proofs.LegalFacts.{facts}
+use Rattle.unit_book.proofs.LegalFacts.{SoundTrace, facts}
 use Rattle.unit_book.proofs.Same.{phase-same, fits-free}
 use Rattle.unit_book.proofs.Settling.{first-unposted, still-none, posts-none}
 use Rattle.unit_book.proofs.WorldBooks.{running-is}
-use Rattle.unit_book.proofs.WorldTraces.{SoundTrace, grows-purge}
+use Rattle.unit_book.proofs.WorldTraces.{grows-purge}
 use Rattle.std.proofs.Math.Bool.{and-false, or-false}
 
 -- what a call of `run` did, and that it keeps a book settled
@@ -51,7 +52,7 @@ pub record OpenCall {D : Type 0} (old new : Book D) (result : Result ℕ AllocEr
 pub open-settled : {D : Type 0} (meaning : Meaning D) {old new : Book D} (result : Result ℕ AllocError) → OpenCall old new result →
     Settled meaning old.mounted old.trace → Settled meaning new.mounted new.trace
 open-settled meaning {old = old} (Ok d) o s =
-    let e = o.ok in rw e (settled-open meaning old.mounted (opened_count old.trace + 1) o.method o.extents old.trace s)
+    let e = o.ok in rw e (settled-open meaning old.mounted (Opened (opened_count old.trace + 1) o.method o.extents) old.trace refl s)
 open-settled meaning (Err x) o s = let e = o.err in rw e s
 
 -- a post and what it dooms, as one step
@@ -105,12 +106,14 @@ module _ {D : Type 0} (meaning : Meaning D) where
     by_due Free = refl
 
   -- a purge of a book in which room was made
-  pub purge-reserved : (old : Book D) {mid : Book D} (new : Book D) (scope : Scope) (mode : Mode) →
-      mid ≡ record old { spare = mid.spare } → PurgesBy meaning (covers_awaiting mid scope mode) mid scope mode new →
-      PurgesBy meaning (covers_awaiting old scope mode) old scope mode new
-  purge-reserved old {mid} new scope mode m p =
+  pub purge-reserved : {old mid new : Book D} {scope : Scope} {mode : Mode} {answer : Purging} → mid ≡ record old { spare = mid.spare } →
+      PurgesBook meaning mid scope mode answer new → PurgesBook meaning old scope mode answer new
+  purge-reserved {old} {mid} {new} {scope} {mode} m p =
       let same : covers_awaiting mid scope mode ≡ covers_awaiting old scope mode = rw m refl in
-      subst (λ b. PurgesBy meaning b old scope mode new) same (by_test (covers_awaiting mid scope mode) p) where
+      record {
+        purges = subst (λ b. PurgesBy meaning b old scope mode new) same (by_test (covers_awaiting mid scope mode) p.purges);
+        answer_is = p.answer_is;
+      } where
         by_test : (awaiting : Bool) → PurgesBy meaning awaiting mid scope mode new → PurgesBy meaning awaiting old scope mode new
         by_test false q = rw m at q
         by_test true q = record {
@@ -141,7 +144,7 @@ purged-facts _ scope mode H f = f
 dooms-active : (rs : List Piece) (H : List Entry) → Each (λ r. has_started r.name H ≡ false) rs → active (all_posted rs H) ≡ active H
 dooms-active [] H e = refl
 dooms-active (r ∷ rs) H e = dooms-active rs (Post r.name no_status 0 Purged ∷ H) e.1
-    ∙ active-post_waiting r.name no_status 0 Purged H e.0
+    ∙ active-post_waiting r.name empty_status Purged H e.0
 
 module _ {D : Type 0} (meaning : Meaning D) (mounted : D) where
   -- nothing is active, or what is active awaits its restart
@@ -153,7 +156,7 @@ module _ {D : Type 0} (meaning : Meaning D) (mounted : D) where
   pending-awaits H (Some n) = refl
 
   -- entries that leave the active request and its attempts
-  pub pending-same : (H G : List Entry) (again : Bool) → active G ≡ active H → attempts G ≡ attempts H →
+  pending-same : (H G : List Entry) (again : Bool) → active G ≡ active H → attempts G ≡ attempts H →
       ((n : Name) → is_halted n G ≡ is_halted n H) →
       pending_by meaning mounted G again (active G) ≡ pending_by meaning mounted H again (active H)
   pending-same H G again a t h = ap (pending_by meaning mounted G again) a ∙ by_active (active H) where
@@ -210,9 +213,9 @@ module _ {D : Type 0} (meaning : Meaning D) (mounted : D) where
           or-none false q = rw q (or-false (not again && true))
 
 module _ {D : Type 0} (meaning : Meaning D) where
-  pending-posts : (old new : Book D) (G : List Entry) (again : Bool) → Facts G → Extends meaning old (after_dooms G) again new →
+  pending-posts : (old : Book D) {new : Book D} (G : List Entry) {again : Bool} → Facts G → Extends meaning old (after_dooms G) again new →
       is_pending meaning new ≡ pending_by meaning old.mounted G again (active G)
-  pending-posts old new G again f p =
+  pending-posts old G {again} f p =
       ap (is_pending meaning) p
       ∙ pending-dooms meaning old.mounted G again f
 
@@ -220,30 +223,24 @@ module _ {D : Type 0} (meaning : Meaning D) where
       r.name.seq ≡ arrived_of r.name.task old.trace + 1 → Extends meaning old (after_dooms (Arrive r ∷ old.trace)) old.awaits new →
       is_pending meaning new ≡ is_pending meaning old
   unfolding Legal active started attempts
-  pending-arrive old {new} r s n p =
-      pending-posts old new (Arrive r ∷ old.trace) old.awaits
+  pending-arrive old r s n p =
+      pending-posts old (Arrive r ∷ old.trace)
       (facts meaning old.mounted (Arrive r ∷ old.trace) (fits-free meaning old.mounted (Arrive r) old.trace s.settled n, s.legal)) p
-
-  pub pending-open : (old new : Book D) (dcb : ℕ) (method : ProcessingMethod) (extents : List Extent) →
-      Adds old (Opened dcb method extents) new →
-      is_pending meaning new ≡ is_pending meaning old
-  unfolding active started attempts
-  pending-open old new dcb method extents p = rw p refl
 
   pub pending-opening : {old new : Book D} (result : Result ℕ AllocError) → OpenCall old new result →
       is_pending meaning new ≡ is_pending meaning old
-  pending-opening {old} {new} (Ok d) o = pending-open old new (opened_count old.trace + 1) o.method o.extents o.ok
+  unfolding active started attempts
+  pending-opening (Ok d) o = let p = o.ok in rw p refl
   pending-opening (Err x) o = ap (is_pending meaning) o.err
 
   pub pending-reset : (old new : Book D) (dcb : ℕ) → Adds old (Reset dcb) new → is_pending meaning new ≡ is_pending meaning old
   unfolding active started attempts
   pending-reset old new dcb p = rw p refl
 
-  pub pending-close : (was_open : Bool) (old new : Book D) (dcb : ℕ) → Legal meaning old.mounted old.trace →
-      ClosesBy meaning was_open old dcb new → is_pending meaning new ≡ is_pending meaning old
+  pub pending-close : (old : Book D) {new : Book D} (dcb : ℕ) → Legal meaning old.mounted old.trace →
+      Extends meaning old (after_dooms (Close dcb ∷ old.trace)) old.awaits new → is_pending meaning new ≡ is_pending meaning old
   unfolding arrivals active started attempts request_named
-  pending-close true old new dcb l p = pending-posts old new (Close dcb ∷ old.trace) old.awaits (facts meaning old.mounted old.trace l) p
-  pending-close false old new dcb l p = ap (is_pending meaning) p
+  pending-close old dcb l p = pending-posts old (Close dcb ∷ old.trace) (facts meaning old.mounted old.trace l) p
 
   pub pending-start : (old new : Book D) (answer : Starting) → StartsBook meaning old answer new →
       is_pending meaning new ≡ is_pending meaning old
@@ -295,7 +292,7 @@ module _ {D : Type 0} (meaning : Meaning D) where
       let p = h.1.extends in
       let G = Post n h.1.status.csw h.1.status.sense code ∷ H in
       let none = posts-none (doomed G) G
-      (active-post n h.1.status.csw h.1.status.sense code H (facts meaning old.mounted H l) h.1.fits.active) in
+      (active-post h.1.status code H (facts meaning old.mounted H l) h.1.fits.active) in
       ap (is_pending meaning) p
       ∙ pending-none meaning old.mounted (after_dooms G) false (active (after_dooms G)) none
 
@@ -305,11 +302,11 @@ module _ {D : Type 0} (meaning : Meaning D) where
     pub can : CanPurge meaning old.mounted scope old.trace
     pub quiet : old.awaits ≡ true → running_name meaning old ≡ None
 
-  pub pending-purge : (old new : Book D) (scope : Scope) (mode : Mode) → FoundByPurge old scope →
+  pub pending-purge : {old : Book D} {scope : Scope} (new : Book D) (mode : Mode) → FoundByPurge old scope →
       PurgesBy meaning (covers_awaiting old scope mode) old scope mode new →
       is_pending meaning new ≡ (is_pending meaning old || halts_program meaning old scope mode)
   unfolding due active started
-  pending-purge old new scope mode found p = by_test (covers_awaiting old scope mode) refl p where
+  pending-purge {old} {scope} new mode found p = by_test (covers_awaiting old scope mode) refl p where
     H : List Entry
     H = old.trace
 
@@ -317,7 +314,7 @@ module _ {D : Type 0} (meaning : Meaning D) where
         is_pending meaning new ≡ (is_pending meaning old || halts_program meaning old scope mode)
     by_test false e q =
         let G = after_halt meaning old.mounted (Purge scope mode ∷ H) in
-        pending-posts old new G old.awaits
+        pending-posts old G
         (purged-facts (due meaning old.mounted (Purge scope mode ∷ H)) scope mode H (facts meaning old.mounted H found.sound.legal))
         q
         ∙ ap (pending_by meaning old.mounted G old.awaits) (same-active (due meaning old.mounted (Purge scope mode ∷ H)))
@@ -330,7 +327,7 @@ module _ {D : Type 0} (meaning : Meaning D) where
         let K = after_purge meaning old.mounted scope mode H in
         let awaits : old.awaits ≡ true = (and_parts (is_halt mode) old.awaits (and_parts (is_halt mode && old.awaits) _ e).0).1 in
         let f = facts meaning old.mounted K (grows-purge scope mode found.sound found.can).legal in
-        let none = active-post q.name q.status.csw q.status.sense Purged K f q.fits.active in
+        let none = active-post q.status Purged K f q.fits.active in
         let quiet = found.quiet awaits in
         ap (is_pending meaning) q.extends
         ∙ pending-none meaning old.mounted (Post q.name q.status.csw q.status.sense Purged ∷ K) false _ none

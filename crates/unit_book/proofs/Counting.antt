@@ -54,7 +54,7 @@ module _ {D : Type 0} (meaning : Meaning D) where
   interrupts-keep old (WasPosted n code) new h = ap (λ (b : Book D). arrivals b.trace) h.1.extends
       ∙ arrivals-after_dooms (Post n h.1.status.csw h.1.status.sense code ∷ old.trace)
 
-  pub opens-keep : (old : Book D) (dcb : ℕ) (method : ProcessingMethod) (extents : List Extent) (new : Book D) →
+  pub opens-keep : {old new : Book D} {dcb : ℕ} {method : ProcessingMethod} {extents : List Extent} →
       OpensBook meaning old dcb method extents new → arrivals new.trace ≡ arrivals old.trace
   unfolding arrivals
-  opens-keep old dcb method extents new h = ap (λ (b : Book D). arrivals b.trace) h.adds
+  opens-keep h = ap (λ (b : Book D). arrivals b.trace) h.adds

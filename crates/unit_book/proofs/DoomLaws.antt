@@ -7,10 +7,9 @@ use Rattle.unit_book.proofs.Names.{is_closed, flag, Due, ToHalt, ToPost, Free, d
 use Rattle.std.proofs.lemmas.Bool.{or_from}
 use Rattle.unit_book.specs.Laws.{NoDoomedStarts, is_of_name}
 use Rattle.unit_book.proofs.Lists.{all-at, same-true, no_both, without}
-use Rattle.unit_book.proofs.Facts.{Facts, active-is, fits-arrive, fits-start, fresh}
-use Rattle.unit_book.proofs.LegalFacts.{facts, first-waits, first-request, request-named}
+use Rattle.unit_book.proofs.Facts.{Facts, active-is, fits-freely, fresh, new-name}
+use Rattle.unit_book.proofs.LegalFacts.{SoundTrace, facts, first-named, first-request, request-named}
 use Rattle.unit_book.proofs.Dooms.{doomed-purged, due-doomed, none-pass}
-use Rattle.unit_book.proofs.Seeks.{free-start}
 use Rattle.unit_book.proofs.TraceLaws.{any-later, not-of, start-unposted}
 
 -- one of the name is doomed
@@ -100,13 +99,12 @@ module _ {D : Type 0} (meaning : Meaning D) (mounted : D) where
       same m r.name ≡ false
   covered-start r m G l h c =
       elim (cases_Bool (same m r.name)) [
-        | inl e ↦ absurd (none (fits-start meaning mounted m G (due meaning mounted G) h) (same-true m r.name e))
+        | inl e ↦ absurd (none (fits-freely meaning mounted (Start m) G refl h).1 (same-true m r.name e))
         | inr e ↦ e
       ] where
         none : StartFits meaning mounted m G → m ≡ r.name → ⊥
         none (First k) i =
-            let u = (first-waits k.request G (facts meaning mounted G l) k.first).unstarted in
-            no_both (has_started r.name G) c.0 (subst (λ (x : Name). has_started x G ≡ false) (k.name ∙ i) u)
+            no_both (has_started r.name G) c.0 (first-named G (facts meaning mounted G l) k.first (k.name ∙ i)).unstarted
         none (Again k) i = no_both (is_covered r G) c.2
             (subst (λ (x : Piece). is_covered x G ≡ false) (ap (λ (x : Name). request_named x G) i ∙ c.1) k.free)
 
@@ -115,11 +113,8 @@ module _ {D : Type 0} (meaning : Meaning D) (mounted : D) where
       request_named n (e ∷ G) ≡ request_named n G
   unfolding request_named
   request-stays n (Arrive r) G f h a =
-      let new = fresh r G f (fits-arrive meaning mounted r G (due meaning mounted G) h) in
-      elim (cases_Bool (same r.name n)) [
-        | inl s ↦ no_both (has_arrived n G) a (subst (λ (x : Name). has_arrived x G ≡ false) (same-true r.name n s) new)
-        | inr s ↦ rw s refl
-      ]
+      let new = fresh r G f (fits-freely meaning mounted (Arrive r) G refl h).1 in
+      let s = new-name r n G new a in rw s refl
   request-stays n _ G f h a = refl
 
   covered-step : (r : Piece) (e : Entry) (G : List Entry) → Legal meaning mounted G → Fits meaning mounted e G → Covered r G →
@@ -151,20 +146,20 @@ module _ {D : Type 0} (meaning : Meaning D) (mounted : D) where
       let k : Covered r earlier = (rw q s, ap (λ (x : Name). request_named x earlier) q, c) in
       subst (λ (x : Name). list_any (starts x) later ≡ false) q (covered-stays r later earlier l k).0
 
-  not-first : (n : Name) (H : List Entry) → Legal meaning mounted H → due meaning mounted H ≡ Free → StartFits meaning mounted n H →
+  not-first : {n : Name} {H : List Entry} → StartFits meaning mounted n H → SoundTrace meaning mounted H →
       is_doomed H (request_named n H) ≡ true → has_started n H ≡ true
-  not-first n H l d (First s) b =
-      let q = first-request H (facts meaning mounted H l) s.first s.name in
-      let k = first-spared s.request H (due-doomed meaning mounted H d) s.first in
+  not-first {H = H} (First s) sound b =
+      let q = first-request H (facts meaning mounted H sound.legal) s.first s.name in
+      let k = first-spared s.request H (due-doomed meaning mounted H sound.settled) s.first in
       let b' : is_doomed H s.request ≡ true = subst (λ (x : Piece). is_doomed H x ≡ true) q b in
       let k' = rw b' at k in absurd cc
-  not-first n H l d (Again s) b = (active-is n H s.active).0
+  not-first {n} {H} (Again s) sound b = (active-is n H s.active).0
 
   doomed-starts : (n : Name) (H : List Entry) → Legal meaning mounted (Start n ∷ H) → is_doomed H (request_named n H) ≡ true →
       has_started n H ≡ true
   unfolding Legal
-  doomed-starts n H l b = not-first n H l.1 (free-start meaning mounted n H (due meaning mounted H) l.0)
-      (fits-start meaning mounted n H (due meaning mounted H) l.0) b
+  doomed-starts n H l b =
+      let free = fits-freely meaning mounted (Start n) H refl l.0 in not-first free.1 (record { legal = l.1; settled = free.0 }) b
 
   of-closed : (n : Name) (H : List Entry) → Legal meaning mounted (Start n ∷ H) → is_closed (request_named n H).dcb H ≡ true →
       has_started n H ≡ true
@@ -213,7 +208,7 @@ module _ {D : Type 0} (meaning : Meaning D) (mounted : D) where
       let f = facts meaning mounted G l.1 in
       let s = of-closed n G l (rw q (closed-later d later earlier)) in
       let b = before-close n later earlier l.1 q s in
-      let u = start-unposted meaning mounted n G f (fits-start meaning mounted n G (due meaning mounted G) l.0) in
+      let u = start-unposted meaning mounted n G f (fits-freely meaning mounted (Start n) G refl l.0).1 in
       let old = legal-tail later (Close d ∷ earlier) l.1 in
       (facts meaning mounted earlier old.1).3 n b (unposted_before u) where
         unposted_before : is_posted n (later ++ Close d ∷ earlier) ≡ false → is_posted n earlier ≡ false

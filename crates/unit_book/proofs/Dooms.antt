@@ -1,6 +1,6 @@
 -- What is doomed, entry by entry, and that the dooms settle a trace.
 use Rattle.unit_book.proofs.Names.{BookFields, ◌≡◌, ◌≤◌, ℕ, Bool, true, false, not, ◌&&◌, ◌||◌, Some, List, [], ◌∷◌, length, arith, refl}
-use Rattle.unit_book.proofs.Names.{sym, ap, ◌∙◌}
+use Rattle.unit_book.proofs.Names.{sym, ap, ◌∙◌, empty_status}
 use Rattle.unit_book.proofs.Names.{eqb, inl, inr, subst, if◌then◌else◌, cases_Bool, and_parts, filter, list_all, is_error, Csw, Status}
 use Rattle.unit_book.proofs.Names.{Extent}
 use Rattle.unit_book.proofs.Names.{Code, Purged, Meaning, no_status, Name, Piece, Entry, Opened, Start, Ran, Post, same, waiting, arrivals}
@@ -9,7 +9,7 @@ use Rattle.unit_book.proofs.Names.{doomed_first, is_to_halt, Fits, FitsBy, Legal
 use Rattle.unit_book.proofs.Names.{halted_by, ◌+◌, Option, ◌++◌, append_assoc, map, append-nil, drop, PostedState, Placed, Active}
 use Rattle.unit_book.proofs.Names.{Arrive, extents_of, attempts, area, purged, posted, posted_since, posted_value, Ties, Each}
 use Rattle.unit_book.proofs.Names.{ProcessingMethod}
-use Rattle.unit_book.specs.Trace.{is_purged}
+use Rattle.unit_book.specs.Trace.{is_opening, is_purged}
 use Rattle.unit_book.specs.Selected.{is_selected}
 use Rattle.std.proofs.Math.Seq.{drop-append_seam, drop-length}
 use Rattle.unit_book.proofs.Lists.{filter-filter, all-kept, without, without-first, Apart, Apart-filter, no_both, same-not-sym, none_named}
@@ -170,16 +170,16 @@ module _ {D : Type 0} (meaning : Meaning D) (mounted : D) where
   unfolding without
   settled-start n H h = due-no_halt (Start n ∷ H) (λ m a. refl) ∙ ap doomed_first (doomed-start n H ∙ ap (without n) (due-doomed H h))
 
-  pub settled-open : (d : ℕ) (method : ProcessingMethod) (x : List Extent) (H : List Entry) → due meaning mounted H ≡ Free →
-      due meaning mounted (Opened d method x ∷ H) ≡ Free
+  pub settled-open : (e : Entry) (H : List Entry) → is_opening e ≡ true → due meaning mounted H ≡ Free → due meaning mounted (e ∷ H) ≡ Free
   unfolding waiting arrivals flag
-  settled-open d method x H h =
+  settled-open (Opened d method x) H o h =
       let G = Opened d method x ∷ H in
       let all = none-pass (is_doomed H) (waiting H) (due-doomed H h) in
       let same = filter-agree (is_doomed G) (λ r. false) (λ r. not (is_doomed H r))
       (λ r k. open-spares (is_opened r.dcb H) (eqb d r.dcb) (is_closed r.dcb H) (is_purged r H) (r.related && flag r.dcb H) k)
       (waiting H) all in
       due-no_halt G (λ n a. refl) ∙ ap doomed_first (same ∙ filter-never (waiting H))
+  settled-open _ H o h = absurd cc
 
   -- nothing is due in a trace without entries
   pub settled-new : due meaning mounted [] ≡ Free
@@ -243,7 +243,7 @@ module _ {D : Type 0} (meaning : Meaning D) (mounted : D) where
     unfolding Legal attempts flag extents_of request_named without
     ties-purged =
         let n = r.name in
-        let a = active-post_waiting n no_status 0 Purged held.trace w.unstarted in
+        let a = active-post_waiting n empty_status Purged held.trace w.unstarted in
         record {
           legal = (fits, t.legal);
           queue = ap (without n) t.queue ∙ sym (waiting-post n no_status 0 Purged held.trace);

@@ -4,7 +4,7 @@ use Rattle.unit_book.proofs.Names.{◌++◌, refl, sym, ap, ◌∙◌, arith, in
 use Rattle.unit_book.proofs.Names.{filter-append, filter, list_any, list_all, slice_get, Csw, Meaning, Name, Piece, Code, Entry, Arrive}
 use Rattle.unit_book.proofs.Names.{Start, Ran, Post, same, arrivals, arrived_of, has_arrived, has_started, is_posted, waiting, started}
 use Rattle.unit_book.proofs.Names.{active, request_named, Each, Attempt, attempts, doomed, is_doomed, Due, ToHalt, ToPost, Free, due}
-use Rattle.unit_book.proofs.Names.{due_by, doomed_first, is_to_halt, Fits, FitsBy, PostFits, OfActive, OfFirst}
+use Rattle.unit_book.proofs.Names.{due_by, doomed_first, is_to_halt, Fits, FitsBy, PostFits, OfActive, OfFirst, Status, Halted}
 use Rattle.unit_book.specs.Legal.{FitsFree}
 use Rattle.unit_book.proofs.Lists.{same-refl, same-true, same-is, filter-all, same-not-sym, no_both, filter-filter, all-weaker, find-passes}
 use Rattle.unit_book.proofs.Lists.{find-any, find-agree, find-none, without, Apart, Apart-filter}
@@ -109,6 +109,20 @@ waits H f = by_list (arrivals H) f.6 where
             (record { known = h.0; unstarted = p.0; unposted = p.1 }, ih)
       ]
 
+-- a request of this name waits
+pub record NameWaits (n : Name) (H : List Entry) : Type 0 where
+  pub arrived : has_arrived n H ≡ true
+  pub unstarted : has_started n H ≡ false
+  pub unposted : is_posted n H ≡ false
+
+pub name-waits : {n : Name} {r : Piece} {H : List Entry} → WaitsAmong H r → r.name ≡ n → NameWaits n H
+name-waits {n} {r} {H} w e =
+    subst (λ (x : Name). NameWaits x H) e (record { arrived = w.known.1; unstarted = w.unstarted; unposted = w.unposted })
+
+-- whom a Post is of: the active request, or one that waits
+abbrev pub PostOf : Name → List Entry → Type 0
+PostOf n H = (active H ≡ Some n) ⊎ NameWaits n H
+
 doomed-first-post : (ds : List Piece) (n : Name) → doomed_first ds ≡ ToPost n → (r : Piece) × (rest : List Piece) × (ds ≡ r ∷ rest)
     × (r.name ≡ n)
 doomed-first-post [] n h = absurd cc
@@ -126,6 +140,13 @@ fresh r H f e =
       | inr a ↦ a
     ]
 
+-- so it is none of those that arrived
+pub new-name : (r : Piece) (n : Name) (H : List Entry) → has_arrived r.name H ≡ false → has_arrived n H ≡ true → same r.name n ≡ false
+new-name r n H new a = elim (cases_Bool (same r.name n)) [
+  | inl s ↦ no_both (has_arrived n H) a (subst (λ (x : Name). has_arrived x H ≡ false) (same-true r.name n s) new)
+  | inr s ↦ s
+]
+
 pub fresh-start : (n : Name) (H : List Entry) → Facts H → has_arrived n H ≡ false → has_started n H ≡ false
 fresh-start n H f h = not-so (has_started n H) (has_arrived n H) (f.0 n) h
 
@@ -137,10 +158,10 @@ pub active-start : (n : Name) (H : List Entry) → is_posted n H ≡ false → a
 unfolding active started
 active-start n H h = rw h refl
 
-pub active-post : (n : Name) (csw : Csw) (sense : ℕ) (code : Code) (H : List Entry) → Facts H → active H ≡ Some n →
-    active (Post n csw sense code ∷ H) ≡ None
+pub active-post : {n : Name} (status : Status) (code : Code) (H : List Entry) → Facts H → active H ≡ Some n →
+    active (Post n status.csw status.sense code ∷ H) ≡ None
 unfolding active started
-active-post n csw sense code H f h =
+active-post {n} status code H f h =
     find-none (λ k. not (same n k || is_posted k H)) (started H)
     (all-weaker (λ k. has_started k H) (λ k. not (not (same n k || is_posted k H))) only (started H) (all-self H)) where
       only : (k : Name) → has_started k H ≡ true → not (not (same n k || is_posted k H)) ≡ true
@@ -153,10 +174,10 @@ active-post n csw sense code H f h =
                 let q = or_left (same n k) (is_posted k H) (same-is n k e) in rw q refl
           ]
 
-pub active-post_waiting : (n : Name) (csw : Csw) (sense : ℕ) (code : Code) (H : List Entry) → has_started n H ≡ false →
-    active (Post n csw sense code ∷ H) ≡ active H
+pub active-post_waiting : (n : Name) (status : Status) (code : Code) (H : List Entry) → has_started n H ≡ false →
+    active (Post n status.csw status.sense code ∷ H) ≡ active H
 unfolding active started
-active-post_waiting n csw sense code H h =
+active-post_waiting n status code H h =
     find-agree (λ k. not (same n k || is_posted k H)) (λ k. not (is_posted k H)) (λ k. not (same k n)) other (started H)
     (any-none (λ k. same k n) (started H) (started-any n H ∙ h)) where
       other : (k : Name) → not (same k n) ≡ true → not (same n k || is_posted k H) ≡ not (is_posted k H)
@@ -209,19 +230,21 @@ without-started n H f s = filter-all (λ (r : Piece). not (same n r.name)) (wait
         | inr k ↦ rw k ih
       ]
 
--- what fits where it is neither a Halted nor a Post fits freely
+abbrev pub may_be_due : Entry → Bool
+may_be_due (Halted n) = true
+may_be_due (Post n csw sense code) = true
+may_be_due _ = false
+
 module _ {D : Type 0} (meaning : Meaning D) (mounted : D) where
-  pub fits-arrive : (r : Piece) (H : List Entry) (d : Due) → FitsBy meaning mounted d (Arrive r) H → FitsFree meaning mounted (Arrive r) H
-  fits-arrive r H Free h = h
-  fits-arrive r H _ h = absurd cc
-
-  pub fits-start : (n : Name) (H : List Entry) (d : Due) → FitsBy meaning mounted d (Start n) H → FitsFree meaning mounted (Start n) H
-  fits-start n H Free h = h
-  fits-start n H _ h = absurd cc
-
-  pub fits-ran : (n : Name) (j : ℕ) (H : List Entry) (d : Due) → FitsBy meaning mounted d (Ran n j) H → FitsFree meaning mounted (Ran n j) H
-  fits-ran n j H Free h = h
-  fits-ran n j H _ h = absurd cc
+  -- an entry that is never due fits where nothing is, and freely
+  pub fits-freely : (e : Entry) (H : List Entry) → may_be_due e ≡ false → Fits meaning mounted e H →
+      (due meaning mounted H ≡ Free) × FitsFree meaning mounted e H
+  fits-freely e H never h = by_due (due meaning mounted H) refl h where
+    by_due : (d : Due) → due meaning mounted H ≡ d → FitsBy meaning mounted d e H →
+        (due meaning mounted H ≡ Free) × FitsFree meaning mounted e H
+    by_due Free is f = (is, f)
+    by_due (ToHalt n) is f = no_both (may_be_due e) (ap may_be_due f) never
+    by_due (ToPost n) is f = no_both (may_be_due e) (ap may_be_due f) never
 
   -- what is due: a Halted of the active request, or a doom
   pub data DueIs (H : List Entry) : Type 0 where
@@ -253,27 +276,20 @@ module _ {D : Type 0} (meaning : Meaning D) (mounted : D) where
     | Dooms d ↦ absurd (first-no_halt (doomed H) n (sym d ∙ h))
   ]
 
-  -- whom a Post is of: the active request, or one that waits
-  pub post-whom : (n : Name) (csw : Csw) (sense : ℕ) (code : Code) (H : List Entry) → Facts H →
-      Fits meaning mounted (Post n csw sense code) H →
-      (active H ≡ Some n) ⊎ ((r : Piece) × WaitsAmong H r × (r.name ≡ n))
-  post-whom n csw sense code H f h = by_due (due meaning mounted H) refl h where
-    free_post : PostFits meaning mounted n (record { csw = csw; sense = sense }) code H →
-        (active H ≡ Some n) ⊎ ((r : Piece) × WaitsAmong H r × (r.name ≡ n))
+  pub post-whom : {n : Name} {H : List Entry} (status : Status) (code : Code) → Facts H →
+      Fits meaning mounted (Post n status.csw status.sense code) H → PostOf n H
+  post-whom {n} {H} status code f h = by_due (due meaning mounted H) refl h where
+    free_post : PostFits meaning mounted n status code H → PostOf n H
     free_post (OfActive p) = inl p.active
-    free_post (OfFirst p) = inr (
-      p.fails.request,
-      Each-at (WaitsAmong H) (waiting H) 0 p.fails.request (waits H f) p.fails.first,
-      p.fails.name,
-    )
+    free_post (OfFirst p) =
+        inr (name-waits (Each-at (WaitsAmong H) (waiting H) 0 p.fails.request (waits H f) p.fails.first) p.fails.name)
 
-    by_due : (d : Due) → d ≡ due meaning mounted H → FitsBy meaning mounted d (Post n csw sense code) H →
-        (active H ≡ Some n) ⊎ ((r : Piece) × WaitsAmong H r × (r.name ≡ n))
+    by_due : (d : Due) → d ≡ due meaning mounted H → FitsBy meaning mounted d (Post n status.csw status.sense code) H → PostOf n H
     by_due (ToHalt m) e k = absurd cc
     by_due (ToPost m) e k =
         let p = due-post H m (sym e) in
         let q : m ≡ n = cc in
         let w : Each (WaitsAmong H) (doomed H) = Each-filter (WaitsAmong H) (is_doomed H) (waiting H) (waits H f) in
         let w' = rw p.2 at w in
-        inr (p.0, w'.0, p.3 ∙ q)
+        inr (name-waits w'.0 (p.3 ∙ q))
     by_due Free e k = free_post k

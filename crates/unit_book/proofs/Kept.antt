@@ -27,9 +27,9 @@ done_and Done Also (Err e) done also = tt
 
 module _ {D : Type 0} (meaning : Meaning D) where
   -- what was given stays given
-  pub given-keeps : (old new : Book D) (more : List Piece) → given meaning old ++ old.out ≡ posted meaning old.mounted old.trace →
+  pub given-keeps : {old new : Book D} {more : List Piece} → given meaning old ++ old.out ≡ posted meaning old.mounted old.trace →
       Keeps meaning old more new → given meaning new ≡ given meaning old
-  given-keeps old new more all k =
+  given-keeps {old} {new} all k =
       let left = old.out ++ k.values in
       let whole : posted meaning new.mounted new.trace ≡ given meaning old ++ left =
       ap (λ m. posted meaning m new.trace) k.mounted ∙ k.posted_is ∙ ap (λ x. x ++ k.values) (sym all)
@@ -38,16 +38,16 @@ module _ {D : Type 0} (meaning : Meaning D) where
       ∙ ap (λ o. take (length (given meaning old ++ left) - length o) (given meaning old ++ left)) k.out
       ∙ taken-all (given meaning old) left
 
-  pub sound-kept : (old new : Book D) (more : List Piece) → Keeps meaning old more new → Sound meaning new
-  sound-kept old new more k = (
-    subst (λ m. Legal meaning m new.trace) (sym k.mounted) k.legal,
-    ap (λ m. due meaning m new.trace) k.mounted ∙ k.settled,
-  )
+  pub sound-kept : {old new : Book D} {more : List Piece} → Keeps meaning old more new → Sound meaning new
+  sound-kept {old} {new} k = record {
+    legal = subst (λ m. Legal meaning m new.trace) (sym k.mounted) k.legal;
+    settled = ap (λ m. due meaning m new.trace) k.mounted ∙ k.settled;
+  }
 
   -- two calls
-  pub keeps-then : (old mid new : Book D) (first more : List Piece) → Keeps meaning old first mid → Keeps meaning mid more new →
+  pub keeps-then : {old mid new : Book D} {first more : List Piece} → Keeps meaning old first mid → Keeps meaning mid more new →
       Keeps meaning old (first ++ more) new
-  keeps-then old mid new first more a b =
+  keeps-then {old} {mid} {new} {first} {more} a b =
       let at = λ (H : List Entry). ap (λ m. posted meaning m H) a.mounted in
       record {
         mounted = b.mounted ∙ a.mounted;
@@ -61,17 +61,15 @@ module _ {D : Type 0} (meaning : Meaning D) where
         out = b.out ∙ ap (λ x. x ++ b.values) a.out ∙ append_assoc old.out a.values b.values;
       }
 
-  keeps-step : (old new : Book D) → Sound meaning old → Steps meaning old new → Keeps meaning old [] new
-  keeps-step old new s (ByStart answer h) = keeps-start meaning old new answer s h
-  keeps-step old new s (ByRun max answer some h) = keeps-run meaning old new max answer s some h
-  keeps-step old new s (ByInterrupt answer h) = keeps-interrupt meaning old new answer s h
+  keeps-step : {old new : Book D} → Sound meaning old → Steps meaning old new → Keeps meaning old [] new
+  keeps-step s (ByStart answer h) = keeps-start meaning answer s h
+  keeps-step s (ByRun max answer some h) = keeps-run meaning answer s some h
+  keeps-step s (ByInterrupt answer h) = keeps-interrupt meaning answer s h
 
   -- a list of starts, runs and interruptions
-  pub keeps-settles : (old new : Book D) → Sound meaning old → Settles meaning old new → Keeps meaning old [] new
-  keeps-settles old _ s Stays = keeps-same meaning old old s refl
-  keeps-settles old new s (Then {mid} before step) =
-      let a = keeps-settles old mid s before in
-      keeps-then old mid new [] [] a (keeps-step mid new (sound-kept old mid [] a) step)
+  pub keeps-settles : {old new : Book D} → Sound meaning old → Settles meaning old new → Keeps meaning old [] new
+  keeps-settles s Stays = keeps-same meaning s refl
+  keeps-settles s (Then before step) = let a = keeps-settles s before in keeps-then a (keeps-step (sound-kept a) step)
 
 -- WHAT IS POSTED IS OF WHAT ARRIVED
 
@@ -94,19 +92,23 @@ request-among P n (Arrive r ∷ H) a h =
     ]
 request-among P n (_ ∷ H) a h = request-among P n H a h
 
-module _ {D : Type 0} (meaning : Meaning D) (mounted : D) (P : Piece → Type 0) (Q : PostedState → Type 0)
-    (link : (r : Piece) (csw : Csw) (sense : ℕ) (code : Code) (m : Storage) → P r → Q (posted_value r csw sense code m)) where
-  pub posted-of : (H : List Entry) → Legal meaning mounted H → Each P (arrivals H) → Each Q (posted meaning mounted H)
+-- what is said of a request is said of each value that its post hands out
+pub record Inherits (P : Piece → Type 0) (Q : PostedState → Type 0) : Type 0 where
+  pub posts : (r : Piece) (csw : Csw) (sense : ℕ) (code : Code) (m : Storage) → P r → Q (posted_value r csw sense code m)
+
+module _ {D : Type 0} (meaning : Meaning D) {P : Piece → Type 0} {Q : PostedState → Type 0} (inherits : Inherits P Q) where
+  posted-of : (mounted : D) (H : List Entry) → Legal meaning mounted H → Each P (arrivals H) → Each Q (posted meaning mounted H)
   unfolding Legal arrivals posted
-  posted-of [] l h = tt
-  posted-of (Arrive r ∷ H) l h = posted-of H l.1 (Each-front P (arrivals H) (r ∷ []) h)
-  posted-of (Post n csw sense code ∷ H) l h =
+  posted-of mounted [] l h = tt
+  posted-of mounted (Arrive r ∷ H) l h = posted-of mounted H l.1 (Each-front P (arrivals H) (r ∷ []) h)
+  posted-of mounted (Post n csw sense code ∷ H) l h =
       let v = posted_value (request_named n H) csw sense code (area meaning mounted (request_named n H) H) in
       let arrived : has_arrived n H ≡ true = (facts meaning mounted (Post n csw sense code ∷ H) l).1 n (rw (same-refl n) refl) in
-      Each-behind Q (posted meaning mounted H) v (posted-of H l.1 h) (link _ csw sense code _ (request-among P n H arrived h))
-  posted-of (_ ∷ H) l h = posted-of H l.1 h
+      Each-behind Q (posted meaning mounted H) v (posted-of mounted H l.1 h)
+      (inherits.posts _ csw sense code _ (request-among P n H arrived h))
+  posted-of mounted (_ ∷ H) l h = posted-of mounted H l.1 h
 
   -- what is out is of what arrived
-  pub out-of : (b : Book D) → Legal meaning mounted b.trace → given meaning b ++ b.out ≡ posted meaning mounted b.trace →
+  pub out-of : (b : Book D) → Legal meaning b.mounted b.trace → given meaning b ++ b.out ≡ posted meaning b.mounted b.trace →
       Each P (arrivals b.trace) → Each Q b.out
-  out-of b l all h = Each-back Q (given meaning b) b.out (subst (Each Q) (sym all) (posted-of b.trace l h))
+  out-of b l all h = Each-back Q (given meaning b) b.out (subst (Each Q) (sym all) (posted-of b.mounted b.trace l h))

@@ -5,8 +5,9 @@ use Rattle.unit_book.proofs.Names.{Piece, Code, Entry, Arrive, Start, Ran, Post,
 use Rattle.unit_book.proofs.Names.{is_posted, waiting, started, active, request_named, Each, attempts, due, Legal, StartFits, First, Again}
 use Rattle.unit_book.proofs.Lists.{same-true, same-refl, same-is, no_both, none_named, Apart, Apart-push}
 use Rattle.unit_book.proofs.Facts.{ArrivedPost, ArrivedStart, Each-behind, Each-weaker, Facts, Known, Newest, NewestIs, Numbered, One}
-use Rattle.unit_book.proofs.Facts.{WaitsAmong, active-is, active-post, active-post_waiting, active-start, fits-arrive, fits-ran, fits-start}
-use Rattle.unit_book.proofs.Facts.{fresh, post-whom, waits, Each-at}
+use Rattle.unit_book.proofs.Facts.{WaitsAmong, active-is, active-post, active-post_waiting, active-start, fits-freely}
+use Rattle.unit_book.proofs.Facts.{fresh, new-name, post-whom, waits, Each-at, NameWaits, name-waits, PostOf}
+use Rattle.unit_book.proofs.Names.{Status, Free}
 
 pub newest-ran : (n : Name) (j : ℕ) (H : List Entry) → active H ≡ Some n → NewestIs n H → NewestIs n (Ran n j ∷ H)
 unfolding attempts request_named
@@ -57,20 +58,17 @@ facts-arrive r H f e = (starts', posts', numbers, f.3, newest', apart', known') 
         | inr s ↦ let a : has_arrived n H ≡ true = rw s at h in omega (arith, f.2 n a, arrived-of-push n.task r (arrivals H))
       ]
 
-  other : (n : Name) → has_arrived n H ≡ true → same r.name n ≡ false
-  other n a = elim (cases_Bool (same r.name n)) [ inl s ↦ no_both (has_arrived n H) a (rw (same-true r.name n s) at new) | inr s ↦ s ]
-
   newest' : Newest (Arrive r ∷ H)
   newest' n a =
       let w = f.4 n a in
-      let s = other n (f.0 n (active-is n H a).0) in
+      let s = new-name r n H new (f.0 n (active-is n H a).0) in
       (w.0, w.1, w.2, rw s w.3, rw s w.4)
 
   apart' : Apart (arrivals H ++ r ∷ [])
   apart' = Apart-push (arrivals H) r f.5 (none-named r.name H new (arrivals H) f.6)
 
   still : (q : Piece) → Known H q → Known (Arrive r ∷ H) q
-  still q k = let s = other q.name k.1 in (rw s k.0, or_right (same r.name q.name) (has_arrived q.name H) k.1)
+  still q k = let s = new-name r q.name H new k.1 in (rw s k.0, or_right (same r.name q.name) (has_arrived q.name H) k.1)
 
   known' : Each (Known (Arrive r ∷ H)) (arrivals H ++ r ∷ [])
   known' = let s = same-refl r.name in Each-behind (Known (Arrive r ∷ H)) (arrivals H) r
@@ -110,19 +108,22 @@ facts-start n H f here p only = (starts', f.1, f.2, one', newest', f.5, f.6) whe
   newest' m h = let a = active-start n H p in let i : n ≡ m = cc in subst (λ (x : Name). NewestIs x (Start n ∷ H)) i
       (_, attempts H, refl, refl, request-named n H here)
 
-facts-post : {n : Name} (csw : Csw) (sense : ℕ) (code : Code) (H : List Entry) → Facts H →
-    ((active H ≡ Some n) ⊎ ((r : Piece) × WaitsAmong H r × (r.name ≡ n))) → Facts (Post n csw sense code ∷ H)
+facts-post : {n : Name} {H : List Entry} (status : Status) (code : Code) → Facts H → PostOf n H →
+    Facts (Post n status.csw status.sense code ∷ H)
 unfolding arrivals attempts request_named
-facts-post {n} csw sense code H f whom = (f.0, posts', f.2, one', newest', f.5, f.6) where
-  arrived : (active H ≡ Some n) ⊎ ((r : Piece) × WaitsAmong H r × (r.name ≡ n)) → has_arrived n H ≡ true
-  arrived (inl a) = f.0 n (active-is n H a).0
-  arrived (inr w) = subst (λ (x : Name). has_arrived x H ≡ true) w.2 w.1.known.1
+facts-post {n} {H} status code f whom = (f.0, posts', f.2, one_by whom, newest_by whom, f.5, f.6) where
+  G : List Entry
+  G = Post n status.csw status.sense code ∷ H
 
-  posts' : ArrivedPost (Post n csw sense code ∷ H)
+  arrived : PostOf n H → has_arrived n H ≡ true
+  arrived (inl a) = f.0 n (active-is n H a).0
+  arrived (inr w) = w.arrived
+
+  posts' : ArrivedPost G
   posts' m h = elim (cases_Bool (same n m))
       [ inl s ↦ subst (λ (x : Name). has_arrived x H ≡ true) (same-true n m s) (arrived whom) | inr s ↦ f.1 m (rw s at h) ]
 
-  one_by : (active H ≡ Some n) ⊎ ((r : Piece) × WaitsAmong H r × (r.name ≡ n)) → One (Post n csw sense code ∷ H)
+  one_by : PostOf n H → One G
   one_by (inl a) m h q =
       let b = or_parts (same n m) (is_posted m H) q in
       let c = f.3 m h b.1 in
@@ -130,19 +131,11 @@ facts-post {n} csw sense code H f whom = (f.0, posts', f.2, one', newest', f.5, 
       no_both (same n m) (same-is n m i) b.0
   one_by (inr w) m h q =
       let b = or_parts (same n m) (is_posted m H) q in
-      active-post_waiting n csw sense code H (subst (λ (x : Name). has_started x H ≡ false) w.2 w.1.unstarted)
-      ∙ f.3 m h b.1
+      active-post_waiting n status code H w.unstarted ∙ f.3 m h b.1
 
-  one' : One (Post n csw sense code ∷ H)
-  one' = one_by whom
-
-  newest_by : (active H ≡ Some n) ⊎ ((r : Piece) × WaitsAmong H r × (r.name ≡ n)) → Newest (Post n csw sense code ∷ H)
-  newest_by (inl a) m h = let b = active-post n csw sense code H f a in let k = sym b ∙ h in absurd cc
-  newest_by (inr w) m h = f.4 m
-      (sym (active-post_waiting n csw sense code H (subst (λ (x : Name). has_started x H ≡ false) w.2 w.1.unstarted)) ∙ h)
-
-  newest' : Newest (Post n csw sense code ∷ H)
-  newest' = newest_by whom
+  newest_by : PostOf n H → Newest G
+  newest_by (inl a) m h = let b = active-post status code H f a in let k = sym b ∙ h in absurd cc
+  newest_by (inr w) m h = f.4 m (sym (active-post_waiting n status code H w.unstarted) ∙ h)
 
 -- who waits at a place
 pub waits-at : (r : Piece) (at : ℕ) (H : List Entry) → Facts H → slice_get (waiting H) at ≡ Some r → WaitsAmong H r
@@ -150,6 +143,9 @@ waits-at r at H f h = Each-at (WaitsAmong H) (waiting H) at r (waits H f) h
 
 pub first-waits : (r : Piece) (H : List Entry) → Facts H → slice_get (waiting H) 0 ≡ Some r → WaitsAmong H r
 first-waits r H f h = waits-at r 0 H f h
+
+pub first-named : {n : Name} {r : Piece} (H : List Entry) → Facts H → slice_get (waiting H) 0 ≡ Some r → r.name ≡ n → NameWaits n H
+first-named {r = r} H f h e = name-waits (first-waits r H f h) e
 
 -- the request of the name of the first that waits
 pub first-request : {r : Piece} {n : Name} (H : List Entry) → Facts H → slice_get (waiting H) 0 ≡ Some r → r.name ≡ n →
@@ -169,10 +165,8 @@ no-facts = ((λ n h. absurd cc), (λ n h. absurd cc), (λ n h. absurd cc), (λ n
 module _ {D : Type 0} (meaning : Meaning D) (mounted : D) where
   facts-start_by : (n : Name) (H : List Entry) → Facts H → StartFits meaning mounted n H → Facts (Start n ∷ H)
   facts-start_by n H f (First s) =
-      let w = first-waits s.request H f s.first in
-      facts-start n H f (subst (λ (x : Name). has_arrived x H ≡ true) s.name w.known.1)
-      (subst (λ (x : Name). is_posted x H ≡ false) s.name w.unposted)
-      (λ m a. let k = sym s.none ∙ a in absurd cc)
+      let w = first-named H f s.first s.name in
+      facts-start n H f w.arrived w.unposted (λ m a. let k = sym s.none ∙ a in absurd cc)
   facts-start_by n H f (Again s) =
       let b = active-is n H s.active in
       facts-start n H f (f.0 n b.0) b.1
@@ -184,9 +178,15 @@ module _ {D : Type 0} (meaning : Meaning D) (mounted : D) where
   pub facts : (H : List Entry) → Legal meaning mounted H → Facts H
   unfolding Legal arrivals active started attempts request_named
   facts [] l = no-facts
-  facts (Arrive r ∷ H) l = facts-arrive r H (facts H l.1) (fits-arrive meaning mounted r H (due meaning mounted H) l.0)
-  facts (Start n ∷ H) l = facts-start_by n H (facts H l.1) (fits-start meaning mounted n H (due meaning mounted H) l.0)
-  facts (Ran n j ∷ H) l = facts-ran n j H (facts H l.1) (fits-ran meaning mounted n j H (due meaning mounted H) l.0).active
-  facts (Post n csw sense code ∷ H) l = facts-post csw sense code H (facts H l.1)
-      (post-whom meaning mounted n csw sense code H (facts H l.1) l.0)
+  facts (Arrive r ∷ H) l = facts-arrive r H (facts H l.1) (fits-freely meaning mounted (Arrive r) H refl l.0).1
+  facts (Start n ∷ H) l = facts-start_by n H (facts H l.1) (fits-freely meaning mounted (Start n) H refl l.0).1
+  facts (Ran n j ∷ H) l = facts-ran n j H (facts H l.1) (fits-freely meaning mounted (Ran n j) H refl l.0).1.active
+  facts (Post n csw sense code ∷ H) l =
+      let f = facts H l.1 in
+      let status : Status = record { csw = csw; sense = sense } in facts-post status code f (post-whom meaning mounted status code f l.0)
   facts (_ ∷ H) l = facts H l.1
+
+  -- a legal trace with nothing due
+  pub record SoundTrace (H : List Entry) : Type 0 where
+    pub legal : Legal meaning mounted H
+    pub settled : due meaning mounted H ≡ Free

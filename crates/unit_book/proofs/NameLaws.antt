@@ -5,8 +5,8 @@ use Rattle.unit_book.proofs.Names.{Start, same, starts, arrivals, has_arrived, h
 use Rattle.unit_book.proofs.Names.{Legal, StartFits, First, Again}
 use Rattle.unit_book.specs.Laws.{OnePlace, FewStarts, waits, is_one, is_active, times}
 use Rattle.unit_book.proofs.Lists.{same-true, same-refl, no_both}
-use Rattle.unit_book.proofs.Facts.{Facts, active-is, fits-start}
-use Rattle.unit_book.proofs.LegalFacts.{facts, first-waits}
+use Rattle.unit_book.proofs.Facts.{Facts, active-is, fits-freely}
+use Rattle.unit_book.proofs.LegalFacts.{facts, first-named}
 use Rattle.unit_book.proofs.Restarts.{retry-few}
 use Rattle.unit_book.proofs.Starts.{no-starts}
 use Rattle.std.proofs.Math.Bool.{and_comm}
@@ -72,10 +72,7 @@ module _ {D : Type 0} (meaning : Meaning D) where
 
   module _ (mounted : D) where
     start-few : (n : Name) (H : List Entry) → Facts H → StartFits meaning mounted n H → length (filter (starts n) H) ≤ 10
-    start-few n H f (First s) =
-        let w = first-waits s.request H f s.first in
-        let u = subst (λ (x : Name). has_started x H ≡ false) s.name w.unstarted in
-        omega (arith, no-starts n H u)
+    start-few n H f (First s) = omega (arith, no-starts n H (first-named H f s.first s.name).unstarted)
     start-few n H f (Again s) = retry-few (meaning.kind mounted) s.status.csw s.status.sense (starts_of n H) s.retry
 
     few : (n : Name) (H : List Entry) → Legal meaning mounted H → starts_of n H ≤ 11
@@ -86,7 +83,7 @@ module _ {D : Type 0} (meaning : Meaning D) where
         elim (cases_Bool (same m n)) [
           | inl s ↦
               let k = subst (λ (x : Name). length (filter (starts x) H) ≤ 10) (same-true m n s)
-              (start-few m H (facts meaning mounted H l.1) (fits-start meaning mounted m H (due meaning mounted H) l.0)) in
+              (start-few m H (facts meaning mounted H l.1) (fits-freely meaning mounted (Start m) H refl l.0).1) in
               rw s (omega (arith, k))
           | inr s ↦ rw s ih
         ]

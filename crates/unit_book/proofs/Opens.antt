@@ -14,11 +14,11 @@ use Rattle.unit_book.specs.Trace.{is_input}
 use Rattle.unit_book.specs.Legal.{OpenFits}
 use Rattle.unit_book.specs.Fields.{HasRow, fields_of}
 use Rattle.unit_book.proofs.Lists.{same-true, no_both}
-use Rattle.unit_book.proofs.Facts.{fits-arrive, fits-start, fresh, active-is}
-use Rattle.unit_book.proofs.LegalFacts.{facts, first-request}
+use Rattle.unit_book.proofs.Facts.{fits-freely, fresh, new-name, active-is}
+use Rattle.unit_book.proofs.LegalFacts.{SoundTrace, facts, first-request}
 use Rattle.unit_book.proofs.Dooms.{due-doomed}
 use Rattle.unit_book.proofs.Same.{activity-same, fits-free}
-use Rattle.unit_book.proofs.Seeks.{free-start, waits-open}
+use Rattle.unit_book.proofs.Seeks.{waits-open}
 use Rattle.unit_book.proofs.Starts.{no-input}
 use Rattle.unit_book.proofs.Lists.{not-so}
 use Rattle.unit_book.proofs.Lists.{at-push}
@@ -33,19 +33,13 @@ unfolding extents_of flag
 dcb-other c d method x H e = rw e refl
 
 module _ {D : Type 0} (meaning : Meaning D) (mounted : D) where
-  free-open : (d : ℕ) (method : ProcessingMethod) (x : List Extent) (H : List Entry) (k : Due) →
-      FitsBy meaning mounted k (Opened d method x) H →
-      OpenFits meaning mounted d x H
-  free-open d method x H Free f = f
-  free-open d method x H _ f = absurd cc
-
   -- a DCB that was opened has a number from 1 to the count
   pub opened-few : (d : ℕ) (H : List Entry) → Legal meaning mounted H → is_opened d H ≡ true → (1 ≤ d) × (d ≤ opened_count H)
   unfolding Legal
   opened-few d [] l h = absurd cc
   opened-few d (Opened c i x ∷ H) l h =
       let ih : is_opened d H ≡ true → (1 ≤ d) × (d ≤ opened_count H) = λ k. opened-few d H l.1 k in
-      let f = (free-open c i x H (due meaning mounted H) l.0).next in
+      let f = (fits-freely meaning mounted (Opened c i x) H refl l.0).1.next in
       elim (cases_Bool (eqb c d)) [
         | inl e ↦ let k : c ≡ d = eqb-true c d e in (omega (arith, k, f), omega (arith, k, f))
         | inr e ↦ let k = ih (rw e at h) in (k.0, omega (arith, k.1))
@@ -60,13 +54,11 @@ module _ {D : Type 0} (meaning : Meaning D) (mounted : D) where
   closed-opened d (Close c ∷ H) l h =
       let ih : is_closed d H ≡ true → is_opened d H ≡ true = λ k. closed-opened d H l.1 k in
       elim (cases_Bool (eqb c d)) [
-        | inl e ↦ subst (λ (x : ℕ). is_opened x H ≡ true) (eqb-true c d e) (opened (due meaning mounted H) l.0)
+        | inl e ↦
+            let still : is_open c H ≡ true = (fits-freely meaning mounted (Close c) H refl l.0).1 in
+            subst (λ (x : ℕ). is_opened x H ≡ true) (eqb-true c d e) (and_parts (is_opened c H) (not (is_closed c H)) still).0
         | inr e ↦ ih (rw e at h)
-      ] where
-        opened : (k : Due) → FitsBy meaning mounted k (Close c) H → is_opened c H ≡ true
-        opened (ToHalt n) f = absurd cc
-        opened (ToPost n) f = absurd cc
-        opened Free f = (and_parts (is_opened c H) (not (is_closed c H)) f).0
+      ]
   closed-opened d (_ ∷ H) l h = closed-opened d H l.1 h
 
   -- the DCB of what waits first, where nothing is due
@@ -84,12 +76,12 @@ module _ {D : Type 0} (meaning : Meaning D) (mounted : D) where
       HasRow held.dcbs d
   open-row d {held} t h = opened-row d t (and_parts (is_opened d held.trace) (not (is_closed d held.trace)) h).0
 
-  start-opened : (n : Name) (H : List Entry) → Legal meaning mounted H → due meaning mounted H ≡ Free → StartFits meaning mounted n H →
+  start-opened : {n : Name} {H : List Entry} → StartFits meaning mounted n H → SoundTrace meaning mounted H →
       (has_started n H ≡ true → is_opened (request_named n H).dcb H ≡ true) → is_opened (request_named n H).dcb H ≡ true
-  start-opened n H l d (First s) ih =
-      let q = first-request H (facts meaning mounted H l) s.first s.name in
-      rw q (first-opened s.request H d s.first)
-  start-opened n H l d (Again s) ih = ih (active-is n H s.active).0
+  start-opened {H = H} (First s) sound ih =
+      let q = first-request H (facts meaning mounted H sound.legal) s.first s.name in
+      rw q (first-opened s.request H sound.settled s.first)
+  start-opened {n} {H} (Again s) sound ih = ih (active-is n H s.active).0
 
   -- THE DCB of a request that was started was opened
   pub started-opened : (n : Name) (H : List Entry) → Legal meaning mounted H → has_started n H ≡ true →
@@ -99,21 +91,17 @@ module _ {D : Type 0} (meaning : Meaning D) (mounted : D) where
   started-opened n (Opened d i x ∷ H) l h = more (request_named n H).dcb H (Opened d i x) (started-opened n H l.1 h)
   started-opened n (Arrive r ∷ H) l h =
       let f = facts meaning mounted H l.1 in
-      let new = fresh r H f (fits-arrive meaning mounted r H (due meaning mounted H) l.0) in
-      let ih = started-opened n H l.1 h in
-      elim (cases_Bool (same r.name n)) [
-        | inl s ↦ no_both (has_arrived n H) (f.0 n h) (subst (λ (x : Name). has_arrived x H ≡ false) (same-true r.name n s) new)
-        | inr s ↦
-            let q : request_named n (Arrive r ∷ H) ≡ request_named n H = rw s refl in
-            subst (λ (x : Piece). is_opened x.dcb H ≡ true) (sym q) ih
-      ]
+      let new = fresh r H f (fits-freely meaning mounted (Arrive r) H refl l.0).1 in
+      let s = new-name r n H new (f.0 n h) in
+      let q : request_named n (Arrive r ∷ H) ≡ request_named n H = rw s refl in
+      subst (λ (x : Piece). is_opened x.dcb H ≡ true) (sym q) (started-opened n H l.1 h)
   started-opened n (Start m ∷ H) l h =
+      let free = fits-freely meaning mounted (Start m) H refl l.0 in
       let ih : has_started n H ≡ true → is_opened (request_named n H).dcb H ≡ true = λ k. started-opened n H l.1 k in
       let own : has_started m H ≡ true → is_opened (request_named m H).dcb H ≡ true = λ k. started-opened m H l.1 k in
       elim (cases_Bool (same m n)) [
         | inl s ↦ subst (λ (x : Name). is_opened (request_named x H).dcb H ≡ true) (same-true m n s)
-            (start-opened m H l.1 (free-start meaning mounted m H (due meaning mounted H) l.0)
-            (fits-start meaning mounted m H (due meaning mounted H) l.0) own)
+            (start-opened free.1 (record { legal = l.1; settled = free.0 }) own)
         | inr s ↦ ih (rw s at h)
       ]
   started-opened n (_ ∷ H) l h = started-opened n H l.1 h
@@ -157,10 +145,11 @@ module _ {D : Type 0} (meaning : Meaning D) (mounted : D) where
   flag-opened d (_ ∷ H) l h = flag-opened d H l.1 h
 
   -- what a trace says of a DCB that is opened next
-  pub dcb-new : (d : ℕ) (method : ProcessingMethod) (x : List Extent) (H : List Entry) → Legal meaning mounted H → d ≡ opened_count H + 1 →
-      dcb_of d (Opened d method x ∷ H) ≡ Some (record { method = method; extents = x; closed = false; in_error = false })
+  dcb-new : {d : ℕ} {x : List Extent} {H : List Entry} (method : ProcessingMethod) → Legal meaning mounted H →
+      OpenFits meaning mounted d x H → dcb_of d (Opened d method x ∷ H) ≡ Some (record { method = method; extents = x; closed = false; in_error = false })
   unfolding extents_of flag
-  dcb-new d method x H l e =
+  dcb-new {d} {x} {H} method l f =
+      let e = f.next in
       let self : eqb d d ≡ true = eq-eqb d d refl in
       let new : is_opened d H
       ≡ false = elim (cases_Bool (is_opened d H)) [ inl o ↦ absurd (omega (arith, (opened-few d H l o).1, e)) | inr o ↦ o ] in
@@ -223,7 +212,7 @@ module _ {D : Type 0} (meaning : Meaning D) (mounted : D) where
     at : (c : ℕ) → dcb_at (held.dcbs ++ row ∷ []) c ≡ dcb_of c (Opened d method x ∷ held.trace)
     at c = elim (cases_Bool (eqb d c)) [
       | inl e ↦ subst (λ (y : ℕ). dcb_at (held.dcbs ++ row ∷ []) y ≡ dcb_of y (Opened d method x ∷ held.trace)) (eqb-true d c e)
-          (new_at ∙ sym (dcb-new meaning mounted d method x held.trace t.legal f.next))
+          (new_at ∙ sym (dcb-new meaning mounted method t.legal f))
       | inr e ↦ same_at c e ∙ t.dcbs c ∙ sym (dcb-other c d method x held.trace e)
     ]
 
@@ -255,5 +244,5 @@ module _ {D : Type 0} (meaning : Meaning D) (mounted : D) where
   pub opened-most : (H : List Entry) → Legal meaning mounted H → opened_count H ≤ 65535
   unfolding Legal
   opened-most [] l = omega arith
-  opened-most (Opened c i x ∷ H) l = let f = free-open meaning mounted c i x H (due meaning mounted H) l.0 in omega (arith, f.next, f.few)
+  opened-most (Opened c i x ∷ H) l = let f = (fits-freely meaning mounted (Opened c i x) H refl l.0).1 in omega (arith, f.next, f.few)
   opened-most (_ ∷ H) l = opened-most H l.1

@@ -7,7 +7,7 @@ use Rattle.unit_book.proofs.Names.{Legal, StartFits, First, Again, Each}
 use Rattle.unit_book.specs.Laws.{first_starts, StartsInOrder}
 use Rattle.unit_book.proofs.Lists.{same-true, same-refl, no_both, filter-filter, filter-all, without, none_named, Apart, without-first}
 use Rattle.unit_book.proofs.Lists.{first-rest}
-use Rattle.unit_book.proofs.Facts.{Facts, active-is, fits-arrive, fits-start, fresh, fresh-start, fresh-post, post-whom, waiting-arrive}
+use Rattle.unit_book.proofs.Facts.{Facts, active-is, fits-freely, fresh, fresh-start, fresh-post, post-whom, PostOf, waiting-arrive}
 use Rattle.unit_book.proofs.Facts.{waiting-start, waiting-post, waiting-apart, waits, WaitsAmong, without-started}
 use Rattle.unit_book.proofs.LegalFacts.{facts, first-waits}
 use Rattle.std.proofs.lemmas.List.{map-append}
@@ -143,51 +143,39 @@ ordered-first r H f first o =
           elim (cases_Bool (has_started q.name H))
           [ inl s ↦ let k = or_right (same n q.name) (has_started q.name H) s in rw s (rw k ih) | inr s ↦ rw s ih ]
 
+ordered-post : {n : Name} {H : List Entry} (status : Status) (code : Code) → Facts H → PostOf n H → Ordered H →
+    Ordered (Post n status.csw status.sense code ∷ H)
+unfolding arrivals without
+ordered-post {n} {H} status code f (inl a) o =
+    let s = (active-is n H a).0 in
+    let play = filter-same (λ (r : Piece). has_started r.name H || not (same n r.name || is_posted r.name H))
+    (λ r. has_started r.name H || not (is_posted r.name H)) (at s) (arrivals H) in
+    let waits_is = waiting-post n status.csw status.sense code H ∙ without-started n H f s in
+    play ∙ o ∙ ap (λ x. begun H ++ x) (sym waits_is) where
+      at : has_started n H ≡ true → (r : Piece) → (has_started r.name H || not (same n r.name || is_posted r.name H))
+          ≡ (has_started r.name H || not (is_posted r.name H))
+      at s r = elim (cases_Bool (same n r.name)) [
+        | inl e ↦ let k : has_started r.name H ≡ true = rw (← same-true n r.name e) s in rw (e, k) refl
+        | inr e ↦ rw e refl
+      ]
+ordered-post {n} {H} status code f (inr w) o =
+    let play = filter-filter (λ (r : Piece). has_started r.name H || not (is_posted r.name H)) (λ r. not (same n r.name))
+    (λ r. has_started r.name H || not (same n r.name || is_posted r.name H)) at (arrivals H) in
+    let split = filter-append (λ (r : Piece). not (same n r.name)) (begun H) (waiting H) in
+    let none = filter-all (λ (r : Piece). not (same n r.name)) (begun H) (begun-none n H w.unstarted (arrivals H)) in
+    play ∙ ap (filter (λ (r : Piece). not (same n r.name))) o ∙ split ∙ ap (λ x. x ++ without n (waiting H)) none
+    ∙ ap (λ x. begun H ++ x) (sym (waiting-post n status.csw status.sense code H)) where
+      at : (r : Piece) → (has_started r.name H || not (same n r.name || is_posted r.name H))
+          ≡ (not (same n r.name) && (has_started r.name H || not (is_posted r.name H)))
+      at r = elim (cases_Bool (same n r.name)) [
+        | inl e ↦ let k : has_started r.name H ≡ false = rw (← same-true n r.name e) w.unstarted in rw (e, k) refl
+        | inr e ↦ rw e refl
+      ]
+
 module _ {D : Type 0} (meaning : Meaning D) (mounted : D) where
-  ordered-post : (n : Name) (status : Status) (code : Code) (H : List Entry) →
-      Legal meaning mounted (Post n status.csw status.sense code ∷ H) → Ordered H → Ordered (Post n status.csw status.sense code ∷ H)
-  unfolding Legal arrivals without
-  ordered-post n status code H l o = by_whom (post-whom meaning mounted n status.csw status.sense code H f l.0) where
-    f : Facts H
-    f = facts meaning mounted H l.1
-
-    of_started : has_started n H ≡ true → Ordered (Post n status.csw status.sense code ∷ H)
-    of_started s =
-        let play = filter-same (λ (r : Piece). has_started r.name H || not (same n r.name || is_posted r.name H))
-        (λ r. has_started r.name H || not (is_posted r.name H)) at (arrivals H) in
-        let waits_is = waiting-post n status.csw status.sense code H ∙ without-started n H f s in
-        play ∙ o ∙ ap (λ x. begun H ++ x) (sym waits_is) where
-          at : (r : Piece) → (has_started r.name H || not (same n r.name || is_posted r.name H))
-              ≡ (has_started r.name H || not (is_posted r.name H))
-          at r = elim (cases_Bool (same n r.name)) [
-            | inl e ↦ let k : has_started r.name H ≡ true = subst (λ (x : Name). has_started x H ≡ true)
-                (same-true n r.name e) s in rw (e, k) refl
-            | inr e ↦ rw e refl
-          ]
-
-    of_waiting : has_started n H ≡ false → Ordered (Post n status.csw status.sense code ∷ H)
-    of_waiting u =
-        let play = filter-filter (λ (r : Piece). has_started r.name H || not (is_posted r.name H)) (λ r. not (same n r.name))
-        (λ r. has_started r.name H || not (same n r.name || is_posted r.name H)) at (arrivals H) in
-        let split = filter-append (λ (r : Piece). not (same n r.name)) (begun H) (waiting H) in
-        let none = filter-all (λ (r : Piece). not (same n r.name)) (begun H) (begun-none n H u (arrivals H)) in
-        play ∙ ap (filter (λ (r : Piece). not (same n r.name))) o ∙ split ∙ ap (λ x. x ++ without n (waiting H)) none
-        ∙ ap (λ x. begun H ++ x) (sym (waiting-post n status.csw status.sense code H)) where
-          at : (r : Piece) → (has_started r.name H || not (same n r.name || is_posted r.name H))
-              ≡ (not (same n r.name) && (has_started r.name H || not (is_posted r.name H)))
-          at r = elim (cases_Bool (same n r.name)) [
-            | inl e ↦ let k : has_started r.name H ≡ false = subst (λ (x : Name). has_started x H ≡ false)
-                (same-true n r.name e) u in rw (e, k) refl
-            | inr e ↦ rw e refl
-          ]
-
-    by_whom : (active H ≡ Some n) ⊎ ((r : Piece) × WaitsAmong H r × (r.name ≡ n)) → Ordered (Post n status.csw status.sense code ∷ H)
-    by_whom (inl a) = of_started (active-is n H a).0
-    by_whom (inr w) = of_waiting (subst (λ (x : Name). has_started x H ≡ false) w.2 w.1.unstarted)
-
-  order-start : (n : Name) (H : List Entry) → Facts H → StartFits meaning mounted n H → InOrder H → InOrder (Start n ∷ H)
+  order-start : {n : Name} {H : List Entry} → Facts H → StartFits meaning mounted n H → InOrder H → InOrder (Start n ∷ H)
   unfolding first_starts
-  order-start n H f (First s) o =
+  order-start {n} {H} f (First s) o =
       let w = first-waits s.request H f s.first in
       let k = ordered-first s.request H f s.first o.0 in
       let u = w.unstarted in
@@ -197,7 +185,7 @@ module _ {D : Type 0} (meaning : Meaning D) (mounted : D) where
         names ∙ ap (λ x. x ++ s.request.name ∷ []) o.1 ∙ sym (map-append (λ (q : Piece). q.name) (begun H) (s.request ∷ []))
             ∙ ap (map (λ (q : Piece). q.name)) (sym k.1),
       )
-  order-start n H f (Again s) o =
+  order-start {n} {H} f (Again s) o =
       let st = (active-is n H s.active).0 in
       let k = ordered-again n H f st o.0 in
       let names : first_starts (Start n ∷ H) ≡ first_starts H = rw st refl in
@@ -208,18 +196,18 @@ module _ {D : Type 0} (meaning : Meaning D) (mounted : D) where
   in-order [] l = (refl, refl)
   in-order (Arrive r ∷ H) l =
       let f = facts meaning mounted H l.1 in
-      let new = fresh r H f (fits-arrive meaning mounted r H (due meaning mounted H) l.0) in
+      let new = fresh r H f (fits-freely meaning mounted (Arrive r) H refl l.0).1 in
       let o = in-order H l.1 in
       let s = fresh-start r.name H f new in
       let begun_is : begun (Arrive r ∷ H) ≡ begun H = filter-append (λ (q : Piece). has_started q.name H) (arrivals H) (r ∷ [])
       ∙ rw s (append-nil (begun H)) in
       (ordered-arrive r H f new o.0, o.1 ∙ ap (map (λ (q : Piece). q.name)) (sym begun_is))
-  in-order (Start n ∷ H) l = order-start n H (facts meaning mounted H l.1) (fits-start meaning mounted n H (due meaning mounted H) l.0)
-      (in-order H l.1)
-  in-order (Post n csw sense code ∷ H) l = let o = in-order H l.1 in (
-    ordered-post n (record { csw = csw; sense = sense }) code H l o.0,
-    o.1,
-  )
+  in-order (Start n ∷ H) l = order-start (facts meaning mounted H l.1) (fits-freely meaning mounted (Start n) H refl l.0).1 (in-order H l.1)
+  in-order (Post n csw sense code ∷ H) l =
+      let o = in-order H l.1 in
+      let f = facts meaning mounted H l.1 in
+      let status : Status = record { csw = csw; sense = sense } in
+      (ordered-post status code f (post-whom meaning mounted status code f l.0) o.0, o.1)
   in-order (_ ∷ H) l = in-order H l.1
 
 pub starts-in-order : {D : Type 0} (meaning : Meaning D) → StartsInOrder meaning

@@ -4,7 +4,7 @@ use Rattle.unit_book.proofs.Names.{◌≡◌, ℕ, suc, ◌+◌, ◌<◌, ◌≤
 use Rattle.unit_book.proofs.Names.{length, refl, ◌∙◌, arith, eqb, inl, inr, subst, cases_Bool, and_parts, and_from, or_parts, list_all}
 use Rattle.unit_book.proofs.Names.{slice_get, Extent, Meaning, Kind, Name, Piece, Entry, Opened, Arrive, Start, passes_check, same}
 use Rattle.unit_book.proofs.Names.{has_arrived, has_started, waiting, request_named, is_opened, is_closed, is_open, extents_of, doomed}
-use Rattle.unit_book.proofs.Names.{is_doomed, Attempt, attempts, stand, device, beginning, Due, ToHalt, ToPost, Free, due, FitsBy, Legal}
+use Rattle.unit_book.proofs.Names.{is_doomed, Attempt, attempts, stand, device, beginning, Free, due, Legal}
 use Rattle.unit_book.proofs.Names.{StartFits, First, Again}
 use Rattle.std.proofs.Common.{◌*◌}
 use Rattle.std.proofs.lemmas.Bool.{cases_lt, ltb-true, lt-ltb, leb-true}
@@ -16,8 +16,8 @@ use Rattle.device_port.specs.declared.kind.Kind.TheVariants.{Disk}
 use Rattle.ccw_programs.proofs.StepLaws.{device-stays}
 use Rattle.unit_book.specs.Extents.{track, last_track, is_extent, is_inside, counts_tracks, takes_extents, lies_within}
 use Rattle.unit_book.proofs.Lists.{same-true, no_both}
-use Rattle.unit_book.proofs.Facts.{fits-arrive, fits-start, fresh, active-is, not-true}
-use Rattle.unit_book.proofs.LegalFacts.{facts, first-request}
+use Rattle.unit_book.proofs.Facts.{fits-freely, fresh, new-name, active-is, not-true}
+use Rattle.unit_book.proofs.LegalFacts.{SoundTrace, facts, first-request}
 use Rattle.unit_book.proofs.Dooms.{none-pass, due-doomed}
 use Rattle.unit_book.proofs.Lists.{all-at}
 
@@ -81,23 +81,18 @@ module _ {D : Type 0} (meaning : Meaning D) (mounted : D) where
       let ih : is_opened d H ≡ true → takes_extents (meaning.kind mounted) (meaning.cylinders mounted) (meaning.heads mounted)
       (extents_of d H) ≡ true = λ k. opened-takes d H l.1 k in
       elim (cases_Bool (eqb c d)) [
-        | inl e ↦ rw e (taken (due meaning mounted H) l.0)
+        | inl e ↦ rw e (fits-freely meaning mounted (Opened c method x) H refl l.0).1.taken
         | inr e ↦ rw e (ih (rw e at h))
-      ] where
-        taken : (k : Due) → FitsBy meaning mounted k (Opened c method x) H →
-            takes_extents (meaning.kind mounted) (meaning.cylinders mounted) (meaning.heads mounted) x ≡ true
-        taken (ToHalt n) f = absurd cc
-        taken (ToPost n) f = absurd cc
-        taken Free f = f.taken
+      ]
   opened-takes d (_ ∷ H) l h = opened-takes d H l.1 h
 
   -- the first start of a request that passes the check
-  pub first-fits : {n : Name} (H : List Entry) → Legal meaning mounted H → due meaning mounted H ≡ Free →
-      (s : StartsFirst meaning mounted n H) → SeekFits s.request
-  first-fits H l d s =
+  pub first-fits : {n : Name} {H : List Entry} (s : StartsFirst meaning mounted n H) → SoundTrace meaning mounted H → SeekFits s.request
+  first-fits {H = H} s sound =
       let r = s.request in
-      let o = (and_parts (is_opened r.dcb H) (not (is_closed r.dcb H)) (waits-open r H (due-doomed meaning mounted H d) s.first)).0 in
-      by_kind (meaning.kind mounted) (opened-takes r.dcb H l o) s.passes where
+      let still = waits-open r H (due-doomed meaning mounted H sound.settled) s.first in
+      let o = (and_parts (is_opened r.dcb H) (not (is_closed r.dcb H)) still).0 in
+      by_kind (meaning.kind mounted) (opened-takes r.dcb H sound.legal o) s.passes where
         x : List Extent
         x = extents_of s.request.dcb H
 
@@ -107,16 +102,11 @@ module _ {D : Type 0} (meaning : Meaning D) (mounted : D) where
         by_kind Disk k q = check-fits (meaning.cylinders mounted) (meaning.heads mounted) x s.request.seek k q
         by_kind _ k q = refl
 
-  pub free-start : (n : Name) (H : List Entry) (d : Due) → FitsBy meaning mounted d (Start n) H → d ≡ Free
-  free-start n H Free h = refl
-  free-start n H _ h = absurd cc
-
-  start-fits : (n : Name) (H : List Entry) → Legal meaning mounted H → due meaning mounted H ≡ Free → StartFits meaning mounted n H →
+  start-fits : {n : Name} {H : List Entry} → StartFits meaning mounted n H → SoundTrace meaning mounted H →
       (has_started n H ≡ true → SeekFits (request_named n H)) → SeekFits (request_named n H)
-  start-fits n H l d (First s) ih =
-      let q = first-request H (facts meaning mounted H l) s.first s.name in
-      rw q (first-fits H l d s)
-  start-fits n H l d (Again s) ih = ih (active-is n H s.active).0
+  start-fits {H = H} (First s) sound ih =
+      let q = first-request H (facts meaning mounted H sound.legal) s.first s.name in rw q (first-fits s sound)
+  start-fits {n} {H} (Again s) sound ih = ih (active-is n H s.active).0
 
   -- THE SEEK of a request that was started fits the device
   pub seeks : (H : List Entry) → Legal meaning mounted H → (n : Name) → has_started n H ≡ true → SeekFits (request_named n H)
@@ -124,19 +114,15 @@ module _ {D : Type 0} (meaning : Meaning D) (mounted : D) where
   seeks [] l n h = absurd cc
   seeks (Arrive r ∷ H) l n h =
       let f = facts meaning mounted H l.1 in
-      let new = fresh r H f (fits-arrive meaning mounted r H (due meaning mounted H) l.0) in
-      let ih = seeks H l.1 n h in
-      elim (cases_Bool (same r.name n)) [
-        | inl s ↦ no_both (has_arrived n H) (f.0 n h) (subst (λ (x : Name). has_arrived x H ≡ false) (same-true r.name n s) new)
-        | inr s ↦ rw s ih
-      ]
+      let new = fresh r H f (fits-freely meaning mounted (Arrive r) H refl l.0).1 in
+      let s = new-name r n H new (f.0 n h) in rw s (seeks H l.1 n h)
   seeks (Start m ∷ H) l n h =
+      let free = fits-freely meaning mounted (Start m) H refl l.0 in
       let ih : has_started n H ≡ true → SeekFits (request_named n H) = λ k. seeks H l.1 n k in
       let own : has_started m H ≡ true → SeekFits (request_named m H) = λ k. seeks H l.1 m k in
       elim (cases_Bool (same m n)) [
         | inl s ↦ subst (λ (x : Name). SeekFits (request_named x H)) (same-true m n s)
-            (start-fits m H l.1 (free-start m H (due meaning mounted H) l.0) (fits-start meaning mounted m H (due meaning mounted H) l.0)
-            own)
+            (start-fits free.1 (record { legal = l.1; settled = free.0 }) own)
         | inr s ↦ ih (rw s at h)
       ]
   seeks (_ ∷ H) l n h = seeks H l.1 n h

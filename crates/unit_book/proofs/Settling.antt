@@ -356,7 +356,7 @@ module _ {D : Type 0} (meaning : Meaning D) where
         let G = Post m x.status.csw x.status.sense code ∷ H in
         let e : new.trace ≡ after_dooms G = ap (λ (b : Book D). b.trace) x.extends in
         let none = posts-none (doomed G) G
-        (active-post m x.status.csw x.status.sense code H (facts meaning t.ran.mounted H t.legal) x.fits.active) in
+        (active-post x.status code H (facts meaning t.ran.mounted H t.legal) x.fits.active) in
         let first = post-fewer m x.status.csw x.status.sense code H in
         let more = posts-fewer (doomed G) G in
         let one = ap active_count a in

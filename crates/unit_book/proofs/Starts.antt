@@ -1,5 +1,5 @@
 -- A first start: the fields stay those of the trace.
-use Rattle.unit_book.proofs.Names.{no_status, ExtentViolated}
+use Rattle.unit_book.proofs.Names.{no_status, empty_status, ExtentViolated}
 use Rattle.unit_book.proofs.Names.{BookFields, ◌≡◌, ℕ, Bool, true, false, ◌||◌, Option, Some, None, List, [], ◌∷◌, length, refl, sym, ap}
 use Rattle.unit_book.proofs.Names.{◌∙◌, eqb, inl}
 use Rattle.unit_book.proofs.Names.{inr, subst, cases_Bool, and_parts, and_from, or_parts, or_left, or_right, filter, list_any, list_all}
@@ -19,7 +19,7 @@ use Rattle.unit_book.specs.Media.{lengthened}
 use Rattle.unit_book.specs.Legal.{passes}
 use Rattle.unit_book.specs.Fields.{extents_at, active_field_count}
 use Rattle.unit_book.proofs.Lists.{same-true, same-refl, same-is, no_both, without, without-first, Apart, first-rest}
-use Rattle.unit_book.proofs.Facts.{active-start, waiting-start, waiting-apart, fits-start, Each-at, waiting-post, active-post_waiting}
+use Rattle.unit_book.proofs.Facts.{active-start, waiting-start, waiting-apart, fits-freely, Each-at, waiting-post, active-post_waiting}
 use Rattle.unit_book.proofs.LegalFacts.{facts, first-waits, waits-at}
 use Rattle.unit_book.proofs.Same.{fits-free, activity-same}
 use Rattle.unit_book.proofs.TraceLaws.{start-unposted}
@@ -90,7 +90,7 @@ module _ {D : Type 0} (meaning : Meaning D) (mounted : D) where
   named [] l = refl
   named (Start n ∷ H) l =
       let f = facts meaning mounted H l.1 in
-      let u = start-unposted meaning mounted n H f (fits-start meaning mounted n H (due meaning mounted H) l.0) in
+      let u = start-unposted meaning mounted n H f (fits-freely meaning mounted (Start n) H refl l.0).1 in
       let w = (facts meaning mounted (Start n ∷ H) l).4 n (active-start n H u) in
       let e : (request_named n H).name ≡ n = w.4 in
       and_from (same n (request_named n H).name || has_started (request_named n H).name H)
@@ -130,10 +130,10 @@ module _ {D : Type 0} (meaning : Meaning D) (mounted : D) where
   device-start n H = refl
 
   -- what is tied where nothing is active
-  pub none-in_field : (H : List Entry) (phase : Phase) (o : Option Active) → active H ≡ None → ActivityTies meaning mounted H phase o →
-      (phase ≡ Idle) × (o ≡ None)
-  none-in_field H phase None n t = (t.1, refl)
-  none-in_field H phase (Some a) n t = let k = sym n ∙ t.is in absurd cc
+  pub none-in_field : {held : BookFields D} {o : Option Active} → active held.trace ≡ None → Ties meaning mounted held o →
+      (held.channel.phase ≡ Idle) × (o ≡ None)
+  none-in_field {o = None} n t = (t.activity.1, refl)
+  none-in_field {o = Some a} n t = let k = sym n ∙ t.activity.is in absurd cc
 
   -- the request that waits first, and whether it passes the check
   pub first-told : {held : BookFields D} {o : Option Active} {r : Piece} →
@@ -177,7 +177,7 @@ module _ {D : Type 0} (meaning : Meaning D) (mounted : D) where
         let issued : area meaning mounted r held.trace ≡ r.area = as-issued r held.trace t.legal w.unstarted in
         let device_is : prefixed meaning held.channel.device r.seek mask ≡ Some (device meaning mounted G) = rw (t.device, m)
         (ap Some (sym (rw e at (device-start n held.trace)))) in
-        let idle = (none-in_field held.trace held.channel.phase o found.starts.none t.activity).0 in
+        let idle = (none-in_field found.starts.none t).0 in
         let c : current meaning mounted G
         ≡ begun r.start (meaning.prefix (device meaning mounted held.trace) r.seek (mask_of r.dcb held.trace))
         (area meaning mounted r held.trace) = rw e at (current-start n held.trace) in
@@ -214,10 +214,11 @@ module _ {D : Type 0} (meaning : Meaning D) (mounted : D) where
           waiting = drop 1 held.waiting;
         }) (Some (held_first b))) (sym idle) whole
 
+module _ {D : Type 0} {meaning : Meaning D} {mounted : D} where
   -- the first of the queue is started, and what is taken from the queue is made active
   pub ties-first : (popped : Option (Box Piece)) (made : Option Active) {r : Piece} {held : BookFields D}
       {o : Option Active} {mask : ℕ} →
-      Ties meaning mounted held o → FoundFirst held r mask → option_map box_value popped ≡ Some r →
+      Ties meaning mounted held o → FoundFirst meaning mounted held r mask → option_map box_value popped ≡ Some r →
       MatchOption popped (made ≡ None) (λ x. IsSomeAnd made (λ y. y ≡ held_first x)) →
       Ties meaning mounted (record held {
         trace = Start r.name ∷ held.trace;
@@ -229,7 +230,7 @@ module _ {D : Type 0} (meaning : Meaning D) (mounted : D) where
   ties-first (Some b) None t found popped_is made_is = absurd made_is
   ties-first (Some b) (Some a) {r = r} {held = held} {mask = mask} t found popped_is made_is =
       let e : r ≡ b.value = cc in
-      let k = ties-start b t (subst (λ (x : Piece). FoundFirst held x mask) e found) in
+      let k = ties-start meaning mounted b t (subst (λ (x : Piece). FoundFirst meaning mounted held x mask) e found) in
       (rw (made_is, e) k, refl)
 
 -- The post of a request that waits first: the fields stay those of the trace.
@@ -261,7 +262,7 @@ module _ {D : Type 0} {meaning : Meaning D} {mounted : D} where
         let f = facts meaning mounted held.trace t.legal in
         let n = r.name in
         let w = waits-at r 0 held.trace f there in
-        let a = active-post_waiting n no_status 0 ExtentViolated held.trace w.unstarted in
+        let a = active-post_waiting n empty_status ExtentViolated held.trace w.unstarted in
         let z = first-rest (waiting held.trace) r there in
         let apart = subst Apart z (waiting-apart held.trace f) in
         let v = posted_value r no_status 0 ExtentViolated r.area in

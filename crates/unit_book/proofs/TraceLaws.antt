@@ -6,8 +6,8 @@ use Rattle.unit_book.proofs.Names.{First, Again}
 use Rattle.std.proofs.lemmas.Bool.{or_from}
 use Rattle.unit_book.specs.Laws.{PostsLast, is_of_name}
 use Rattle.unit_book.proofs.Lists.{same-true, same-refl, no_both}
-use Rattle.unit_book.proofs.Facts.{Facts, active-is, fits-arrive, fits-start, fits-ran, fresh, post-whom, WaitsAmong, due-halt}
-use Rattle.unit_book.proofs.LegalFacts.{facts, first-waits}
+use Rattle.unit_book.proofs.Facts.{Facts, active-is, fits-freely, fresh, new-name, post-whom, PostOf, due-halt}
+use Rattle.unit_book.proofs.LegalFacts.{facts, first-named}
 
 -- what is active is not posted
 unposted : (n m : Name) (H : List Entry) → is_posted n H ≡ true → is_posted m H ≡ false → same m n ≡ false
@@ -17,9 +17,9 @@ unposted n m H p q =
       | inr s ↦ s
     ]
 
-whom-unposted : (m : Name) (H : List Entry) → (active H ≡ Some m) ⊎ ((r : Piece) × WaitsAmong H r × (r.name ≡ m)) → is_posted m H ≡ false
+whom-unposted : (m : Name) (H : List Entry) → PostOf m H → is_posted m H ≡ false
 whom-unposted m H (inl a) = (active-is m H a).1
-whom-unposted m H (inr w) = subst (λ (x : Name). is_posted x H ≡ false) w.2 w.1.unposted
+whom-unposted m H (inr w) = w.unposted
 
 -- what an older part has, the whole has
 pub any-later : (p : Entry → Bool) (later earlier : List Entry) → list_any p earlier ≡ true → list_any p (later ++ earlier) ≡ true
@@ -28,8 +28,7 @@ any-later p (e ∷ later) earlier h = or_right (p e) (list_any p (later ++ earli
 
 module _ {D : Type 0} (meaning : Meaning D) (mounted : D) where
   pub start-unposted : (m : Name) (H : List Entry) → Facts H → StartFits meaning mounted m H → is_posted m H ≡ false
-  start-unposted m H f (First s) = subst (λ (x : Name). is_posted x H ≡ false) s.name
-      (first-waits s.request H f s.first).unposted
+  start-unposted m H f (First s) = (first-named H f s.first s.name).unposted
   start-unposted m H f (Again s) = (active-is m H s.active).1
 
   halted-active : (m : Name) (H : List Entry) (d : Due) → d ≡ due meaning mounted H → FitsBy meaning mounted d (Halted m) H →
@@ -41,15 +40,13 @@ module _ {D : Type 0} (meaning : Meaning D) (mounted : D) where
   -- an entry that fits is not of a posted name
   pub not-of : (n : Name) (e : Entry) (H : List Entry) → Facts H → is_posted n H ≡ true → Fits meaning mounted e H → is_of_name n e ≡ false
   not-of n (Arrive r) H f p h =
-      let new = fresh r H f (fits-arrive meaning mounted r H (due meaning mounted H) h) in
-      elim (cases_Bool (same r.name n)) [
-        | inl s ↦ no_both (has_arrived n H) (f.1 n p) (subst (λ (x : Name). has_arrived x H ≡ false) (same-true r.name n s) new)
-        | inr s ↦ s
-      ]
-  not-of n (Start m) H f p h = unposted n m H p (start-unposted m H f (fits-start meaning mounted m H (due meaning mounted H) h))
-  not-of n (Ran m j) H f p h = unposted n m H p (active-is m H (fits-ran meaning mounted m j H (due meaning mounted H) h).active).1
+      let new = fresh r H f (fits-freely meaning mounted (Arrive r) H refl h).1 in
+      new-name r n H new (f.1 n p)
+  not-of n (Start m) H f p h = unposted n m H p (start-unposted m H f (fits-freely meaning mounted (Start m) H refl h).1)
+  not-of n (Ran m j) H f p h = unposted n m H p (active-is m H (fits-freely meaning mounted (Ran m j) H refl h).1.active).1
   not-of n (Halted m) H f p h = unposted n m H p (active-is m H (halted-active m H (due meaning mounted H) refl h)).1
-  not-of n (Post m csw sense code) H f p h = unposted n m H p (whom-unposted m H (post-whom meaning mounted m csw sense code H f h))
+  not-of n (Post m csw sense code) H f p h = unposted n m H p (whom-unposted m H
+      (post-whom meaning mounted (record { csw = csw; sense = sense }) code f h))
   not-of n _ H f p h = refl
 
   none-later : (n : Name) (later earlier : List Entry) → is_posted n earlier ≡ true → Legal meaning mounted (later ++ earlier) →

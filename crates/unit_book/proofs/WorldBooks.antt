@@ -19,7 +19,8 @@ use Rattle.unit_book.specs.Controls.{PurgesBook, ClosesBy, ClosesBook}
 use Rattle.unit_book.proofs.Dooms.{since-is}
 use Rattle.unit_book.proofs.Runs.{runs-running, running-phase}
 use Rattle.unit_book.proofs.Names.{is_halted}
-use Rattle.unit_book.proofs.WorldTraces.{Grows, SoundTrace, grows-not, grows-open, grows-arrive, grows-start, grows-ran, grows-post}
+use Rattle.unit_book.proofs.LegalFacts.{SoundTrace}
+use Rattle.unit_book.proofs.WorldTraces.{Grows, grows-not, grows-open, grows-arrive, grows-start, grows-ran, grows-post}
 use Rattle.unit_book.proofs.WorldTraces.{grows-close}
 use Rattle.unit_book.proofs.WorldTraces.{grows-reset, grows-purge, grows-purged}
 
@@ -37,14 +38,11 @@ module _ {D : Type 0} (meaning : Meaning D) where
 
   -- a book whose calls find and leave this
   abbrev pub Sound : Book D → Type 0
-  Sound b = Legal meaning b.mounted b.trace × (due meaning b.mounted b.trace ≡ Free)
+  Sound b = SoundTrace meaning b.mounted b.trace
 
-  sound-trace : (b : Book D) → Sound b → SoundTrace meaning b.mounted b.trace
-  sound-trace b s = record { legal = s.0; settled = s.1 }
-
-  keeps-posts : (old : Book D) {new : Book D} (H : List Entry) (again : Bool) {more : List Piece} → Extends meaning old H again new →
+  keeps-posts : {old new : Book D} {H : List Entry} {again : Bool} {more : List Piece} → Extends meaning old H again new →
       Grows meaning old.mounted old.trace H more → Keeps old more new
-  keeps-posts old H again p g =
+  keeps-posts {old} {H = H} p g =
       let s = since-is meaning old.mounted old.trace H g.values g.posted_is in
       rw p (record {
         mounted = refl;
@@ -58,10 +56,10 @@ module _ {D : Type 0} (meaning : Meaning D) where
       })
 
   -- a call that posts nothing
-  keeps-adds : (old : Book D) {new : Book D} (H : List Entry) (again : Bool) →
+  keeps-adds : {old new : Book D} {H : List Entry} {again : Bool} →
       new ≡ record old { trace = H; awaits = again; spare = new.spare } → Grows meaning old.mounted old.trace H [] →
       posted meaning old.mounted H ≡ posted meaning old.mounted old.trace → Keeps old [] new
-  keeps-adds old H again p g q =
+  keeps-adds {old} p g q =
       rw p (record {
         mounted = refl;
         isc = refl;
@@ -73,41 +71,34 @@ module _ {D : Type 0} (meaning : Meaning D) where
         out = sym (append-nil old.out);
       })
 
-  pub keeps-again : (old new : Book D) (again : Bool) → Sound old → new ≡ record old { awaits = again; spare = new.spare } →
+  pub keeps-again : {old new : Book D} (again : Bool) → Sound old → new ≡ record old { awaits = again; spare = new.spare } →
       Keeps old [] new
-  keeps-again old new again s p = keeps-adds old old.trace again p (grows-not (sound-trace old s)) refl
+  keeps-again again s p = keeps-adds p (grows-not s) refl
 
   -- nothing changes
-  pub keeps-same : (old new : Book D) → Sound old → new ≡ old → Keeps old [] new
-  keeps-same old new s p = keeps-again old new old.awaits s (p ∙ ap (λ n. record old { spare = n }) (sym (ap (λ (b : Book D). b.spare) p)))
+  pub keeps-same : {old new : Book D} → Sound old → new ≡ old → Keeps old [] new
+  keeps-same {old} {new} s p = keeps-again old.awaits s (p ∙ ap (λ n. record old { spare = n }) (sym (ap (λ (b : Book D). b.spare) p)))
 
-  pub keeps-arrive : (old new : Book D) (r : Piece) → Sound old → r.name.seq ≡ arrived_of r.name.task old.trace + 1 →
+  pub keeps-arrive : {old new : Book D} {r : Piece} → Sound old → r.name.seq ≡ arrived_of r.name.task old.trace + 1 →
       Extends meaning old (after_dooms (Arrive r ∷ old.trace)) old.awaits new → Keeps old (r ∷ []) new
-  keeps-arrive old new r s n p =
-      keeps-posts old (after_dooms (Arrive r ∷ old.trace)) old.awaits p
-      (grows-arrive r (sound-trace old s) n)
+  keeps-arrive {r = r} s n p = keeps-posts p (grows-arrive r s n)
 
-  pub keeps-open : (old new : Book D) (dcb : ℕ) (method : ProcessingMethod) (extents : List Extent) → Sound old →
-      OpensBook meaning old dcb method extents new →
-      Keeps old [] new
+  pub keeps-open : {old new : Book D} {dcb : ℕ} {method : ProcessingMethod} {extents : List Extent} → Sound old →
+      OpensBook meaning old dcb method extents new → Keeps old [] new
   unfolding posted
-  keeps-open old new dcb method extents s h =
-      keeps-adds old (Opened dcb method extents ∷ old.trace) old.awaits h.adds
-      (grows-open dcb method extents (sound-trace old s) h.fits) refl
+  keeps-open {dcb = dcb} {method} {extents} s h = keeps-adds h.adds (grows-open dcb method extents s h.fits) refl
 
   start-fits : (old : Book D) (n : Name) → MayStart meaning old n → StartFits meaning old.mounted n old.trace
   start-fits old n (MayFirst f) = First f
   start-fits old n (MayAgain a f) = Again f
 
-  pub keeps-start : (old new : Book D) (answer : Starting) → Sound old → StartsBook meaning old answer new → Keeps old [] new
+  pub keeps-start : {old new : Book D} (answer : Starting) → Sound old → StartsBook meaning old answer new → Keeps old [] new
   unfolding posted
-  keeps-start old new (Started n) s h =
-      keeps-adds old (Start n ∷ old.trace) false h.1 (grows-start n (sound-trace old s) (start-fits old n h.0)) refl
-  keeps-start old new (Violated n) s h =
+  keeps-start {old} (Started n) s h = keeps-adds h.1 (grows-start n s (start-fits old n h.0)) refl
+  keeps-start (Violated n) s h =
       let f = OfFirst (record { fails = h.0; code_is = refl; csw_is = refl; sense_is = refl }) in
-      keeps-posts old (after_dooms (Post n no_status 0 ExtentViolated ∷ old.trace)) false h.1
-      (grows-post n empty_status ExtentViolated (sound-trace old s) f)
-  keeps-start old new _ s h = keeps-same old new s h.2
+      keeps-posts h.1 (grows-post n empty_status ExtentViolated s f)
+  keeps-start _ s h = keeps-same s h.2
 
   -- a program that is to run is that of the active request, and goes
   pub running-is : (mounted : D) (H : List Entry) (n : Name) → running_name_by meaning mounted H (active H) ≡ Some n →
@@ -138,47 +129,41 @@ module _ {D : Type 0} (meaning : Meaning D) where
         left = omega (arith, h.count);
       }
 
-  pub keeps-run : (old new : Book D) (max : ℕ) (answer : Running) → Sound old → 1 ≤ max → RunsBook meaning old max answer new →
+  pub keeps-run : {old new : Book D} {max : ℕ} (answer : Running) → Sound old → 1 ≤ max → RunsBook meaning old max answer new →
       Keeps old [] new
   unfolding posted
-  keeps-run old new max NothingRuns s m h = keeps-same old new s h.1
-  keeps-run old new max (RanSome commands pending) s m h =
-      keeps-adds old (Ran h.name commands ∷ old.trace) old.awaits h.adds
-      (grows-ran h.name commands (sound-trace old s) (ran-fits old m h)) refl
+  keeps-run NothingRuns s m h = keeps-same s h.1
+  keeps-run {old} (RanSome commands pending) s m h = keeps-adds h.adds (grows-ran h.name commands s (ran-fits old m h)) refl
 
-  pub keeps-interrupt : (old new : Book D) (answer : Interruption) → Sound old → InterruptsBook meaning old answer new → Keeps old [] new
-  keeps-interrupt old new NothingPending s h = keeps-same old new s h.1
-  keeps-interrupt old new (TriedAgain n) s h = keeps-again old new true s h.2
-  keeps-interrupt old new (WasPosted n code) s h =
-      keeps-posts old (after_dooms (Post n h.1.status.csw h.1.status.sense code ∷ old.trace)) false h.1.extends
-      (grows-post n h.1.status code (sound-trace old s) (OfActive h.1.fits))
+  pub keeps-interrupt : {old new : Book D} (answer : Interruption) → Sound old → InterruptsBook meaning old answer new → Keeps old [] new
+  keeps-interrupt NothingPending s h = keeps-same s h.1
+  keeps-interrupt (TriedAgain n) s h = keeps-again true s h.2
+  keeps-interrupt (WasPosted n code) s h = keeps-posts h.1.extends (grows-post n h.1.status code s (OfActive h.1.fits))
 
-  pub keeps-purge : (old new : Book D) (scope : Scope) (mode : Mode) (answer : Purging) → Sound old →
-      CanPurge meaning old.mounted scope old.trace →
-      PurgesBook meaning old scope mode answer new → Keeps old [] new
-  keeps-purge old new scope mode answer s can h = by_test (covers_awaiting old scope mode) h.purges where
+  pub keeps-purge : {old new : Book D} {scope : Scope} {mode : Mode} {answer : Purging} → Sound old →
+      CanPurge meaning old.mounted scope old.trace → PurgesBook meaning old scope mode answer new → Keeps old [] new
+  keeps-purge {old} {new} {scope} {mode} s can h = by_test (covers_awaiting old scope mode) h.purges where
     after : List Entry
     after = after_purge meaning old.mounted scope mode old.trace
 
     grows : Grows meaning old.mounted old.trace after []
-    grows = grows-purge scope mode (sound-trace old s) can
+    grows = grows-purge scope mode s can
 
     by_test : (b : Bool) → PurgesBy meaning b old scope mode new → Keeps old [] new
-    by_test false p = keeps-posts old after old.awaits p grows
-    by_test true p =
-        keeps-posts old (Post p.name p.status.csw p.status.sense Purged ∷ after) false p.extends
-        (grows-purged p.name p.status grows p.fits)
+    by_test false p = keeps-posts p grows
+    by_test true p = keeps-posts p.extends (grows-purged p.name p.status grows p.fits)
 
-  pub keeps-close : (old new : Book D) (dcb : ℕ) (answer : Closing) → Sound old → ClosesBook meaning old dcb answer new → Keeps old [] new
-  keeps-close old new dcb answer s h =
+  pub keeps-close : {old new : Book D} {dcb : ℕ} {answer : Closing} → Sound old → ClosesBook meaning old dcb answer new →
+      Keeps old [] new
+  keeps-close {old} {new} {dcb} s h =
       elim (cases_Bool (is_open dcb old.trace)) [
         | inl o ↦
-            keeps-posts old (after_dooms (Close dcb ∷ old.trace)) old.awaits (subst (λ b. ClosesBy meaning b old dcb new) o h.closes)
-            (grows-close dcb (sound-trace old s) o)
-        | inr o ↦ keeps-same old new s (subst (λ b. ClosesBy meaning b old dcb new) o h.closes)
+            let p : ClosesBy meaning true old dcb new = subst (λ b. ClosesBy meaning b old dcb new) o h.closes in
+            keeps-posts p (grows-close dcb s o)
+        | inr o ↦ keeps-same s (subst (λ b. ClosesBy meaning b old dcb new) o h.closes)
       ]
 
-  pub keeps-reset : (old new : Book D) (dcb : ℕ) → Sound old → is_open dcb old.trace ≡ true → Adds old (Reset dcb) new → Keeps old [] new
+  pub keeps-reset : {old new : Book D} {dcb : ℕ} → Sound old → is_open dcb old.trace ≡ true → Adds old (Reset dcb) new →
+      Keeps old [] new
   unfolding posted
-  keeps-reset old new dcb s o h =
-      keeps-adds old (Reset dcb ∷ old.trace) old.awaits h (grows-reset dcb (sound-trace old s) o) refl
+  keeps-reset {dcb = dcb} s o h = keeps-adds h (grows-reset dcb s o) refl

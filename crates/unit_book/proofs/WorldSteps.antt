@@ -26,7 +26,7 @@ module _ {D : Type 0} (meaning : Meaning D) where
     pub settled : Settled meaning w.book.mounted w.book.trace
 
   sound : (w : World D) → Kept w → Sound meaning w.book
-  sound w k = (k.legal, k.settled)
+  sound w k = record { legal = k.legal; settled = k.settled }
 
   -- A CALL OF THE BOOK, at which these requests arrive
   call-kept : (w : World D) {book : Book D} {more : List Piece} (rest : List Piece) → Kept w → Keeps meaning w.book more book →
@@ -130,8 +130,7 @@ module _ {D : Type 0} (meaning : Meaning D) where
   take-kept : (old new : World D) → Kept old → Takes meaning old new → Kept new
   take-kept old new k s =
       let e = first-rest old.flight s.request s.first in
-      let c = keeps-arrive meaning old.book new.book s.request (sound old k) (next-number old s.request (drop 1 old.flight) k e)
-      s.arrives in
+      let c = keeps-arrive meaning (sound old k) (next-number old s.request (drop 1 old.flight) k e) s.arrives in
       subst Kept (sym s.is) (call-kept old (drop 1 old.flight) k c e)
 
   -- A VALUE GOES BACK
@@ -183,14 +182,13 @@ module _ {D : Type 0} (meaning : Meaning D) where
   step-kept : (old new : World D) → Kept old → Step meaning old new → Kept new
   step-kept old new k (Accept r s) = subst Kept (sym s.is) (accept-kept old r k s.of_unit s.next)
   step-kept old new k (Take s) = take-kept old new k s
-  step-kept old new k (Open dcb method extents s e) = in-book k e (keeps-open meaning old.book new.book dcb method extents (sound old k) s)
-  step-kept old new k (Start answer s e) = in-book k e (keeps-start meaning old.book new.book answer (sound old k) s)
-  step-kept old new k (Run max answer m s e) = in-book k e (keeps-run meaning old.book new.book max answer (sound old k) m s)
-  step-kept old new k (Interrupt answer s e) = in-book k e (keeps-interrupt meaning old.book new.book answer (sound old k) s)
-  step-kept old new k (Purge scope mode answer c s e) = in-book k e
-      (keeps-purge meaning old.book new.book scope mode answer (sound old k) c s)
-  step-kept old new k (Close dcb answer s e) = in-book k e (keeps-close meaning old.book new.book dcb answer (sound old k) s)
-  step-kept old new k (Reset dcb o s e) = in-book k e (keeps-reset meaning old.book new.book dcb (sound old k) o s)
+  step-kept old new k (Open dcb method extents s e) = in-book k e (keeps-open meaning (sound old k) s)
+  step-kept old new k (Start answer s e) = in-book k e (keeps-start meaning answer (sound old k) s)
+  step-kept old new k (Run max answer m s e) = in-book k e (keeps-run meaning answer (sound old k) m s)
+  step-kept old new k (Interrupt answer s e) = in-book k e (keeps-interrupt meaning answer (sound old k) s)
+  step-kept old new k (Purge scope mode answer c s e) = in-book k e (keeps-purge meaning (sound old k) c s)
+  step-kept old new k (Close dcb answer s e) = in-book k e (keeps-close meaning (sound old k) s)
+  step-kept old new k (Reset dcb o s e) = in-book k e (keeps-reset meaning (sound old k) o s)
   step-kept old new k (Deliver s) = subst Kept (sym s.is) (deliver-kept old s.value k s.first)
   step-kept old new k (Collect task s) = subst Kept (sym s.is) (collect-kept old task s.value k s.first)
 

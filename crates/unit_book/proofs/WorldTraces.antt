@@ -9,6 +9,7 @@ use Rattle.unit_book.proofs.Names.{ProcessingMethod}
 use Rattle.unit_book.specs.Trace.{is_opening}
 use Rattle.unit_book.specs.Legal.{OpenFits, RanFits}
 use Rattle.unit_book.proofs.Lists.{without}
+use Rattle.unit_book.proofs.LegalFacts.{SoundTrace}
 use Rattle.unit_book.proofs.Same.{fits-free}
 use Rattle.unit_book.proofs.Counting.{arrivals-after_dooms}
 use Rattle.unit_book.proofs.Dooms.{doomed-purged, due-doomed, due-no_halt, dooms-settle, settled-new, settled-open, settled-ran}
@@ -24,11 +25,6 @@ module _ {D : Type 0} (meaning : Meaning D) (mounted : D) where
     pub arrived : arrivals G ≡ arrivals H ++ more
     pub values : List PostedState
     pub posted_is : posted meaning mounted G ≡ posted meaning mounted H ++ values
-
-  -- a legal trace with nothing due
-  pub record SoundTrace (H : List Entry) : Type 0 where
-    pub legal : Legal meaning mounted H
-    pub settled : due meaning mounted H ≡ Free
 
 module _ {D : Type 0} {meaning : Meaning D} {mounted : D} {H : List Entry} where
   -- what leaves the posts as they are
@@ -71,7 +67,7 @@ module _ {D : Type 0} {meaning : Meaning D} {mounted : D} {H : List Entry} where
   unfolding Legal arrivals posted
   grows-open d method x s f =
       grows-quietly (Opened d method x ∷ H) (fits-free meaning mounted (Opened d method x) H s.settled f, s.legal)
-      (settled-open meaning mounted d method x H s.settled) refl refl
+      (settled-open meaning mounted (Opened d method x) H refl s.settled) refl refl
 
   pub grows-arrive : (r : Piece) → SoundTrace meaning mounted H → r.name.seq ≡ arrived_of r.name.task H + 1 →
       Grows meaning mounted H (after_dooms (Arrive r ∷ H)) (r ∷ [])
@@ -150,5 +146,5 @@ module _ {D : Type 0} (meaning : Meaning D) (mounted : D) where
       (arrivals H ≡ []) × (posted meaning mounted H ≡ []) × (due meaning mounted H ≡ Free)
   unfolding arrivals posted
   opened-only [] h = (refl, refl, settled-new meaning mounted)
-  opened-only (Opened d i x ∷ H) h = let ih = opened-only H h in (ih.0, ih.1, settled-open meaning mounted d i x H ih.2)
+  opened-only (Opened d i x ∷ H) h = let ih = opened-only H h in (ih.0, ih.1, settled-open meaning mounted (Opened d i x) H refl ih.2)
   opened-only (_ ∷ H) h = absurd cc

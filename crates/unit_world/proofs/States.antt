@@ -20,7 +20,7 @@ use Rattle.unit_book.specs.Lists.{Each}
 use Rattle.unit_book.specs.Posts.{posted, posted_value}
 use Rattle.unit_book.specs.Trace.{arrivals, arrived_of, is_opening}
 use Rattle.unit_book.specs.World.{World, Reaches, Stay, Go, requests_of}
-use Rattle.unit_book.proofs.Kept.{out-of}
+use Rattle.unit_book.proofs.Kept.{Inherits, out-of}
 use Rattle.unit_book.proofs.WorldTraces.{opened-only}
 use Rattle.unit_book.proofs.Worlds.{world-laws}
 use Rattle.unit_world.specs.Parts.{issued_by}
@@ -259,8 +259,8 @@ module _ {D : Type 0} (meaning : Meaning D) where
       (ap (λ (b : Book D). length (requests_of t (arrivals b.trace) ++ requests_of t w.flight)) (sym k.shows.book)
       ∙ ap length (k.keeps.received t) ∙ k.shows.sent t ∙ get_or_past v.part.issued t 0 le) in
       let arrived = of-tasks n (arrivals v.part.book.trace) none in
-      let outs = out-of meaning v.part.book.mounted (λ r. r.name.task < n) (λ x. x.name.task < n)
-      (λ r csw sense code m h. h) v.part.book legal all arrived in
+      let inherits : Inherits (λ r. r.name.task < n) (λ x. x.name.task < n) = record { posts = λ r csw sense code m h. h } in
+      let outs = out-of meaning inherits v.part.book legal all arrived in
       let lt : value.name.task < n = Each-first (λ x. x.name.task < n) v.part.book.out value outs first in
       omega (arith, lt, is.tasks)
 
@@ -280,7 +280,7 @@ module _ {D : Type 0} (meaning : Meaning D) where
       (sym (ap (λ (b : Book D). requests_of t (arrivals b.trace) ++ requests_of t w.flight) (sym k.shows.book) ∙ k.keeps.received t))
       (k.keeps.for_unit t)) in
       let arrived = of-each-task (λ (r : Piece). r.unit ≡ w.unit) (arrivals v.part.book.trace) of_task in
-      let outs = out-of meaning v.part.book.mounted (λ r. r.unit ≡ w.unit) (λ x. x.unit ≡ w.unit)
-      (λ r csw sense code m h. h) v.part.book legal all arrived in
+      let inherits : Inherits (λ r. r.unit ≡ w.unit) (λ x. x.unit ≡ w.unit) = record { posts = λ r csw sense code m h. h } in
+      let outs = out-of meaning inherits v.part.book legal all arrived in
       let e : value.unit ≡ w.unit = Each-first (λ x. x.unit ≡ w.unit) v.part.book.out value outs first in
       e ∙ k.shows.unit

@@ -3,7 +3,7 @@
 ghost use Rattle.std.specs.Prelude.{◌≡◌, ◌≤◌, ◌<◌, ◌+◌, ◌||◌, true, length, IfOk, IfErr, OnOk, OnErr};
 ghost use Rattle.unit_book.specs.Answers.{Adds};
 ghost use Rattle.unit_book.specs.Book.{is_pending};
-ghost use Rattle.unit_book.specs.Controls.{ClosesBook, ClosesBy, DcbRefused, PurgesBook, PurgesBy, ResetRefused, closing, covers_awaiting, halts_program, purging};
+ghost use Rattle.unit_book.specs.Controls.{ClosesBook, ClosesBy, DcbRefused, PurgesBook, PurgesBy, ResetRefused, active_of, closing, covers_awaiting, halts_program, purging};
 ghost use Rattle.unit_book.specs.Dcbs.{is_opened, is_open};
 ghost use Rattle.unit_book.specs.Legal.{CanPurge};
 ghost use Rattle.unit_book.specs.Refusals.{CloseLacks, PurgeLacks, ResetLacks};
@@ -17,16 +17,6 @@ use device_port::Device;
 use request_piece::{Name, Scope};
 use std::alloc::AllocError;
 use unit_queue::Selection;
-
-/// What a purge answers.
-fn purging(active: Option<Name>) -> Purging
-    ensures { result ≡ purging active }
-{
-    match active {
-        Some(name) => Purging::Active(name),
-        None => Purging::Quiet,
-    }
-}
 
 /// What a close answers.
 fn closing(active: Option<Name>) -> Closing
@@ -83,7 +73,17 @@ impl<D: Device> UnitBook<D> {
         self.entries.holds();
         self.entries.reserve_posts(2)?;
         self.purge_in_room(scope, mode);
-        Ok(purging(self.entries.active_of(scope)))
+        Ok(self.purging(scope))
+    }
+
+    /// What a purge of a scope answers.
+    fn purging(&self, scope: Scope) -> Purging
+        ensures { result ≡ purging (active_of scope self.now.trace) }
+    {
+        match self.entries.active_of(scope) {
+            Some(name) => Purging::Active(name),
+            None => Purging::Quiet,
+        }
     }
 
     /// Purges the requests of a scope, where there is room for the entries.

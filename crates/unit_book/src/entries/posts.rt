@@ -122,7 +122,7 @@ impl<D: Device> Entries<D> {
                 return Err(error);
             }
         }
-        self.channel.tsch();
+        let _stored = self.channel.tsch();
         write_post(&mut self.trace, name, &status, code);
         let piece = active.piece;
         let request: &Piece = &piece;

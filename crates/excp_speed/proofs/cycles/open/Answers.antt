@@ -3,4 +3,4 @@ use Rattle.unit_book.proofs.Counting.{opens-keep}
 use Rattle.excp_speed.proofs.cycles.open.Goals as goal
 
 pub returns-in-Ok : goal.returns-in-Ok
-returns-in-Ok c = opens-keep disk _ c.in-Ok.field-0 _ _ _ c.in-Ok.ensures.ok
+returns-in-Ok c = opens-keep disk c.in-Ok.ensures.ok

@@ -9,4 +9,4 @@ invariant_of-self g c =
     unit-call g.D.Device.meaning g.S.Site.rows c.self.inside.unit old c.self.inside.intake c.self.inside.back c.self.inside.notice
     c.self.inside.owes c.self.invariant c.holds.ensures.given
     c.interrupt-answer.result new _ c.holds.ensures.legal c.holds.ensures.settled c.interrupt-answer.ensures.ok
-    c.interrupt-answer.ensures.err (λ sound answer h. keeps-interrupt g.D.Device.meaning old new answer sound h)
+    c.interrupt-answer.ensures.err (λ sound answer h. keeps-interrupt g.D.Device.meaning answer sound h)

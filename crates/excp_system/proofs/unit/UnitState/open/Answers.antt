@@ -8,9 +8,9 @@ invariant_of-self g c =
     let meaning = g.D.Device.meaning in
     let old = c.self.inside.book in
     let new = c.open.new.self in
-    let sound : Sound meaning old = (c.holds.ensures.legal, c.holds.ensures.settled) in
+    let sound : Sound meaning old = record { legal = c.holds.ensures.legal; settled = c.holds.ensures.settled } in
     unit-keeps g.D.Device.meaning g.S.Site.rows c.self.inside.unit old c.self.inside.intake c.self.inside.back c.self.inside.notice
     c.self.inside.owes c.self.invariant c.holds.ensures.given new c.self.inside.owes
     (either_way c.open.result c.open.ensures.ok c.open.ensures.err
-    (λ dcb h. keeps-open meaning old new dcb c.args.method c.args.extents.now sound h)
-    (λ same. keeps-again meaning old new old.awaits sound same))
+    (λ dcb h. keeps-open meaning sound h)
+    (λ same. keeps-again meaning old.awaits sound same))

@@ -12,4 +12,4 @@ invariant_of-self g c =
     c.self.inside.owes c.self.invariant c.holds.ensures.given
     c.purge-answer.result new c.self.inside.owes c.holds.ensures.legal c.holds.ensures.settled
     (done_and _ _ c.purge-answer.result c.purge-answer.ensures.ok c.purge-answer.ensures.opened) c.purge-answer.ensures.err
-    (λ sound answer h. keeps-purge g.D.Device.meaning old new (Dcb c.args.dcb) c.args.mode answer sound h.1 h.0)
+    (λ sound answer h. keeps-purge g.D.Device.meaning {scope = Dcb c.args.dcb} sound h.1 h.0)

@@ -11,4 +11,4 @@ invariant_of-self g c =
     c.self.inside.owes c.self.invariant c.holds.ensures.given
     c.purge_task-answer.result new c.self.inside.owes c.holds.ensures.legal c.holds.ensures.settled c.purge_task-answer.ensures.ok
     c.purge_task-answer.ensures.err
-    (λ sound answer h. keeps-purge g.D.Device.meaning old new (Task c.args.task) c.args.mode answer sound tt h)
+    (λ sound answer h. keeps-purge g.D.Device.meaning {scope = Task c.args.task} sound tt h)

@@ -11,4 +11,4 @@ invariant_of-self g c =
     c.self.inside.owes c.self.invariant c.holds.ensures.given
     c.reset.result new c.self.inside.owes c.holds.ensures.legal c.holds.ensures.settled
     (done_and _ _ c.reset.result c.reset.ensures.ok c.reset.ensures.opened) c.reset.ensures.err
-    (λ sound answer h. keeps-reset g.D.Device.meaning old new c.args.dcb sound h.1 h.0)
+    (λ sound answer h. keeps-reset g.D.Device.meaning sound h.1 h.0)

@@ -9,4 +9,4 @@ invariant_of-self-2 g c =
     unit-call g.D.Device.meaning g.S.Site.rows c.self.inside.unit old c.self.inside.intake c.self.inside.back c.self.inside.notice
     c.self.inside.owes c.self.invariant c.holds.ensures.given
     c.run.result new c.self.inside.owes c.holds.ensures.legal c.holds.ensures.settled c.run.ensures.ok c.run.ensures.err
-    (λ sound answer h. keeps-run g.D.Device.meaning old new c.args.max answer sound c.requires h)
+    (λ sound answer h. keeps-run g.D.Device.meaning answer sound c.requires h)

@@ -8,7 +8,7 @@ invariant_of-self g c =
     let meaning = g.D.Device.meaning in
     let old = c.self.inside.book in
     let new = c.settle-answer.new.self in
-    let sound : Sound meaning old = (c.holds.ensures.legal, c.holds.ensures.settled) in
+    let sound : Sound meaning old = record { legal = c.holds.ensures.legal; settled = c.holds.ensures.settled } in
     unit-keeps g.D.Device.meaning g.S.Site.rows c.self.inside.unit old c.self.inside.intake c.self.inside.back c.self.inside.notice
     c.self.inside.owes c.self.invariant c.holds.ensures.given new _
-    (keeps-settles meaning old new sound c.settle-answer.ensures.steps)
+    (keeps-settles meaning sound c.settle-answer.ensures.steps)

@@ -9,4 +9,4 @@ invariant_of-self g c =
     unit-call g.D.Device.meaning g.S.Site.rows c.self.inside.unit old c.self.inside.intake c.self.inside.back c.self.inside.notice
     c.self.inside.owes c.self.invariant c.holds.ensures.given
     c.start.result new c.self.inside.owes c.holds.ensures.legal c.holds.ensures.settled c.start.ensures.ok c.start.ensures.err
-    (λ sound answer h. keeps-start g.D.Device.meaning old new answer sound h)
+    (λ sound answer h. keeps-start g.D.Device.meaning answer sound h)

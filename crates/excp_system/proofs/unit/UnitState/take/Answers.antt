@@ -22,14 +22,14 @@ invariant_of-self-in-Some g c =
     let r = c.into_request-request.result in
     let same : r ≡ c.in-Some.sent = c.into_request-request.ensures in
     let next : IsNextItem task_of RequestFact taker r = subst (IsNextItem task_of RequestFact taker) (sym same) c.in-Some.ensures.next in
-    let sound : Sound meaning old = (c.holds.ensures.legal, c.holds.ensures.settled) in
-    let reserved : Keeps meaning old [] mid = keeps-again meaning old mid old.awaits sound c.in_ok-reserve.ensures.book in
+    let sound : Sound meaning old = record { legal = c.holds.ensures.legal; settled = c.holds.ensures.settled } in
+    let reserved : Keeps meaning old [] mid = keeps-again meaning old.awaits sound c.in_ok-reserve.ensures.book in
     let counted : length (of task_of r.name.task taker.taken) ≡ arrived_of r.name.task mid.trace =
     ap (λ (t : Taking Piece). length (of task_of r.name.task t.taken)) is
     ∙ ap (λ (b : Book _). arrived_of r.name.task b.trace) (sym c.in_ok-reserve.ensures.book) in
     let number : r.name.seq ≡ arrived_of r.name.task mid.trace + 1 = omega (arith, next.lawful.0, counted) in
-    let kept = keeps-then meaning old mid new [] (r ∷ []) reserved
-    (keeps-arrive meaning mid new r (sound-kept meaning old mid [] reserved) number c.arrive_reserved.ensures.book) in
+    let kept : Keeps meaning old (r ∷ []) new = keeps-then meaning reserved
+    (keeps-arrive meaning (sound-kept meaning reserved) number c.arrive_reserved.ensures.book) in
     unit-takes meaning s c.self.inside.unit old taker c.self.inside.back c.self.inside.notice c.self.inside.owes c.self.invariant
     c.holds.ensures.given new r c.take.new.self kept
     (subst (λ n. r.name.task < n) (ap (λ (t : Taking Piece). t.senders) is) next.of_row)

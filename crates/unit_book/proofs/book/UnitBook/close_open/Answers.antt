@@ -14,5 +14,5 @@ returns-clause-ok g c =
 
 pub returns-clause-pending : goal.returns-clause-pending
 returns-clause-pending g c =
-    pending-close g.D.Device.meaning true c.args.self.now c.sweep.new.self c.args.dcb (rw (← c.self.view_is) c.holds.ensures.legal)
+    pending-close g.D.Device.meaning c.args.self.now c.args.dcb (rw (← c.self.view_is) c.holds.ensures.legal)
     (returns-clause-ok g c)

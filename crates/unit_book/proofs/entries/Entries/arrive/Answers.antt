@@ -1,6 +1,6 @@
 use Rattle.unit_book.proofs.Names.{◌∷◌, [], reverse, arith, length-append, refl, append-nil, Arrive}
 use Rattle.unit_book.proofs.Arrivals.{ties-arrive, settled-arrive}
-use Rattle.unit_book.proofs.LegalFacts.{facts}
+use Rattle.unit_book.proofs.LegalFacts.{SoundTrace}
 use Rattle.unit_book.proofs.Dooms.{dooms-none, since-arrive}
 use Rattle.unit_book.proofs.Same.{room-of}
 use Rattle.unit_book.proofs.entries.Entries.arrive.Goals as goal
@@ -36,8 +36,8 @@ returns g c =
     let fits = rw (← c.self.view_is) at c.requires.fits in
     let settled = rw (← c.self.view_is) at c.requires.settled in
     let accepted = rw (← c.self.view_is) at c.requires.accepted in
-    let k = settled-arrive m i.mounted c.args.issued (reverse i.trace.items)
-    (facts m i.mounted (reverse i.trace.items) c.self.invariant.0.legal) fits settled accepted in
+    let sound : SoundTrace m i.mounted (reverse i.trace.items) = record { legal = c.self.invariant.0.legal; settled = settled } in
+    let k = settled-arrive m i.mounted c.args.issued sound fits accepted in
     let same = dooms-none (Arrive c.args.issued ∷ reverse i.trace.items) k.0 in
     let since = since-arrive m i.mounted c.args.issued (reverse i.trace.items) in
     let w = c.write.ensures.items in

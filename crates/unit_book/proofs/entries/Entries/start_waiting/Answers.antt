@@ -57,7 +57,7 @@ launch-requires g c =
     let r = c.in-Some.piece.now in
     let starts : StartsFirst m i.mounted r.name (reverse i.trace.items) =
     record { none = none; request = r; first = f.0; name = refl; passes = f.1 ∙ c.if-not-passes_check.false } in
-    let fits = first-fits m i.mounted (reverse i.trace.items) t.legal settled starts in
+    let fits = first-fits m i.mounted starts (record { legal = t.legal; settled = settled }) in
     let device_is = t.device in
     rw device_is (fits-device m i.mounted g.met.D.Device.lawful (reverse i.trace.items) c.in-Some.piece.now.seek fits)
 
@@ -72,14 +72,14 @@ invariant_of-self-2 g c =
     let none = rw (← c.self.view_is) at c.requires.none in
     let starts : StartsFirst m i.mounted c.in-Some.piece.now.name H =
     record { none = none; request = c.in-Some.piece.now; first = f.0; name = refl; passes = f.1 ∙ c.if-not-passes_check.false } in
-    let k = ties-first m i.mounted c.pop.result c.map.result t
+    let k = ties-first c.pop.result c.map.result t
     (record { first = f.0; settled = settled; starts = starts; mask_is = c.mask-mask.ensures }) (c.pop.ensures.first ∙ f.2)
     c.map.ensures.cases in
     let w = c.write.ensures.items in
     let r = c.reserve.ensures.items in
     let q = c.pop.ensures.rest in
     let l = c.launch.ensures in
-    let room = rooms-found (none-in_field m i.mounted H i.channel.phase i.active none t.activity).1 c.self.invariant.1 in
+    let room = rooms-found (none-in_field m i.mounted none t).1 c.self.invariant.1 in
     let count = ap length (first-rest i.waiting.pieces c.in-Some.piece.now f.2) in (
       rw (w, r, q, l) k.0,
       record {

@@ -92,7 +92,7 @@ invariant_of-self-2 g c =
     let n = c.name-name.ensures in
     let q = c.hand_out.ensures in
     let v = c.posted_from.ensures in
-    let h = c.tsch-2.ensures.state in
+    let h = c.tsch-stored.ensures.state in
     let z = c.take.ensures.after in
     let room = rooms-found f.0 c.self.invariant.1 in (
       rw (w, r, n, q, v, h, z) k,
@@ -122,7 +122,7 @@ returns-clause-ok g c =
     let n = c.name-name.ensures in
     let q = c.hand_out.ensures in
     let v = c.posted_from.ensures in
-    let h = c.tsch-2.ensures.state in
+    let h = c.tsch-stored.ensures.state in
     let z = c.take.ensures.after in
     let o = f.0 in
     let piece_is = c.deref-request.ensures in
