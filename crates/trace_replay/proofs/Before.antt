@@ -1,5 +1,5 @@
 -- The entries before a place of a trace, newest first.
-use Rattle.std.proofs.Common.{◌≡◌, ℕ, suc, ◌+◌, Bool, true, Some, List, [], ◌∷◌, ◌++◌, refl, sym, ap, ◌∙◌, arith, eqb, inl, inr, subst}
+use Rattle.std.proofs.Common.{◌≡◌, ℕ, suc, ◌+◌, true, Some, List, [], ◌∷◌, ◌++◌, refl, sym, ap, ◌∙◌, arith, eqb, inl, inr, subst}
 use Rattle.std.proofs.Common.{take, drop, reverse}
 use Rattle.std.proofs.lemmas.Bool.{cases_Bool, eqb-true}
 use Rattle.std.proofs.lemmas.List.{reverse-append, take-append-drop}
@@ -8,14 +8,13 @@ use Rattle.std.proofs.Math.Seq.{take-suc}
 use Rattle.std.specs.List.{list_any}
 use Rattle.std.specs.Prelude.{slice_get}
 use Rattle.device_port.specs.Meaning.{Meaning}
-use Rattle.unit_book.specs.declared.dcb.ProcessingMethod.{ProcessingMethod}
 use Rattle.unit_book.specs.declared.entry.Entry.{Entry}
 use Rattle.unit_book.specs.declared.entry.Entry.TheVariants.{Opened, Arrive, Start, Ran, Halted, Purge, Close, Reset, Post}
 use Rattle.unit_book.specs.Trace.{opens_for_input}
 use Rattle.unit_book.specs.Dcbs.{is_opened, mask_of}
 use Rattle.unit_book.specs.Legal.{Legal}
 use Rattle.unit_book.proofs.Facts.{fits-freely}
-use Rattle.io_images.specs.declared.extent.Extent.{Extent}
+use Rattle.unit_book.proofs.LegalFacts.{legal-tail}
 use Rattle.unit_book.proofs.Opens.{opened-few}
 
 abbrev pub before : List Entry → ℕ → List Entry
@@ -30,18 +29,13 @@ before-next entries done e h =
     (reverse-append (take done entries) (e ∷ []))
 
 module _ {D : Type 0} (meaning : Meaning D) (mounted : D) where
-  legal-behind : (later earlier : List Entry) → Legal meaning mounted (later ++ earlier) → Legal meaning mounted earlier
-  unfolding Legal
-  legal-behind [] earlier l = l
-  legal-behind (e ∷ later) earlier l = legal-behind later earlier l.1
-
   parted : (entries : List Entry) (done : ℕ) → reverse entries ≡ reverse (drop done entries) ++ before entries done
   parted entries done = ap reverse (sym (take-append-drop done entries)) ∙ reverse-append (take done entries) (drop done entries)
 
   pub legal-before : (entries : List Entry) (done : ℕ) → Legal meaning mounted (reverse entries) →
       Legal meaning mounted (before entries done)
   legal-before entries done l =
-      legal-behind (reverse (drop done entries)) (before entries done) (subst (Legal meaning mounted) (parted entries done) l)
+      legal-tail meaning mounted (reverse (drop done entries)) (before entries done) (subst (Legal meaning mounted) (parted entries done) l)
 
   -- a DCB is opened once, so its file mask stays
   input-stays : (d : ℕ) (later earlier : List Entry) → Legal meaning mounted (later ++ earlier) → is_opened d earlier ≡ true →

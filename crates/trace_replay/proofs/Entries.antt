@@ -18,7 +18,7 @@ use Rattle.unit_book.specs.Legal.{Again, First, Legal, RanFits, StartFits}
 use Rattle.unit_book.specs.Media.{area, attempts, current, device, newest, stand}
 use Rattle.unit_book.proofs.ActivePosts.{area-current}
 use Rattle.unit_book.proofs.Names.{Status}
-use Rattle.unit_book.proofs.Facts.{NameWaits, NewestIs, PostOf, active-is, active-post, active-post_waiting, active-start, fits-freely, fresh}
+use Rattle.unit_book.proofs.Facts.{NewestIs, PostOf, active-is, active-post, active-post_waiting, active-start, fits-freely, fresh}
 use Rattle.unit_book.proofs.Facts.{new-name, post-whom}
 use Rattle.unit_book.proofs.LegalFacts.{facts, first-named, newest-ran, request-named}
 use Rattle.unit_book.proofs.Lists.{same-refl}

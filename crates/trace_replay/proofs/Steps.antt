@@ -14,7 +14,7 @@ use Rattle.request_piece.specs.declared.piece.Name.{Name}
 use Rattle.unit_book.specs.declared.entry.Entry.{Entry}
 use Rattle.unit_book.specs.declared.entry.Entry.TheVariants.{Opened, Arrive, Start, Ran, Halted, Purge, Close, Reset, Post}
 use Rattle.unit_book.specs.Trace.{active, request_named, started}
-use Rattle.unit_book.specs.Legal.{Legal, due}
+use Rattle.unit_book.specs.Legal.{Legal}
 use Rattle.unit_book.specs.Media.{area, attempts, stand}
 use Rattle.unit_book.proofs.ActivePosts.{area-current}
 use Rattle.unit_book.proofs.Facts.{NewestIs, fits-freely}

@@ -1,38 +1,32 @@
 -- The post of the active request: the fields stay those of the trace.
-use Rattle.unit_book.proofs.Names.{BookFields, ◌≡◌, ℕ, true, ◌&&◌, Some, None, List, [], ◌∷◌, ◌++◌, append_assoc, length, refl, sym}
-use Rattle.unit_book.proofs.Names.{ap, ◌∙◌, eqb}
-use Rattle.unit_book.proofs.Names.{inl, inr, cases_Bool, Storage, is_error, Status, Code, Meaning, Phase, Idle, Running, Pending}
-use Rattle.unit_book.proofs.Names.{Name, Piece, Active, Standing, OnChannel, Dcb, Entry, Post, same, request_named, attempts}
-use Rattle.unit_book.proofs.Names.{stand, newest, current, area, StillRunning, HasEnded, active_phase, is_opened, extents_of, flag, Legal}
-use Rattle.unit_book.proofs.Names.{due, Free, PostsActive, WithVerdict, OfActive, posted, posted_value, doomed_by_post, StandingTies, Ties}
-use Rattle.unit_book.proofs.Names.{dcb_at, dcb_of, noted}
+use Rattle.unit_book.proofs.Names.{BookFields, ◌≡◌, ℕ, ◌&&◌, Some, None, List, [], ◌∷◌, ◌++◌, append_assoc, length, refl, sym, ap}
+use Rattle.unit_book.proofs.Names.{◌∙◌, eqb, inl, inr, cases_Bool, Storage, is_error, Status, Code, Meaning, Phase, Idle, Running, Pending}
+use Rattle.unit_book.proofs.Names.{Name, Piece, Active, Standing, OnChannel, Dcb, Entry, Post, request_named, attempts, stand, newest}
+use Rattle.unit_book.proofs.Names.{current, area, StillRunning, HasEnded, active_phase, is_opened, extents_of, flag, Legal, due, Free}
+use Rattle.unit_book.proofs.Names.{PostsActive, WithVerdict, OfActive, posted, posted_value, doomed_by_post, StandingTies, Ties, dcb_at}
+use Rattle.unit_book.proofs.Names.{dcb_of, noted, arith}
 use Rattle.subchannel.specs.Subchannel.{tested_phase}
 use Rattle.request_piece.specs.Final.{posted_of}
 use Rattle.unit_book.specs.Media.{WasHalted}
 use Rattle.unit_book.specs.Legal.{PostsAs, WhileCovered, AfterHalt}
-use Rattle.unit_book.proofs.Lists.{same-is}
 use Rattle.unit_book.proofs.Facts.{NewestIs, active-is, active-post, waiting-post, without-started}
 use Rattle.unit_book.proofs.LegalFacts.{facts}
 use Rattle.unit_book.proofs.Same.{fits-free}
+use Rattle.std.proofs.lemmas.Grind.{common_steps}
 
 -- a post notes its error at the DCB of its request, whose storage may have changed
 pub dcb-post : {r : Piece} {m : Storage} (n : Name) (status : Status) (code : Code) (H : List Entry) (d : ℕ) →
     r ≡ record (request_named n H) { area = m } →
     noted (is_error code && r.related && eqb r.dcb d) (dcb_of d H) ≡ dcb_of d (Post n status.csw status.sense code ∷ H)
 unfolding flag extents_of
-dcb-post n status code H d e =
-    elim (cases_Bool (is_opened d H)) [ inl o ↦ rw (o, e) refl | inr o ↦ rw o refl ]
+dcb-post n status code H d e = elim (cases_Bool (is_opened d H)) [ inl o ↦ rw (o, e) refl | inr o ↦ rw o refl ]
 
 module _ {D : Type 0} (meaning : Meaning D) (mounted : D) where
   -- the storage of the active request is that of the newest attempt
   pub area-current : (n : Name) (H : List Entry) → NewestIs n H →
       area meaning mounted (request_named n H) H ≡ (current meaning mounted H).area
   unfolding stand newest
-  area-current n H w =
-      let r = request_named n H in
-      let s : same r.name w.0.request.name ≡ true = same-is r.name w.0.request.name (ap (λ (x : Piece). x.name) (sym w.3)) in
-      let there : (stand meaning mounted (w.0 ∷ w.1)).area r ≡ (newest meaning mounted (w.0 ∷ w.1)).area = rw s refl in
-      ap (λ x. (stand meaning mounted x).area r) w.2 ∙ there ∙ sym (ap (λ x. (newest meaning mounted x).area) w.2)
+  area-current n H w = grind (arith, common_steps)
 
   -- whom the post dooms
   pub doom-is : {held : BookFields D} {a : Active}

@@ -1,13 +1,13 @@
 -- A request arrives: the fields stay those of the trace.
-use Rattle.unit_book.proofs.Names.{BookFields, ◌≡◌, true, false, Option, List, [], ◌∷◌, ◌++◌, refl, ap, ◌∙◌, sym, inl, inr, subst}
-use Rattle.unit_book.proofs.Names.{cases_Bool, Meaning}
-use Rattle.unit_book.proofs.Names.{Placed, Name, Piece, Active, Entry, Arrive, same, has_arrived, active}
-use Rattle.unit_book.proofs.Names.{started, request_named, is_covered, attempts, extents_of, flag, Fits, Legal, due, posted, Ties, Bool}
-use Rattle.unit_book.proofs.Names.{not, ◌&&◌, ◌||◌, if◌then◌else◌, append-nil, filter-append, filter, Purged, no_status, Post, waiting}
-use Rattle.unit_book.proofs.Names.{doomed, is_doomed, is_open, Free, doomed_first, after_dooms, purged, posted_since, Each}
+use Rattle.unit_book.proofs.Names.{BookFields, ◌≡◌, true, false, Option, List, [], ◌∷◌, ◌++◌, refl, ap, ◌∙◌, sym, subst, Meaning, Placed}
+use Rattle.unit_book.proofs.Names.{Name, Piece, Active, Entry, Arrive, same, has_arrived, active, started, request_named, is_covered}
+use Rattle.unit_book.proofs.Names.{attempts, extents_of, flag, Fits, Legal, due, posted, Ties, Bool, not, ◌&&◌, ◌||◌, if◌then◌else◌}
+use Rattle.unit_book.proofs.Names.{append-nil, filter-append, filter, Purged, no_status, Post, waiting, doomed, is_doomed, is_open, Free}
+use Rattle.unit_book.proofs.Names.{doomed_first, after_dooms, purged, posted_since}
 use Rattle.unit_book.specs.Dcbs.{is_refused}
-use Rattle.unit_book.proofs.Lists.{same-true, no_both, same-refl, without, none_named, filter-all}
-use Rattle.unit_book.proofs.Facts.{Each-behind, fresh, new-name, fits-freely, waiting-arrive, active-is, Facts, waits, WaitsAmong, Known, not-true}
+use Rattle.unit_book.proofs.Lists.{same-refl, without, none_named, filter-all}
+use Rattle.unit_book.proofs.Facts.{Each-behind, Each-weaker, fresh, new-name, fits-freely, waiting-arrive, active-is, Facts, waits}
+use Rattle.unit_book.proofs.Facts.{WaitsAmong, Known, not-true}
 use Rattle.unit_book.proofs.LegalFacts.{SoundTrace, facts, none-named}
 use Rattle.unit_book.proofs.Same.{Silent, activity-same}
 use Rattle.unit_book.proofs.Dooms.{filter-agree, due-no_halt, due-doomed, Swept, ties-dooms_by, since-is}
@@ -42,13 +42,10 @@ module _ {D : Type 0} (meaning : Meaning D) (mounted : D) where
 
 -- A request that is doomed where it arrives.
 
-each-known : (H : List Entry) (rs : List Piece) → Each (WaitsAmong H) rs → Each (Known H) rs
-each-known H [] e = tt
-each-known H (r ∷ rs) e = (e.0.known, each-known H rs e.1)
-
 -- a new name is not among those that wait
 none-waiting : (r : Piece) (H : List Entry) → Facts H → has_arrived r.name H ≡ false → none_named r.name (waiting H) ≡ true
-none-waiting r H f h = none-named r.name H h (waiting H) (each-known H (waiting H) (waits H f))
+none-waiting r H f h = none-named r.name H h (waiting H)
+    (Each-weaker (WaitsAmong H) (Known H) (λ q w. w.known) (waiting H) (waits H f))
 
 -- WHAT AN ARRIVAL DOOMS: itself at most
 doomed-arrive : (r : Piece) (H : List Entry) → Facts H → has_arrived r.name H ≡ false → doomed H ≡ [] →
@@ -76,7 +73,8 @@ module _ {D : Type 0} (meaning : Meaning D) (mounted : D) where
       is_refused r H ≡ false → (doomed (Arrive r ∷ H) ≡ []) × (due meaning mounted (Arrive r ∷ H) ≡ Free)
   settled-arrive r {H} s h n =
       let f = facts meaning mounted H s.legal in
-      let e : doomed (Arrive r ∷ H) ≡ [] = doomed-arrive r H f (arrive-fresh r H f h) (due-doomed meaning mounted H s.settled) ∙ rw n refl in
+      let e : doomed (Arrive r ∷ H) ≡ [] = doomed-arrive r H f (arrive-fresh r H f h) (due-doomed meaning mounted H s.settled)
+      ∙ rw n refl in
       (e, due-no_halt meaning mounted (Arrive r ∷ H) (λ m a. refl) ∙ ap doomed_first e)
 
 -- one that is refused is posted at once

@@ -8,8 +8,7 @@ use Rattle.unit_book.proofs.Names.{after, no_status, Piece, covers, Starting, St
 use Rattle.unit_book.proofs.Names.{NothingPending, TriedAgain, WasPosted, Quiesce, Halt, Arrive, Reset, waiting, active, started, arrivals}
 use Rattle.unit_book.proofs.Names.{has_started, is_posted, is_halt, is_halted, arrived_of, is_doomed, all_posted, attempts, newest}
 use Rattle.unit_book.proofs.Names.{still_runs, active_phase, Legal, CanPurge, due_by, is_to_halt, running_name_by, MayStart, MayFirst}
-use Rattle.unit_book.proofs.Names.{MayAgain, StartsBook, InterruptsBook, covered_by, after_purge, Each}
-use Rattle.unit_book.proofs.Names.{ProcessingMethod, empty_status}
+use Rattle.unit_book.proofs.Names.{MayAgain, StartsBook, InterruptsBook, covered_by, after_purge, Each, ProcessingMethod, empty_status}
 use Rattle.std.proofs.Common.{Result}
 use Rattle.std.specs.declared.alloc.AllocError.{AllocError}
 use Rattle.unit_book.specs.declared.answer.Running.{Running}
@@ -68,8 +67,7 @@ module _ {D : Type 0} (meaning : Meaning D) {old posting : Book D} {n : Name} {s
       Extends meaning old (after_dooms G) false new
   post-then-sweep {new} s =
       let v = posted_value (request_named n H) status.csw status.sense code (area meaning old.mounted (request_named n H) H) in
-      let q = p.extends in
-      let r = rw q at s in
+      let r = rw p.extends at s in
       let out : old.out ++ v ∷ [] ++ posted_since meaning old.mounted G (after_dooms G)
       ≡ old.out ++ posted_since meaning old.mounted H (after_dooms G)
       = append_assoc old.out (v ∷ []) (posted_since meaning old.mounted G (after_dooms G))
@@ -162,7 +160,7 @@ module _ {D : Type 0} (meaning : Meaning D) (mounted : D) where
   pending-same H G again a t h = ap (pending_by meaning mounted G again) a ∙ by_active (active H) where
     by_active : (o : Option Name) → pending_by meaning mounted G again o ≡ pending_by meaning mounted H again o
     by_active None = refl
-    by_active (Some n) = ap (λ s. not again && not (still_runs s)) (phase-same meaning mounted H G n t (h n))
+    by_active (Some n) = ap (λ s. not again && not (still_runs s)) (phase-same meaning mounted H G n (t, h n))
 
   pub pending-dooms : (H : List Entry) (again : Bool) → Facts H → pending_by meaning mounted (after_dooms H) again (active (after_dooms H))
       ≡ pending_by meaning mounted H again (active H)
@@ -289,11 +287,10 @@ module _ {D : Type 0} (meaning : Meaning D) where
       ∙ pending-awaits meaning old.mounted old.trace (active old.trace)
   pending-interrupt old new (WasPosted n code) l h =
       let H = old.trace in
-      let p = h.1.extends in
       let G = Post n h.1.status.csw h.1.status.sense code ∷ H in
       let none = posts-none (doomed G) G
       (active-post h.1.status code H (facts meaning old.mounted H l) h.1.fits.active) in
-      ap (is_pending meaning) p
+      ap (is_pending meaning) h.1.extends
       ∙ pending-none meaning old.mounted (after_dooms G) false (active (after_dooms G)) none
 
   -- what a purge finds: the scope may be purged, and what awaits its restart does not run

@@ -1,13 +1,12 @@
 -- A purge, a halt, a close and a reset: what they doom, and that the fields stay those of the trace.
 use Rattle.unit_book.proofs.Names.{BookFields, ◌≡◌, ℕ, ◌≤◌, Bool, true, false, not, ◌&&◌, ◌||◌, Option, Some, None, List, [], ◌∷◌, length}
-use Rattle.unit_book.proofs.Names.{refl, sym}
-use Rattle.unit_book.proofs.Names.{ap, ◌∙◌, eqb, if◌then◌else◌, is_some, Storage, Meaning, Phase, Idle, Running, Pending}
-use Rattle.unit_book.proofs.Names.{Name, Piece, covers, Scope, Active, Standing, OnChannel, AwaitsRestart, Mode, Entry, Halted}
-use Rattle.unit_book.proofs.Names.{Purge, Close, Reset, waiting, arrivals, active, started, request_named, is_halt, is_covered, doomed}
-use Rattle.unit_book.proofs.Names.{is_doomed, is_open, is_opened, is_closed, flag, extents_of, attempts, current, Legal, Free, due}
-use Rattle.unit_book.proofs.Names.{doomed_first, CanPurge, posted, DoomedBy, active_of, covered_by, awaits_by, ActivityTies, StandingTies}
-use Rattle.unit_book.proofs.Names.{Ties, inl, inr, subst, cases_Bool, and_parts, Place, Quiesce, Halt, active_phase, still_runs, Fits}
-use Rattle.unit_book.proofs.Names.{FitsBy, ToHalt, due_by, is_to_halt, running_name_by, dcb_at, dcb_of}
+use Rattle.unit_book.proofs.Names.{refl, sym, ap, ◌∙◌, eqb, if◌then◌else◌, is_some, Storage, Meaning, Phase, Idle, Running, Pending, Name}
+use Rattle.unit_book.proofs.Names.{Piece, covers, Scope, Active, Standing, OnChannel, AwaitsRestart, Mode, Entry, Halted, Purge, Close}
+use Rattle.unit_book.proofs.Names.{Reset, waiting, arrivals, active, started, request_named, is_halt, is_covered, doomed, is_doomed}
+use Rattle.unit_book.proofs.Names.{is_open, is_opened, is_closed, flag, extents_of, attempts, current, Legal, Free, due, doomed_first}
+use Rattle.unit_book.proofs.Names.{CanPurge, posted, DoomedBy, active_of, covered_by, awaits_by, ActivityTies, StandingTies, Ties, inl, inr}
+use Rattle.unit_book.proofs.Names.{subst, cases_Bool, and_parts, Place, Quiesce, Halt, active_phase, still_runs, Fits, FitsBy, ToHalt}
+use Rattle.unit_book.proofs.Names.{is_to_halt, running_name_by, dcb_at, dcb_of, arith}
 use Rattle.request_piece.specs.declared.scope.Scope.TheVariants.{Dcb, Task}
 use Rattle.unit_book.specs.declared.dcb.Dcb.{Dcb as Row}
 use Rattle.unit_book.specs.Trace.{is_purged}
@@ -21,6 +20,7 @@ use Rattle.unit_book.proofs.Same.{fits-free, activity-same}
 use Rattle.unit_book.proofs.Lists.{same-refl}
 use Rattle.unit_book.proofs.Runs.{not-over}
 use Rattle.unit_book.proofs.Facts.{due-halt}
+use Rattle.std.proofs.lemmas.Grind.{common_steps}
 
 -- WHAT A PURGE DOOMS: what it covers of that which waits
 purged-by : (covered shut purged flagged : Bool) → not (shut || purged || flagged) ≡ true →
@@ -75,10 +75,6 @@ covers-area : (scope : Scope) (r : Piece) (m : Storage) → covers scope (record
 covers-area (Dcb d) r m = refl
 covers-area (Task t) r m = refl
 
-some-covers : (n : Name) (b : Bool) → b ≡ is_some (if b then Some n else None)
-some-covers n true = refl
-some-covers n false = refl
-
 -- at most what waited is doomed
 pub doomed-close_few : (d : ℕ) (H : List Entry) → length (doomed (Close d ∷ H)) ≤ length (waiting H)
 unfolding waiting arrivals
@@ -120,22 +116,12 @@ module _ {D : Type 0} (meaning : Meaning D) (mounted : D) where
     pub awaiting-is : {phase : Phase} {a : Active} → ActiveTies meaning mounted H phase a →
         is_halt mode && awaits_by a.standing && covers scope a.piece.value
         ≡ (is_halt mode && awaits_by a.standing && is_some (active_of scope H))
-    awaiting-is {a = a} t = ap (λ b. is_halt mode && awaits_by a.standing && b)
-        (covers-same t ∙ some-covers a.piece.value.name (covers scope (request_named a.piece.value.name H))
-        ∙ sym (ap (λ o. is_some (covered_by scope H o)) t.is))
+    awaiting-is {a = a} t = grind (arith, common_steps)
 
     uncovered : {phase : Phase} {a : Active} (standing : Standing) → ActiveTies meaning mounted H phase a →
         is_halt mode && awaits_by standing && is_some (covered_by scope H (Some a.piece.value.name)) ≡ false →
         awaits_by standing ≡ true → covers scope a.piece.value && is_halt mode ≡ false
-    uncovered {a = a} standing t h e = by_bools (is_halt mode) (covers scope (request_named a.piece.value.name H))
-        (covers scope a.piece.value)
-        (covers-same t) (rw e at h) where
-          by_bools : (halts c d : Bool) → d ≡ c → halts && true && is_some (if c then Some a.piece.value.name else None) ≡ false →
-              d && halts ≡ false
-          by_bools true true d k l = absurd cc
-          by_bools true false d k l = rw k refl
-          by_bools false c true k l = refl
-          by_bools false c false k l = refl
+    uncovered {a = a} standing t h e = grind (arith, common_steps)
 
     standing-purge : (phase : Phase) (a : Active) (standing : Standing) → ActiveTies meaning mounted H phase a →
         (awaits_by standing ≡ true → covers scope a.piece.value && is_halt mode ≡ false) →
@@ -217,32 +203,13 @@ module _ {D : Type 0} (meaning : Meaning D) (mounted : D) where
       due meaning mounted (Purge scope mode ∷ H) ≡ due_after None (doomed (Purge scope mode ∷ H))
   unfolding active started attempts request_named
   halts-none scope Quiesce H g = quiesces scope H
-  halts-none scope Halt H g = due-no_halt meaning mounted (Purge scope Halt ∷ H) (λ n a. still n (rw a at g)) where
-    still : (n : Name) → is_some (if still_runs (active_phase meaning mounted n H) then Some n else None) ≡ false →
-        is_to_halt meaning mounted (Purge scope Halt ∷ H) n ≡ false
-    still n h = by_bools (still_runs (active_phase meaning mounted n H)) (covers scope (request_named n H)) h where
-      by_bools : (b c : Bool) → is_some (if b then Some n else None) ≡ false → c && b ≡ false
-      by_bools true c k = absurd cc
-      by_bools false true k = refl
-      by_bools false false k = refl
+  halts-none scope Halt H g = grind (arith, common_steps, due-no_halt)
 
   -- the one that it covers, if its program runs
   pub halts-active : (scope : Scope) (H : List Entry) → is_some (running_name_by meaning mounted H (active H)) ≡ true →
       due meaning mounted (Purge scope Halt ∷ H) ≡ due_after (active_of scope H) (doomed (Purge scope Halt ∷ H))
   unfolding due active started attempts request_named
-  halts-active scope H g = by_active (active H) g where
-    P : List Entry
-    P = Purge scope Halt ∷ H
-
-    by_active : (o : Option Name) → is_some (running_name_by meaning mounted H o) ≡ true →
-        due_by meaning mounted P o ≡ due_after (covered_by scope H o) (doomed P)
-    by_active None h = absurd cc
-    by_active (Some n) h = by_bools (covers scope (request_named n H)) (still_runs (active_phase meaning mounted n H)) h where
-      by_bools : (c b : Bool) → is_some (if b then Some n else None) ≡ true → (if c && b then ToHalt n else doomed_first (doomed P))
-          ≡ due_after (if c then Some n else None) (doomed P)
-      by_bools true true k = refl
-      by_bools false true k = refl
-      by_bools c false k = absurd cc
+  halts-active scope H g = grind (arith, common_steps)
 
   -- what is to be halted has a program that runs
   to-halt : (H : List Entry) (n : Name) → is_to_halt meaning mounted H n ≡ true → still_runs (active_phase meaning mounted n H) ≡ true
@@ -282,11 +249,8 @@ module _ {D : Type 0} (meaning : Meaning D) (mounted : D) where
         StandingTies meaning mounted G (halted_phase phase) (record a { halted = true }) standing
     unfolding attempts
     standing-halt phase standing k =
-        let e = k.phase_is in
-        let i = k.standing_is in
-        let p = k.place_is in
         let s = same-refl n in
-        rw (e, i, p, s) refl
+        rw (k.phase_is, k.standing_is, k.place_is, s) refl
 
     pub ties-halt : Ties meaning mounted (record held {
       trace = G;

@@ -1,12 +1,12 @@
 -- What the entries of a trace add to the arrivals of a task: only an arrival adds one, and the other calls of a
 -- book add none.
-use Rattle.unit_book.proofs.Names.{◌≡◌, ℕ, ◌+◌, ◌==◌, Bool, true, false, List, [], ◌∷◌, length, length-append, refl, ap, ◌∙◌, if◌then◌else◌}
-use Rattle.unit_book.proofs.Names.{filter, filter-append, Piece, Entry, Arrive, Post, ExtentViolated, Extent, Meaning, no_status, Starting}
-use Rattle.unit_book.proofs.Names.{Started, Violated, NothingRuns, RanSome, Interruption, NothingPending, TriedAgain, WasPosted, StartsBook}
-use Rattle.unit_book.proofs.Names.{RunsBook, InterruptsBook, Book, arrivals, arrived_of, all_posted, after_dooms, doomed}
-use Rattle.unit_book.proofs.Names.{ProcessingMethod}
+use Rattle.unit_book.proofs.Names.{◌≡◌, ℕ, ◌+◌, ◌==◌, Bool, true, false, List, [], ◌∷◌, length, refl, ap, ◌∙◌, if◌then◌else◌, filter, Piece}
+use Rattle.unit_book.proofs.Names.{Entry, Arrive, Post, ExtentViolated, Extent, Meaning, no_status, Starting, Started, Violated}
+use Rattle.unit_book.proofs.Names.{NothingRuns, RanSome, Interruption, NothingPending, TriedAgain, WasPosted, StartsBook, RunsBook}
+use Rattle.unit_book.proofs.Names.{InterruptsBook, Book, arrivals, arrived_of, all_posted, after_dooms, doomed, ProcessingMethod, arith}
 use Rattle.unit_book.specs.declared.answer.Running.{Running}
 use Rattle.unit_book.specs.Answers.{OpensBook}
+use Rattle.std.proofs.lemmas.Grind.{common_steps}
 
 -- posts add none
 arrivals-all_posted : (rs : List Piece) (H : List Entry) → arrivals (all_posted rs H) ≡ arrivals H
@@ -25,10 +25,7 @@ one_more false task r e = rw e refl
 pub arrived_of-arrive : (b : Bool) (task : ℕ) (r : Piece) (H : List Entry) → (r.name.task == task) ≡ b →
     arrived_of task (Arrive r ∷ H) ≡ arrived_of task H + (if b then 1 else 0)
 unfolding arrivals
-arrived_of-arrive b task r H e =
-    let test = λ (p : Piece). p.name.task == task in
-    ap length (filter-append test (arrivals H) (r ∷ [])) ∙ length-append (filter test (arrivals H)) (filter test (r ∷ []))
-    ∙ rw (one_more b task r e) refl
+arrived_of-arrive b task r H e = grind (arith, common_steps)
 
 -- the other calls of a book add no arrival
 module _ {D : Type 0} (meaning : Meaning D) where

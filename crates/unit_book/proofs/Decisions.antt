@@ -1,10 +1,8 @@
 -- What becomes of the active request when its status is taken.
 use Rattle.unit_book.proofs.Names.{BookFields, ◌≡◌, Bool, ℕ, true, false, Option, Some, None, refl, sym, ap, ◌∙◌, subst, Status, Code}
-use Rattle.unit_book.proofs.Names.{Purged}
-use Rattle.unit_book.proofs.Names.{Meaning, Kind, Phase, Idle, Running, Pending, Retry, Final, verdict, Name}
-use Rattle.unit_book.proofs.Names.{Active, Standing, OnChannel, AwaitsRestart, active, request_named, is_covered, HasEnded}
-use Rattle.unit_book.proofs.Names.{still_runs, active_phase, PostsActive, WithVerdict, StartsAgain, StandingTies, Ties, awaits_by}
-use Rattle.unit_book.proofs.Names.{pending_phase}
+use Rattle.unit_book.proofs.Names.{Purged, Meaning, Kind, Phase, Idle, Running, Pending, Retry, Final, verdict, Name, Active, Standing}
+use Rattle.unit_book.proofs.Names.{OnChannel, AwaitsRestart, active, request_named, is_covered, HasEnded, still_runs, active_phase}
+use Rattle.unit_book.proofs.Names.{PostsActive, WithVerdict, StartsAgain, StandingTies, Ties, awaits_by, pending_phase}
 use Rattle.subchannel.specs.Subchannel.{status_of, tested_phase}
 use Rattle.recovery.specs.declared.answer.Verdict.{Verdict}
 use Rattle.unit_book.specs.Legal.{verdict_of, PostsAs, WhileCovered, AfterHalt}
@@ -135,9 +133,8 @@ module _ {D : Type 0} (meaning : Meaning D) (mounted : D) where
       (t : Ties meaning mounted held (Some a)) (pending : status_of held.channel.phase ≡ Some status) where
     pub decided_pending : pending_by meaning mounted held.trace (awaits_by a.standing) (active held.trace) ≡ true
     decided_pending =
-        let is = t.activity.is in
         let again_is = decides-not_again t pending in
-        let stands = decides-stands t pending in rw is (rw (again_is, stands) refl)
+        let stands = decides-stands t pending in rw t.activity.is (rw (again_is, stands) refl)
 
     abbrev pub DecidedAs : Option Code → Type 0
     DecidedAs (Some code) = PostsActive meaning mounted a.piece.value.name status code held.trace

@@ -1,16 +1,17 @@
 -- Nothing doomed is started.
 use Rattle.unit_book.proofs.Names.{◌≡◌, ℕ, ◌⊎◌, Bool, true, false, not, ◌&&◌, ◌||◌, Some, List, [], ◌∷◌, ◌++◌, refl, sym, ap, ◌∙◌, eqb, inl}
 use Rattle.unit_book.proofs.Names.{inr, subst, cases_Bool, or_left, or_right, eq-eqb, list_any, slice_get, Meaning, Name, Piece, Entry}
-use Rattle.unit_book.proofs.Names.{Arrive, Start, Halted, Close, same, starts, arrivals, waiting, active}
-use Rattle.unit_book.proofs.Names.{has_arrived, has_started, is_posted, is_covered, request_named, doomed, is_doomed, is_open, is_opened}
-use Rattle.unit_book.proofs.Names.{is_closed, flag, Due, ToHalt, ToPost, Free, due, Fits, FitsBy, Legal, StartFits, First, Again}
+use Rattle.unit_book.proofs.Names.{Arrive, Start, Halted, Close, same, starts, arrivals, waiting, active, has_arrived, has_started}
+use Rattle.unit_book.proofs.Names.{is_posted, is_covered, request_named, doomed, is_doomed, is_closed, flag, Due}
+use Rattle.unit_book.proofs.Names.{ToHalt, ToPost, Free, due, FitsBy, Legal, StartFits, First, Again, arith}
 use Rattle.std.proofs.lemmas.Bool.{or_from}
 use Rattle.unit_book.specs.Laws.{NoDoomedStarts, is_of_name}
 use Rattle.unit_book.proofs.Lists.{all-at, same-true, no_both, without}
-use Rattle.unit_book.proofs.Facts.{Facts, active-is, fits-freely, fresh, new-name}
-use Rattle.unit_book.proofs.LegalFacts.{SoundTrace, facts, first-named, first-request, request-named}
+use Rattle.unit_book.proofs.Facts.{active-is, fits-freely, fresh, new-name}
+use Rattle.unit_book.proofs.LegalFacts.{Comes, SoundTrace, facts, legal-tail, first-named, first-request, request-named}
 use Rattle.unit_book.proofs.Dooms.{doomed-purged, due-doomed, none-pass}
 use Rattle.unit_book.proofs.TraceLaws.{any-later, not-of, start-unposted}
+use Rattle.std.proofs.lemmas.Grind.{common_steps}
 
 -- one of the name is doomed
 abbrev dooms : Name → List Entry → Bool
@@ -21,13 +22,7 @@ any-without : (m n : Name) → same m n ≡ false → (rs : List Piece) → list
     list_any (λ (q : Piece). same q.name n) (without m rs) ≡ true
 unfolding without
 any-without m n s [] h = h
-any-without m n s (r ∷ rs) h =
-    let ih : list_any (λ (q : Piece). same q.name n) rs ≡ true → list_any (λ (q : Piece). same q.name n) (without m rs)
-    ≡ true = λ k. any-without m n s rs k in
-    elim (cases_Bool (same m r.name)) [
-      | inl e ↦ let d : same r.name n ≡ false = subst (λ (x : Name). same x n ≡ false) (same-true m r.name e) s in rw e (ih (rw d at h))
-      | inr e ↦ elim (cases_Bool (same r.name n)) [ inl b ↦ rw e (rw b refl) | inr b ↦ rw e (rw b (ih (rw b at h))) ]
-    ]
+any-without m n s (r ∷ rs) h = grind (arith, common_steps, any-without m n s rs)
 
 -- a Start that is not of the name does not start it
 starts-of : (n : Name) (e : Entry) → is_of_name n e ≡ false → starts n e ≡ false
@@ -63,15 +58,9 @@ closed-later : (d : ℕ) (later earlier : List Entry) → is_closed d (later ++ 
 closed-later d later earlier = any-later _ later (Close d ∷ earlier) (or_left (eqb d d) (is_closed d earlier) (eq-eqb d d refl))
 
 module _ {D : Type 0} (meaning : Meaning D) (mounted : D) where
-  legal-tail : (later earlier : List Entry) → Legal meaning mounted (later ++ earlier) → Legal meaning mounted earlier
-  unfolding Legal
-  legal-tail [] earlier l = l
-  legal-tail (e ∷ later) earlier l = legal-tail later earlier l.1
-
-  gone-step : (n : Name) (e : Entry) (G : List Entry) → Facts G → Fits meaning mounted e G → Gone n G →
-      (starts n e ≡ false) × Gone n (e ∷ G)
-  gone-step n e G f h (inr p) = (starts-of n e (not-of meaning mounted n e G f p h), inr (or_right _ (is_posted n G) p))
-  gone-step n e G f h (inl d) = by_due (due meaning mounted G) refl h where
+  gone-step : {e : Entry} {G : List Entry} (n : Name) → Comes meaning mounted e G → Gone n G → (starts n e ≡ false) × Gone n (e ∷ G)
+  gone-step {e} {G} n c (inr p) = (starts-of n e (not-of meaning mounted n e c p), inr (or_right _ (is_posted n G) p))
+  gone-step {e} {G} n c (inl d) = by_due (due meaning mounted G) refl c.fits where
     by_due : (k : Due) → k ≡ due meaning mounted G → FitsBy meaning mounted k e G → (starts n e ≡ false) × Gone n (e ∷ G)
     by_due (ToHalt m) q i = rw i (refl, inl (dooms-halted n m G ∙ d))
     by_due (ToPost m) q i =
@@ -91,41 +80,40 @@ module _ {D : Type 0} (meaning : Meaning D) (mounted : D) where
   gone n [] earlier l d = (refl, inl d)
   gone n (e ∷ later) earlier l d =
       let ih = gone n later earlier l.1 d in
-      let s = gone-step n e (later ++ earlier) (facts meaning mounted (later ++ earlier) l.1) l.0 ih.1 in
+      let c : Comes meaning mounted e (later ++ earlier) = record { earlier = l.1; fits = l.0 } in
+      let s = gone-step n c ih.1 in
       (or_from (starts n e) (list_any (starts n) later) s.0 ih.0, s.1)
 
   -- WHAT WAS STARTED AND COVERED stays covered, and is not started
-  covered-start : (r : Piece) (m : Name) (G : List Entry) → Legal meaning mounted G → Fits meaning mounted (Start m) G → Covered r G →
-      same m r.name ≡ false
-  covered-start r m G l h c =
+  covered-start : {m : Name} {G : List Entry} (r : Piece) → Comes meaning mounted (Start m) G → Covered r G → same m r.name ≡ false
+  covered-start {m} {G} r c k =
       elim (cases_Bool (same m r.name)) [
-        | inl e ↦ absurd (none (fits-freely meaning mounted (Start m) G refl h).1 (same-true m r.name e))
+        | inl e ↦ absurd (none (fits-freely meaning mounted (Start m) G refl c.fits).1 (same-true m r.name e))
         | inr e ↦ e
       ] where
         none : StartFits meaning mounted m G → m ≡ r.name → ⊥
-        none (First k) i =
-            no_both (has_started r.name G) c.0 (first-named G (facts meaning mounted G l) k.first (k.name ∙ i)).unstarted
-        none (Again k) i = no_both (is_covered r G) c.2
-            (subst (λ (x : Piece). is_covered x G ≡ false) (ap (λ (x : Name). request_named x G) i ∙ c.1) k.free)
+        none (First s) i =
+            no_both (has_started r.name G) k.0 (first-named G (facts meaning mounted G c.earlier) s.first (s.name ∙ i)).unstarted
+        none (Again s) i = no_both (is_covered r G) k.2
+            (subst (λ (x : Piece). is_covered x G ≡ false) (ap (λ (x : Name). request_named x G) i ∙ k.1) s.free)
 
   -- the request of a name stays the one that arrived
-  request-stays : (n : Name) (e : Entry) (G : List Entry) → Facts G → Fits meaning mounted e G → has_arrived n G ≡ true →
+  request-stays : (n : Name) (e : Entry) {G : List Entry} → Comes meaning mounted e G → has_arrived n G ≡ true →
       request_named n (e ∷ G) ≡ request_named n G
   unfolding request_named
-  request-stays n (Arrive r) G f h a =
-      let new = fresh r G f (fits-freely meaning mounted (Arrive r) G refl h).1 in
+  request-stays n (Arrive r) {G} c a =
+      let new = fresh r G (facts meaning mounted G c.earlier) (fits-freely meaning mounted (Arrive r) G refl c.fits).1 in
       let s = new-name r n G new a in rw s refl
-  request-stays n _ G f h a = refl
+  request-stays n _ c a = refl
 
-  covered-step : (r : Piece) (e : Entry) (G : List Entry) → Legal meaning mounted G → Fits meaning mounted e G → Covered r G →
+  covered-step : (r : Piece) (e : Entry) {G : List Entry} → Comes meaning mounted e G → Covered r G →
       (starts r.name e ≡ false) × Covered r (e ∷ G)
-  covered-step r e G l h c =
-      let f = facts meaning mounted G l in
-      let q = request-stays r.name e G f h (f.0 r.name c.0) ∙ c.1 in
-      let s = unstarted e h in
-      (s, (or_right (starts r.name e) (has_started r.name G) c.0, q, rw s (or_right _ (is_covered r G) c.2))) where
-        unstarted : (e : Entry) → Fits meaning mounted e G → starts r.name e ≡ false
-        unstarted (Start m) i = covered-start r m G l i c
+  covered-step r e {G} c k =
+      let q = request-stays r.name e c ((facts meaning mounted G c.earlier).0 r.name k.0) ∙ k.1 in
+      let s = unstarted e c in
+      (s, (or_right (starts r.name e) (has_started r.name G) k.0, q, rw s (or_right _ (is_covered r G) k.2))) where
+        unstarted : (e : Entry) → Comes meaning mounted e G → starts r.name e ≡ false
+        unstarted (Start m) i = covered-start r i k
         unstarted _ i = refl
 
   covered-stays : (r : Piece) (later earlier : List Entry) → Legal meaning mounted (later ++ earlier) → Covered r earlier →
@@ -134,13 +122,14 @@ module _ {D : Type 0} (meaning : Meaning D) (mounted : D) where
   covered-stays r [] earlier l c = (refl, c)
   covered-stays r (e ∷ later) earlier l c =
       let ih = covered-stays r later earlier l.1 c in
-      let s = covered-step r e (later ++ earlier) l.1 l.0 ih.1 in
+      let comes : Comes meaning mounted e (later ++ earlier) = record { earlier = l.1; fits = l.0 } in
+      let s = covered-step r e comes ih.1 in
       (or_from (starts r.name e) (list_any (starts r.name) later) s.0 ih.0, s.1)
 
   of-covered : (n : Name) (later earlier : List Entry) → Legal meaning mounted (later ++ earlier) →
       has_started n earlier ≡ true → is_covered (request_named n earlier) earlier ≡ true → list_any (starts n) later ≡ false
   of-covered n later earlier l s c =
-      let f = facts meaning mounted earlier (legal-tail later earlier l) in
+      let f = facts meaning mounted earlier (legal-tail meaning mounted later earlier l) in
       let r = request_named n earlier in
       let q : r.name ≡ n = request-named n earlier (f.0 n s) in
       let k : Covered r earlier = (rw q s, ap (λ (x : Name). request_named x earlier) q, c) in
@@ -163,15 +152,11 @@ module _ {D : Type 0} (meaning : Meaning D) (mounted : D) where
 
   of-closed : (n : Name) (H : List Entry) → Legal meaning mounted (Start n ∷ H) → is_closed (request_named n H).dcb H ≡ true →
       has_started n H ≡ true
-  of-closed n H l c =
-      let r = request_named n H in
-      doomed-starts n H l (doomed-closed (is_opened r.dcb H) (is_closed r.dcb H) _ r.related (flag r.dcb H) c)
+  of-closed n H l c = grind (arith, common_steps, doomed-starts, doomed-closed)
 
   of-flagged : (n : Name) (H : List Entry) → Legal meaning mounted (Start n ∷ H) → (request_named n H).related ≡ true →
       flag (request_named n H).dcb H ≡ true → has_started n H ≡ true
-  of-flagged n H l a b =
-      let r = request_named n H in
-      doomed-starts n H l (doomed-flagged (not (is_open r.dcb H)) _ r.related (flag r.dcb H) a b)
+  of-flagged n H l a b = grind (arith, common_steps, doomed-starts, doomed-flagged)
 
   -- WHAT IS STARTED AFTER A CLOSE was started before it
   before-close : (n : Name) {d : ℕ} (later earlier : List Entry) → Legal meaning mounted (later ++ Close d ∷ earlier) →
@@ -183,7 +168,8 @@ module _ {D : Type 0} (meaning : Meaning D) (mounted : D) where
       let G = later ++ Close d ∷ earlier in
       let f = facts meaning mounted G l.1 in
       let h = started_before e l s q in
-      let stays = request-stays n e G f l.0 (f.0 n h) in
+      let c : Comes meaning mounted e G = record { earlier = l.1; fits = l.0 } in
+      let stays = request-stays n e c (f.0 n h) in
       before-close n later earlier l.1 (sym (ap (λ (r : Piece). r.dcb) stays) ∙ q) h where
         own : (m : Name) → Legal meaning mounted (Start m ∷ later ++ Close d ∷ earlier) → m ≡ n →
             (request_named m (later ++ Close d ∷ earlier)).dcb ≡ d → has_started m (later ++ Close d ∷ earlier) ≡ true
@@ -209,7 +195,7 @@ module _ {D : Type 0} (meaning : Meaning D) (mounted : D) where
       let s = of-closed n G l (rw q (closed-later d later earlier)) in
       let b = before-close n later earlier l.1 q s in
       let u = start-unposted meaning mounted n G f (fits-freely meaning mounted (Start n) G refl l.0).1 in
-      let old = legal-tail later (Close d ∷ earlier) l.1 in
+      let old = legal-tail meaning mounted later (Close d ∷ earlier) l.1 in
       (facts meaning mounted earlier old.1).3 n b (unposted_before u) where
         unposted_before : is_posted n (later ++ Close d ∷ earlier) ≡ false → is_posted n earlier ≡ false
         unposted_before u = elim (cases_Bool (is_posted n earlier)) [

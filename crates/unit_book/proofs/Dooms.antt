@@ -1,14 +1,12 @@
 -- What is doomed, entry by entry, and that the dooms settle a trace.
 use Rattle.unit_book.proofs.Names.{BookFields, ◌≡◌, ◌≤◌, ℕ, Bool, true, false, not, ◌&&◌, ◌||◌, Some, List, [], ◌∷◌, length, arith, refl}
-use Rattle.unit_book.proofs.Names.{sym, ap, ◌∙◌, empty_status}
-use Rattle.unit_book.proofs.Names.{eqb, inl, inr, subst, if◌then◌else◌, cases_Bool, and_parts, filter, list_all, is_error, Csw, Status}
-use Rattle.unit_book.proofs.Names.{Extent}
-use Rattle.unit_book.proofs.Names.{Code, Purged, Meaning, no_status, Name, Piece, Entry, Opened, Start, Ran, Post, same, waiting, arrivals}
-use Rattle.unit_book.proofs.Names.{active, started, request_named, doomed, is_doomed, is_open, is_opened, is_closed, flag, Free, due}
-use Rattle.unit_book.proofs.Names.{doomed_first, is_to_halt, Fits, FitsBy, Legal, all_posted, after_dooms, doomed_by_post, DoomedBy}
-use Rattle.unit_book.proofs.Names.{halted_by, ◌+◌, Option, ◌++◌, append_assoc, map, append-nil, drop, PostedState, Placed, Active}
-use Rattle.unit_book.proofs.Names.{Arrive, extents_of, attempts, area, purged, posted, posted_since, posted_value, Ties, Each}
-use Rattle.unit_book.proofs.Names.{ProcessingMethod}
+use Rattle.unit_book.proofs.Names.{sym, ap, ◌∙◌, empty_status, eqb, inl, inr, subst, if◌then◌else◌, cases_Bool, and_parts, filter, list_all}
+use Rattle.unit_book.proofs.Names.{is_error, Csw, Status, Code, Purged, Meaning, no_status, Name, Piece, Entry, Opened, Start, Ran}
+use Rattle.unit_book.proofs.Names.{Post, same, waiting, arrivals, active, started, request_named, doomed, is_doomed, is_open, is_opened}
+use Rattle.unit_book.proofs.Names.{is_closed, flag, Free, due, doomed_first, is_to_halt, Fits, FitsBy, Legal, all_posted, after_dooms}
+use Rattle.unit_book.proofs.Names.{doomed_by_post, DoomedBy, halted_by, ◌+◌, Option, ◌++◌, append_assoc, map, append-nil, drop, PostedState}
+use Rattle.unit_book.proofs.Names.{Placed, Active, Arrive, extents_of, attempts, area, purged, posted, posted_since, posted_value, Ties}
+use Rattle.unit_book.proofs.Names.{Each}
 use Rattle.unit_book.specs.Trace.{is_opening, is_purged}
 use Rattle.unit_book.specs.Selected.{is_selected}
 use Rattle.std.proofs.Math.Seq.{drop-append_seam, drop-length}
@@ -19,6 +17,7 @@ use Rattle.unit_book.proofs.LegalFacts.{facts}
 use Rattle.unit_book.proofs.Same.{activity-same}
 use Rattle.unit_book.proofs.Starts.{as-issued}
 use Rattle.std.proofs.lemmas.List.Filters.{length-filter_both}
+use Rattle.std.proofs.lemmas.Grind.{common_steps}
 
 module _ {X : Type 0} where
   -- what is never picked leaves nothing
@@ -28,9 +27,7 @@ module _ {X : Type 0} where
 
   pub length-filter_le : (p : X → Bool) (xs : List X) → length (filter p xs) ≤ length xs
   length-filter_le p [] = omega arith
-  length-filter_le p (x ∷ xs) =
-      let ih = length-filter_le p xs in
-      elim (cases_Bool (p x)) [ inl e ↦ rw e (omega (arith, ih)) | inr e ↦ rw e (omega (arith, ih)) ]
+  length-filter_le p (x ∷ xs) = grind (arith, common_steps, length-filter_le p xs)
 
   pub filters-commute : (p q : X → Bool) (xs : List X) → filter p (filter q xs) ≡ filter q (filter p xs)
   filters-commute p q xs =
@@ -44,9 +41,7 @@ module _ {X : Type 0} where
   -- nothing passes a filter that is empty
   pub none-pass : (p : X → Bool) (xs : List X) → filter p xs ≡ [] → list_all (λ x. not (p x)) xs ≡ true
   none-pass p [] h = refl
-  none-pass p (x ∷ xs) h =
-      let ih : filter p xs ≡ [] → list_all (λ x. not (p x)) xs ≡ true = λ k. none-pass p xs k in
-      elim (cases_Bool (p x)) [ inl e ↦ let k = rw e at h in absurd cc | inr e ↦ rw e (ih (rw e at h)) ]
+  none-pass p (x ∷ xs) h = grind (arith, common_steps, none-pass p xs)
 
   -- tests that agree on the elements keep the same
   pub filter-agree : (p q m : X → Bool) → ((x : X) → m x ≡ true → p x ≡ q x) → (xs : List X) → list_all m xs ≡ true →
@@ -82,24 +77,7 @@ doomed-ran n j H = refl
 doomed-by : (q r : Piece) (code : Code) (gone f : Bool) → not (gone || (r.related && f)) ≡ true →
     (gone || (r.related && (if is_error code && q.related && eqb q.dcb r.dcb then true else f)))
     ≡ is_selected (doomed_by_post q code) r
-doomed-by q r code false f h =
-    elim (cases_Bool (is_error code)) [
-      | inl e ↦ elim (cases_Bool q.related) [
-        | inl i ↦ rw (e, i) (by_bools r.related (eqb q.dcb r.dcb) f h)
-        | inr i ↦ rw (e, i) (nothing r.related f h)
-      ]
-      | inr e ↦ rw e (nothing r.related f h)
-    ] where
-      nothing : (a f : Bool) → not (a && f) ≡ true → (a && f) ≡ false
-      nothing true true h = absurd cc
-      nothing true false h = refl
-      nothing false f h = refl
-
-      by_bools : (a d f : Bool) → not (a && f) ≡ true → (a && (if d then true else f)) ≡ (a && d)
-      by_bools true true f h = refl
-      by_bools true false true h = absurd cc
-      by_bools true false false h = refl
-      by_bools false d f h = refl
+doomed-by q r code false f h = grind (arith, common_steps)
 doomed-by q r code _ f h = absurd cc
 
 pub doomed-post : (n : Name) (csw : Csw) (sense : ℕ) (code : Code) (H : List Entry) → doomed H ≡ [] →
@@ -123,10 +101,7 @@ open-spares _ now _ _ _ h = absurd cc
 pub doomed-few : (n : Name) (csw : Csw) (sense : ℕ) (code : Code) (H : List Entry) →
     length (doomed (Post n csw sense code ∷ H)) ≤ length (waiting H)
 unfolding without
-doomed-few n csw sense code H =
-    let G = Post n csw sense code ∷ H in
-    let w = ap length (waiting-post n csw sense code H) in
-    omega (arith, w, length-filter_le (is_doomed G) (waiting G), length-filter_le (λ (r : Piece). not (same n r.name)) (waiting H))
+doomed-few n csw sense code H = grind (arith, common_steps, waiting-post, length-filter_le)
 
 module _ {D : Type 0} (meaning : Meaning D) (mounted : D) where
   -- no Halted is due
@@ -209,14 +184,7 @@ without-other (r ∷ rs) w ws h =
 pub without-picked : (p : Piece → Bool) (ws : List Piece) → Apart ws → without_all (filter p ws) ws ≡ filter (λ r. not (p r)) ws
 unfolding Apart
 without-picked p [] a = refl
-without-picked p (w ∷ ws) a =
-    let ih = without-picked p ws a.1 in
-    let first = without-first w ws a in
-    let others = all-kept (λ r. not (same w.name r.name)) p ws a.0 in
-    elim (cases_Bool (p w)) [
-      | inl e ↦ rw e (ap (without_all (filter p ws)) first ∙ ih)
-      | inr e ↦ rw e (without-other (filter p ws) w ws others ∙ ap (λ x. w ∷ x) ih)
-    ]
+without-picked p (w ∷ ws) a = grind (arith, common_steps, without-picked p ws a.1, without-first, all-kept, without-other)
 
 -- one more at the end of those that are posted
 pub all_posted-push : (rs : List Piece) (r : Piece) (H : List Entry) →
@@ -231,9 +199,8 @@ module _ {D : Type 0} (meaning : Meaning D) (mounted : D) where
     posted-one : posted meaning mounted (Post r.name no_status 0 Purged ∷ held.trace) ≡ posted meaning mounted held.trace ++ purged r ∷ []
     unfolding posted
     posted-one =
-        let q = w.known.0 in
         let issued : area meaning mounted r held.trace ≡ r.area = as-issued meaning mounted r held.trace t.legal w.unstarted in
-        rw (q, issued) refl
+        rw (w.known.0, issued) refl
 
     ties-purged : Ties meaning mounted (record held {
       trace = Post r.name no_status 0 Purged ∷ held.trace;

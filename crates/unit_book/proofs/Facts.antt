@@ -1,14 +1,14 @@
 -- What a legal trace keeps, and what follows from it.
-use Rattle.unit_book.proofs.Names.{◌≡◌, ℕ, zero, suc, ◌+◌, ◌≤◌, ◌⊎◌, Bool, true, false, not, ◌&&◌, ◌||◌, Option, Some, None, List, [], ◌∷◌}
+use Rattle.unit_book.proofs.Names.{◌≡◌, ℕ, zero, suc, ◌+◌, ◌≤◌, ◌⊎◌, Bool, true, false, not, ◌||◌, Option, Some, None, List, [], ◌∷◌}
 use Rattle.unit_book.proofs.Names.{◌++◌, refl, sym, ap, ◌∙◌, arith, inl, inr, subst, and_from, or_parts, or_left, or_right, cases_Bool}
 use Rattle.unit_book.proofs.Names.{filter-append, filter, list_any, list_all, slice_get, Csw, Meaning, Name, Piece, Code, Entry, Arrive}
-use Rattle.unit_book.proofs.Names.{Start, Ran, Post, same, arrivals, arrived_of, has_arrived, has_started, is_posted, waiting, started}
+use Rattle.unit_book.proofs.Names.{Start, Post, same, arrivals, arrived_of, has_arrived, has_started, is_posted, waiting, started}
 use Rattle.unit_book.proofs.Names.{active, request_named, Each, Attempt, attempts, doomed, is_doomed, Due, ToHalt, ToPost, Free, due}
 use Rattle.unit_book.proofs.Names.{due_by, doomed_first, is_to_halt, Fits, FitsBy, PostFits, OfActive, OfFirst, Status, Halted}
 use Rattle.unit_book.specs.Legal.{FitsFree}
 use Rattle.unit_book.proofs.Lists.{same-refl, same-true, same-is, filter-all, same-not-sym, no_both, filter-filter, all-weaker, find-passes}
-use Rattle.unit_book.proofs.Lists.{find-any, find-agree, find-none, without, Apart, Apart-filter}
-use Rattle.unit_book.proofs.Lists.{not-so}
+use Rattle.unit_book.proofs.Lists.{find-any, find-agree, find-none, without, Apart, Apart-filter, not-so}
+use Rattle.std.proofs.lemmas.Grind.{common_steps}
 
 -- THE FACTS
 abbrev pub ArrivedStart : List Entry → Type 0
@@ -134,18 +134,11 @@ first-no_halt (r ∷ rs) n h = cc
 
 -- a new name is in no entry
 pub fresh : (r : Piece) (H : List Entry) → Facts H → r.name.seq ≡ arrived_of r.name.task H + 1 → has_arrived r.name H ≡ false
-fresh r H f e =
-    elim (cases_Bool (has_arrived r.name H)) [
-      | inl a ↦ let le = f.2 r.name a in absurd (omega (arith, le, e))
-      | inr a ↦ a
-    ]
+fresh r H f e = grind (arith, common_steps)
 
 -- so it is none of those that arrived
 pub new-name : (r : Piece) (n : Name) (H : List Entry) → has_arrived r.name H ≡ false → has_arrived n H ≡ true → same r.name n ≡ false
-new-name r n H new a = elim (cases_Bool (same r.name n)) [
-  | inl s ↦ no_both (has_arrived n H) a (subst (λ (x : Name). has_arrived x H ≡ false) (same-true r.name n s) new)
-  | inr s ↦ s
-]
+new-name r n H new a = grind (arith, common_steps)
 
 pub fresh-start : (n : Name) (H : List Entry) → Facts H → has_arrived n H ≡ false → has_started n H ≡ false
 fresh-start n H f h = not-so (has_started n H) (has_arrived n H) (f.0 n) h
@@ -193,25 +186,12 @@ waiting-arrive r H f h =
 
 pub waiting-start : (n : Name) (H : List Entry) → waiting (Start n ∷ H) ≡ without n (waiting H)
 unfolding waiting arrivals without
-waiting-start n H =
-    filter-filter (λ (r : Piece). not (has_started r.name H || is_posted r.name H)) (λ r. not (same n r.name))
-    (λ r. not ((same n r.name || has_started r.name H) || is_posted r.name H))
-    (λ r. by_bools (same n r.name) (has_started r.name H) (is_posted r.name H)) (arrivals H) where
-      by_bools : (a b c : Bool) → not ((a || b) || c) ≡ (not a && not (b || c))
-      by_bools true b c = refl
-      by_bools false b c = refl
+waiting-start n H = grind (arith, common_steps, filter-filter)
 
 pub waiting-post : (n : Name) (csw : Csw) (sense : ℕ) (code : Code) (H : List Entry) →
     waiting (Post n csw sense code ∷ H) ≡ without n (waiting H)
 unfolding waiting arrivals without
-waiting-post n csw sense code H =
-    filter-filter (λ (r : Piece). not (has_started r.name H || is_posted r.name H)) (λ r. not (same n r.name))
-    (λ r. not (has_started r.name H || (same n r.name || is_posted r.name H)))
-    (λ r. by_bools (same n r.name) (has_started r.name H) (is_posted r.name H)) (arrivals H) where
-      by_bools : (a b c : Bool) → not (b || (a || c)) ≡ (not a && not (b || c))
-      by_bools true true c = refl
-      by_bools true false c = refl
-      by_bools false b c = refl
+waiting-post n csw sense code H = grind (arith, common_steps, filter-filter)
 
 pub waiting-apart : (H : List Entry) → Facts H → Apart (waiting H)
 unfolding waiting
@@ -281,8 +261,7 @@ module _ {D : Type 0} (meaning : Meaning D) (mounted : D) where
   post-whom {n} {H} status code f h = by_due (due meaning mounted H) refl h where
     free_post : PostFits meaning mounted n status code H → PostOf n H
     free_post (OfActive p) = inl p.active
-    free_post (OfFirst p) =
-        inr (name-waits (Each-at (WaitsAmong H) (waiting H) 0 p.fails.request (waits H f) p.fails.first) p.fails.name)
+    free_post (OfFirst p) = inr (name-waits (Each-at (WaitsAmong H) (waiting H) 0 p.fails.request (waits H f) p.fails.first) p.fails.name)
 
     by_due : (d : Due) → d ≡ due meaning mounted H → FitsBy meaning mounted d (Post n status.csw status.sense code) H → PostOf n H
     by_due (ToHalt m) e k = absurd cc

@@ -1,43 +1,24 @@
 -- The facts hold of every legal trace.
-use Rattle.unit_book.proofs.Names.{sym, ◌≡◌, ℕ, ◌+◌, ◌≤◌, ◌⊎◌, true, false, Some, List, [], ◌∷◌, ◌++◌, length, refl, ap, ◌∙◌, arith, eqb}
-use Rattle.unit_book.proofs.Names.{inl, inr, subst, eq-eqb, or_parts, or_left, or_right, cases_Bool, filter, slice_get, Csw, Meaning, Name}
-use Rattle.unit_book.proofs.Names.{Piece, Code, Entry, Arrive, Start, Ran, Post, same, arrivals, arrived_of, has_arrived, has_started}
-use Rattle.unit_book.proofs.Names.{is_posted, waiting, started, active, request_named, Each, attempts, due, Legal, StartFits, First, Again}
+use Rattle.unit_book.proofs.Names.{sym, ◌≡◌, ℕ, ◌+◌, true, false, Some, List, [], ◌∷◌, ◌++◌, refl, ap, ◌∙◌, arith, eqb, inl, inr, subst}
+use Rattle.unit_book.proofs.Names.{eq-eqb, or_parts, or_left, or_right, cases_Bool, slice_get, Meaning, Name, Piece, Code, Entry, Arrive}
+use Rattle.unit_book.proofs.Names.{Start, Ran, Post, same, arrivals, arrived_of, has_arrived, is_posted, waiting, started, active}
+use Rattle.unit_book.proofs.Names.{request_named, Each, attempts, due, Legal, StartFits, First, Again, Status, Free, Fits}
+use Rattle.unit_book.proofs.Counting.{arrived_of-arrive}
 use Rattle.unit_book.proofs.Lists.{same-true, same-refl, same-is, no_both, none_named, Apart, Apart-push}
 use Rattle.unit_book.proofs.Facts.{ArrivedPost, ArrivedStart, Each-behind, Each-weaker, Facts, Known, Newest, NewestIs, Numbered, One}
-use Rattle.unit_book.proofs.Facts.{WaitsAmong, active-is, active-post, active-post_waiting, active-start, fits-freely}
-use Rattle.unit_book.proofs.Facts.{fresh, new-name, post-whom, waits, Each-at, NameWaits, name-waits, PostOf}
-use Rattle.unit_book.proofs.Names.{Status, Free}
+use Rattle.unit_book.proofs.Facts.{WaitsAmong, active-is, active-post, active-post_waiting, active-start, fits-freely, fresh, new-name}
+use Rattle.unit_book.proofs.Facts.{post-whom, waits, Each-at, NameWaits, name-waits, PostOf}
+use Rattle.std.proofs.lemmas.Grind.{common_steps}
 
 pub newest-ran : (n : Name) (j : ℕ) (H : List Entry) → active H ≡ Some n → NewestIs n H → NewestIs n (Ran n j ∷ H)
 unfolding attempts request_named
 newest-ran n j H a w =
-    let e = w.2 in
     let s : same w.0.request.name n ≡ true = same-is w.0.request.name n (ap (λ (r : Piece). r.name) w.3 ∙ w.4) in
-    (record { request = w.0.request; mask = w.0.mask; commands = w.0.commands + j }, w.1, rw e (rw s refl), w.3, w.4)
-
-arrived-of-push : (t : ℕ) (r : Piece) (rs : List Piece) →
-    length (filter (λ (q : Piece). eqb q.name.task t) rs) ≤ length (filter (λ (q : Piece). eqb q.name.task t) (rs ++ r ∷ []))
-arrived-of-push t r [] = omega arith
-arrived-of-push t r (q ∷ rs) =
-    let ih = arrived-of-push t r rs in
-    elim (cases_Bool (eqb q.name.task t)) [ inl e ↦ rw e (omega (arith, ih)) | inr e ↦ rw e ih ]
-
-arrived-of-push_same : (r : Piece) (rs : List Piece) → length (filter (λ (q : Piece). eqb q.name.task r.name.task) (rs ++ r ∷ []))
-    ≡ length (filter (λ (q : Piece). eqb q.name.task r.name.task) rs) + 1
-arrived-of-push_same r [] = let e = eq-eqb r.name.task r.name.task refl in rw e refl
-arrived-of-push_same r (q ∷ rs) =
-    let ih = arrived-of-push_same r rs in
-    elim (cases_Bool (eqb q.name.task r.name.task)) [ inl e ↦ rw e (omega (arith, ih)) | inr e ↦ rw e ih ]
+    (record { request = w.0.request; mask = w.0.mask; commands = w.0.commands + j }, w.1, rw w.2 (rw s refl), w.3, w.4)
 
 pub none-named : (n : Name) (H : List Entry) → has_arrived n H ≡ false → (rs : List Piece) → Each (Known H) rs → none_named n rs ≡ true
 none-named n H h [] k = refl
-none-named n H h (r ∷ rs) k =
-    let ih = none-named n H h rs k.1 in
-    elim (cases_Bool (same n r.name)) [
-      | inl e ↦ no_both (has_arrived n H) (rw (same-true n r.name e) k.0.1) h
-      | inr e ↦ rw e ih
-    ]
+none-named n H h (r ∷ rs) k = grind (arith, common_steps, none-named n H h rs k.1)
 
 facts-arrive : (r : Piece) (H : List Entry) → Facts H → r.name.seq ≡ arrived_of r.name.task H + 1 → Facts (Arrive r ∷ H)
 unfolding arrivals active started attempts request_named
@@ -54,8 +35,12 @@ facts-arrive r H f e = (starts', posts', numbers, f.3, newest', apart', known') 
   numbers : Numbered (Arrive r ∷ H)
   numbers n h =
       elim (cases_Bool (same r.name n)) [
-        | inl s ↦ let k : n ≡ r.name = sym (same-true r.name n s) in rw k (omega (arith, e, arrived-of-push_same r (arrivals H)))
-        | inr s ↦ let a : has_arrived n H ≡ true = rw s at h in omega (arith, f.2 n a, arrived-of-push n.task r (arrivals H))
+        | inl s ↦
+            let k : n ≡ r.name = sym (same-true r.name n s) in
+            rw k (omega (arith, e, arrived_of-arrive true r.name.task r H (eq-eqb r.name.task r.name.task refl)))
+        | inr s ↦
+            let a : has_arrived n H ≡ true = rw s at h in
+            omega (arith, f.2 n a, arrived_of-arrive (eqb r.name.task n.task) n.task r H refl)
       ]
 
   newest' : Newest (Arrive r ∷ H)
@@ -79,9 +64,7 @@ facts-arrive r H f e = (starts', posts', numbers, f.3, newest', apart', known') 
 pub request-named : (n : Name) (H : List Entry) → has_arrived n H ≡ true → (request_named n H).name ≡ n
 unfolding request_named
 request-named n [] h = absurd cc
-request-named n (Arrive r ∷ H) h =
-    let ih : has_arrived n H ≡ true → (request_named n H).name ≡ n = λ k. request-named n H k in
-    elim (cases_Bool (same r.name n)) [ inl e ↦ rw e (same-true r.name n e) | inr e ↦ rw e (ih (rw e at h)) ]
+request-named n (Arrive r ∷ H) h = grind (arith, common_steps, request-named n H)
 request-named n (_ ∷ H) h = request-named n H h
 
 -- a Start of a name that arrived, has no Post, and is active or nothing is
@@ -99,10 +82,7 @@ facts-start n H f here p only = (starts', f.1, f.2, one', newest', f.5, f.6) whe
   one' : One (Start n ∷ H)
   one' m h q =
       let a = active-start n H p in
-      elim (cases_Bool (same n m)) [
-        | inl s ↦ a ∙ ap Some (same-true n m s)
-        | inr s ↦ a ∙ ap Some (sym (only m (f.3 m (rw s at h) q)))
-      ]
+      elim (cases_Bool (same n m)) [ inl s ↦ a ∙ ap Some (same-true n m s) | inr s ↦ a ∙ ap Some (sym (only m (f.3 m (rw s at h) q))) ]
 
   newest' : Newest (Start n ∷ H)
   newest' m h = let a = active-start n H p in let i : n ≡ m = cc in subst (λ (x : Name). NewestIs x (Start n ∷ H)) i
@@ -190,3 +170,13 @@ module _ {D : Type 0} (meaning : Meaning D) (mounted : D) where
   pub record SoundTrace (H : List Entry) : Type 0 where
     pub legal : Legal meaning mounted H
     pub settled : due meaning mounted H ≡ Free
+
+  pub legal-tail : (later earlier : List Entry) → Legal meaning mounted (later ++ earlier) → Legal meaning mounted earlier
+  unfolding Legal
+  legal-tail [] earlier l = l
+  legal-tail (e ∷ later) earlier l = legal-tail later earlier l.1
+
+  -- an entry that fits comes after a legal trace
+  pub record Comes (e : Entry) (H : List Entry) : Type 0 where
+    pub earlier : Legal meaning mounted H
+    pub fits : Fits meaning mounted e H

@@ -1,19 +1,16 @@
 -- Names, and filters of lists of requests and names.
 use Rattle.unit_book.proofs.Names.{◌≡◌, ℕ, Bool, true, false, not, ◌&&◌, Some, None, List, [], ◌∷◌, ◌++◌, refl, sym, ap, ◌∙◌, eqb, inl, inr}
-use Rattle.unit_book.proofs.Names.{eqb-true, eq-eqb, and_parts, and_from, or_left, or_right, cases_Bool, filter, list_any, list_all, Name}
-use Rattle.unit_book.proofs.Names.{Piece, same, slice_get, drop}
+use Rattle.unit_book.proofs.Names.{eq-eqb, and_parts, and_from, or_left, or_right, cases_Bool, filter, list_any, list_all, Name}
+use Rattle.unit_book.proofs.Names.{Piece, same, slice_get, drop, zero, suc, length, arith, ◌⊎◌}
 use Rattle.std.specs.List.{find}
-use Rattle.unit_book.proofs.Names.{zero, suc, length, arith, ◌⊎◌}
+use Rattle.std.proofs.lemmas.List.Folds.{list_all-append}
+use Rattle.std.proofs.lemmas.Grind.{common_steps}
 
 pub name-is : (a b : Name) → a.task ≡ b.task → a.seq ≡ b.seq → a ≡ b
-name-is a b t s =
-    let f : ℕ → ℕ → Name = λ x y. record { task = x; seq = y } in
-    ap (λ x. f x a.seq) t ∙ ap (λ y. f b.task y) s
+name-is a b t s = grind (arith, common_steps)
 
 pub same-true : (a b : Name) → same a b ≡ true → a ≡ b
-same-true a b h =
-    let p = and_parts (eqb a.task b.task) (eqb a.seq b.seq) h in
-    name-is a b (eqb-true a.task b.task p.0) (eqb-true a.seq b.seq p.1)
+same-true a b h = grind (arith, common_steps)
 
 pub same-refl : (a : Name) → same a a ≡ true
 same-refl a = and_from (eqb a.task a.task) (eqb a.seq a.seq) (eq-eqb a.task a.task refl) (eq-eqb a.seq a.seq refl)
@@ -41,27 +38,16 @@ module _ {X : Type 0} where
   -- a filter of a filter
   pub filter-filter : (p q r : X → Bool) → ((x : X) → r x ≡ (q x && p x)) → (xs : List X) → filter r xs ≡ filter q (filter p xs)
   filter-filter p q r h [] = refl
-  filter-filter p q r h (x ∷ xs) =
-      let ih = filter-filter p q r h xs in
-      elim (cases_Bool (p x)) [
-        | inl e ↦ elim (cases_Bool (q x)) [
-          | inl f ↦ rw (h x, e, f) (ap (λ t. x ∷ t) ih)
-          | inr f ↦ rw (h x, e, f) ih
-        ]
-        | inr e ↦ elim (cases_Bool (q x)) [ inl f ↦ rw (h x, e, f) ih | inr f ↦ rw (h x, e, f) ih ]
-      ]
+  filter-filter p q r h (x ∷ xs) = grind (arith, common_steps, filter-filter p q r h xs)
 
   pub filter-all : (p : X → Bool) (xs : List X) → list_all p xs ≡ true → filter p xs ≡ xs
   filter-all p [] h = refl
-  filter-all p (x ∷ xs) h =
-      let a = and_parts (p x) (list_all p xs) h in let e = a.0 in rw e (ap (λ t. x ∷ t) (filter-all p xs a.1))
+  filter-all p (x ∷ xs) h = let a = and_parts (p x) (list_all p xs) h in let e = a.0 in rw e (ap (λ t. x ∷ t) (filter-all p xs a.1))
 
   -- what passes a filter passes its test
   pub all-filter : (p : X → Bool) (xs : List X) → list_all p (filter p xs) ≡ true
   all-filter p [] = refl
-  all-filter p (x ∷ xs) =
-      let ih = all-filter p xs in
-      elim (cases_Bool (p x)) [ inl e ↦ rw e (rw e ih) | inr e ↦ rw e ih ]
+  all-filter p (x ∷ xs) = grind (arith, common_steps, all-filter p xs)
 
   -- what holds of all holds of what passes
   pub all-kept : (q p : X → Bool) (xs : List X) → list_all q xs ≡ true → list_all q (filter p xs) ≡ true
@@ -77,19 +63,12 @@ module _ {X : Type 0} where
       (all-weaker p q w xs a.1)
 
   pub all-append : (p : X → Bool) (xs ys : List X) → list_all p xs ≡ true → list_all p ys ≡ true → list_all p (xs ++ ys) ≡ true
-  all-append p [] ys h k = k
-  all-append p (x ∷ xs) ys h k = let a = and_parts (p x) (list_all p xs) h in and_from (p x) (list_all p (xs ++ ys)) a.0
-      (all-append p xs ys a.1 k)
+  all-append p xs ys h k = list_all-append p xs ys ∙ and_from (list_all p xs) (list_all p ys) h k
 
   -- the first that passes does
   pub find-passes : (p : X → Bool) (xs : List X) (x : X) → find p xs ≡ Some x → p x ≡ true
   find-passes p [] x h = absurd cc
-  find-passes p (y ∷ ys) x h =
-      let ih : find p ys ≡ Some x → p x ≡ true = λ k. find-passes p ys x k in
-      elim (cases_Bool (p y)) [
-        | inl e ↦ let h' = rw e at h in let k : y ≡ x = cc in rw (← k) e
-        | inr e ↦ ih (rw e at h)
-      ]
+  find-passes p (y ∷ ys) x h = grind (arith, common_steps, find-passes p ys x)
 
   pub find-any : (p q : X → Bool) (xs : List X) (x : X) → find p xs ≡ Some x → q x ≡ true → list_any q xs ≡ true
   find-any p q [] x h k = absurd cc

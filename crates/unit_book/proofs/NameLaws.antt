@@ -1,7 +1,7 @@
 -- A name that arrived has one place; at most one request is active.
 use Rattle.unit_book.proofs.Names.{◌≡◌, ◌≤◌, ◌+◌, Bool, true, false, not, ◌&&◌, ◌||◌, Option, Some, None, List, [], ◌∷◌, length, refl}
 use Rattle.unit_book.proofs.Names.{sym, ap, ◌∙◌, arith, inl, inr, subst, cases_Bool, filter, list_any, Meaning, Name, Entry, Arrive}
-use Rattle.unit_book.proofs.Names.{Start, same, starts, arrivals, has_arrived, has_started, is_posted, waiting, active, starts_of, due}
+use Rattle.unit_book.proofs.Names.{Start, same, starts, arrivals, has_arrived, has_started, is_posted, waiting, active, starts_of}
 use Rattle.unit_book.proofs.Names.{Legal, StartFits, First, Again}
 use Rattle.unit_book.specs.Laws.{OnePlace, FewStarts, waits, is_one, is_active, times}
 use Rattle.unit_book.proofs.Lists.{same-true, same-refl, no_both}

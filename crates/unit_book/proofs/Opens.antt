@@ -1,27 +1,22 @@
 -- A DCB is opened: the fields stay those of the trace.
 use Rattle.unit_book.proofs.Names.{BookFields, ◌≡◌, ℕ, zero, suc, ◌+◌, ◌-◌, ◌≤◌, Bool, true, false, not, ◌&&◌, ◌||◌, Option, Some, None}
-use Rattle.unit_book.proofs.Names.{List, []}
-use Rattle.unit_book.proofs.Names.{◌∷◌, ◌++◌, length, length-append, refl, sym, ap, ◌∙◌, arith, eqb, inl, inr, subst, if◌then◌else◌}
-use Rattle.unit_book.proofs.Names.{cases_Bool, and_parts, or_right, eqb-true, eq-eqb, slice_get-append_right, slice_get, is_error, Status}
-use Rattle.unit_book.proofs.Names.{Code, Purged, Extent, Meaning, Idle, Name, Piece, Active, Dcb, Entry, Opened}
-use Rattle.unit_book.proofs.Names.{Arrive, Start, Close, Reset, Post, same, has_arrived, has_started, waiting, arrivals, active, started}
+use Rattle.unit_book.proofs.Names.{List, [], ◌∷◌, ◌++◌, length, length-append, refl, sym, ap, ◌∙◌, arith, eqb, inl, inr, subst}
+use Rattle.unit_book.proofs.Names.{if◌then◌else◌, cases_Bool, and_parts, or_right, eqb-true, eq-eqb, slice_get-append_right, slice_get}
+use Rattle.unit_book.proofs.Names.{is_error, Status, Code, Purged, Extent, Meaning, Idle, Name, Piece, Active, Dcb, Entry, Opened, Arrive}
+use Rattle.unit_book.proofs.Names.{Start, Close, Reset, Post, same, has_started, waiting, arrivals, active, started}
 use Rattle.unit_book.proofs.Names.{request_named, is_open, is_opened, is_closed, opened_count, extents_of, flag, attempts, stand, Due}
-use Rattle.unit_book.proofs.Names.{ToHalt, ToPost, Free, due, FitsBy, Legal, StartFits, First, Again, PostFits, OfActive, OfFirst}
-use Rattle.unit_book.proofs.Names.{posted, Ties, dcb_at, dcb_of}
-use Rattle.unit_book.specs.Trace.{opens}
-use Rattle.unit_book.proofs.Names.{ProcessingMethod, Input, Output}
-use Rattle.unit_book.specs.Trace.{is_input}
+use Rattle.unit_book.proofs.Names.{ToHalt, ToPost, Free, due, FitsBy, Legal, StartFits, First, Again, PostFits, OfActive, OfFirst, posted}
+use Rattle.unit_book.proofs.Names.{Ties, dcb_at, dcb_of, ProcessingMethod, Input, Output}
+use Rattle.unit_book.specs.Trace.{opens, is_input}
 use Rattle.unit_book.specs.Legal.{OpenFits}
 use Rattle.unit_book.specs.Fields.{HasRow, fields_of}
-use Rattle.unit_book.proofs.Lists.{same-true, no_both}
+use Rattle.unit_book.proofs.Lists.{same-true, no_both, not-so, at-push}
 use Rattle.unit_book.proofs.Facts.{fits-freely, fresh, new-name, active-is}
 use Rattle.unit_book.proofs.LegalFacts.{SoundTrace, facts, first-request}
 use Rattle.unit_book.proofs.Dooms.{due-doomed}
 use Rattle.unit_book.proofs.Same.{activity-same, fits-free}
 use Rattle.unit_book.proofs.Seeks.{waits-open}
 use Rattle.unit_book.proofs.Starts.{no-input}
-use Rattle.unit_book.proofs.Lists.{not-so}
-use Rattle.unit_book.proofs.Lists.{at-push}
 
 more : (d : ℕ) (H : List Entry) (e : Entry) → is_opened d H ≡ true → is_opened d (e ∷ H) ≡ true
 more d H e h = or_right (opens d e) (is_opened d H) h
@@ -64,8 +59,7 @@ module _ {D : Type 0} (meaning : Meaning D) (mounted : D) where
   -- the DCB of what waits first, where nothing is due
   pub first-opened : (r : Piece) (H : List Entry) → due meaning mounted H ≡ Free → slice_get (waiting H) 0 ≡ Some r →
       is_opened r.dcb H ≡ true
-  first-opened r H d s =
-      (and_parts (is_opened r.dcb H) (not (is_closed r.dcb H)) (waits-open r H (due-doomed meaning mounted H d) s)).0
+  first-opened r H d s = (and_parts (is_opened r.dcb H) (not (is_closed r.dcb H)) (waits-open r H (due-doomed meaning mounted H d) s)).0
 
   -- the table of DCBs has the row of an opened one
   pub opened-row : (d : ℕ) {held : BookFields D} {o : Option Active} → Ties meaning mounted held o → is_opened d held.trace ≡ true →
@@ -146,13 +140,13 @@ module _ {D : Type 0} (meaning : Meaning D) (mounted : D) where
 
   -- what a trace says of a DCB that is opened next
   dcb-new : {d : ℕ} {x : List Extent} {H : List Entry} (method : ProcessingMethod) → Legal meaning mounted H →
-      OpenFits meaning mounted d x H → dcb_of d (Opened d method x ∷ H) ≡ Some (record { method = method; extents = x; closed = false; in_error = false })
+      OpenFits meaning mounted d x H → dcb_of d (Opened d method x ∷ H) ≡ Some
+      (record { method = method; extents = x; closed = false; in_error = false })
   unfolding extents_of flag
   dcb-new {d} {x} {H} method l f =
-      let e = f.next in
       let self : eqb d d ≡ true = eq-eqb d d refl in
       let new : is_opened d H
-      ≡ false = elim (cases_Bool (is_opened d H)) [ inl o ↦ absurd (omega (arith, (opened-few d H l o).1, e)) | inr o ↦ o ] in
+      ≡ false = elim (cases_Bool (is_opened d H)) [ inl o ↦ absurd (omega (arith, (opened-few d H l o).1, f.next)) | inr o ↦ o ] in
       let shut = not-so (is_closed d H) (is_opened d H) (closed-opened d H l) new in
       let flagged = not-so (flag d H) (is_opened d H) (flag-opened d H l) new in
       let none = no-input d H new in

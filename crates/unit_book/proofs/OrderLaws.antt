@@ -1,9 +1,8 @@
 -- The first Starts are a subsequence of the arrivals.
-use Rattle.unit_book.proofs.Names.{◌≡◌, ◌⊎◌, Bool, true, false, not, ◌&&◌, ◌||◌, Some, List, [], ◌∷◌, ◌++◌, append_assoc, map, refl, sym}
-use Rattle.unit_book.proofs.Names.{ap, ◌∙◌, inl, inr, subst, cases_Bool, and_parts, or_right, append-nil, filter-append, filter, list_all}
-use Rattle.unit_book.proofs.Names.{slice_get, drop, Status, Code, Meaning, Name, Piece, Entry, Arrive, Start}
-use Rattle.unit_book.proofs.Names.{Post, same, arrivals, has_arrived, has_started, is_posted, waiting, active, due}
-use Rattle.unit_book.proofs.Names.{Legal, StartFits, First, Again, Each}
+use Rattle.unit_book.proofs.Names.{◌≡◌, Bool, true, false, not, ◌&&◌, ◌||◌, Some, List, [], ◌∷◌, ◌++◌, append_assoc, map, refl, sym, ap}
+use Rattle.unit_book.proofs.Names.{◌∙◌, inl, inr, subst, cases_Bool, and_parts, or_right, append-nil, filter-append, filter, list_all}
+use Rattle.unit_book.proofs.Names.{slice_get, drop, Status, Code, Meaning, Name, Piece, Entry, Arrive, Start, Post, same, arrivals}
+use Rattle.unit_book.proofs.Names.{has_arrived, has_started, is_posted, waiting, active, Legal, StartFits, First, Again, Each, arith}
 use Rattle.unit_book.specs.Laws.{first_starts, StartsInOrder}
 use Rattle.unit_book.proofs.Lists.{same-true, same-refl, no_both, filter-filter, filter-all, without, none_named, Apart, without-first}
 use Rattle.unit_book.proofs.Lists.{first-rest}
@@ -11,6 +10,7 @@ use Rattle.unit_book.proofs.Facts.{Facts, active-is, fits-freely, fresh, fresh-s
 use Rattle.unit_book.proofs.Facts.{waiting-start, waiting-post, waiting-apart, waits, WaitsAmong, without-started}
 use Rattle.unit_book.proofs.LegalFacts.{facts, first-waits}
 use Rattle.std.proofs.lemmas.List.{map-append}
+use Rattle.std.proofs.lemmas.Grind.{common_steps}
 
 -- the arrivals that were started, and those that were started or are not posted
 abbrev begun : List Entry → List Piece
@@ -25,32 +25,17 @@ Ordered H = in_play H ≡ begun H ++ waiting H
 
 -- those of the arrivals that were started are in play
 begun-is : (H : List Entry) → begun H ≡ filter (λ r. has_started r.name H) (in_play H)
-begun-is H = filter-filter (λ (r : Piece). has_started r.name H || not (is_posted r.name H)) (λ r. has_started r.name H)
-    (λ r. has_started r.name H) (λ r. by_bools (has_started r.name H) (is_posted r.name H)) (arrivals H) where
-      by_bools : (s p : Bool) → s ≡ (s && (s || not p))
-      by_bools true p = refl
-      by_bools false p = refl
+begun-is H = grind (arith, common_steps, filter-filter)
 
 -- none of the name, if it was not started
 begun-none : (n : Name) (H : List Entry) → has_started n H ≡ false → (rs : List Piece) →
     none_named n (filter (λ r. has_started r.name H) rs) ≡ true
 begun-none n H u [] = refl
-begun-none n H u (r ∷ rs) =
-    let ih = begun-none n H u rs in
-    elim (cases_Bool (has_started r.name H)) [
-      | inl s ↦ elim (cases_Bool (same n r.name)) [
-        | inl e ↦ no_both (has_started r.name H) s (subst (λ (x : Name). has_started x H ≡ false) (same-true n r.name e) u)
-        | inr e ↦ rw (s, e) ih
-      ]
-      | inr s ↦ rw s ih
-    ]
+begun-none n H u (r ∷ rs) = grind (arith, common_steps, begun-none n H u rs)
 
 -- a name that has a Start already
 started-same : (n : Name) (H : List Entry) → has_started n H ≡ true → (m : Name) → (same n m || has_started m H) ≡ has_started m H
-started-same n H s m = elim (cases_Bool (same n m)) [
-  | inl e ↦ let k : has_started m H ≡ true = subst (λ (x : Name). has_started x H ≡ true) (same-true n m e) s in rw (e, k) refl
-  | inr e ↦ rw e refl
-]
+started-same n H s m = grind (arith, common_steps)
 
 filter-same : {X : Type 0} (p q : X → Bool) → ((x : X) → p x ≡ q x) → (xs : List X) → filter p xs ≡ filter q xs
 filter-same p q h [] = refl
@@ -64,8 +49,7 @@ rest-unstarted n H [] a e = refl
 rest-unstarted n H (r ∷ rs) a e =
     let k = and_parts (not (same n r.name)) (none_named n rs) a in
     let ih = rest-unstarted n H rs k.1 e.1 in
-    let u = e.0.unstarted in
-    elim (cases_Bool (same n r.name)) [ inl s ↦ no_both (not (same n r.name)) k.0 (rw s refl) | inr s ↦ rw (s, u) ih ]
+    elim (cases_Bool (same n r.name)) [ inl s ↦ no_both (not (same n r.name)) k.0 (rw s refl) | inr s ↦ rw (s, e.0.unstarted) ih ]
 
 -- both together, by induction
 abbrev InOrder : List Entry → Type 0
@@ -178,8 +162,7 @@ module _ {D : Type 0} (meaning : Meaning D) (mounted : D) where
   order-start {n} {H} f (First s) o =
       let w = first-waits s.request H f s.first in
       let k = ordered-first s.request H f s.first o.0 in
-      let u = w.unstarted in
-      let names : first_starts (Start s.request.name ∷ H) ≡ first_starts H ++ s.request.name ∷ [] = rw u refl in
+      let names : first_starts (Start s.request.name ∷ H) ≡ first_starts H ++ s.request.name ∷ [] = rw w.unstarted refl in
       subst (λ (x : Name). InOrder (Start x ∷ H)) s.name (
         k.0,
         names ∙ ap (λ x. x ++ s.request.name ∷ []) o.1 ∙ sym (map-append (λ (q : Piece). q.name) (begun H) (s.request ∷ []))

@@ -1,8 +1,7 @@
 -- The posts of the swept requests, one after another.
 use Rattle.unit_book.proofs.Names.{BookFields, ◌≡◌, ℕ, ◌+◌, ◌≤◌, Some, None, List, [], ◌∷◌, ◌++◌, append_assoc, length, length-append, map}
-use Rattle.unit_book.proofs.Names.{sym, ap, ◌∙◌, arith, subst, slice_get, drop, Buffer, Purged, no_status, PostedState, Placed}
-use Rattle.unit_book.proofs.Names.{Piece, Queue, queue, Entry, Post, Each, all_posted, purged, ◌-◌, Option, Meaning, Active}
-use Rattle.unit_book.proofs.Names.{posted, Ties}
+use Rattle.unit_book.proofs.Names.{sym, ap, ◌∙◌, arith, subst, slice_get, drop, Buffer, Purged, no_status, PostedState, Placed, Piece}
+use Rattle.unit_book.proofs.Names.{Queue, queue, Entry, Post, Each, all_posted, purged, ◌-◌, Option, Meaning, Active, posted, Ties}
 use Rattle.circular_buffer.specs.Buffer.{buffer}
 use Rattle.std.proofs.Common.{take}
 use Rattle.std.proofs.Math.Seq.{take-append_seam}
@@ -43,7 +42,6 @@ module _ {start now next : PostingPlace} {r : Piece} (s : Posting start now) (n 
 
   pub posting-next : Posting start next
   posting-next =
-      let e = s.out_is in
       let r1 = r ∷ [] in
       record {
         done = s.done ++ r1;
@@ -51,7 +49,7 @@ module _ {start now next : PostingPlace} {r : Piece} (s : Posting start now) (n 
         whole = s.whole ∙ ap (λ x. s.done ++ x) rest-is ∙ sym (append_assoc s.done r1 (drop 1 s.rest));
         now_is = n.queue_is ∙ ap (λ (q : Queue). queue (drop 1 q.pieces) q.capacity) s.now_is;
         trace_is = n.trace_is ∙ ap (λ x. Post r.name no_status 0 Purged ∷ x) s.trace_is ∙ sym (all_posted-push s.done r start.trace);
-        out_is = n.out_is ∙ ap (λ (b : Buffer PostedState). buffer (b.items ++ purged r ∷ []) b.capacity) e
+        out_is = n.out_is ∙ ap (λ (b : Buffer PostedState). buffer (b.items ++ purged r ∷ []) b.capacity) s.out_is
             ∙ ap (λ x. buffer x start.out.capacity)
             (append_assoc start.out.items (map purged s.done) (purged r ∷ [])
             ∙ ap (λ x. start.out.items ++ x) (sym (map-append purged s.done r1)));

@@ -1,16 +1,11 @@
 -- A further start of the active request: the fields stay those of the trace.
-use Rattle.unit_book.proofs.Names.{BookFields, ◌≡◌, ℕ, ◌+◌, ◌≤◌, Bool, true, false, ◌&&◌, ◌||◌, Some, ◌∷◌, refl, sym, ap, ◌∙◌, arith, subst}
-use Rattle.unit_book.proofs.Names.{if◌then◌else◌, and_parts, Csw, Ended, Meaning, Kind, Program, Channel, Phase, Idle, Running, Pending}
-use Rattle.unit_book.proofs.Names.{ssch_started, Retry, Final, verdict, Name, Piece, Active, Standing, OnChannel}
-use Rattle.unit_book.proofs.Names.{AwaitsRestart, Start, same, starts_of, request_named, extents_of, flag, mask_of}
+use Rattle.unit_book.proofs.Names.{BookFields, ◌≡◌, ℕ, ◌+◌, ◌≤◌, true, false, Some, ◌∷◌, refl, sym, ap, ◌∙◌, arith, subst, Csw, Meaning}
+use Rattle.unit_book.proofs.Names.{Kind, Program, Channel, Phase, Idle, Running, Pending, ssch_started, Retry, verdict, Name, Piece, Active}
+use Rattle.unit_book.proofs.Names.{Standing, OnChannel, AwaitsRestart, Start, same, starts_of, request_named, extents_of, flag, mask_of}
 use Rattle.unit_book.proofs.Names.{current, device, Legal, due, Free, StartsAgain, posted, StandingTies, Ties, awaits_by, dcb_at, mask_at}
-use Rattle.std.proofs.lemmas.Bool.{leb-true}
-use Rattle.std.specs.Prelude.{nat_le}
-use Rattle.io_images.specs.declared.code.Code.TheVariants.{PermanentError}
 use Rattle.device_port.specs.Meaning.{Lawful}
 use Rattle.ccw_programs.specs.Place.{start_place}
 use Rattle.subchannel.specs.Subchannel.{TakesSeek, prefixed}
-use Rattle.recovery.specs.Verdict.{is_disk, is_success, is_passing_error, is_channel_error}
 use Rattle.unit_book.specs.Legal.{Again as Restart}
 use Rattle.unit_book.proofs.Lists.{same-refl}
 use Rattle.unit_book.proofs.Facts.{NewestIs, active-is, active-start, waiting-start, without-started}
@@ -19,18 +14,11 @@ use Rattle.unit_book.proofs.Same.{fits-free}
 use Rattle.unit_book.proofs.ActivePosts.{area-current}
 use Rattle.unit_book.proofs.Seeks.{seeks, fits-device}
 use Rattle.unit_book.proofs.Starts.{mask-is, current-start, device-start}
+use Rattle.std.proofs.lemmas.Grind.{common_steps}
 
 -- only the first ten attempts are tried again
 pub retry-few : (kind : Kind) (csw : Csw) (sense attempt : ℕ) → verdict kind csw sense attempt ≡ Retry → attempt ≤ 10
-retry-few kind csw sense attempt h = by_tests (is_success csw)
-    (is_disk kind && nat_le attempt 10 && (is_passing_error csw sense || is_channel_error csw)) refl h where
-      by_tests : (a b : Bool) → (is_disk kind && nat_le attempt 10 && (is_passing_error csw sense || is_channel_error csw)) ≡ b →
-          (if a then Final Ended else if b then Retry else Final PermanentError) ≡ Retry → attempt ≤ 10
-      by_tests true b e k = absurd cc
-      by_tests false true e k =
-          let p = and_parts (is_disk kind && nat_le attempt 10) (is_passing_error csw sense || is_channel_error csw) e in
-          leb-true attempt 10 (and_parts (is_disk kind) (nat_le attempt 10) p.0).1
-      by_tests false false e k = absurd cc
+retry-few kind csw sense attempt h = grind (arith, common_steps)
 
 -- the active request, started once more
 abbrev pub restarted : Active → Active
@@ -85,8 +73,7 @@ module _ {D : Type 0} (meaning : Meaning D) (mounted : D) where
     restart-fits law =
         let f = seeks meaning mounted held.trace t.legal n (active-is n held.trace t.activity.is).0 in
         let seek_is = ap (λ (r : Piece). r.seek) t.activity.request in
-        let device_is = t.device in
-        rw (seek_is, device_is) (fits-device meaning mounted law held.trace (request_named n held.trace).seek f)
+        rw (seek_is, t.device) (fits-device meaning mounted law held.trace (request_named n held.trace).seek f)
 
     pub ties-restart : {mask : ℕ} → mask ≡ mask_at (dcb_at held.dcbs a.piece.value.dcb) →
         Ties meaning mounted (record held {

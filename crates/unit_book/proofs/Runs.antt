@@ -1,10 +1,9 @@
 -- The program of the active request runs: the fields stay those of the trace.
 use Rattle.unit_book.proofs.Names.{BookFields, ◌≡◌, ℕ, ◌≤◌, Bool, true, false, Some, None, List, ◌∷◌, refl, sym, ap, ◌∙◌, arith, subst}
-use Rattle.unit_book.proofs.Names.{Status, Storage}
-use Rattle.unit_book.proofs.Names.{Meaning, Place, State, Program, after, length_of, is_running, Channel, Phase, Absent, Idle, Running}
-use Rattle.unit_book.proofs.Names.{Pending, Piece, Name, Active, Standing, OnChannel, AwaitsRestart, Entry, Ran, same}
+use Rattle.unit_book.proofs.Names.{Status, Storage, Meaning, Place, State, Program, after, length_of, is_running, Channel, Phase, Absent}
+use Rattle.unit_book.proofs.Names.{Idle, Running, Pending, Piece, Name, Active, Standing, OnChannel, AwaitsRestart, Entry, Ran}
 use Rattle.unit_book.proofs.Names.{waiting, arrivals, active, started, request_named, is_halted, attempts, stand, newest, current}
-use Rattle.unit_book.proofs.Names.{active_phase, active_phase_by, still_runs, StillRunning, device, beginning, extents_of, flag, Legal, due}
+use Rattle.unit_book.proofs.Names.{active_phase, active_phase_by, still_runs, StillRunning, device, extents_of, flag, Legal, due}
 use Rattle.unit_book.proofs.Names.{Free, posted, running_name_by, StandingTies, Ties, pending_phase}
 use Rattle.std.specs.Prelude.{min}
 use Rattle.io_area.specs.Storage.{SamePlace}
@@ -20,6 +19,7 @@ use Rattle.unit_book.proofs.Facts.{NewestIs}
 use Rattle.unit_book.proofs.LegalFacts.{facts, newest-ran}
 use Rattle.unit_book.proofs.Same.{fits-free, placed-moved}
 use Rattle.unit_book.specs.Legal.{RanFits}
+use Rattle.std.proofs.lemmas.Grind.{common_steps}
 
 -- what still runs has no status pending
 pub not-over : (s : ActivePhase) → still_runs s ≡ true → (b : Bool) (status : Status) → s ≡ pending_phase b status → ⊥
@@ -58,18 +58,13 @@ module _ {D : Type 0} (meaning : Meaning D) (mounted : D) where
   -- the device of a trace is that of its newest attempt
   pub device-current : (n : Name) (H : List Entry) → NewestIs n H → device meaning mounted H ≡ (current meaning mounted H).device
   unfolding stand newest
-  device-current n H w =
-      let there : (stand meaning mounted (w.0 ∷ w.1)).device ≡ (newest meaning mounted (w.0 ∷ w.1)).device = refl in
-      ap (λ x. (stand meaning mounted x).device) w.2 ∙ there ∙ sym (ap (λ x. (newest meaning mounted x).device) w.2)
+  device-current n H w = grind (arith, common_steps)
 
   -- j more commands
   pub current-ran : (n : Name) (j : ℕ) (H : List Entry) → NewestIs n H →
       current meaning mounted (Ran n j ∷ H) ≡ after meaning j (current meaning mounted H)
   unfolding attempts newest
-  current-ran n j H w =
-      let e = w.2 in
-      let s : same w.0.request.name n ≡ true = same-is w.0.request.name n (ap (λ (r : Piece). r.name) w.3 ∙ w.4) in
-      rw e (rw s (after-add meaning w.0.commands j (beginning meaning mounted (stand meaning mounted w.1) w.0)))
+  current-ran n j H w = grind (arith, common_steps, same-is, after-add)
 
   -- the subchannel of a program
   abbrev pub ran : ℕ → Program D → Channel D
@@ -85,9 +80,7 @@ module _ {D : Type 0} (meaning : Meaning D) (mounted : D) where
       (subst (λ x. RunsAs meaning held.channel a.piece.value.area max (running_program x held.channel.phase a.piece.value.area) None new
       area)
       t.device r) in
-      let is = t.activity.is in
-      let over = q.0 in
-      (rw is (rw over refl), q.1, q.2) where
+      (rw t.activity.is (rw q.0 refl), q.1, q.2) where
         by_phase : (phase : Phase) (standing : Standing) → StandingTies meaning mounted held.trace phase a standing →
             RunsAs meaning held.channel a.piece.value.area max
             (running_program (Some (device meaning mounted held.trace)) phase a.piece.value.area) None
@@ -161,7 +154,6 @@ module _ {D : Type 0} (meaning : Meaning D) (mounted : D) where
         (current meaning mounted held.trace).place.state (ap still_runs k.still) in
         let s : u.burst.state ≡ (current meaning mounted G).place.state = r.state ∙ rw (← c) refl in
         let j_is = r.commands in
-        let asked = u.asked in
         let running : is_running (current meaning mounted held.trace).place.state ≡ true = let e = g.1 in rw e refl in
         let long = steps_within-running meaning 4096 (current meaning mounted held.trace) running in
         record {
@@ -170,7 +162,7 @@ module _ {D : Type 0} (meaning : Meaning D) (mounted : D) where
           commands = j_is;
           ended = runs-by (is_halted n G) (current meaning mounted G).place (current meaning mounted G).place.state g.0
               ∙ ap is_running (sym s);
-          some = omega (arith, j_is, long, asked);
+          some = omega (arith, j_is, long, u.asked);
           still = k.still;
           unhalted = g.0;
           newest = newest-ran n u.burst.commands held.trace t.activity.is newest-is;

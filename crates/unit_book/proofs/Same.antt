@@ -1,17 +1,16 @@
 -- What an entry that says nothing of the active request leaves as it is.
-use Rattle.unit_book.proofs.Names.{BookFields, ◌≡◌, ℕ, ◌+◌, ◌<◌, Bool, Option, Some, None, List, length, refl, sym, ap, ◌∙◌, arith, subst}
-use Rattle.unit_book.proofs.Names.{Meaning}
-use Rattle.unit_book.proofs.Names.{Program, Phase, Idle, Running, Pending, PostedState, Name, Piece, Active, Standing, OnChannel}
-use Rattle.unit_book.proofs.Names.{AwaitsRestart, Entry, waiting, active, request_named, starts_of, is_halted, is_covered, attempts}
-use Rattle.unit_book.proofs.Names.{newest, current, active_phase, active_phase_by, Fits, FitsBy, due, Free, ActivityTies, StandingTies}
-use Rattle.unit_book.proofs.Names.{Ties, ◌++◌, [], slice_get, Buffer, Queue, queue, Ok, Err, OnErr, Storage, Placed}
-use Rattle.unit_book.specs.Media.{ActivePhase}
+use Rattle.unit_book.proofs.Names.{BookFields, ◌≡◌, ℕ, ◌+◌, ◌<◌, Option, Some, None, List, length, refl, sym, ap, ◌∙◌, arith, subst}
+use Rattle.unit_book.proofs.Names.{Meaning, Program, Phase, Idle, Running, Pending, PostedState, Name, Piece, Active, Standing, OnChannel}
+use Rattle.unit_book.proofs.Names.{AwaitsRestart, Entry, waiting, active, request_named, starts_of, is_halted, is_covered, attempts, newest}
+use Rattle.unit_book.proofs.Names.{current, active_phase, Fits, FitsBy, due, Free, ActivityTies, StandingTies, Ties, ◌++◌}
+use Rattle.unit_book.proofs.Names.{[], slice_get, Buffer, Queue, queue, Ok, Err, OnErr, Storage, Placed}
 use Rattle.unit_book.specs.Legal.{FitsFree}
 use Rattle.unit_book.specs.Book.{active_count}
 use Rattle.unit_book.specs.Fields.{active_field_count, ActiveTies, Rooms}
 use Rattle.std.proofs.Common.{Result}
 use Rattle.std.specs.Prelude.{option_map, box_value, Box}
 use Rattle.io_area.specs.Storage.{SamePlace, lies_in}
+use Rattle.std.proofs.lemmas.Grind.{common_steps}
 
 -- the later trace says of this name what the earlier one does
 pub record Silent (H G : List Entry) (n : Name) : Type 0 where
@@ -26,15 +25,13 @@ module _ {D : Type 0} (meaning : Meaning D) (mounted : D) where
   current-same : (H G : List Entry) → attempts G ≡ attempts H → current meaning mounted G ≡ current meaning mounted H
   current-same H G e = ap (newest meaning mounted) e
 
-  pub phase-same : (H G : List Entry) (n : Name) → attempts G ≡ attempts H → is_halted n G ≡ is_halted n H →
+  pub phase-same : (H G : List Entry) (n : Name) → (attempts G ≡ attempts H) × (is_halted n G ≡ is_halted n H) →
       active_phase meaning mounted n G ≡ active_phase meaning mounted n H
-  phase-same H G n e h =
-      let s : Bool → Program D → ActivePhase = λ b p. active_phase_by b p.place p.place.state in
-      ap (λ b. s b (current meaning mounted G)) h ∙ ap (λ p. s (is_halted n H) p) (current-same H G e)
+  phase-same H G n same = grind (arith, common_steps)
 
   module _ (H G : List Entry) (a : Active) (s : Silent H G a.piece.value.name) where
     phase-is : active_phase meaning mounted a.piece.value.name G ≡ active_phase meaning mounted a.piece.value.name H
-    phase-is = phase-same H G a.piece.value.name s.attempts s.halted
+    phase-is = phase-same H G a.piece.value.name (s.attempts, s.halted)
 
     standing-same : (phase : Phase) (standing : Standing) → StandingTies meaning mounted H phase a standing →
         StandingTies meaning mounted G phase a standing
@@ -48,12 +45,11 @@ module _ {D : Type 0} (meaning : Meaning D) (mounted : D) where
 
     active-same : (phase : Phase) → ActiveTies meaning mounted H phase a → ActiveTies meaning mounted G phase a
     active-same phase t =
-        let n = a.piece.value.name in
         let with_area : Piece → Program D → Piece = λ r p. record r { area = p.area } in
         record {
           is = s.active ∙ t.is;
-          request = t.request ∙ ap (λ r. with_area r (current meaning mounted H)) (sym s.request) ∙ ap (with_area (request_named n G))
-              (sym (current-same H G s.attempts));
+          request = t.request ∙ ap (λ r. with_area r (current meaning mounted H)) (sym s.request)
+              ∙ ap (with_area (request_named a.piece.value.name G)) (sym (current-same H G s.attempts));
           placed = t.placed;
           starts = t.starts ∙ sym s.starts;
           halted = t.halted ∙ sym s.halted;
@@ -71,19 +67,11 @@ module _ {D : Type 0} (meaning : Meaning D) (mounted : D) where
     by_active None k = (e ∙ k.0, k.1)
     by_active (Some a) k = active-same held.trace G a (s a.piece.value.name k.is) held.channel.phase k
 
-  -- as many are active
-  pub count-same : (H : List Entry) (phase : Phase) (o : Option Active) → ActivityTies meaning mounted H phase o →
-      active_count (active H) ≡ active_field_count o
-  count-same H phase None t = rw t.0 refl
-  count-same H phase (Some a) t = let e = t.is in rw e refl
-
   -- there is room in the queue
   pub room-of : {held : BookFields D} {o : Option Active} {capacity : ℕ} →
       Ties meaning mounted held o → length (waiting held.trace) + active_count (active held.trace) + length held.out < capacity →
       length held.waiting + active_field_count o + length held.out < capacity
-  room-of {held} {o} t h =
-      let a = count-same held.trace held.channel.phase o t.activity in
-      let q = ap length t.queue in omega (arith, a, q, h)
+  room-of {held} {o} t h = grind (arith, common_steps)
 
   -- what fits freely fits where nothing is due
   pub fits-free : (e : Entry) (H : List Entry) → due meaning mounted H ≡ Free → FitsFree meaning mounted e H → Fits meaning mounted e H

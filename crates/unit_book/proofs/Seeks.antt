@@ -1,35 +1,26 @@
 -- The seek of a request that was started is one of the device.
-use Rattle.unit_book.proofs.Names.{StartsFirst}
-use Rattle.unit_book.proofs.Names.{◌≡◌, ℕ, suc, ◌+◌, ◌<◌, ◌≤◌, Bool, true, false, not, ◌&&◌, Option, Some, None, List, [], ◌∷◌}
+use Rattle.unit_book.proofs.Names.{StartsFirst, ◌≡◌, ℕ, ◌+◌, ◌<◌, ◌≤◌, Bool, true, false, not, ◌&&◌, Option, Some, None, List, [], ◌∷◌}
 use Rattle.unit_book.proofs.Names.{length, refl, ◌∙◌, arith, eqb, inl, inr, subst, cases_Bool, and_parts, and_from, or_parts, list_all}
 use Rattle.unit_book.proofs.Names.{slice_get, Extent, Meaning, Kind, Name, Piece, Entry, Opened, Arrive, Start, passes_check, same}
-use Rattle.unit_book.proofs.Names.{has_arrived, has_started, waiting, request_named, is_opened, is_closed, is_open, extents_of, doomed}
-use Rattle.unit_book.proofs.Names.{is_doomed, Attempt, attempts, stand, device, beginning, Free, due, Legal}
-use Rattle.unit_book.proofs.Names.{StartFits, First, Again}
+use Rattle.unit_book.proofs.Names.{has_started, waiting, request_named, is_opened, is_closed, is_open, extents_of, doomed}
+use Rattle.unit_book.proofs.Names.{is_doomed, Attempt, attempts, stand, device, beginning, Legal, StartFits, First, Again}
 use Rattle.std.proofs.Common.{◌*◌}
-use Rattle.std.proofs.lemmas.Bool.{cases_lt, ltb-true, lt-ltb, leb-true}
-use Rattle.std.proofs.Math.Nat.{mul-le-mul_right, suc-mul}
+use Rattle.std.proofs.lemmas.Bool.{ltb-true, lt-ltb, leb-true}
 use Rattle.std.specs.Prelude.{nat_lt, nat_le}
 use Rattle.io_images.specs.declared.seek.Seek.{Seek}
 use Rattle.device_port.specs.Meaning.{Lawful, fits, fits_seek}
 use Rattle.device_port.specs.declared.kind.Kind.TheVariants.{Disk}
 use Rattle.ccw_programs.proofs.StepLaws.{device-stays}
 use Rattle.unit_book.specs.Extents.{track, last_track, is_extent, is_inside, counts_tracks, takes_extents, lies_within}
-use Rattle.unit_book.proofs.Lists.{same-true, no_both}
+use Rattle.unit_book.proofs.Lists.{same-true, all-at}
 use Rattle.unit_book.proofs.Facts.{fits-freely, fresh, new-name, active-is, not-true}
 use Rattle.unit_book.proofs.LegalFacts.{SoundTrace, facts, first-request}
 use Rattle.unit_book.proofs.Dooms.{none-pass, due-doomed}
-use Rattle.unit_book.proofs.Lists.{all-at}
+use Rattle.std.proofs.lemmas.Grind.{common_steps}
 
 -- a track not after the end of an extent is on a cylinder of the disk
 cylinder-within : {heads cylinders : ℕ} (c h : ℕ) {e g : ℕ} → e < cylinders → g < heads → c * heads + h ≤ e * heads + g → c < cylinders
-cylinder-within {heads} {cylinders} c h {e} a b l =
-    elim (cases_lt c cylinders) [
-      | inl k ↦ k
-      | inr k ↦
-          let m : suc e * heads ≤ c * heads = mul-le-mul_right heads (omega (arith, a, k)) in
-          absurd (omega (arith, m, suc-mul e heads, b, l))
-    ]
+cylinder-within {heads} {cylinders} c h {e} a b l = grind (arith, common_steps)
 
 within-fits : (cylinders heads : ℕ) (seek : Seek) (o : Option Extent) →
     ((e : Extent) → o ≡ Some e → is_extent cylinders heads e ≡ true) → lies_within heads seek o ≡ true →
@@ -77,13 +68,7 @@ module _ {D : Type 0} (meaning : Meaning D) (mounted : D) where
       takes_extents (meaning.kind mounted) (meaning.cylinders mounted) (meaning.heads mounted) (extents_of d H) ≡ true
   unfolding Legal extents_of
   opened-takes d [] l h = absurd cc
-  opened-takes d (Opened c method x ∷ H) l h =
-      let ih : is_opened d H ≡ true → takes_extents (meaning.kind mounted) (meaning.cylinders mounted) (meaning.heads mounted)
-      (extents_of d H) ≡ true = λ k. opened-takes d H l.1 k in
-      elim (cases_Bool (eqb c d)) [
-        | inl e ↦ rw e (fits-freely meaning mounted (Opened c method x) H refl l.0).1.taken
-        | inr e ↦ rw e (ih (rw e at h))
-      ]
+  opened-takes d (Opened c method x ∷ H) l h = grind (arith, common_steps, opened-takes d H l.1)
   opened-takes d (_ ∷ H) l h = opened-takes d H l.1 h
 
   -- the first start of a request that passes the check

@@ -2,13 +2,12 @@
 -- having nothing to do.
 use Rattle.unit_book.proofs.Names.{◌≡◌, ◌≤◌, ◌<◌, ℕ, zero, suc, ◌+◌, ◌-◌, Bool, true, false, not, ◌||◌, Option, Some, None, List, [], ◌∷◌}
 use Rattle.unit_book.proofs.Names.{◌++◌, append_assoc, length, refl, sym, ap, ◌∙◌, arith, inl, inr, subst, if◌then◌else◌, slice_get}
-use Rattle.unit_book.proofs.Names.{is_some, cases_Bool, Csw, Code, ExtentViolated, Purged, Meaning, Program, after}
-use Rattle.unit_book.proofs.Names.{length_of, is_running, no_status, Name, Piece, Starting, Busy, Started, Violated, NothingRuns, RanSome}
-use Rattle.unit_book.proofs.Names.{Interruption, NothingPending, TriedAgain, WasPosted, Entry, Start, Ran, Post, same, arrivals}
-use Rattle.unit_book.proofs.Names.{has_started, is_posted, waiting, started, active, starts_of, is_halted, Place, State, Attempt, attempts}
-use Rattle.unit_book.proofs.Names.{newest, beginning, stand, current, active_phase, active_phase_by, still_runs, doomed, all_posted}
-use Rattle.unit_book.proofs.Names.{after_dooms, Legal, StartsAgain, StartsFirst, Book, StartsBook, RunsBook, InterruptsBook, MayStart}
-use Rattle.unit_book.proofs.Names.{MayFirst, MayAgain}
+use Rattle.unit_book.proofs.Names.{is_some, cases_Bool, Csw, Code, ExtentViolated, Purged, Meaning, Program, after, length_of, is_running}
+use Rattle.unit_book.proofs.Names.{no_status, Name, Piece, Starting, Busy, Started, Violated, NothingRuns, RanSome, Interruption}
+use Rattle.unit_book.proofs.Names.{NothingPending, TriedAgain, WasPosted, Entry, Start, Ran, Post, same, arrivals, has_started, is_posted}
+use Rattle.unit_book.proofs.Names.{waiting, started, active, starts_of, is_halted, Place, State, Attempt, attempts, newest, beginning}
+use Rattle.unit_book.proofs.Names.{stand, current, active_phase, active_phase_by, still_runs, doomed, all_posted, after_dooms, Legal}
+use Rattle.unit_book.proofs.Names.{StartsAgain, StartsFirst, Book, StartsBook, RunsBook, InterruptsBook, MayStart, MayFirst, MayAgain}
 use Rattle.std.proofs.Common.{◌*◌}
 use Rattle.std.specs.Prelude.{min}
 use Rattle.std.specs.List.{find}
@@ -21,13 +20,12 @@ use Rattle.unit_book.specs.Answers.{StartsOne}
 use Rattle.unit_book.specs.Book.{active_count, is_pending}
 use Rattle.unit_book.specs.Settle.{AddsService, Settles, Stays, Then, Steps, ByStart, ByRun, ByInterrupt, distance, is_service, starts_left}
 use Rattle.unit_book.specs.Settle.{unposted}
-use Rattle.unit_book.proofs.Lists.{same-refl, no_both, all-append, all-filter, without}
+use Rattle.unit_book.proofs.Lists.{same-refl, no_both, all-append, all-filter, without, all-at}
 use Rattle.unit_book.proofs.Facts.{NewestIs, active-is, active-start, active-post, waiting-start, waiting-post}
 use Rattle.unit_book.proofs.LegalFacts.{facts}
 use Rattle.unit_book.proofs.Dooms.{length-filter_le}
 use Rattle.unit_book.proofs.Restarts.{retry-few}
 use Rattle.unit_book.proofs.Runs.{current-ran, runs-running}
-use Rattle.unit_book.proofs.Lists.{all-at}
 
 -- WHAT IS ADDED
 
@@ -83,8 +81,8 @@ module _ {D : Type 0} (meaning : Meaning D) where
   interrupts-served old new (TriedAgain n) h =
       let e = h.2 in rw e (record { adds = adds-none old.trace; mounted = refl; isc = refl; capacity = refl })
   interrupts-served old new (WasPosted n code) h =
-      let e = h.1.extends in
-      rw e (record { adds = adds-post n h.1.status.csw h.1.status.sense code old.trace; mounted = refl; isc = refl; capacity = refl })
+      let a = adds-post n h.1.status.csw h.1.status.sense code old.trace in
+      rw h.1.extends (record { adds = a; mounted = refl; isc = refl; capacity = refl })
 
   step-served : (old new : Book D) → Steps meaning old new → IsServed old new
   step-served old new (ByStart answer h) = starts-served old new answer h
@@ -343,13 +341,12 @@ module _ {D : Type 0} (meaning : Meaning D) where
     by_answer : (answer : Interruption) → InterruptsBook meaning t.ran answer new → distance new < 13 * unposted t.ran.trace + left
     by_answer NothingPending h = no_both (is_pending meaning t.ran) p h.0
     by_answer (TriedAgain m) h =
-        let e = h.2 in
         let s = h.1 in
         let i : m ≡ n = some-is (sym s.active ∙ a) in
         let ten = subst (λ x. starts_of x t.ran.trace ≤ 10) i
         (retry-few (meaning.kind t.ran.mounted) s.status.csw s.status.sense (starts_of m t.ran.trace) s.retry) in
         let less = few ten in
-        rw (e, a) (omega (arith, less))
+        rw (h.2, a) (omega (arith, less))
     by_answer (WasPosted m code) h =
         let H = t.ran.trace in
         let x = h.1 in
@@ -375,6 +372,5 @@ module _ {D : Type 0} (meaning : Meaning D) where
         rw f (omega (arith, fewer, twelve))
     by_begun (OnChannel n is a left few) =
         let p = pends n t is a in
-        let s = p.starts in
-        let d = ends n t (starts_left old.trace old.awaits (active old.trace)) p.is p.pending (rw s few) in
+        let d = ends n t (starts_left old.trace old.awaits (active old.trace)) p.is p.pending (rw p.starts few) in
         omega (arith, d, p.left, left)

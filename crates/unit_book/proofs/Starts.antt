@@ -1,14 +1,12 @@
 -- A first start: the fields stay those of the trace.
-use Rattle.unit_book.proofs.Names.{no_status, empty_status, ExtentViolated}
-use Rattle.unit_book.proofs.Names.{BookFields, ◌≡◌, ℕ, Bool, true, false, ◌||◌, Option, Some, None, List, [], ◌∷◌, length, refl, sym, ap}
-use Rattle.unit_book.proofs.Names.{◌∙◌, eqb, inl}
-use Rattle.unit_book.proofs.Names.{inr, subst, cases_Bool, and_parts, and_from, or_parts, or_left, or_right, filter, list_any, list_all}
-use Rattle.unit_book.proofs.Names.{slice_get, drop, Meaning, Program, after, Channel, Phase, Idle, Running, ssch_started}
-use Rattle.unit_book.proofs.Names.{Placed, Name, Piece, Active, OnChannel, Dcb, Entry, Opened, Start, Ran, same, starts, has_started}
-use Rattle.unit_book.proofs.Names.{waiting, active, request_named, passes_check, is_opened, extents_of, flag, mask_of, Attempt, attempts}
-use Rattle.unit_book.proofs.Names.{stand, newest, current, device, area, Legal, due, Free, First, StartsFirst, posted, Each, ActivityTies}
-use Rattle.unit_book.proofs.Names.{Ties, dcb_at, dcb_of, mask_at, ◌&&◌, ◌++◌, append_assoc, Storage, is_error, Post, Fits}
-use Rattle.unit_book.proofs.Names.{posted_value, noted}
+use Rattle.unit_book.proofs.Names.{no_status, empty_status, ExtentViolated, BookFields, ◌≡◌, ℕ, Bool, true, false, ◌||◌, Option, Some, None}
+use Rattle.unit_book.proofs.Names.{List, [], ◌∷◌, length, refl, sym, ap, ◌∙◌, eqb, inl, inr, subst, cases_Bool, and_parts, and_from}
+use Rattle.unit_book.proofs.Names.{or_parts, or_left, or_right, filter, list_any, list_all, slice_get, drop, Meaning, Program, after}
+use Rattle.unit_book.proofs.Names.{Channel, Idle, Running, ssch_started, Placed, Name, Piece, Active, OnChannel, Dcb, Entry, Opened}
+use Rattle.unit_book.proofs.Names.{Start, Ran, same, starts, has_started, waiting, active, request_named, passes_check, is_opened}
+use Rattle.unit_book.proofs.Names.{extents_of, flag, mask_of, Attempt, attempts, stand, newest, current, device, area, Legal, due, Free}
+use Rattle.unit_book.proofs.Names.{First, StartsFirst, posted, Each, Ties, dcb_at, dcb_of, mask_at, ◌&&◌, ◌++◌, append_assoc}
+use Rattle.unit_book.proofs.Names.{Storage, is_error, Post, Fits, posted_value, noted}
 use Rattle.std.specs.Global.{Box}
 use Rattle.std.specs.Prelude.{option_map, box_value, MatchOption, IsSomeAnd}
 use Rattle.ccw_programs.specs.Place.{start_place}
@@ -18,7 +16,7 @@ use Rattle.unit_book.specs.Trace.{opens_for_input}
 use Rattle.unit_book.specs.Media.{lengthened}
 use Rattle.unit_book.specs.Legal.{passes}
 use Rattle.unit_book.specs.Fields.{extents_at, active_field_count}
-use Rattle.unit_book.proofs.Lists.{same-true, same-refl, same-is, no_both, without, without-first, Apart, first-rest}
+use Rattle.unit_book.proofs.Lists.{all-weaker, same-true, same-refl, same-is, no_both, without, without-first, Apart, first-rest}
 use Rattle.unit_book.proofs.Facts.{active-start, waiting-start, waiting-apart, fits-freely, Each-at, waiting-post, active-post_waiting}
 use Rattle.unit_book.proofs.LegalFacts.{facts, first-waits, waits-at}
 use Rattle.unit_book.proofs.Same.{fits-free, activity-same}
@@ -42,11 +40,8 @@ lengthened-named H n j (a ∷ rest) h =
 
 named-more : (H : List Entry) (n : Name) (rest : List Attempt) → list_all (named_within H) rest ≡ true →
     list_all (named_within (Start n ∷ H)) rest ≡ true
-named-more H n [] h = refl
-named-more H n (a ∷ rest) h =
-    let p = and_parts (named_within H a) (list_all (named_within H) rest) h in
-    and_from (same n a.request.name || named_within H a) (list_all (named_within (Start n ∷ H)) rest)
-    (or_right (same n a.request.name) (named_within H a) p.0) (named-more H n rest p.1)
+named-more H n rest h = all-weaker (named_within H) (named_within (Start n ∷ H))
+    (λ a k. or_right (same n a.request.name) (named_within H a) k) rest h
 
 pub no-starts : (n : Name) (H : List Entry) → has_started n H ≡ false → length (filter (starts n) H) ≡ 0
 no-starts n [] h = refl

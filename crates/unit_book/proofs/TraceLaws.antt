@@ -1,21 +1,18 @@
 -- Laws of legal traces.
-use Rattle.unit_book.proofs.Names.{◌≡◌, ◌⊎◌, Bool, true, false, Some, List, [], ◌∷◌, ◌++◌, refl, sym, ap, ◌∙◌, inl, inr, subst, cases_Bool}
-use Rattle.unit_book.proofs.Names.{or_left, or_right, list_any, Meaning, Name, Piece, Entry, Arrive, Start, Ran, Halted, Post}
-use Rattle.unit_book.proofs.Names.{same, is_posted, active, has_arrived, Due, ToHalt, ToPost, Free, due, Fits, FitsBy, Legal, StartFits}
-use Rattle.unit_book.proofs.Names.{First, Again}
+use Rattle.unit_book.proofs.Names.{◌≡◌, Bool, true, false, Some, List, [], ◌∷◌, ◌++◌, refl, sym, ap, ◌∙◌, inl, inr, or_left, or_right}
+use Rattle.unit_book.proofs.Names.{list_any, Meaning, Name, Entry, Arrive, Start, Ran, Halted, Post, same, is_posted, active, Due, ToHalt}
+use Rattle.unit_book.proofs.Names.{ToPost, Free, due, FitsBy, Legal, StartFits, First, Again, arith}
 use Rattle.std.proofs.lemmas.Bool.{or_from}
+use Rattle.std.proofs.lemmas.List.Folds.{list_any-append}
 use Rattle.unit_book.specs.Laws.{PostsLast, is_of_name}
-use Rattle.unit_book.proofs.Lists.{same-true, same-refl, no_both}
+use Rattle.unit_book.proofs.Lists.{same-refl}
 use Rattle.unit_book.proofs.Facts.{Facts, active-is, fits-freely, fresh, new-name, post-whom, PostOf, due-halt}
-use Rattle.unit_book.proofs.LegalFacts.{facts, first-named}
+use Rattle.unit_book.proofs.LegalFacts.{Comes, facts, first-named}
+use Rattle.std.proofs.lemmas.Grind.{common_steps}
 
 -- what is active is not posted
 unposted : (n m : Name) (H : List Entry) → is_posted n H ≡ true → is_posted m H ≡ false → same m n ≡ false
-unposted n m H p q =
-    elim (cases_Bool (same m n)) [
-      | inl s ↦ no_both (is_posted n H) p (subst (λ (x : Name). is_posted x H ≡ false) (same-true m n s) q)
-      | inr s ↦ s
-    ]
+unposted n m H p q = grind (arith, common_steps)
 
 whom-unposted : (m : Name) (H : List Entry) → PostOf m H → is_posted m H ≡ false
 whom-unposted m H (inl a) = (active-is m H a).1
@@ -23,8 +20,7 @@ whom-unposted m H (inr w) = w.unposted
 
 -- what an older part has, the whole has
 pub any-later : (p : Entry → Bool) (later earlier : List Entry) → list_any p earlier ≡ true → list_any p (later ++ earlier) ≡ true
-any-later p [] earlier h = h
-any-later p (e ∷ later) earlier h = or_right (p e) (list_any p (later ++ earlier)) (any-later p later earlier h)
+any-later p later earlier h = list_any-append p later earlier ∙ or_right (list_any p later) (list_any p earlier) h
 
 module _ {D : Type 0} (meaning : Meaning D) (mounted : D) where
   pub start-unposted : (m : Name) (H : List Entry) → Facts H → StartFits meaning mounted m H → is_posted m H ≡ false
@@ -38,25 +34,25 @@ module _ {D : Type 0} (meaning : Meaning D) (mounted : D) where
   halted-active m H Free e h = absurd h
 
   -- an entry that fits is not of a posted name
-  pub not-of : (n : Name) (e : Entry) (H : List Entry) → Facts H → is_posted n H ≡ true → Fits meaning mounted e H → is_of_name n e ≡ false
-  not-of n (Arrive r) H f p h =
-      let new = fresh r H f (fits-freely meaning mounted (Arrive r) H refl h).1 in
-      new-name r n H new (f.1 n p)
-  not-of n (Start m) H f p h = unposted n m H p (start-unposted m H f (fits-freely meaning mounted (Start m) H refl h).1)
-  not-of n (Ran m j) H f p h = unposted n m H p (active-is m H (fits-freely meaning mounted (Ran m j) H refl h).1.active).1
-  not-of n (Halted m) H f p h = unposted n m H p (active-is m H (halted-active m H (due meaning mounted H) refl h)).1
-  not-of n (Post m csw sense code) H f p h = unposted n m H p (whom-unposted m H
-      (post-whom meaning mounted (record { csw = csw; sense = sense }) code f h))
-  not-of n _ H f p h = refl
+  pub not-of : (n : Name) (e : Entry) {H : List Entry} → Comes meaning mounted e H → is_posted n H ≡ true → is_of_name n e ≡ false
+  not-of n (Arrive r) {H} c p =
+      let f = facts meaning mounted H c.earlier in
+      new-name r n H (fresh r H f (fits-freely meaning mounted (Arrive r) H refl c.fits).1) (f.1 n p)
+  not-of n (Start m) {H} c p = unposted n m H p
+      (start-unposted m H (facts meaning mounted H c.earlier) (fits-freely meaning mounted (Start m) H refl c.fits).1)
+  not-of n (Ran m j) {H} c p = unposted n m H p (active-is m H (fits-freely meaning mounted (Ran m j) H refl c.fits).1.active).1
+  not-of n (Halted m) {H} c p = unposted n m H p (active-is m H (halted-active m H (due meaning mounted H) refl c.fits)).1
+  not-of n (Post m csw sense code) {H} c p = unposted n m H p
+      (whom-unposted m H (post-whom meaning mounted (record { csw = csw; sense = sense }) code (facts meaning mounted H c.earlier) c.fits))
+  not-of n _ c p = refl
 
   none-later : (n : Name) (later earlier : List Entry) → is_posted n earlier ≡ true → Legal meaning mounted (later ++ earlier) →
       list_any (is_of_name n) later ≡ false
   unfolding Legal
   none-later n [] earlier p l = refl
   none-later n (e ∷ later) earlier p l =
-      let G = later ++ earlier in
-      or_from (is_of_name n e) (list_any (is_of_name n) later)
-      (not-of n e G (facts meaning mounted G l.1) (any-later _ later earlier p) l.0)
+      let c : Comes meaning mounted e (later ++ earlier) = record { earlier = l.1; fits = l.0 } in
+      or_from (is_of_name n e) (list_any (is_of_name n) later) (not-of n e c (any-later _ later earlier p))
       (none-later n later earlier p l.1)
 
 pub posts-last : {D : Type 0} (meaning : Meaning D) → PostsLast meaning

@@ -2,8 +2,7 @@
 use Rattle.unit_book.proofs.Names.{◌≡◌, ℕ, Bool, true, false, Some, None, List, [], ◌∷◌, refl, Ended, ExtentViolated, Purged, Extent}
 use Rattle.unit_book.proofs.Names.{Printer, no_status, Retry, Final, Name, Piece, Quiesce, Halt, Entry, Opened, Arrive, Start, Ran, Halted}
 use Rattle.unit_book.proofs.Names.{Purge, Close, Reset, Post, arrivals, arrived_of, waiting, started, active, request_named, starts_of}
-use Rattle.unit_book.proofs.Names.{is_covered, is_halted, passes_check, extents_of, mask_of, flag, doomed, after_dooms}
-use Rattle.unit_book.proofs.Names.{Input, Output}
+use Rattle.unit_book.proofs.Names.{is_covered, is_halted, passes_check, extents_of, mask_of, flag, doomed, after_dooms, Input, Output}
 use Rattle.io_images.specs.declared.code.Code.TheVariants.{PermanentError}
 use Rattle.io_images.specs.declared.seek.Seek.{Seek}
 use Rattle.device_port.specs.declared.kind.Kind.TheVariants.{Disk, Tape}

@@ -1,14 +1,12 @@
 -- What each call of a book keeps: a legal trace with nothing due, and that what is posted is out.
 use Rattle.unit_book.proofs.Names.{empty_status, ◌≡◌, ◌≤◌, ℕ, suc, ◌+◌, Bool, true, false, Option, Some, None, List, [], ◌∷◌, ◌++◌, refl}
-use Rattle.unit_book.proofs.Names.{sym, ap, ◌∙◌}
-use Rattle.unit_book.proofs.Names.{arith, inl, inr, subst, cases_Bool, append-nil, ExtentViolated, Purged, Extent, Meaning}
-use Rattle.unit_book.proofs.Names.{length_of, no_status, PostedState, Name, Piece, Scope, Starting, Started, Violated}
-use Rattle.unit_book.proofs.Names.{NothingRuns, RanSome, Interruption, NothingPending, TriedAgain, WasPosted, Mode, Entry, Opened, Arrive}
-use Rattle.unit_book.proofs.Names.{Start, Ran, Close, Reset, Post, arrivals, arrived_of, active, is_open, still_runs}
-use Rattle.unit_book.proofs.Names.{active_phase, current, Free, due, Legal, StartFits, First, Again, OfActive, OfFirst}
-use Rattle.unit_book.proofs.Names.{CanPurge, posted, after_dooms, Book, running_name_by, Adds, Extends, MayStart, MayFirst, MayAgain}
-use Rattle.unit_book.proofs.Names.{StartsBook, RunsBook, InterruptsBook, PurgesBy, covers_awaiting, after_purge}
-use Rattle.unit_book.proofs.Names.{ProcessingMethod}
+use Rattle.unit_book.proofs.Names.{sym, ap, ◌∙◌, arith, inl, inr, subst, cases_Bool, append-nil, ExtentViolated, Extent, Meaning}
+use Rattle.unit_book.proofs.Names.{length_of, PostedState, Name, Piece, Scope, Starting, Started, Violated, NothingRuns, RanSome}
+use Rattle.unit_book.proofs.Names.{Interruption, NothingPending, TriedAgain, WasPosted, Mode, Entry, Arrive}
+use Rattle.unit_book.proofs.Names.{Reset, arrivals, arrived_of, active, is_open, still_runs, active_phase, current, Free, due, Legal}
+use Rattle.unit_book.proofs.Names.{StartFits, First, Again, OfActive, OfFirst, CanPurge, posted, after_dooms, Book, running_name_by, Adds}
+use Rattle.unit_book.proofs.Names.{Extends, MayStart, MayFirst, MayAgain, StartsBook, RunsBook, InterruptsBook, PurgesBy, covers_awaiting}
+use Rattle.unit_book.proofs.Names.{after_purge, ProcessingMethod, is_halted}
 use Rattle.ccw_programs.proofs.StepLaws.{steps_within-running}
 use Rattle.unit_book.specs.declared.answer.Running.{Running}
 use Rattle.unit_book.specs.declared.answer.Purging.{Purging}
@@ -18,10 +16,8 @@ use Rattle.unit_book.specs.Answers.{OpensBook, RunsOn}
 use Rattle.unit_book.specs.Controls.{PurgesBook, ClosesBy, ClosesBook}
 use Rattle.unit_book.proofs.Dooms.{since-is}
 use Rattle.unit_book.proofs.Runs.{runs-running, running-phase}
-use Rattle.unit_book.proofs.Names.{is_halted}
 use Rattle.unit_book.proofs.LegalFacts.{SoundTrace}
-use Rattle.unit_book.proofs.WorldTraces.{Grows, grows-not, grows-open, grows-arrive, grows-start, grows-ran, grows-post}
-use Rattle.unit_book.proofs.WorldTraces.{grows-close}
+use Rattle.unit_book.proofs.WorldTraces.{Grows, grows-not, grows-open, grows-arrive, grows-start, grows-ran, grows-post, grows-close}
 use Rattle.unit_book.proofs.WorldTraces.{grows-reset, grows-purge, grows-purged}
 
 module _ {D : Type 0} (meaning : Meaning D) where
@@ -120,8 +116,7 @@ module _ {D : Type 0} (meaning : Meaning D) where
       let p = current meaning old.mounted old.trace in
       let a = running-is old.mounted old.trace h.name h.running in
       let g = runs-running (is_halted h.name old.trace) p.place p.place.state a.1 in
-      let state_is = g.1 in
-      let n : length_of meaning p ≡ suc _ = steps_within-running meaning 4096 p (rw state_is refl) in
+      let n : length_of meaning p ≡ suc _ = steps_within-running meaning 4096 p (rw g.1 refl) in
       record {
         active = a.0;
         running = running-phase (is_halted h.name old.trace) p.place p.place.state g;

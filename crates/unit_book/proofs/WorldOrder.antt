@@ -1,5 +1,5 @@
 -- In a world the requests of a task are first started in the order of sending.
-use Rattle.unit_book.proofs.Names.{◌≡◌, ◌≤◌, ℕ, suc, ◌+◌, ◌==◌, Bool, false, Some, List, [], ◌∷◌, ◌++◌, length, map, refl, sym, ap, ◌∙◌}
+use Rattle.unit_book.proofs.Names.{◌≡◌, ◌≤◌, ℕ, suc, ◌+◌, ◌==◌, Bool, false, Some, List, [], ◌∷◌, length, map, refl, sym, ap, ◌∙◌}
 use Rattle.unit_book.proofs.Names.{arith, inl, inr, subst, cases_Bool, append-nil, filter-append, filter, slice_get, slice_get-append_right}
 use Rattle.unit_book.proofs.Names.{Meaning, Name, Piece, Entry, arrivals, arrived_of, has_arrived, has_started}
 use Rattle.unit_book.specs.Laws.{first_starts}
@@ -9,6 +9,7 @@ use Rattle.unit_book.proofs.LegalFacts.{facts}
 use Rattle.unit_book.proofs.Dooms.{filters-commute}
 use Rattle.unit_book.proofs.OrderLaws.{starts-in-order}
 use Rattle.unit_book.proofs.WorldSteps.{Kept}
+use Rattle.std.proofs.lemmas.Grind.{common_steps}
 
 none-at : {X : Type 0} (p : X → Bool) (xs : List X) → ((at : ℕ) (x : X) → slice_get xs at ≡ Some x → p x ≡ false) → filter p xs ≡ []
 none-at p [] h = refl
@@ -16,9 +17,7 @@ none-at p (x ∷ xs) h = let e = h 0 x refl in rw e (none-at p xs (λ at y k. h 
 
 filter-map : (p : Name → Bool) (rs : List Piece) → filter p (map (λ r. r.name) rs) ≡ map (λ r. r.name) (filter (λ r. p r.name) rs)
 filter-map p [] = refl
-filter-map p (r ∷ rs) =
-    let ih = filter-map p rs in
-    elim (cases_Bool (p r.name)) [ inl e ↦ rw e (ap (λ x. r.name ∷ x) ih) | inr e ↦ rw e ih ]
+filter-map p (r ∷ rs) = grind (arith, common_steps, filter-map p rs)
 
 module _ {D : Type 0} (meaning : Meaning D) (w : World D) (k : Kept meaning w) where
   abbrev H : List Entry
@@ -50,16 +49,8 @@ module _ {D : Type 0} (meaning : Meaning D) (w : World D) (k : Kept meaning w) w
 
   started-sent : (task : ℕ) → filter (λ r. has_started r.name H) (requests_of task (arrivals H)) ≡ filter (λ r. has_started r.name H)
       (w.sent task)
-  started-sent task =
-      let A = requests_of task (arrivals H) in
-      let test = λ (r : Piece). has_started r.name H in
-      sym (append-nil (filter test A)) ∙ ap (λ x. filter test A ++ x) (sym (flight-unstarted task))
-      ∙ sym (filter-append test A (requests_of task w.flight)) ∙ ap (filter test) (k.received task)
+  started-sent task = grind (arith, common_steps, append-nil, flight-unstarted, filter-append)
 
   pub first-started : (task : ℕ) →
       filter (λ n. n.task == task) (first_starts H) ≡ map (λ r. r.name) (filter (λ r. has_started r.name H) (w.sent task))
-  first-started task =
-      let test = λ (r : Piece). has_started r.name H in
-      ap (filter (λ (n : Name). n.task == task)) (starts-in-order meaning w.book.mounted H k.legal)
-      ∙ filter-map (λ n. n.task == task) (filter test (arrivals H))
-      ∙ ap (map (λ (r : Piece). r.name)) (filters-commute (λ (r : Piece). r.name.task == task) test (arrivals H) ∙ started-sent task)
+  first-started task = grind (arith, common_steps, starts-in-order, filter-map, filters-commute, started-sent)

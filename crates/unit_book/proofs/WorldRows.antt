@@ -1,10 +1,8 @@
 -- Worked rows of worlds, by computation: one step after another, from an opening world to a finished one.
-use Rattle.unit_book.proofs.Names.{◌≡◌, ℕ, true, List, [], ◌∷◌, refl, arith, Csw, Code, Ended, Purged, Meaning, Printer, after}
-use Rattle.unit_book.proofs.Names.{no_status, PostedState, Name, Piece, Started, RanSome, WasPosted, Quiesce, Entry, Opened, Arrive, Ran}
-use Rattle.unit_book.proofs.Names.{Post, arrivals, waiting, started, active, request_named, extents_of, flag, attempts, stand, newest}
-use Rattle.unit_book.proofs.Names.{Legal}
-use Rattle.unit_book.proofs.Names.{WithVerdict, due, posted, posted_value, MayFirst}
-use Rattle.unit_book.proofs.Names.{Output}
+use Rattle.unit_book.proofs.Names.{◌≡◌, ℕ, true, List, [], ◌∷◌, refl, arith, Csw, Code, Ended, Purged, Meaning, Printer, after, no_status}
+use Rattle.unit_book.proofs.Names.{PostedState, Name, Piece, Started, RanSome, WasPosted, Quiesce, Entry, Opened, Arrive, Ran, Post}
+use Rattle.unit_book.proofs.Names.{arrivals, waiting, started, active, request_named, extents_of, flag, attempts, stand, newest, Legal}
+use Rattle.unit_book.proofs.Names.{WithVerdict, due, posted, posted_value, MayFirst, Output}
 use Rattle.std.proofs.Common.{replicate}
 use Rattle.device_port.specs.declared.kind.Flow.TheVariants.{None as NoFlow}
 use Rattle.ccw_programs.specs.Links.{chain_within}
@@ -15,8 +13,7 @@ use Rattle.unit_book.specs.declared.entry.Entry.TheVariants.{Start as StartOf, P
 use Rattle.unit_book.specs.Trace.{no_request}
 use Rattle.unit_book.specs.Book.{opening}
 use Rattle.unit_book.specs.World.{World, one_more_of_task, without_first, Accepts, Accept, Take, Start, Run, Interrupt, Purge, Deliver}
-use Rattle.unit_book.specs.World.{Collect}
-use Rattle.unit_book.specs.World.{Reaches, Stay, Go, IsOpening, IsFinished}
+use Rattle.unit_book.specs.World.{Collect, Reaches, Stay, Go, IsOpening, IsFinished}
 use Rattle.unit_book.specs.WorldLaws.{posts_of}
 
 -- a device of which every command ends normally, without data

@@ -1,13 +1,12 @@
 -- What each step of a world keeps: what was sent arrived or is in flight, and what was posted is got, on its way back
 -- or out.
-use Rattle.unit_book.proofs.Names.{◌≡◌, ◌⊎◌, ℕ, ◌+◌, ◌==◌, true, Some, List, [], ◌∷◌, ◌++◌, append_assoc, length, refl, sym, ap}
-use Rattle.unit_book.proofs.Names.{◌∙◌, arith, eqb, inl, inr, subst, cases_Bool, eqb-true, eq-eqb, append-nil, filter-append, slice_get}
-use Rattle.unit_book.proofs.Names.{drop, slice_get-append_right, Meaning, PostedState, Name, Piece, arrivals, arrived_of, Legal, posted}
-use Rattle.unit_book.proofs.Names.{Book, Each}
+use Rattle.unit_book.proofs.Names.{◌≡◌, ◌⊎◌, ℕ, ◌+◌, ◌==◌, true, Some, List, [], ◌∷◌, ◌++◌, append_assoc, length, refl, sym, ap, ◌∙◌, arith}
+use Rattle.unit_book.proofs.Names.{eqb, inl, inr, subst, cases_Bool, eqb-true, eq-eqb, append-nil, filter-append, slice_get, drop}
+use Rattle.unit_book.proofs.Names.{slice_get-append_right, Meaning, PostedState, Name, Piece, arrivals, arrived_of, Legal, posted, Book}
+use Rattle.unit_book.proofs.Names.{Each}
 use Rattle.unit_book.specs.Legal.{Settled}
 use Rattle.unit_book.specs.World.{World, requests_of, values_of, one_more_of_task, without_first, InBook, Takes, Step, Accept, Take, Open}
-use Rattle.unit_book.specs.World.{Start, Run}
-use Rattle.unit_book.specs.World.{Interrupt, Purge, Close, Reset, Deliver, Collect, Reaches, Stay, Go, IsOpening}
+use Rattle.unit_book.specs.World.{Start, Run, Interrupt, Purge, Close, Reset, Deliver, Collect, Reaches, Stay, Go, IsOpening}
 use Rattle.unit_book.proofs.Facts.{Each-behind}
 use Rattle.unit_book.proofs.WorldTraces.{opened-only}
 use Rattle.unit_book.proofs.WorldBooks.{Keeps, Sound, keeps-arrive, keeps-open, keeps-start, keeps-run, keeps-interrupt, keeps-purge}

@@ -1,11 +1,9 @@
 -- How the calls of a book lengthen its trace: it stays legal, nothing is due behind it, and its posts grow.
-use Rattle.unit_book.proofs.Names.{◌≡◌, ℕ, ◌+◌, true, List, [], ◌∷◌, ◌++◌, append_assoc, refl, sym, ap, ◌∙◌, subst, append-nil}
-use Rattle.unit_book.proofs.Names.{list_all, Status, Code, Purged, Extent, Meaning, PostedState, Name, Piece, Scope, Mode, Entry, Opened}
-use Rattle.unit_book.proofs.Names.{Arrive, Start, Ran, Halted, Purge, Close, Reset, Post, arrivals, arrived_of, request_named, doomed}
-use Rattle.unit_book.proofs.Names.{is_open}
+use Rattle.unit_book.proofs.Names.{◌≡◌, ℕ, ◌+◌, true, List, [], ◌∷◌, ◌++◌, append_assoc, refl, sym, ap, ◌∙◌, subst, append-nil, list_all}
+use Rattle.unit_book.proofs.Names.{Status, Code, Purged, Extent, Meaning, PostedState, Name, Piece, Scope, Mode, Entry, Opened, Arrive}
+use Rattle.unit_book.proofs.Names.{Start, Ran, Halted, Purge, Close, Reset, Post, arrivals, arrived_of, request_named, doomed, is_open}
 use Rattle.unit_book.proofs.Names.{area, Free, due, doomed_first, FitsBy, Legal, StartFits, PostFits, OfActive, PostsActive, CanPurge}
-use Rattle.unit_book.proofs.Names.{posted, posted_value, after_dooms, halted_by, after_purge}
-use Rattle.unit_book.proofs.Names.{ProcessingMethod}
+use Rattle.unit_book.proofs.Names.{posted, posted_value, after_dooms, halted_by, after_purge, ProcessingMethod}
 use Rattle.unit_book.specs.Trace.{is_opening}
 use Rattle.unit_book.specs.Legal.{OpenFits, RanFits}
 use Rattle.unit_book.proofs.Lists.{without}
@@ -59,8 +57,7 @@ module _ {D : Type 0} {meaning : Meaning D} {mounted : D} {H : List Entry} where
   -- dooms of what neither arrives nor is posted
   dooms-quietly : (G : List Entry) → Legal meaning mounted G → due meaning mounted G ≡ doomed_first (doomed G) → arrivals G ≡ arrivals H →
       posted meaning mounted G ≡ posted meaning mounted H → Grows meaning mounted H (after_dooms G) []
-  dooms-quietly G l d a p =
-      grows-dooms G [] l d (a ∙ sym (append-nil (arrivals H))) (p ∙ sym (append-nil (posted meaning mounted H)))
+  dooms-quietly G l d a p = grows-dooms G [] l d (a ∙ sym (append-nil (arrivals H))) (p ∙ sym (append-nil (posted meaning mounted H)))
 
   pub grows-open : (d : ℕ) (method : ProcessingMethod) (x : List Extent) → SoundTrace meaning mounted H → OpenFits meaning mounted d x H →
       Grows meaning mounted H (Opened d method x ∷ H) []

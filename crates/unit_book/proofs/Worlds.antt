@@ -1,9 +1,9 @@
 -- The laws of worlds: in a finished one each request that was sent has one post.
-use Rattle.unit_book.proofs.Names.{◌≡◌, ◌≤◌, ℕ, ◌+◌, ◌==◌, Bool, true, false, None, List, [], ◌∷◌, ◌++◌, refl, sym, ap, ◌∙◌, arith, inl}
-use Rattle.unit_book.proofs.Names.{inr, subst, cases_Bool, append-nil, Meaning, Name, Piece, Entry, Post, same, arrivals, has_arrived}
+use Rattle.unit_book.proofs.Names.{◌≡◌, ◌≤◌, ℕ, ◌+◌, Bool, true, false, None, List, [], ◌∷◌, refl, ap, ◌∙◌, arith, inl}
+use Rattle.unit_book.proofs.Names.{inr, cases_Bool, append-nil, Meaning, Name, Entry, Post, same, arrivals, has_arrived}
 use Rattle.unit_book.proofs.Names.{is_posted, waiting, active, Legal, Each}
 use Rattle.unit_book.specs.Laws.{times}
-use Rattle.unit_book.specs.World.{World, IsOpening, IsFinished, Reaches, requests_of}
+use Rattle.unit_book.specs.World.{World, IsOpening, IsFinished, Reaches}
 use Rattle.unit_book.specs.WorldLaws.{FinishedOnce, posts_of, KeepsRequests, WorldLaws}
 use Rattle.unit_book.proofs.Lists.{no_both}
 use Rattle.unit_book.proofs.Facts.{Known, Each-filter, Each-weaker}
@@ -14,6 +14,7 @@ use Rattle.unit_book.proofs.OrderLaws.{starts-in-order}
 use Rattle.unit_book.proofs.DoomLaws.{no-doomed-starts}
 use Rattle.unit_book.proofs.WorldSteps.{Kept, steps-kept}
 use Rattle.unit_book.proofs.WorldOrder.{first-started}
+use Rattle.std.proofs.lemmas.Grind.{common_steps}
 
 module _ {D : Type 0} (meaning : Meaning D) where
   module _ (mounted : D) where
@@ -25,7 +26,8 @@ module _ {D : Type 0} (meaning : Meaning D) where
         let ih = posts-once n H l.1 in
         elim (cases_Bool (same m n)) [
           | inl s ↦ elim (cases_Bool (is_posted n H)) [
-            | inl p ↦ no_both (same m n) s (not-of meaning mounted n (Post m csw sense code) H (facts meaning mounted H l.1) p l.0)
+            | inl p ↦ no_both (same m n) s
+                (not-of meaning mounted n (Post m csw sense code) {H = H} (record { earlier = l.1; fits = l.0 }) p)
             | inr p ↦ let z : posts_of n H ≡ 0 = ih ∙ ap times p in rw s (omega (arith, z))
           ]
           | inr s ↦ rw s ih
@@ -50,14 +52,7 @@ module _ {D : Type 0} (meaning : Meaning D) where
       (arrivals H) (facts meaning mounted H l).6
 
   finished-posts : (w : World D) → Kept meaning w → IsFinished w → (task : ℕ) → Each (λ r. posts_of r.name w.book.trace ≡ 1) (w.sent task)
-  finished-posts w k f task =
-      subst (Each (λ r. posts_of r.name w.book.trace ≡ 1)) sent
-      (Each-filter (λ r. posts_of r.name w.book.trace ≡ 1) (λ (r : Piece). r.name.task == task) (arrivals w.book.trace)
-      (finished-once w.book.mounted w.book.trace k.legal f.waiting f.active)) where
-        sent : requests_of task (arrivals w.book.trace) ≡ w.sent task
-        sent =
-            sym (append-nil (requests_of task (arrivals w.book.trace)))
-            ∙ ap (λ x. requests_of task (arrivals w.book.trace) ++ requests_of task x) (sym f.flight) ∙ k.received task
+  finished-posts w k f task = grind (arith, common_steps, Each-filter, finished-once, append-nil)
 
   worlds-keep : (first last : World D) → IsOpening meaning first → Reaches meaning first last → KeepsRequests meaning last
   worlds-keep first last o r =

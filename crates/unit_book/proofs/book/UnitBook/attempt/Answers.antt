@@ -24,8 +24,7 @@ returns-in_err-run-clause-steps g c = let e = c.in_err-run.ensures.err in rw e
 
 pub returns-in_err-interrupt-clause-steps : goal.returns-in_err-interrupt-clause-steps
 returns-in_err-interrupt-clause-steps g c =
-    let e = c.in_err-interrupt.ensures.err in
-    rw e (Then (Then Stays (ByStart c.in_ok-start.field-0 c.in_ok-start.ensures.ok))
+    rw c.in_err-interrupt.ensures.err (Then (Then Stays (ByStart c.in_ok-start.field-0 c.in_ok-start.ensures.ok))
     (ByRun 4294967295 c.in_ok-run.field-0 (omega arith) c.in_ok-run.ensures.ok))
 
 pub returns-clause-steps : goal.returns-clause-steps

@@ -1,4 +1,4 @@
-use Rattle.unit_book.proofs.Names.{◌∷◌, true, Close}
+use Rattle.unit_book.proofs.Names.{◌∷◌, Close}
 use Rattle.unit_book.proofs.Calls.{add-then-sweep, posted-close, pending-close}
 use Rattle.unit_book.proofs.book.UnitBook.close_open.Goals as goal
 
@@ -6,8 +6,7 @@ pub returns-clause-ok : goal.returns-clause-ok
 returns-clause-ok g c =
     let m = g.D.Device.meaning in
     let old = c.self.inside.entries in
-    let r = c.in_ok-reserve_posts.ensures.book in
-    let a = rw r at c.close.ensures.book in
+    let a = rw c.in_ok-reserve_posts.ensures.book at c.close.ensures.book in
     rw (← c.self.view_is)
     (add-then-sweep m old (Close c.args.dcb ∷ old.trace)
     (posted-close m old.mounted c.args.dcb old.trace) a c.sweep.ensures.book)

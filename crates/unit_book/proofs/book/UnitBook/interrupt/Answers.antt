@@ -22,8 +22,7 @@ pub sweep-requires-clause-doomed : goal.sweep-requires-clause-doomed
 sweep-requires-clause-doomed g c = (taken g (goal.at.sweep-requires-clause-doomed g c).In-Posted).1.posts.dooms
 
 pub sweep-requires-clause-due : goal.sweep-requires-clause-due
-sweep-requires-clause-due g c =
-    sweep-due g.D.Device.meaning (taken g (goal.at.sweep-requires-clause-due g c).In-Posted).1.posts
+sweep-requires-clause-due g c = sweep-due g.D.Device.meaning (taken g (goal.at.sweep-requires-clause-due g c).In-Posted).1.posts
 
 pub returns-in-Posted-clause-ok : goal.returns-in-Posted-clause-ok
 returns-in-Posted-clause-ok g c =

@@ -15,6 +15,5 @@ returns-clause-pending g c =
 
 pub returns-clause-ok : goal.returns-clause-ok
 returns-clause-ok g c =
-    let r = c.in_ok-reserve_posts.ensures.book in
-    rw (← c.self.view_is) (purge-reserved g.D.Device.meaning r
+    rw (← c.self.view_is) (purge-reserved g.D.Device.meaning c.in_ok-reserve_posts.ensures.book
     (record { purges = c.purge_in_room.ensures; answer_is = c.purging.ensures }))

@@ -4,5 +4,5 @@ use Rattle.unit_book.proofs.book.UnitBook.reset.Goals as goal
 
 pub returns-clause-pending : goal.returns-clause-pending
 returns-clause-pending g c =
-    let r = c.reserve.ensures.book in
-    rw (← c.self.view_is) (pending-reset g.D.Device.meaning c.reserve.new.self c.reset.new.self c.args.dcb c.reset.ensures.book ∙ rw r refl)
+    rw (← c.self.view_is)
+    (pending-reset g.D.Device.meaning c.reserve.new.self c.reset.new.self c.args.dcb c.reset.ensures.book ∙ rw c.reserve.ensures.book refl)

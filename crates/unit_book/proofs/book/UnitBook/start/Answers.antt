@@ -33,8 +33,7 @@ pub sweep-requires-clause-doomed : goal.sweep-requires-clause-doomed
 sweep-requires-clause-doomed g c = (violated g (goal.at.sweep-requires-clause-doomed g c).In-Violated).1.dooms
 
 pub sweep-requires-clause-due : goal.sweep-requires-clause-due
-sweep-requires-clause-due g c =
-    sweep-due g.D.Device.meaning (violated g (goal.at.sweep-requires-clause-due g c).In-Violated).1
+sweep-requires-clause-due g c = sweep-due g.D.Device.meaning (violated g (goal.at.sweep-requires-clause-due g c).In-Violated).1
 
 pub returns-in-Started-clause-pending : goal.returns-in-Started-clause-pending
 returns-in-Started-clause-pending g c =

@@ -7,9 +7,8 @@ use Rattle.unit_book.proofs.entries.Entries.arrive.Goals as goal
 
 pub push-requires : goal.push-requires
 push-requires g c =
-    let i = c.self.inside in
     let room = rw (← c.self.view_is) at c.requires.room in
-    let r = room-of g.D.Device.meaning i.mounted c.self.invariant.0 room in
+    let r = room-of g.D.Device.meaning c.self.inside.mounted c.self.invariant.0 room in
     omega (arith, r, c.self.invariant.1.waiting_room)
 
 pub invariant_of-self : goal.invariant_of-self
@@ -19,9 +18,8 @@ invariant_of-self g c =
     let room = rw (← c.self.view_is) at c.requires.room in
     let r = room-of g.D.Device.meaning i.mounted c.self.invariant.0 room in
     let t = ties-arrive g.D.Device.meaning i.mounted fits c.requires.placed c.self.invariant.0 in
-    let e = c.write.ensures.items in
     let q = c.push.ensures in (
-      rw (e, q, c.requires.same) t,
+      rw (c.write.ensures.items, q, c.requires.same) t,
       record {
         occupancy = rw (q, c.requires.same) (omega (arith, length-append i.waiting.pieces (c.args.issued ∷ []), r));
         waiting_room = rw q c.self.invariant.1.waiting_room;

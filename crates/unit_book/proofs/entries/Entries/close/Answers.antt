@@ -9,33 +9,24 @@ invariant_of-self g c =
     let settled = rw (← c.self.view_is) at c.requires.settled in
     let can = rw (← c.self.view_is) at c.requires.can in
     let k = ties-close settled can c.self.invariant.0 c.close.ensures.dcbs c.close.ensures.count in
-    let w = c.write.ensures.items in
-    (rw w k, c.self.invariant.1)
+    (rw c.write.ensures.items k, c.self.invariant.1)
 
 pub returns-clause-due : goal.returns-clause-due
 returns-clause-due g c =
-    let m = g.D.Device.meaning in
     let i = c.self.inside in
-    let w = c.write.ensures.items in
-    rw w (due-no_halt m i.mounted (Close c.args.dcb ∷ reverse i.trace.items) (λ n a. refl))
+    rw c.write.ensures.items (due-no_halt g.D.Device.meaning i.mounted (Close c.args.dcb ∷ reverse i.trace.items) (λ n a. refl))
 
 pub returns-clause-dooms : goal.returns-clause-dooms
 returns-clause-dooms g c =
-    let m = g.D.Device.meaning in
     let i = c.self.inside in
     let settled = rw (← c.self.view_is) at c.requires.settled in
-    let w = c.write.ensures.items in
-    rw w (doomed-close c.args.dcb (reverse i.trace.items) (due-doomed m i.mounted (reverse i.trace.items) settled))
+    rw c.write.ensures.items
+    (doomed-close c.args.dcb (reverse i.trace.items) (due-doomed g.D.Device.meaning i.mounted (reverse i.trace.items) settled))
 
 pub returns-clause-few : goal.returns-clause-few
-returns-clause-few g c =
-    let i = c.self.inside in
-    let w = c.write.ensures.items in
-    rw (← c.self.view_is) (rw w (doomed-close_few c.args.dcb (reverse i.trace.items)))
+returns-clause-few g c = rw (← c.self.view_is) (rw c.write.ensures.items (doomed-close_few c.args.dcb (reverse c.self.inside.trace.items)))
 
 pub close-requires : goal.close-requires
 close-requires g c =
-    let i = c.self.inside in
-    let t = c.self.invariant.0 in
     let can = rw (← c.self.view_is) at c.requires.can in
-    open-row g.D.Device.meaning i.mounted c.args.dcb t can
+    open-row g.D.Device.meaning c.self.inside.mounted c.args.dcb c.self.invariant.0 can

@@ -7,5 +7,4 @@ returns-clause-few g c =
     let i = c.self.inside in
     let t = c.self.invariant.0 in
     let few = opened-most g.D.Device.meaning i.mounted (reverse i.trace.items) t.legal in
-    let count = t.count in
-    omega (arith, c.len.ensures, count, few)
+    omega (arith, c.len.ensures, t.count, few)

@@ -5,8 +5,7 @@ use Rattle.unit_book.proofs.entries.Entries.in_error.Goals as goal
 
 pub returns-in-None : goal.returns-in-None
 returns-in-None g c =
-    let m = g.D.Device.meaning in
     let i = c.self.inside in
     let t = c.self.invariant.0 in
     let none = sym (t.dcbs c.args.dcb) ∙ sym c.get.ensures ∙ ap option_copied c.in-None.is in
-    rw (← c.self.view_is) (sym (no-flag m i.mounted c.args.dcb (reverse i.trace.items) t.legal none))
+    rw (← c.self.view_is) (sym (no-flag g.D.Device.meaning i.mounted c.args.dcb (reverse i.trace.items) t.legal none))

@@ -4,6 +4,5 @@ use Rattle.unit_book.proofs.entries.Entries.mask.Goals as goal
 
 pub returns : goal.returns
 returns g c =
-    let i = c.self.inside in
-    let t = c.self.invariant.0 in
-    rw (← c.self.view_is) (c.mask.ensures ∙ ap mask_at (t.dcbs c.args.dcb) ∙ mask-is c.args.dcb (reverse i.trace.items))
+    rw (← c.self.view_is)
+    (c.mask.ensures ∙ ap mask_at (c.self.invariant.0.dcbs c.args.dcb) ∙ mask-is c.args.dcb (reverse c.self.inside.trace.items))

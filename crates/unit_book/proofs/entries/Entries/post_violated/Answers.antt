@@ -31,11 +31,9 @@ found g c =
 pub returns-in_err-reserve-clause-full : goal.returns-in_err-reserve-clause-full
 returns-in_err-reserve-clause-full g c =
     let s = rw (← c.self.view_is) at c.requires.first in
-    let full = c.in_err-reserve.ensures.full in
-    let count = c.len.ensures.len in
     let queue = ap length c.self.invariant.0.queue in
     on-err c.from_residual.result _
-    (rw (← c.self.view_is) (ForPost s.0 s.1 (omega (arith, full, count, queue))))
+    (rw (← c.self.view_is) (ForPost s.0 s.1 (omega (arith, c.in_err-reserve.ensures.full, c.len.ensures.len, queue))))
 
 pub note_post-requires : goal.note_post-requires
 note_post-requires g c =
@@ -43,34 +41,32 @@ note_post-requires g c =
     let i = c.self.inside in
     let b = c.in-Some.piece.value in
     let f = found g (goal.at.note_post-requires g c).In-Some in
-    let t = c.self.invariant.0 in
     let settled = rw (← c.self.view_is) at c.requires.settled in
     let opened = first-opened m i.mounted b (reverse i.trace.items) settled f.1 in
-    let piece_is = c.deref-request.ensures in
-    rw piece_is (opened-row m i.mounted b.dcb t opened)
+    rw c.deref-request.ensures (opened-row m i.mounted b.dcb c.self.invariant.0 opened)
 
 pub invariant_of-self-2 : goal.invariant_of-self-2
 invariant_of-self-2 g c =
-    let m = g.D.Device.meaning in
     let i = c.self.inside in
     let b = c.in-Some.piece.value in
     let f = found g (goal.at.invariant_of-self-2 g c).In-Some in
-    let t = c.self.invariant.0 in
     let settled = rw (← c.self.view_is) at c.requires.settled in
-    let fits = fits-free m i.mounted (Post b.name no_status 0 ExtentViolated) (reverse i.trace.items) settled
+    let fits = fits-free g.D.Device.meaning i.mounted (Post b.name no_status 0 ExtentViolated) (reverse i.trace.items) settled
     (OfFirst (record { fails = f.0; code_is = refl; csw_is = refl; sense_is = refl })) in
-    let noted_is = c.deref-request.ensures in
-    let noted = rw noted_is at c.note_post.ensures.dcbs in
-    let k = ties-first_post t fits f.1 noted c.note_post.ensures.count in
-    let n = c.deref-request.ensures in
-    let w = c.write_post.ensures.items in
-    let r = c.reserve.ensures.items in
-    let y = c.empty-status.ensures in
+    let noted = rw c.deref-request.ensures at c.note_post.ensures.dcbs in
+    let k = ties-first_post c.self.invariant.0 fits f.1 noted c.note_post.ensures.count in
     let q = c.hand_out.ensures in
-    let v = c.posted_from.ensures in
     let h = c.pop.ensures.rest in
     let count = ap length (first-rest i.waiting.pieces b f.2) in (
-      rw (w, r, n, h, q, v, y) k,
+      rw (
+        c.write_post.ensures.items,
+        c.reserve.ensures.items,
+        c.deref-request.ensures,
+        h,
+        q,
+        c.posted_from.ensures,
+        c.empty-status.ensures,
+      ) k,
       record {
         occupancy = rw (h, q) (omega (arith, length-append i.out.items (c.posted_from.result ∷ []), c.self.invariant.1.occupancy, count));
         waiting_room = rw (h, q) c.self.invariant.1.waiting_room;
@@ -96,8 +92,6 @@ returns-clause-ok g c =
     let w = c.write_post.ensures.items in
     let r = c.reserve.ensures.items in
     let y = c.empty-status.ensures in
-    let q = c.hand_out.ensures in
-    let v = c.posted_from.ensures in
     let doom_is = c.doomed_by_post-doom.ensures ∙ ap (λ (x : Piece). doomed_by_post x ExtentViolated) (c.deref-request.ensures
     ∙ sym issued) in
     let ok = c.in_ok-reserve.ensures.ok in
@@ -108,7 +102,7 @@ returns-clause-ok g c =
     rw (← c.self.view_is, n) (
       f.0,
       record {
-        extends = rw (w, r, n, q, v, y, value, none) refl;
+        extends = rw (w, r, n, c.hand_out.ensures, c.posted_from.ensures, y, value, none) refl;
         room = rw (w, r, n, y) (omega arith);
         dooms = rw (w, r, n, y, doom_is) dooms;
       },

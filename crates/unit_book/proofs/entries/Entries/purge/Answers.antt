@@ -1,6 +1,5 @@
 use Rattle.unit_book.proofs.Names.{◌≡◌, ◌∷◌, Some, None, reverse, arith, refl, sym, ap, subst, ◌∙◌, is_some, Name, ToHalt, due, doomed}
-use Rattle.unit_book.proofs.Names.{Purge, Halted}
-use Rattle.unit_book.proofs.Names.{DoomedBy, halted_by, after_halt, running_name_by, active}
+use Rattle.unit_book.proofs.Names.{Purge, Halted, DoomedBy, halted_by, after_halt, running_name_by, active}
 use Rattle.unit_queue.specs.declared.selection.Selection.TheVariants as selection
 use Rattle.unit_book.specs.Controls.{due_after}
 use Rattle.unit_book.proofs.Controls.{doomed-purge, doomed-purge_few, dooms-halted, doomed-halted_few, ties-purge, ties-purge_none}
@@ -16,22 +15,21 @@ use Rattle.unit_book.proofs.entries.Entries.purge.Goals as goal
 dooms : (g : Over) (c : After-take g) →
     DoomedBy (Some (selection.Scope c.args.scope)) (Purge c.args.scope c.args.mode ∷ reverse c.self.inside.trace.items)
 dooms g c =
-    let m = g.D.Device.meaning in
     let i = c.self.inside in
     let settled = rw (← c.self.view_is) at c.requires.settled in
-    doomed-purge c.args.scope c.args.mode (reverse i.trace.items) (due-doomed m i.mounted (reverse i.trace.items) settled)
+    doomed-purge c.args.scope c.args.mode (reverse i.trace.items) (due-doomed g.D.Device.meaning i.mounted (reverse i.trace.items) settled)
 
 pub invariant_of-self : goal.invariant_of-self
 invariant_of-self g c =
-    let i = c.self.inside in
     let settled = rw (← c.self.view_is) at c.requires.settled in
     let can = rw (← c.self.view_is) at c.requires.can in
-    let o : i.active ≡ None = sym c.take.ensures.value ∙ c.in_default.is in
+    let o : c.self.inside.active ≡ None = sym c.take.ensures.value ∙ c.in_default.is in
     let k = ties-purge_none c.args.scope c.args.mode settled can (ties-found o c.self.invariant.0) in
-    let w = c.write.ensures.items in
     let z = c.take.ensures.after in
-    let room = rooms-found o c.self.invariant.1 in
-    (rw (w, z) k, record { occupancy = rw z room.occupancy; waiting_room = room.waiting_room; swept_is = room.swept_is })
+    let room = rooms-found o c.self.invariant.1 in (
+      rw (c.write.ensures.items, z) k,
+      record { occupancy = rw z room.occupancy; waiting_room = room.waiting_room; swept_is = room.swept_is },
+    )
 
 -- where nothing is active, nobody is halted
 pub returns-in_default : goal.returns-in_default
@@ -45,11 +43,9 @@ returns-in_default g c =
     let d = halts-none m i.mounted c.args.scope c.args.mode H (ap (λ x. is_some (running_name_by m i.mounted H x)) e) in
     let after : after_halt m i.mounted P ≡ P = ap (λ x. halted_by x P) d ∙ halted-first (doomed P) P in
     let w = c.write.ensures.items in
-    let z = c.take.ensures.after in
-    let spare = c.write.ensures.spare in
     record {
-      book = rw (← c.self.view_is) (rw (after, w, z, o) refl);
-      spare = rw (← c.self.view_is) (omega (arith, spare));
+      book = rw (← c.self.view_is) (rw (after, w, c.take.ensures.after, o) refl);
+      spare = rw (← c.self.view_is) (omega (arith, c.write.ensures.spare));
       due = rw w d;
       dooms = rw w (dooms g (goal.at.returns-in_default g c).After-take);
       few = rw (← c.self.view_is, w) (doomed-purge_few c.args.scope c.args.mode H);
@@ -57,17 +53,18 @@ returns-in_default g c =
 
 pub invariant_of-self-in_default-halted : goal.invariant_of-self-in_default-halted
 invariant_of-self-in_default-halted g c =
-    let i = c.self.inside in
     let settled = rw (← c.self.view_is) at c.requires.settled in
     let can = rw (← c.self.view_is) at c.requires.can in
     let uncovered = rw (← c.self.view_is) at c.requires.uncovered in
-    let o : i.active ≡ Some c.in-Some.active = sym c.take.ensures.value ∙ c.in-Some.is in
+    let o : c.self.inside.active ≡ Some c.in-Some.active = sym c.take.ensures.value ∙ c.in-Some.is in
     let u = rw o at uncovered in
     let k = ties-purge c.args.scope c.args.mode settled can u (ties-found o c.self.invariant.0) in
-    let w = c.write.ensures.items in
     let v = c.purged-active.ensures in
-    let room = rooms-found o c.self.invariant.1 in
-    (rw (w, v) k, rw v (record { occupancy = room.occupancy; waiting_room = room.waiting_room; swept_is = room.swept_is }))
+    let room = rooms-found o c.self.invariant.1 in (
+      rw (c.write.ensures.items, v) k,
+      rw v
+          (record { occupancy = room.occupancy; waiting_room = room.waiting_room; swept_is = room.swept_is }),
+    )
 
 pub returns-in_default-halted-clause-dooms : goal.returns-in_default-halted-clause-dooms
 returns-in_default-halted-clause-dooms g c =
@@ -75,9 +72,7 @@ returns-in_default-halted-clause-dooms g c =
 
 pub returns-in_default-halted-clause-few : goal.returns-in_default-halted-clause-few
 returns-in_default-halted-clause-few g c =
-    let i = c.self.inside in
-    let w = c.write.ensures.items in
-    rw (← c.self.view_is, w) (doomed-purge_few c.args.scope c.args.mode (reverse i.trace.items))
+    rw (← c.self.view_is, c.write.ensures.items) (doomed-purge_few c.args.scope c.args.mode (reverse c.self.inside.trace.items))
 
 pub invariant_of-self-2 : goal.invariant_of-self-2
 invariant_of-self-2 g c =
@@ -94,36 +89,27 @@ invariant_of-self-2 g c =
     let d : due m i.mounted P ≡ ToHalt c.in-Some-halted.name = halts ∙ ap (λ x. due_after x (doomed P)) c.in-Some-halted.is in
     let n = name-found ((due-halt m i.mounted P c.in-Some-halted.name d).0) k in
     let h = ties-halt m i.mounted (subst (λ (x : Name). due m i.mounted P ≡ ToHalt x) n d) k in
-    let w = c.write.ensures.items in
-    let w2 = c.halt.ensures.items in
-    let s = c.halt.ensures.state in
     let v = c.purged-active.ensures in
     let x = c.once_halted.ensures in
     let room = rooms-found o c.self.invariant.1 in (
-      rw (w2, w, s, x, v, n) h,
+      rw (c.halt.ensures.items, c.write.ensures.items, c.halt.ensures.state, x, v, n) h,
       rw (x, v) (record { occupancy = room.occupancy; waiting_room = room.waiting_room; swept_is = room.swept_is }),
     )
 
 pub returns-clause-due : goal.returns-clause-due
 returns-clause-due g c =
     let i = c.self.inside in
-    let w = c.write.ensures.items in
-    let w2 = c.halt.ensures.items in
-    rw (w2, w) (due-no_halt g.D.Device.meaning i.mounted (Halted c.in-Some-halted.name ∷ Purge c.args.scope c.args.mode
+    rw (c.halt.ensures.items, c.write.ensures.items)
+    (due-no_halt g.D.Device.meaning i.mounted (Halted c.in-Some-halted.name ∷ Purge c.args.scope c.args.mode
     ∷ reverse i.trace.items) (λ n a. refl))
 
 pub returns-clause-dooms : goal.returns-clause-dooms
 returns-clause-dooms g c =
-    let i = c.self.inside in
-    let w = c.write.ensures.items in
-    let w2 = c.halt.ensures.items in
-    rw (w2, w) (dooms-halted c.in-Some-halted.name c.args.scope c.args.mode (reverse i.trace.items)
+    rw (c.halt.ensures.items, c.write.ensures.items)
+    (dooms-halted c.in-Some-halted.name c.args.scope c.args.mode (reverse c.self.inside.trace.items)
     (dooms g (goal.at.returns-clause-dooms g c).After-take))
 
 pub returns-clause-few : goal.returns-clause-few
 returns-clause-few g c =
-    let i = c.self.inside in
-    let w = c.write.ensures.items in
-    let w2 = c.halt.ensures.items in
-    rw (← c.self.view_is, w2, w)
-    (doomed-halted_few c.in-Some-halted.name c.args.scope c.args.mode (reverse i.trace.items))
+    rw (← c.self.view_is, c.halt.ensures.items, c.write.ensures.items)
+    (doomed-halted_few c.in-Some-halted.name c.args.scope c.args.mode (reverse c.self.inside.trace.items))

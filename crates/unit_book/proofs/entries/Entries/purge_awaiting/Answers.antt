@@ -1,7 +1,6 @@
 use Rattle.unit_book.proofs.Names.{◌≡◌, ◌++◌, [], ◌∷◌, Some, length, length-append, append_assoc, map, reverse, arith, refl, sym, ap, ◌∙◌}
-use Rattle.unit_book.proofs.Names.{true, Ties, PostsActive, and_parts, ◌&&◌, is_halt, awaits_by, covers_awaiting}
-use Rattle.unit_book.proofs.Names.{subst, Purged, filter, Queue, queue, Placed, covers, purged}
-use Rattle.unit_book.proofs.Names.{posted_value}
+use Rattle.unit_book.proofs.Names.{true, Ties, PostsActive, and_parts, ◌&&◌, is_halt, awaits_by, covers_awaiting, subst, Purged, filter}
+use Rattle.unit_book.proofs.Names.{Queue, queue, Placed, covers, purged, posted_value}
 use Rattle.unit_book.specs.Fields.{kept_by, fields_of}
 use Rattle.unit_book.proofs.Facts.{Each-filter}
 use Rattle.std.proofs.lemmas.List.{length-map}
@@ -29,11 +28,9 @@ post_all-requires g c =
 
 pub write_post-requires : goal.write_post-requires
 write_post-requires g c =
-    let i = c.self.inside in
     let p = covers c.args.scope in
     let spare = rw (← c.self.view_is) at c.requires.spare in
-    let room = c.self.invariant.1 in
-    let sw = swept-found c.sweep.ensures.swept room.swept_is in
+    let sw = swept-found c.sweep.ensures.swept c.self.invariant.1.swept_is in
     let items_is = ap (λ (x : Queue). length x.pieces) sw in
     omega (
       arith,
@@ -41,7 +38,7 @@ write_post-requires g c =
       c.write.ensures.spare,
       c.post_all.ensures.spare,
       items_is,
-      length-filters p i.waiting.pieces,
+      length-filters p c.self.inside.waiting.pieces,
       ap length c.self.invariant.0.queue,
     )
 
@@ -69,8 +66,7 @@ found : (g : Over) (c : After-is_covered_awaiting g) → let i = c.self.inside i
     × Ties m i.mounted (fields_of (reverse i.trace.items) i.channel i.waiting.pieces i.dcbs i.out.items) (Some c.in-Some.active)
     × FoundAwaiting m i.mounted (reverse i.trace.items) c.in-Some.active c.args.scope c.args.mode
 found g c covered =
-    let i = c.self.inside in
-    let o : i.active ≡ Some c.in-Some.active = sym c.take.ensures.value ∙ c.in-Some.is in
+    let o : c.self.inside.active ≡ Some c.in-Some.active = sym c.take.ensures.value ∙ c.in-Some.is in
     let both = and_parts (is_halt c.args.mode && awaits_by c.in-Some.active.standing) (covers c.args.scope c.in-Some.active.piece.value)
     (sym c.is_covered_awaiting.ensures ∙ covered) in
     let awaits = and_parts (is_halt c.args.mode) (awaits_by c.in-Some.active.standing) both.0 in (
@@ -97,16 +93,22 @@ invariant_of-self-2 g c =
     let trace_is = rw items_is at c.post_all.ensures.trace in
     let out_is = rw items_is at c.post_all.ensures.out in
     let kept = c.sweep.ensures.kept in
-    let w = c.write.ensures.items in
-    let w2 = c.write_post.ensures.items in
-    let st = c.kept_status-kept.ensures in
-    let nm = c.name-name.ensures in
     let q = c.hand_out.ensures in
-    let v = c.posted_from.ensures in
     let z = c.take.ensures.after in
     let few = length-filters p i.waiting.pieces in
     let purges = map purged (filter p i.waiting.pieces) in (
-      rw (w2, trace_is, w, kept, q, out_is, v, st, nm, z) k,
+      rw (
+        c.write_post.ensures.items,
+        trace_is,
+        c.write.ensures.items,
+        kept,
+        q,
+        out_is,
+        c.posted_from.ensures,
+        c.kept_status-kept.ensures,
+        c.name-name.ensures,
+        z,
+      ) k,
       record {
         occupancy = rw (z, kept, q, out_is) (omega (
           arith,
@@ -135,20 +137,25 @@ returns-clause-book g c =
     let items_is = ap (λ (x : Queue). x.pieces) sw in
     let trace_is = rw items_is at c.post_all.ensures.trace in
     let out_is = rw items_is at c.post_all.ensures.out in
-    let w = c.write.ensures.items in
-    let w2 = c.write_post.ensures.items in
-    let st = c.kept_status-kept.ensures in
-    let nm = c.name-name.ensures in
-    let q = c.hand_out.ensures in
-    let v = c.posted_from.ensures in
-    let z = c.take.ensures.after in
     let value = posted_value a.piece.value status.csw status.sense Purged a.piece.value.area in
     let joined = append_assoc i.out.items (map purged (filter (covers c.args.scope) i.waiting.pieces)) (value ∷ []) in
     rw (← c.self.view_is) (λ is. record {
       name = a.piece.value.name;
       status = status;
       fits = subst (PostsActive m i.mounted a.piece.value.name status Purged) (sym after) fits;
-      extends = rw after (rw since (rw (w2, trace_is, w, q, out_is, v, st, nm, z, joined) refl));
+      extends = rw after (rw since
+          (rw (
+            c.write_post.ensures.items,
+            trace_is,
+            c.write.ensures.items,
+            c.hand_out.ensures,
+            out_is,
+            c.posted_from.ensures,
+            c.kept_status-kept.ensures,
+            c.name-name.ensures,
+            c.take.ensures.after,
+            joined,
+          ) refl));
     })
 
 pub returns-clause-settled : goal.returns-clause-settled
@@ -157,11 +164,8 @@ returns-clause-settled g c =
     let sw = swept-found c.sweep.ensures.swept c.self.invariant.1.swept_is in
     let items_is = ap (λ (x : Queue). x.pieces) sw in
     let trace_is = rw items_is at c.post_all.ensures.trace in
-    let w = c.write.ensures.items in
-    let w2 = c.write_post.ensures.items in
-    let st = c.kept_status-kept.ensures in
-    let nm = c.name-name.ensures in
-    rw (w2, trace_is, w, st, nm) (settled-awaiting g.D.Device.meaning c.self.inside.mounted f.1 f.2)
+    rw (c.write_post.ensures.items, trace_is, c.write.ensures.items, c.kept_status-kept.ensures, c.name-name.ensures)
+    (settled-awaiting g.D.Device.meaning c.self.inside.mounted f.1 f.2)
 
 -- whether the purge covers it, as the trace says
 told : (g : Over) (c : After-is_covered_awaiting g) →
@@ -174,8 +178,7 @@ told g c =
     (c.is_covered_awaiting.ensures ∙ awaiting-is g.D.Device.meaning i.mounted c.args.scope c.args.mode t.activity)
 
 pub returns-clause-covered : goal.returns-clause-covered
-returns-clause-covered g c =
-    sym c.if-not-is_covered_awaiting.false ∙ told g (goal.at.returns-clause-covered g c).After-is_covered_awaiting
+returns-clause-covered g c = sym c.if-not-is_covered_awaiting.false ∙ told g (goal.at.returns-clause-covered g c).After-is_covered_awaiting
 
 pub returns-then-not-is_covered_awaiting-clause-covered : goal.returns-then-not-is_covered_awaiting-clause-covered
 returns-then-not-is_covered_awaiting-clause-covered g c =

@@ -5,7 +5,6 @@ use Rattle.unit_book.proofs.entries.Entries.refuse.Goals as goal
 
 pub invariant_of-self : goal.invariant_of-self
 invariant_of-self g c =
-    let m = g.D.Device.meaning in
     let i = c.self.inside in
     let fits = rw (← c.self.view_is) at c.requires.fits in
     let settled = rw (← c.self.view_is) at c.requires.settled in
@@ -13,13 +12,11 @@ invariant_of-self g c =
     let room = rw (← c.self.view_is) at c.requires.room in
     let t = c.self.invariant.0 in
     let k = ties-refused fits c.requires.placed settled refused t in
-    let r = room-of m i.mounted t room in
-    let w = c.write.ensures.items in
-    let p = c.post_purged.ensures.trace in
+    let r = room-of g.D.Device.meaning i.mounted t room in
     let q = c.post_purged.ensures.out in
     let same = c.requires.same in
     let room = c.self.invariant.1 in (
-      rw (p, w, q, same) k,
+      rw (c.post_purged.ensures.trace, c.write.ensures.items, q, same) k,
       rw (q, same)
           (record {
             occupancy = omega (arith, length-append i.out.items (purged c.args.issued ∷ []), r);
@@ -39,6 +36,5 @@ returns g c =
     let k = settled-refused fits c.requires.placed settled refused t in
     let w = c.write.ensures.items in
     let p = c.post_purged.ensures.trace in
-    let q = c.post_purged.ensures.out in
     let same = c.requires.same in
-    record { book = rw (← c.self.view_is) (rw (p, w, q, same, ← after, since) refl); settled = rw (p, w, same) k }
+    record { book = rw (← c.self.view_is) (rw (p, w, c.post_purged.ensures.out, same, ← after, since) refl); settled = rw (p, w, same) k }

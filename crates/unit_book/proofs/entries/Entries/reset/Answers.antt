@@ -8,20 +8,15 @@ invariant_of-self g c =
     let settled = rw (← c.self.view_is) at c.requires.settled in
     let can = rw (← c.self.view_is) at c.requires.can in
     let k = ties-reset settled can c.self.invariant.0 c.reset.ensures.dcbs c.reset.ensures.count in
-    let w = c.write.ensures.items in
-    (rw w k, c.self.invariant.1)
+    (rw c.write.ensures.items k, c.self.invariant.1)
 
 pub returns-clause-settled : goal.returns-clause-settled
 returns-clause-settled g c =
-    let m = g.D.Device.meaning in
     let i = c.self.inside in
     let settled = rw (← c.self.view_is) at c.requires.settled in
-    let w = c.write.ensures.items in
-    rw w (settled-reset m i.mounted c.args.dcb (reverse i.trace.items) settled)
+    rw c.write.ensures.items (settled-reset g.D.Device.meaning i.mounted c.args.dcb (reverse i.trace.items) settled)
 
 pub reset-requires : goal.reset-requires
 reset-requires g c =
-    let i = c.self.inside in
-    let t = c.self.invariant.0 in
     let can = rw (← c.self.view_is) at c.requires.can in
-    open-row g.D.Device.meaning i.mounted c.args.dcb t can
+    open-row g.D.Device.meaning c.self.inside.mounted c.args.dcb c.self.invariant.0 can

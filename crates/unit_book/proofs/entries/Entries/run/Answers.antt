@@ -47,18 +47,14 @@ quiet g c =
 pub returns-in_default-run : goal.returns-in_default-run
 returns-in_default-run g c =
     let q = quiet g (goal.at.returns-in_default-run g c).In_default-run in
-    let channel_is = q.1 in
-    let same = q.2 in
     let o : c.self.inside.active ≡ Some c.in-Some.active = sym c.take.ensures.value ∙ c.in-Some.is in
-    rw (← c.self.view_is) (q.0, rw (same, channel_is, o) refl)
+    rw (← c.self.view_is) (q.0, rw (q.2, q.1, o) refl)
 
 pub invariant_of-self-in_default-run : goal.invariant_of-self-in_default-run
 invariant_of-self-in_default-run g c =
     let q = quiet g (goal.at.invariant_of-self-in_default-run g c).In_default-run in
-    let channel_is = q.1 in
-    let same = q.2 in
     let o : c.self.inside.active ≡ Some c.in-Some.active = sym c.take.ensures.value ∙ c.in-Some.is in
-    rw (same, channel_is) (ties-found o c.self.invariant.0, rooms-found o c.self.invariant.1)
+    rw (q.2, q.1) (ties-found o c.self.invariant.0, rooms-found o c.self.invariant.1)
 
 pub invariant_of-self-2 : goal.invariant_of-self-2
 invariant_of-self-2 g c =
@@ -67,32 +63,26 @@ invariant_of-self-2 g c =
     let f = found g (goal.at.invariant_of-self-2 g c).After-run in
     let settled = rw (← c.self.view_is) at c.requires.settled in
     let k = ties-ran m i.mounted (burst g (goal.at.invariant_of-self-2 g c).In-Some-run) f.1 settled c.run.ensures.place in
-    let e = c.write.ensures.items in
     let s = c.run.ensures.same in
     let room = rooms-found f.0 c.self.invariant.1 in
     let n = c.name.ensures ∙ ap (λ (x : Active). x.piece.value.name) s in
     let whole = subst (λ (x : Active). Ties m i.mounted
     (fields_of (reverse c.write.new.trace.items) c.run.new.channel i.waiting.pieces i.dcbs i.out.items) (Some x)) (sym s)
-    (rw (e, n) k) in
+    (rw (c.write.ensures.items, n) k) in
     (whole, record { occupancy = room.occupancy; waiting_room = room.waiting_room; swept_is = room.swept_is })
 
 pub returns : goal.returns
 returns g c =
-    let m = g.D.Device.meaning in
-    let i = c.self.inside in
     let f = found g (goal.at.returns g c).After-run in
-    let k = told m i.mounted (burst g (goal.at.returns g c).In-Some-run) f.1 in
+    let k = told g.D.Device.meaning c.self.inside.mounted (burst g (goal.at.returns g c).In-Some-run) f.1 in
     let e = c.write.ensures.items in
     let s = c.run.ensures.same in
     let n = c.name.ensures ∙ ap (λ (x : Active). x.piece.value.name) s in
     let isc_is = ap (λ (x : Channel g.row.D.Denot). x.isc) k.channel_is in
-    let active_is = k.active in
-    let runs_on = k.running in
-    let o = f.0 in
     rw (← c.self.view_is) (record {
       name = c.in-Some.active.piece.value.name;
-      running = rw active_is (rw runs_on refl);
+      running = rw k.active (rw k.running refl);
       count = k.commands;
-      adds = rw (e, n, s, o, isc_is) refl;
+      adds = rw (e, n, s, f.0, isc_is) refl;
       pending_is = c.has_ended-pending.ensures ∙ ap not (sym (rw (e, n) k.ended));
     })

@@ -10,5 +10,5 @@ returns-then-not-is_running g c =
 pub returns : goal.returns
 returns g c =
     let b = c.args.self.now in
-    let e = c.active_of.ensures in
-    rw e (halts-active g.D.Device.meaning b.mounted c.args.scope b.trace (sym c.is_running.ensures ∙ c.if-not-is_running.false))
+    rw c.active_of.ensures
+    (halts-active g.D.Device.meaning b.mounted c.args.scope b.trace (sym c.is_running.ensures ∙ c.if-not-is_running.false))

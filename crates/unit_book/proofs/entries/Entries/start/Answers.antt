@@ -24,15 +24,13 @@ found g c again =
 pub returns-in-Err-clause-full : goal.returns-in-Err-clause-full
 returns-in-Err-clause-full g c =
     let f = found g (goal.at.returns-in-Err-clause-full g c).After-awaits c.if-not-awaits.false in
-    let full = c.in-Err.ensures.full in
     rw (← c.self.view_is) (ForStart c.in-Some.active.piece.value.name
-    (MayAgain f.2 (may-restart g.D.Device.meaning c.self.inside.mounted f.1)) (omega (arith, full)))
+    (MayAgain f.2 (may-restart g.D.Device.meaning c.self.inside.mounted f.1)) (omega (arith, c.in-Err.ensures.full)))
 
 pub launch-requires : goal.launch-requires
 launch-requires g c =
     let f = found g (goal.at.launch-requires g c).After-awaits c.if-not-awaits.false in
-    let piece_is = c.deref-request.ensures in
-    rw piece_is (restart-fits g.D.Device.meaning c.self.inside.mounted f.1 g.met.D.Device.lawful)
+    rw c.deref-request.ensures (restart-fits g.D.Device.meaning c.self.inside.mounted f.1 g.met.D.Device.lawful)
 
 pub invariant_of-self-2 : goal.invariant_of-self-2
 invariant_of-self-2 g c =
@@ -41,17 +39,14 @@ invariant_of-self-2 g c =
     let f = found g (goal.at.invariant_of-self-2 g c).After-awaits c.if-not-awaits.false in
     let dcb_is = ap (λ (x : Piece). x.dcb) c.deref-request.ensures in
     let k = ties-restart m i.mounted f.1 (rw dcb_is at c.mask-mask.ensures) in
-    let w = c.write.ensures.items in
-    let r = c.reserve.ensures.items in
-    let n = c.name-name.ensures in
     let l = c.launch.ensures
     ∙ ap (λ (x : Piece). ssch_started m i.channel x.start x.seek c.mask-mask.result i.channel.phase) c.deref-request.ensures in
-    let v = c.restarted.ensures in
-    let room = rooms-found f.0 c.self.invariant.1 in
-    (rw (w, r, n, l, v) k, record { occupancy = room.occupancy; waiting_room = room.waiting_room; swept_is = room.swept_is })
+    let room = rooms-found f.0 c.self.invariant.1 in (
+      rw (c.write.ensures.items, c.reserve.ensures.items, c.name-name.ensures, l, c.restarted.ensures) k,
+      record { occupancy = room.occupancy; waiting_room = room.waiting_room; swept_is = room.swept_is },
+    )
 
 pub returns-clause-ok : goal.returns-clause-ok
 returns-clause-ok g c =
     let f = found g (goal.at.returns-clause-ok g c).After-awaits c.if-not-awaits.false in
-    let n = c.name-name.ensures in
-    rw (← c.self.view_is, n) (MayAgain f.2 (may-restart g.D.Device.meaning c.self.inside.mounted f.1), search rules)
+    rw (← c.self.view_is, c.name-name.ensures) (MayAgain f.2 (may-restart g.D.Device.meaning c.self.inside.mounted f.1), search rules)

@@ -23,10 +23,9 @@ found g c =
 
 pub returns-in_default-clause-ok : goal.returns-in_default-clause-ok
 returns-in_default-clause-ok g c =
-    let i = c.self.inside in
     let z = sym c.front.ensures ∙ ap option_copied c.in_default.is in
     let none = rw (← c.self.view_is) at c.requires.none in
-    rw (← c.self.view_is) (none, sym c.self.invariant.0.queue ∙ no-first i.waiting.pieces z, refl)
+    rw (← c.self.view_is) (none, sym c.self.invariant.0.queue ∙ no-first c.self.inside.waiting.pieces z, refl)
 
 pub post_violated-requires-clause-first : goal.post_violated-requires-clause-first
 post_violated-requires-clause-first g c =
@@ -40,11 +39,10 @@ pub returns-in_err-reserve-clause-full : goal.returns-in_err-reserve-clause-full
 returns-in_err-reserve-clause-full g c =
     let f = found g (goal.at.returns-in_err-reserve-clause-full g c).After-passes_check in
     let none = rw (← c.self.view_is) at c.requires.none in
-    let full = c.in_err-reserve.ensures.full in
     let r = c.in-Some.piece.now in
     on-err c.from_residual.result _ (rw (← c.self.view_is) (ForStart r.name
     (MayFirst (record { none = none; request = r; first = f.0; name = refl; passes = f.1 ∙ c.if-not-passes_check.false }))
-    (omega (arith, full))))
+    (omega (arith, c.in_err-reserve.ensures.full))))
 
 pub launch-requires : goal.launch-requires
 launch-requires g c =
@@ -58,8 +56,7 @@ launch-requires g c =
     let starts : StartsFirst m i.mounted r.name (reverse i.trace.items) =
     record { none = none; request = r; first = f.0; name = refl; passes = f.1 ∙ c.if-not-passes_check.false } in
     let fits = first-fits m i.mounted starts (record { legal = t.legal; settled = settled }) in
-    let device_is = t.device in
-    rw device_is (fits-device m i.mounted g.met.D.Device.lawful (reverse i.trace.items) c.in-Some.piece.now.seek fits)
+    rw t.device (fits-device m i.mounted g.met.D.Device.lawful (reverse i.trace.items) c.in-Some.piece.now.seek fits)
 
 pub invariant_of-self-2 : goal.invariant_of-self-2
 invariant_of-self-2 g c =
@@ -75,13 +72,10 @@ invariant_of-self-2 g c =
     let k = ties-first c.pop.result c.map.result t
     (record { first = f.0; settled = settled; starts = starts; mask_is = c.mask-mask.ensures }) (c.pop.ensures.first ∙ f.2)
     c.map.ensures.cases in
-    let w = c.write.ensures.items in
-    let r = c.reserve.ensures.items in
     let q = c.pop.ensures.rest in
-    let l = c.launch.ensures in
     let room = rooms-found (none-in_field m i.mounted none t).1 c.self.invariant.1 in
     let count = ap length (first-rest i.waiting.pieces c.in-Some.piece.now f.2) in (
-      rw (w, r, q, l) k.0,
+      rw (c.write.ensures.items, c.reserve.ensures.items, q, c.launch.ensures) k.0,
       record {
         occupancy = rw q (omega (arith, room.occupancy, count, k.1));
         waiting_room = rw q room.waiting_room;

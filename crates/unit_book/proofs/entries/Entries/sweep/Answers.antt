@@ -12,11 +12,10 @@ use Rattle.unit_book.proofs.entries.Entries.sweep.Goals as goal
 
 pub returns-in_default-clause-book : goal.returns-in_default-clause-book
 returns-in_default-clause-book g c =
-    let m = g.D.Device.meaning in
     let b = c.args.self.now in
     let d = subst (λ (x : Option Selection). DoomedBy x b.trace) c.in_default.is c.requires.doomed in
     let same = dooms-none b.trace (d ∙ filter-never (waiting b.trace)) in
-    let since = since-same m b.mounted b.trace in
+    let since = since-same g.D.Device.meaning b.mounted b.trace in
     rw (same, since, append-nil b.out) refl
 
 pub returns-in_default-clause-settled : goal.returns-in_default-clause-settled
@@ -59,10 +58,9 @@ invariant_of-self g c =
     let trace_is = rw items_is at c.post_all.ensures.trace in
     let out_is = rw items_is at c.post_all.ensures.out in
     let kept = c.sweep.ensures.kept in
-    let left_is = k.1 in
     let ties = subst (λ (x : List Piece). Ties m i.mounted
     (fields_of (all_posted (filter p i.waiting.pieces) (reverse i.trace.items)) i.channel x i.dcbs (i.out.items
-    ++ map purged (filter p i.waiting.pieces))) i.active) left_is k.0.ties in (
+    ++ map purged (filter p i.waiting.pieces))) i.active) k.1 k.0.ties in (
       rw (trace_is, kept, out_is) ties,
       record {
         occupancy = rw (kept, out_is)
@@ -87,8 +85,7 @@ returns g c =
     let d = subst (λ (x : Option Selection). DoomedBy x (reverse i.trace.items)) c.in-Some.is
     (rw (← c.self.view_is) at c.requires.doomed) in
     let u = rw (← c.self.view_is) at c.requires.due in
-    let room = c.self.invariant.1 in
-    let sw = swept-found c.sweep.ensures.swept room.swept_is in
+    let sw = swept-found c.sweep.ensures.swept c.self.invariant.1.swept_is in
     let k = ties-dooms m i.mounted p d u c.self.invariant.0 in
     let items_is = ap (λ (x : Queue). x.pieces) sw in
     let trace_is = rw items_is at c.post_all.ensures.trace ∙ k.2 in

@@ -4,9 +4,8 @@ use Rattle.unit_book.proofs.entries.Entries.take_out.Goals as goal
 
 pub invariant_of-self : goal.invariant_of-self
 invariant_of-self g c =
-    let m = g.D.Device.meaning in
     let i = c.self.inside in
-    let t = ties-taken m i.mounted c.self.invariant.0 in
+    let t = ties-taken g.D.Device.meaning i.mounted c.self.invariant.0 in
     let e = c.pop_front.ensures.items in
     let room = c.self.invariant.1 in (
       rw e t,
@@ -20,9 +19,8 @@ invariant_of-self g c =
 
 pub returns-clause-given : goal.returns-clause-given
 returns-clause-given g c =
-    let m = g.D.Device.meaning in
     let i = c.self.inside in
     let o = c.self.invariant.0.out in
-    let e = c.pop_front.ensures.items in
-    rw (← c.self.view_is, e)
-    (given-some o.0 i.out.items (posted m i.mounted (reverse i.trace.items)) c.pop_front.result o.1 c.pop_front.ensures.value)
+    rw (← c.self.view_is, c.pop_front.ensures.items)
+    (given-some o.0 i.out.items
+    (posted g.D.Device.meaning i.mounted (reverse i.trace.items)) c.pop_front.result o.1 c.pop_front.ensures.value)

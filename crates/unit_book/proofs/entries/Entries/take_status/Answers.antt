@@ -20,17 +20,15 @@ found : (g : Over) (c : After-code g) → let i = c.self.inside in let a = c.in-
     × (pending_code (g.D.Device.meaning.kind i.mounted) c.in-Some.status a.starts a.halted a.covered ≡ c.code.result)
 found g c =
     let o : c.self.inside.active ≡ Some c.in-Some-take.active = sym c.take.ensures.value ∙ c.in-Some-take.is in
-    let kind_is = c.kind.ensures in
-    (o, ties-found o c.self.invariant.0, sym c.status.ensures ∙ c.in-Some.is, sym (rw kind_is at c.code.ensures))
+    (o, ties-found o c.self.invariant.0, sym c.status.ensures ∙ c.in-Some.is, sym (rw c.kind.ensures at c.code.ensures))
 
 pub invariant_of-self-in_default-code : goal.invariant_of-self-in_default-code
 invariant_of-self-in_default-code g c =
     let f = found g (goal.at.invariant_of-self-in_default-code g c).After-code in
     let k = decided g.D.Device.meaning c.self.inside.mounted f.1 f.2 None (f.3 ∙ c.in_default-code.is) in
-    let h = c.tsch.ensures.state in
     let v = c.awaiting.ensures in
     let room = rooms-found f.0 c.self.invariant.1 in (
-      rw (h, v) (ties-await g.D.Device.meaning c.self.inside.mounted f.1 k.0 k.1),
+      rw (c.tsch.ensures.state, v) (ties-await g.D.Device.meaning c.self.inside.mounted f.1 k.0 k.1),
       rw v (record { occupancy = room.occupancy; waiting_room = room.waiting_room; swept_is = room.swept_is }),
     )
 
@@ -38,11 +36,8 @@ pub returns-in_default-code-clause-ok : goal.returns-in_default-code-clause-ok
 returns-in_default-code-clause-ok g c =
     let f = found g (goal.at.returns-in_default-code-clause-ok g c).After-code in
     let k = decided g.D.Device.meaning c.self.inside.mounted f.1 f.2 None (f.3 ∙ c.in_default-code.is) in
-    let h = c.tsch.ensures.state in
-    let v = c.awaiting.ensures in
-    let o = f.0 in
-    let n = c.name-name.ensures in
-    rw (← c.self.view_is, n, h, v, o) (decided_pending g.D.Device.meaning c.self.inside.mounted f.1 f.2, k.0, refl)
+    rw (← c.self.view_is, c.name-name.ensures, c.tsch.ensures.state, c.awaiting.ensures, f.0)
+    (decided_pending g.D.Device.meaning c.self.inside.mounted f.1 f.2, k.0, refl)
 
 pub returns-in-Err-clause-full : goal.returns-in-Err-clause-full
 returns-in-Err-clause-full g c =
@@ -62,8 +57,7 @@ returns-in-Err-clause-full g c =
 pub returns-in-Err-clause-pending : goal.returns-in-Err-clause-pending
 returns-in-Err-clause-pending g c =
     let f = found g (goal.at.returns-in-Err-clause-pending g c).After-code in
-    let o = f.0 in
-    rw (← c.self.view_is) (rw o (decided_pending g.D.Device.meaning c.self.inside.mounted f.1 f.2))
+    rw (← c.self.view_is) (rw f.0 (decided_pending g.D.Device.meaning c.self.inside.mounted f.1 f.2))
 
 pub note_post-requires : goal.note_post-requires
 note_post-requires g c =
@@ -74,28 +68,28 @@ note_post-requires g c =
     let H = reverse i.trace.items in
     let opened = started-opened m i.mounted a.piece.value.name H t.legal (active-is a.piece.value.name H t.activity.is).0 in
     let same = ap (λ (r : Piece). r.dcb) t.activity.request in
-    let piece_is = c.deref-request.ensures in
-    rw (piece_is, same) (opened-row m i.mounted (request_named a.piece.value.name H).dcb t opened)
+    rw (c.deref-request.ensures, same) (opened-row m i.mounted (request_named a.piece.value.name H).dcb t opened)
 
 pub invariant_of-self-2 : goal.invariant_of-self-2
 invariant_of-self-2 g c =
-    let m = g.D.Device.meaning in
     let i = c.self.inside in
     let f = found g (goal.at.invariant_of-self-2 g c).After-code in
-    let fits = decided m i.mounted f.1 f.2 (Some c.in-Some-code.code) (f.3 ∙ c.in-Some-code.is) in
-    let piece_is = c.deref-request.ensures in
-    let noted = rw piece_is at c.note_post.ensures.dcbs in
+    let fits = decided g.D.Device.meaning i.mounted f.1 f.2 (Some c.in-Some-code.code) (f.3 ∙ c.in-Some-code.is) in
+    let noted = rw c.deref-request.ensures at c.note_post.ensures.dcbs in
     let settled = rw (← c.self.view_is) at c.requires in
     let k = ties-post settled f.1 fits noted c.note_post.ensures.count in
-    let w = c.write_post.ensures.items in
-    let r = c.reserve.ensures.items in
-    let n = c.name-name.ensures in
     let q = c.hand_out.ensures in
-    let v = c.posted_from.ensures in
-    let h = c.tsch-stored.ensures.state in
     let z = c.take.ensures.after in
     let room = rooms-found f.0 c.self.invariant.1 in (
-      rw (w, r, n, q, v, h, z) k,
+      rw (
+        c.write_post.ensures.items,
+        c.reserve.ensures.items,
+        c.name-name.ensures,
+        q,
+        c.posted_from.ensures,
+        c.tsch-stored.ensures.state,
+        z,
+      ) k,
       record {
         occupancy = rw (z, q) (omega (arith, length-append i.out.items (c.posted_from.result ∷ []), room.occupancy));
         waiting_room = rw q room.waiting_room;
@@ -120,27 +114,20 @@ returns-clause-ok g c =
     let w = c.write_post.ensures.items in
     let r = c.reserve.ensures.items in
     let n = c.name-name.ensures in
-    let q = c.hand_out.ensures in
-    let v = c.posted_from.ensures in
-    let h = c.tsch-stored.ensures.state in
-    let z = c.take.ensures.after in
-    let o = f.0 in
-    let piece_is = c.deref-request.ensures in
-    let doom_is = c.doomed_by_post-doom.ensures in
     let ok = c.in-Ok.ensures.ok in
     let len = c.in-Ok.ensures.len in
     let spare = c.write_post.ensures.spare in
     let count = c.len.ensures.len in
     let queue = ap length f.1.queue in
     rw (← c.self.view_is) (
-      rw o (decided_pending m i.mounted f.1 f.2),
+      rw f.0 (decided_pending m i.mounted f.1 f.2),
       record {
         status = c.in-Some.status;
         fits = rw n fits;
         posts = record {
-          extends = rw (w, r, n, q, v, h, z, value) refl;
+          extends = rw (w, r, n, c.hand_out.ensures, c.posted_from.ensures, c.tsch-stored.ensures.state, c.take.ensures.after, value) refl;
           room = rw (w, r, n) (omega arith);
-          dooms = rw (w, r, n, doom_is, piece_is, same) dooms;
+          dooms = rw (w, r, n, c.doomed_by_post-doom.ensures, c.deref-request.ensures, same) dooms;
         };
       },
     )
