@@ -13,7 +13,7 @@ ghost use Rattle.unit_book.specs.Dcbs.{doomed, is_refused};
 ghost use Rattle.unit_book.specs.Dooms.{all_posted, after_dooms, purged};
 ghost use Rattle.unit_book.specs.Posts.{posted_value};
 ghost use Rattle.unit_queue.specs.Queue.{queue};
-ghost use Rattle.unit_book.specs.Answers.{IsBegun, Extends, Takes};
+ghost use Rattle.unit_book.specs.Answers.{IsBegun, Extends, TakesStatus};
 
 use crate::decision::{Begun, Taken};
 use crate::doom::doomed_by_post;
@@ -97,7 +97,7 @@ impl<D: Device> Entries<D> {
     /// post and for the posts of all that it may doom.
     pub fn take_status(&mut self) -> Result<Taken, AllocError>
         requires { Settled D.meaning self.old.mounted self.old.trace }
-        ensures ok { IfOk result (λ taken. Takes D.meaning self.old taken self.new) }
+        ensures ok { IfOk result (λ taken. TakesStatus D.meaning self.old taken self.new) }
         ensures err { OnErr result (self.new ≡ self.old) }
         ensures full { OnErr result (InterruptLacks D.meaning self.old) }
         ensures pending { OnErr result (is_pending D.meaning self.old ≡ true) }
