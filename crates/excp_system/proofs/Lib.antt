@@ -5,3 +5,4 @@ pub mod Deals
 pub mod Makes
 pub mod Balances
 pub mod Units
+pub mod Rests

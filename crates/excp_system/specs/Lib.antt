@@ -1,9 +1,10 @@
 -- The definitions of excp_system: whose row each is, what a lock and a task keep, the notices of a pending status,
--- and the calls of tasks and units.
+-- the units at rest, and the calls of tasks and units.
 pub mod Sites
 pub mod Fans
 pub mod States
 pub mod Notices
+pub mod Rests
 pub mod Calls
 pub mod RowCalls
 pub mod Opening
