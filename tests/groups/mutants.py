@@ -5,15 +5,15 @@ line says what rejects it:
 
     rejected by: check                 `rt check` of the crate does not prove it
     rejected by: test CRATE NAME       the test of that crate fails; nothing is proved, as by `rt try --test`
-    rejected by: run GROUP CASE ..     the cases of tests/run with these words in their names, which pass on the program, fail on
-                                       one that is made with the edit; nothing is proved, as by `./excp --try`
+    rejected by: run GROUP CASE ..     the cases of tests/run with these words in their names fail on a program with the edit, and
+                                       pass on one with none; both are built with nothing proved, as by `./excp --try`
 
 Kept work is what `rt check` or `rt lib` leaves in crates/CRATE/out. If a crate has none, as after `rt ci` in a new clone,
 the crate is proved first. The crates below have to be built by `rt lib`.
 
 Each mutant that is rejected is a line of a table: crate, mutant, what rejects it, seconds, and for a check where. Any other
 fails: as NOT REJECTED if it survives, as BAD EDIT if it cannot be read, applied or compiled, and as NOT TRIED if its check or its
-build was killed or took too long. tests/edits has the rules for the files, which `tests/run documents` checks.
+build was killed or took too long, or its case fails with no edit too. tests/edits has the rules for the files, which `tests/run documents` checks.
 """
 
 import glob
@@ -35,17 +35,18 @@ MUTANTS = f"{TOP}/tests/mutants"
 # The most seconds that a build with nothing proved may take.
 SECONDS = 900
 
-# The statuses of a build that was killed: by `tools/prove.py try`, and of a process or of a shell whose child was.
-KILLED = (6, -9, 137)
+# The seconds that a build has to end once it is told to.
+GRACE = 10
+
+# The statuses of a process that was killed, of a shell whose child was, and of `tools/prove.py try` whose build was.
+KILLED = (-9, 137)
+BUILD_KILLED = (*KILLED, 6)
 
 # The most characters of what a check says, in a line of the table.
 SHOWN = 90
 
-# What to do if no program is there to pass the cases of a mutant with no edit.
-NO_PROGRAM = (
-    "no program {}: `./excp --build` proves and builds crates/excp_job/out/excp_job; `tools/prove.py try` builds"
-    " out/tried/excp_job with nothing proved, in two minutes, for `--program out/tried/excp_job`"
-)
+# The program with no edit, built as those with edits are: with nothing proved, and with AddressSanitizer.
+UNPROVED = f"{TOP}/out/tried/excp_job"
 
 # What a worker keeps of a crate from one mutant to the next: the copy of its kept work.
 KEPT = {}
@@ -120,26 +121,28 @@ def rejected_by_test(name, edit, tests, test):
                 it.write(text)
         ran = built_by(["rt", "try", "--test", "--", test], cwd=f"{room}/crates/{tests}")
     said = ran.out + ran.err
-    require_ended(ran, f"the build of {tests}")
+    require_ended(ran, f"the build of {tests}", KILLED)
     has_run = re.search(rf"^test (\S+::)?{re.escape(test)} \.\.\. ", said, re.M)
     is_told = re.search(r"\berror[\[:]", said)
     require(has_run or is_told, f"NOT TRIED: {tests} ended with no error and no test, as if it was killed: run this again", ran)
     require(has_run, f"BAD EDIT: {test} of {tests} did not run", ran)
     require(re.search(rf"^test (\S+::)?{re.escape(test)} \.\.\. FAILED", said, re.M), f"NOT REJECTED: {test} of {tests} passes", ran)
-    return begun, ""
+    return begun, "it does not end" if "no-answer: the program did not end" in said else ""
 
 
-def rejected_by_run(name, edit, group, case, program):
-    """The cases pass on the program, and fail on one with the edit."""
+def rejected_by_run(name, edit, group, case):
+    """The cases pass on the program that is built with no edit, and fail on the one with the edit."""
     begun = time.monotonic()
     rt = loaded()
     texts, why = rt.read_edit(edit, f"{TOP}/crates/{name}")
     require(not why, f"BAD EDIT: {why}")
-    require(os.access(program, os.X_OK), NO_PROGRAM.format(program.removeprefix(f"{TOP}/")))
+    built = built_by(["python3", f"{TOP}/tools/prove.py", "try"])
+    require_ended(built, "the build of the program with no edit")
+    require(built.status == 0, "NOT TRIED: the program with no edit is not built", built)
     words = [f"{TOP}/tests/run", group, "--case", case, "--jobs", "1", "--program"]
-    before = run([*words, program], timeout=SECONDS, stdin=subprocess.DEVNULL)
+    before = run([*words, UNPROVED], timeout=SECONDS, stdin=subprocess.DEVNULL)
     passes = before.status == 0 and re.search(r"^[1-9]\d* passed, 0 failed", before.out, re.M)
-    require(passes, f"BAD EDIT: {group}: {case}: does not pass with no edit", before)
+    require(passes, f"NOT TRIED: {group}: {case}: does not pass with no edit", before)
     with tempfile.TemporaryDirectory(prefix="mutants-") as room:
         for file in ("crates.txt", "HANDLES"):
             shutil.copy(f"{TOP}/{file}", room)
@@ -158,16 +161,17 @@ def rejected_by_run(name, edit, group, case, program):
 
 
 def built_by(words, **how):
-    """A build. If it takes too long, all its processes are killed with it."""
+    """A build. If it takes too long, it is told to end, and what is left of its processes is killed."""
     how = {"stdin": subprocess.DEVNULL, "stdout": subprocess.PIPE, "stderr": subprocess.PIPE, "start_new_session": True, **how}
     with subprocess.Popen(words, **how) as it:
-        try:
-            out, err = it.communicate(timeout=SECONDS)
-            return Ran(words, it.returncode, decoded(out), decoded(err))
-        except subprocess.TimeoutExpired:
-            os.killpg(it.pid, signal.SIGKILL)
-            out, err = it.communicate()
-            return Ran(words, f"none: it ran for more than {SECONDS} seconds", decoded(out), decoded(err))
+        for seconds, ends in ((SECONDS, signal.SIGTERM), (GRACE, signal.SIGKILL), (None, None)):
+            try:
+                out, err = it.communicate(timeout=seconds)
+                break
+            except subprocess.TimeoutExpired:
+                os.killpg(it.pid, ends)
+        status = it.returncode if seconds == SECONDS else f"none: it ran for more than {SECONDS} seconds"
+        return Ran(words, status, decoded(out), decoded(err))
 
 
 def last_lines(log):
@@ -178,11 +182,11 @@ def last_lines(log):
         return "".join(f"{line.rstrip()}\n" for line in it.readlines()[-FEW:])
 
 
-def require_ended(built, what):
+def require_ended(built, what, killed=BUILD_KILLED):
     """A build was not killed, and did not take too long: else nothing is known of its mutant."""
     is_late = isinstance(built.status, str)
     how = "took too long" if is_late else "was killed, most likely for memory"
-    require(not is_late and built.status not in KILLED, f"NOT TRIED: {what} {how}: run this again", built)
+    require(not is_late and built.status not in killed, f"NOT TRIED: {what} {how}: run this again", built)
 
 
 def tried(name, mutant, by, judge):
@@ -229,7 +233,7 @@ def cases(setup):
                 judge = lambda n=name, e=edit, f=first: rejected_by_test(n, e, f[3], f[4])
             elif first[:3] == ["rejected", "by:", "run"] and len(first) > 4:
                 case = " ".join(first[4:])
-                judge = lambda n=name, e=edit, g=first[3], c=case: rejected_by_run(n, e, g, c, setup.program)
+                judge = lambda n=name, e=edit, g=first[3], c=case: rejected_by_run(n, e, g, c)
             else:
                 what = "BAD EDIT: line 1 is no `rejected by: check`, `test CRATE NAME` or `run GROUP CASE ..`"
                 judge = lambda w=what: require(False, w)
