@@ -13,7 +13,8 @@ the crate is proved first. The crates below have to be built by `rt lib`.
 
 Each mutant that is rejected is a line of a table: crate, mutant, what rejects it, seconds, and for a check where. Any other
 fails: as NOT REJECTED if it survives, as BAD EDIT if it cannot be read, applied or compiled, and as NOT TRIED if its check or its
-build was killed or took too long, or its case fails with no edit too. tests/edits has the rules for the files, which `tests/run documents` checks.
+build was killed or took too long, or its case fails with no edit too. tests/edits has the rules for the files, which
+`tests/run documents` checks.
 """
 
 import glob
