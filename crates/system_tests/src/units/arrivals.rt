@@ -1,4 +1,4 @@
-//! Calls of a book alone: arrivals at a book whose trace is full, a value that is returned, and a purge of a task.
+//! An arrival at a book whose trace is full, and for which there is no memory.
 
 ghost use Rattle.std.specs.Prelude.{◌≡◌, ◌+◌, true, IfOk};
 ghost use Rattle.std.specs.List.{list_all};
@@ -10,7 +10,7 @@ use io_area::Area;
 use io_images::Extent;
 use request_piece::Request;
 use std::alloc::Global;
-use unit_book::{Mode, ProcessingMethod, Purging};
+use unit_book::ProcessingMethod;
 
 /// A book whose trace has room for no entry more: DCBs are opened until it is full.
 fn full_book(alloc: Global) -> Result<UnitBook<Disk>, AllocError>
@@ -67,48 +67,15 @@ fn arrive_without_memory(rt: HostRuntime) -> Result<(), Fail> {
     expect_served(&rt, &mut book)
 }
 
-/// If there is no memory to make room for an arrival, there is room when it is tried once more. With room, the arrival
-/// needs no memory. Run it with each allocation made to fail in turn.
+/// If there is no memory to make room for an arrival, there is room when it is tried once more: run it with each
+/// allocation made to fail in turn.
 #[test]
 fn reserve_without_memory(rt: HostRuntime) -> Result<(), Fail> {
     let mut book = full_book(rt.alloc())?;
     assert!(rt; book.spare() == 0);
-    let request = first_request(rt.alloc())?;
     if let Err(AllocError) = book.reserve() {
         book.reserve().map_err(|_| TWICE)?;
     }
     assert!(rt; book.spare() >= 2);
-    let arrived = book.arrive(request).is_ok();
-    assert!(rt; arrived, "no memory for an arrival with room");
-    expect_served(&rt, &mut book)
-}
-
-/// A value that was taken out and returned is the next that is taken out.
-#[test]
-fn returned_value_is_next(rt: HostRuntime) -> Result<(), Fail> {
-    let mut book = full_book(rt.alloc())?;
-    arrives(&mut book, first_request(rt.alloc())?)?;
-    book.settle()?;
-    let value = book.take_out().ok_or("no post")?;
-    let posted = (value.name(), value.code(), value.csw(), value.sense());
-    assert!(rt; book.out_len() == 0);
-    book.return_out(value);
-    assert!(rt; book.out_len() == 1);
-    let value = book.take_out().ok_or("no post")?;
-    assert!(rt; (value.name(), value.code(), value.csw(), value.sense()) == posted);
-    Ok(())
-}
-
-/// A purge of a task at a book alone: of another task it purges nothing, and of this one it posts 48 what waits.
-#[test]
-fn purge_of_a_task_at_a_book(rt: HostRuntime) -> Result<(), Fail> {
-    let mut book = full_book(rt.alloc())?;
-    arrives(&mut book, first_request(rt.alloc())?)?;
-    assert!(rt; book.purge_task(1, Mode::Halt)? == Purging::Quiet);
-    assert!(rt; book.waiting_len() == 1 && book.out_len() == 0);
-    assert!(rt; book.purge_task(0, Mode::Halt)? == Purging::Quiet);
-    assert!(rt; book.waiting_len() == 0 && book.out_len() == 1);
-    let value = book.take_out().ok_or("no post")?;
-    assert!(rt; value.name() == Name { task: 0, seq: 1 } && value.code() == Code::Purged);
     Ok(())
 }
