@@ -11,6 +11,8 @@ line says what rejects it:
 Kept work is what `rt check` or `rt lib` leaves in crates/CRATE/out. If a crate has none, as after `rt ci` in a new clone,
 the crate is proved first. The crates below have to be built by `rt lib`.
 
+Beside them, a number is changed in each theorem by computation: tests/worked.py says how.
+
 Each mutant that is rejected is a line of a table: crate, mutant, what rejects it, seconds, and for a check where. Any other
 fails: as NOT REJECTED if it survives, as BAD EDIT if it cannot be read, applied or compiled, and as NOT TRIED if its check or its
 build was killed or took too long, or its case fails with no edit too. tests/edits has the rules for the files, which
@@ -29,7 +31,8 @@ import sys
 import tempfile
 import time
 
-from harness import FEW, TOP, Case, Failed, Ran, decoded, require, run
+import worked
+from harness import FEW, TOP, Case, Failed, Ran, decoded, read, require, run
 
 MUTANTS = f"{TOP}/tests/mutants"
 
@@ -196,6 +199,21 @@ def tried(name, mutant, by, judge):
     return f"{name:15} {mutant:38} {by:50} {time.monotonic() - begun:5.0f} s  {where}".rstrip()
 
 
+def numbers_rejected(name):
+    """The line of the table for the theorems by computation of a crate, of which the check rejects each changed number."""
+    rt = loaded()
+    crate = crate_of(rt, name)
+    kept = kept_work(rt, crate)
+    begun = time.monotonic()
+    counts = [
+        worked.judged(read(f"{crate.folder}/{path}"), path, lambda text, p=path: rt.checked(crate, {p: text}, ["--jobs", "1"], kept))
+        for path in worked.files_of(crate.folder)
+    ]
+    theorems, changes = map(sum, zip(*counts))
+    where = f"{changes} changes in {theorems} theorems"
+    return f"{name:15} {'numbers of theorems':38} {'check':50} {time.monotonic() - begun:5.0f} s  {where}"
+
+
 def still_proved(name):
     """The crate is proved over the work that its mutants left, so each of them was rejected for its edit alone."""
     rt = loaded()
@@ -211,36 +229,49 @@ def is_wanted(name, mutant, words):
     return not words or name in words or mutant in words or f"{name}/{mutant}" in words
 
 
-def cases(setup):
+def cases_of(name, setup):
+    """The cases of a crate, and the names of its mutants."""
     known = set()
-    for folder in sorted(glob.glob(f"{MUTANTS}/*/")):
+    by_check = 0
+    for edit in sorted(glob.glob(f"{MUTANTS}/{name}/*.edit")):
+        mutant = os.path.basename(edit).removesuffix(".edit")
+        known |= {mutant, f"{name}/{mutant}"}
+        if not is_wanted(name, mutant, setup.names):
+            continue
+        with open(edit, encoding="utf-8") as it:
+            first = it.readline().split()
+        origin = f"{os.path.relpath(edit, TOP)}, line 1"
+        by = " ".join(first[2:])
+        chain = ""
+        if first == ["rejected", "by:", "check"]:
+            by_check += 1
+            chain = name
+            judge = lambda n=name, e=edit: rejected_by_check(n, e)
+        elif first[:3] == ["rejected", "by:", "test"] and len(first) == 5:
+            judge = lambda n=name, e=edit, f=first: rejected_by_test(n, e, f[3], f[4])
+        elif first[:3] == ["rejected", "by:", "run"] and len(first) > 4:
+            case = " ".join(first[4:])
+            judge = lambda n=name, e=edit, g=first[3], c=case: rejected_by_run(n, e, g, c)
+        else:
+            what = "BAD EDIT: line 1 is no `rejected by: check`, `test CRATE NAME` or `run GROUP CASE ..`"
+            judge = lambda w=what: require(False, w)
+        yield Case(f"{name} {mutant}", lambda n=name, m=mutant, b=by, j=judge: tried(n, m, b, j), origin, chain)
+    if worked.files_of(f"{TOP}/crates/{name}"):
+        known.add(f"{name}/numbers")
+        if is_wanted(name, "numbers", setup.names):
+            by_check += 1
+            yield Case(f"{name} numbers", lambda n=name: numbers_rejected(n), "tests/worked.py", name)
+    if by_check:
+        yield Case(f"{name}: proved after its mutants", lambda n=name: still_proved(n), "tests/groups/mutants.py", name)
+    return known
+
+
+def cases(setup):
+    known = {"numbers"}
+    for folder in sorted(glob.glob(f"{TOP}/crates/*/")):
         name = os.path.basename(folder.rstrip("/"))
-        by_check = 0
-        for edit in sorted(glob.glob(f"{folder}*.edit")):
-            mutant = os.path.basename(edit).removesuffix(".edit")
-            known |= {name, mutant, f"{name}/{mutant}"}
-            if not is_wanted(name, mutant, setup.names):
-                continue
-            with open(edit, encoding="utf-8") as it:
-                first = it.readline().split()
-            origin = f"{os.path.relpath(edit, TOP)}, line 1"
-            by = " ".join(first[2:])
-            chain = ""
-            if first == ["rejected", "by:", "check"]:
-                by_check += 1
-                chain = name
-                judge = lambda n=name, e=edit: rejected_by_check(n, e)
-            elif first[:3] == ["rejected", "by:", "test"] and len(first) == 5:
-                judge = lambda n=name, e=edit, f=first: rejected_by_test(n, e, f[3], f[4])
-            elif first[:3] == ["rejected", "by:", "run"] and len(first) > 4:
-                case = " ".join(first[4:])
-                judge = lambda n=name, e=edit, g=first[3], c=case: rejected_by_run(n, e, g, c)
-            else:
-                what = "BAD EDIT: line 1 is no `rejected by: check`, `test CRATE NAME` or `run GROUP CASE ..`"
-                judge = lambda w=what: require(False, w)
-            yield Case(f"{name} {mutant}", lambda n=name, m=mutant, b=by, j=judge: tried(n, m, b, j), origin, chain)
-        if by_check:
-            yield Case(f"{name}: proved after its mutants", lambda n=name: still_proved(n), "tests/groups/mutants.py", name)
+        of_crate = yield from cases_of(name, setup)
+        known |= of_crate | ({name} if of_crate else set())
     for word in setup.names:
         if word not in known:
             yield Case(word, lambda w=word: require(False, f"no mutant and no crate with mutants is called {w}"), "tests/run")

@@ -89,6 +89,12 @@ def is_test(ran, text):
     return "out of memory" if ran.status == 101 and is_reported else None
 
 
+def is_mounted_test(ran, text):
+    """A test passed, or it ended in a plain error of memory before its disk was mounted."""
+    way = is_test(ran, text)
+    return None if way == "out of memory" and re.search(r"^mounted$", ran.out, re.M) else way
+
+
 def is_resumed_test(ran, text):
     """As `is_test`; if it passed it resumed its run, at most once for each call that failed."""
     way = is_test(ran, text)
@@ -219,7 +225,8 @@ def programs(setup):
 
 # The tests: the crate, the names, and what is required of the runs.
 MUST_PASS = {"passes": True}
-RESUMES = {"passes": True, "pairs": True}
+RESUMES = {"judge": is_resumed_test, "passes": True, "pairs": True}
+RUNS_WITHOUT = {"judge": is_mounted_test, "kind": "lasting"}
 TESTS = [
     (
         "component_tests",
@@ -230,6 +237,7 @@ TESTS = [
         MUST_PASS,
     ),
     ("component_tests", ["two_senders_and_a_taker"], {}),
+    ("component_tests", ["run_without_memory"], RUNS_WITHOUT),
     ("job_tests", ["controls_without_memory", "steps_without_memory"], MUST_PASS),
     (
         "system_tests",
@@ -275,7 +283,7 @@ def cases(setup):
 
     for crate, names, required in reversed(TESTS):
         for name in names:
-            plan = Plan([], is_resumed_test if "pairs" in required else is_test, step=1 if setup.is_long else STEP, **required)
+            plan = Plan([], **{"judge": is_test, "step": 1 if setup.is_long else STEP, **required})
             origin = f"the test {name} of {crate}, and tests/groups/refusals.py"
             yield case(f"{crate} {name}", lambda c=crate, n=name, p=plan: tests(c, n, p, jobs), origin)
     for name, plan in programs(setup):

@@ -1,8 +1,9 @@
-//! A disk as a device: a seek under a file mask that no DCB has, and mounting without memory. What its commands do is in
-//! tests/cases/histories/disks.steps.
+//! A disk as a device: a seek under a file mask that no DCB has, and mounting and running without memory. What its
+//! commands do is in tests/cases/histories/disks.steps.
 
 use crate::devices::{act, holds, late_fault};
 use crate::memory::TWICE;
+use crate::subchannels::ssch;
 use ckd_disk::{Disk, Geometry, InitialRecord};
 use device_port::{Acted, Device, MountError};
 use io_area::Area;
@@ -10,6 +11,7 @@ use io_images::{Seek, SubStatus, UnitStatus};
 use std::alloc::{AllocError, Global};
 use std::process::Abort;
 use std::test::Fail;
+use subchannel::Subchannel;
 
 fn geometry(cylinders: u64, heads: u64, track_bytes: u64) -> Geometry {
     Geometry {
@@ -139,5 +141,28 @@ fn mount_without_memory(rt: HostRuntime) -> Result<(), Fail> {
         assert!(rt; disk.cylinders() == 1 && disk.heads() == 2);
         assert!(rt; disk.records(0, 2).next().is_none() && disk.records(1, 0).next().is_none());
     }
+    Ok(())
+}
+
+/// A program from X'1000': it searches for R1 by its ID, at X'1018', and reads four bytes to X'1020'.
+const SEARCH_AND_READ: [u8; 36] = [
+    0x31, 0, 0x10, 0x18, 0x40, 0, 0, 5, 0x08, 0, 0x10, 0, 0, 0, 0, 0, 0x06, 0, 0x10, 0x20, 0, 0, 0,
+    4, 0, 0, 0, 0, 1, 0, 0, 0, 0, 0, 0, 0,
+];
+
+/// Once a disk is mounted and there is storage, a channel program on it takes no memory. Run it with all allocations made
+/// to fail from each one on: after it has printed that the disk is mounted, none is left to fail.
+#[test]
+fn run_without_memory(rt: HostRuntime) -> Result<(), Fail> {
+    let data = [0xC1, 0xC2, 0xC3, 0xC4];
+    let records = record(rt.alloc(), 0, &[], &data)?;
+    let disk = Disk::mount(rt.alloc(), geometry(1, 1, 40), &records, &[])?;
+    let mut area = Area::new(rt.alloc(), 0x1000, &SEARCH_AND_READ)?;
+    let mut channel = Subchannel::new(disk, 0);
+    println!(rt; "mounted")?;
+    let code = ssch(&mut channel);
+    let ran = channel.run(&mut area, 16).is_some();
+    assert!(rt; code == 0 && ran && channel.pending());
+    assert!(rt; holds(&area, 0x1020, &data));
     Ok(())
 }

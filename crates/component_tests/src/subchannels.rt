@@ -18,7 +18,7 @@ fn tape(rt: &HostRuntime) -> Result<ToyBlock, Fail> {
 }
 
 /// SSCH at X'1000' with a seek address of zeros, where the device takes it.
-fn ssch(channel: &mut Subchannel<ToyBlock>) -> u8 {
+pub fn ssch<D: Device>(channel: &mut Subchannel<D>) -> u8 {
     let seek = Seek::default();
     match channel.device() {
         Some(device) if !device.fits(&seek) => 9,

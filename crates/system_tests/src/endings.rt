@@ -8,7 +8,7 @@ use ckd_disk::Disk;
 use device_port::Device;
 use excp_system::{Rows, Site, System, Task};
 use io_images::Code;
-use post_ledger::{Cause, Report, finish};
+use post_ledger::{Cause, Report, Unfinished, Units, finish};
 use std::alloc::{AllocError, Global};
 use std::marker::Brand;
 use std::process::Abort;

@@ -21,6 +21,7 @@ mod new_system;
 mod notices;
 mod side_by_side;
 mod task_purges;
+mod turns;
 mod without_memory;
 
 /// How often a thread looks before it gives up.

@@ -6,13 +6,22 @@ ghost use Rattle.excp_system.specs.Opening.{AreBooks, AreFresh, site_of};
 use super::*;
 use std::mem::swap;
 
-/// Why a run does not end whose two units are swapped, at first and when it is resumed.
-fn causes<S: Site, R: Wait>(
+/// Why a run does not end, at first and when it is resumed, and what is left of it.
+#[derive(PartialEq, Eq, Debug, Drop)]
+struct Left {
+    causes: [Cause; 2],
+    /// The numbers of the units, in the order of their locks.
+    units: Vec<u16>,
+    tasks: usize,
+}
+
+/// What is left of a run whose two units are swapped.
+fn left_of<S: Site, R: Wait>(
     rt: &R,
     alloc: Global,
     rows: &mut Rows,
     books: Vec<UnitBook<Disk>>,
-) -> Result<[Option<Cause>; 2], AllocError>
+) -> Result<Option<Left>, AllocError>
     requires site { S.rows ≡ site_of rows.old }
     requires fresh { AreFresh rows.old }
     requires books { AreBooks S.rows.units books.items }
@@ -21,13 +30,34 @@ fn causes<S: Site, R: Wait>(
     let (system, tasks, _) = System::<S, Disk>::new(alloc, rows, books)?;
     swap_units(rt, &system);
     let Err(unfinished) = finish(rt, alloc, system, tasks) else {
-        return Ok([None, None]);
+        return Ok(None);
     };
     let first = unfinished.cause();
     match unfinished.resume(rt) {
-        Ok(_) => Ok([Some(first), None]),
-        Err(unfinished) => Ok([Some(first), Some(unfinished.cause())]),
+        Ok(_) => Ok(None),
+        Err(unfinished) => Ok(Some(parts_of(alloc, first, unfinished)?)),
     }
+}
+
+/// The parts of what is left of a run.
+fn parts_of<S: Site>(
+    alloc: Global,
+    first: Cause,
+    unfinished: Unfinished<'_, S, Disk>,
+) -> Result<Left, AllocError> {
+    let causes = [first, unfinished.cause()];
+    let (units, tasks, _) = unfinished.into_parts();
+    let mut numbers = Vec::new(alloc);
+    if let Units::Free(units) = units {
+        for unit in units {
+            numbers.push(unit.unit())?;
+        }
+    }
+    Ok(Left {
+        causes,
+        units: numbers,
+        tasks: tasks.len(),
+    })
 }
 
 /// Puts the states of the two units under each other's locks.
@@ -43,7 +73,12 @@ fn swap_units<S: Site, R: Wait>(rt: &R, system: &System<'_, S, Disk>)
 fn swapped_units_are_mixed(rt: HostRuntime) -> Result<(), Fail> {
     let mut rows = Rows::new(rt.alloc(), 1, 2, 1, 1)?;
     let books = disks(rt.alloc(), 1)?;
-    let causes = causes::<Brand, _>(&rt, rt.alloc(), &mut rows, books)?;
-    assert_eq!(rt; causes, [Some(Cause::Mixed), Some(Cause::Mixed)]);
+    let left = left_of::<Brand, _>(&rt, rt.alloc(), &mut rows, books)?;
+    let expected = Left {
+        causes: [Cause::Mixed, Cause::Mixed],
+        units: [1, 0].to_vec(rt.alloc())?,
+        tasks: 1,
+    };
+    assert_eq!(rt; left, Some(expected));
     Ok(())
 }

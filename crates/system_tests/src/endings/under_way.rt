@@ -110,12 +110,11 @@ fn expect_ended<R: Wait + Abort + AllocGlobal>(rt: &R, is_served: bool) -> Resul
     let (report, times) = ended::<Brand, _>(rt, alloc, &mut rows, books, is_served)?;
     let (first, second) = (listed(alloc, &report, 0)?, listed(alloc, &report, 1)?);
     assert!(rt; first.as_slice() == LISTED.as_slice() && second.is_empty());
-    assert!(rt;
-        report
-            .units()
-            .iter()
-            .all(|book| is_undisturbed(book.trace()))
-    );
+    let (books, lists) = report.into_parts();
+    assert!(rt; books.iter().all(|book| is_undisturbed(book.trace())));
+    for posts in lists {
+        assert_eq!(rt; posts.into_units().len(), 2);
+    }
     Ok(times)
 }
 

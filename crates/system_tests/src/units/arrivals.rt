@@ -1,4 +1,4 @@
-//! An arrival at a book whose trace is full, and for which there is no memory.
+//! Calls of a book alone: arrivals at a book whose trace is full, a value that is returned, and a purge of a task.
 
 ghost use Rattle.std.specs.Prelude.{◌≡◌, ◌+◌, true, IfOk};
 ghost use Rattle.std.specs.List.{list_all};
@@ -10,7 +10,7 @@ use io_area::Area;
 use io_images::Extent;
 use request_piece::Request;
 use std::alloc::Global;
-use unit_book::ProcessingMethod;
+use unit_book::{Mode, ProcessingMethod, Purging};
 
 /// A book whose trace has room for no entry more: DCBs are opened until it is full.
 fn full_book(alloc: Global) -> Result<UnitBook<Disk>, AllocError>
@@ -47,8 +47,38 @@ fn arrives(book: &mut UnitBook<Disk>, request: Request) -> Result<(), Fail>
     Ok(())
 }
 
-/// Asserts that the one request of a book waits, and is served.
-fn expect_served<R: Abort>(rt: &R, book: &mut UnitBook<Disk>) -> Result<(), Fail> {
+/// A book whose trace was full when its one request arrived, which waits.
+fn waiting_book(alloc: Global) -> Result<UnitBook<Disk>, Fail> {
+    let mut book = full_book(alloc)?;
+    let request = first_request(alloc)?;
+    arrives(&mut book, request)?;
+    Ok(book)
+}
+
+/// A book whose trace was full, and in which room for an arrival was made.
+fn book_with_room(alloc: Global) -> Result<UnitBook<Disk>, Fail>
+    ensures { IfOk result (λ book. list_all is_opening book.trace ≡ true) }
+{
+    let mut book = full_book(alloc)?;
+    if let Err(AllocError) = book.reserve() {
+        book.reserve().map_err(|_| TWICE)?;
+    }
+    Ok(book)
+}
+
+/// Takes the next value out, and returns it: its request and its completion code.
+fn returned(book: &mut UnitBook<Disk>) -> Option<(Name, Code)> {
+    let value = book.take_out()?;
+    let said = (value.name(), value.code());
+    book.return_out(value);
+    Some(said)
+}
+
+/// Run it with each allocation made to fail in turn: if that of the arrival fails it passes, and if another one does it
+/// ends with that error.
+#[test]
+fn arrive_without_memory(rt: HostRuntime) -> Result<(), Fail> {
+    let mut book = waiting_book(rt.alloc())?;
     assert!(rt; book.waiting_len() == 1 && book.out_len() == 0);
     book.settle()?;
     let value = book.take_out().ok_or("no post")?;
@@ -56,26 +86,39 @@ fn expect_served<R: Abort>(rt: &R, book: &mut UnitBook<Disk>) -> Result<(), Fail
     Ok(())
 }
 
-/// Run it with each allocation made to fail in turn: if that of the arrival fails it passes, and if another one does it
-/// ends with that error.
-#[test]
-fn arrive_without_memory(rt: HostRuntime) -> Result<(), Fail> {
-    let mut book = full_book(rt.alloc())?;
-    assert!(rt; book.spare() == 0);
-    let request = first_request(rt.alloc())?;
-    arrives(&mut book, request)?;
-    expect_served(&rt, &mut book)
-}
-
-/// If there is no memory to make room for an arrival, there is room when it is tried once more: run it with each
-/// allocation made to fail in turn.
+/// If there is no memory to make room for an arrival, there is room when it is tried once more. With room, the arrival
+/// needs no memory. Run it with each allocation made to fail in turn.
 #[test]
 fn reserve_without_memory(rt: HostRuntime) -> Result<(), Fail> {
-    let mut book = full_book(rt.alloc())?;
-    assert!(rt; book.spare() == 0);
-    if let Err(AllocError) = book.reserve() {
-        book.reserve().map_err(|_| TWICE)?;
-    }
+    let mut book = book_with_room(rt.alloc())?;
     assert!(rt; book.spare() >= 2);
+    let request = first_request(rt.alloc())?;
+    let arrived = book.arrive(request).is_ok();
+    assert!(rt; arrived && book.waiting_len() == 1);
+    Ok(())
+}
+
+/// A value that was taken out and returned is the next that is taken out.
+#[test]
+fn returned_value_is_next(rt: HostRuntime) -> Result<(), Fail> {
+    let mut book = waiting_book(rt.alloc())?;
+    book.settle()?;
+    let first = returned(&mut book);
+    assert!(rt; first.is_some() && book.out_len() == 1);
+    let second = returned(&mut book);
+    assert!(rt; second == first && book.out_len() == 1);
+    Ok(())
+}
+
+/// A purge of a task at a book alone: of another task it purges nothing, and of this one it posts 48 what waits.
+#[test]
+fn purge_of_a_task_at_a_book(rt: HostRuntime) -> Result<(), Fail> {
+    let mut book = waiting_book(rt.alloc())?;
+    assert!(rt; book.purge_task(1, Mode::Halt)? == Purging::Quiet);
+    assert!(rt; book.waiting_len() == 1 && book.out_len() == 0);
+    assert!(rt; book.purge_task(0, Mode::Halt)? == Purging::Quiet);
+    assert!(rt; book.waiting_len() == 0 && book.out_len() == 1);
+    let value = book.take_out().ok_or("no post")?;
+    assert!(rt; value.name() == Name { task: 0, seq: 1 } && value.code() == Code::Purged);
     Ok(())
 }

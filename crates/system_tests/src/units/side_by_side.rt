@@ -79,17 +79,19 @@ fn collected<S: Site, R: Wait>(rt: &R, task: &mut Task<'_, S>) -> Collected
 }
 
 /// What the task does: with unit 0 held up it issues two requests to it and one to unit 1, and collects of unit 1.
-/// Then it lets unit 0 go, and collects the first post of it.
+/// Then it lets unit 0 go, and collects the first post of it. It does nothing unless unit 0 is locked while its gate is
+/// passed.
 fn exchange<S: Site, R: Wait>(
     rt: &R,
     alloc: Global,
+    system: &System<'_, S, Disk>,
     task: &mut Task<'_, S>,
     barrier: &Barrier,
 ) -> Result<[Collected; 2], AllocError>
     requires { S.rows.units ≡ 2 }
     ensures { task.new.number ≡ task.old.number }
 {
-    if !is_set(&barrier.reached) {
+    if !is_set(&barrier.reached) || system.lock_of(0).try_lock().is_some() {
         return Ok([None, None]);
     }
     issue(rt, alloc, task, 0)?;
@@ -142,7 +144,7 @@ fn serve<'s, 'r, S: Site + Send + Sync, R: Threads + Wait + Sync, E>(
 {
     start(rt, scope, system, handlers, barrier)?;
     let task = &mut tasks[0];
-    let got = exchange(rt, alloc, task, barrier)?;
+    let got = exchange(rt, alloc, system, task, barrier)?;
     Ok((tasks, got))
 }
 
@@ -222,7 +224,7 @@ fn expect_report<R: Abort + AllocGlobal>(rt: &R, report: &Report<Disk>) -> Resul
 }
 
 /// The end of the run gives the post that the task has not collected. The test fails for a serve that does nothing,
-/// for an act that adds nothing, and for one lock round all units.
+/// for an act that adds nothing, for one lock round all units, and for a gate that is passed outside of the lock.
 #[test]
 fn units_run_side_by_side(rt: HostRuntime) -> Result<(), Fail> {
     let mut rows = Rows::new(rt.alloc(), 1, 2, 2, 2)?;

@@ -1,0 +1,2 @@
+-- What the tests of books alone need.
+pub mod Openings

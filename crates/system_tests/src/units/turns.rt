@@ -1,0 +1,78 @@
+//! How many commands a turn of a worker runs.
+
+ghost use Rattle.std.specs.Prelude.{◌≡◌, ◌<◌};
+ghost use Rattle.excp_system.specs.Opening.{AreBooks, AreFresh, site_of};
+
+use super::*;
+use crate::fixtures::{READ_RECORD, issue_over};
+use excp_system::{Gate, Point, Stop, serve, serve_channel};
+use std::alloc::Global;
+use unit_book::Entry;
+
+/// Stops a worker after one turn on a unit.
+#[derive(Drop)]
+struct OneTurn {
+    stop: Stop,
+}
+
+impl Gate for OneTurn {
+    /// A turn ends with a delivery.
+    fn pass(&self, _unit: u16, point: Point) {
+        if point == Point::Deliver {
+            self.stop.raise();
+        }
+    }
+}
+
+/// A request like that which reads a record, but its program is a no-operation in a loop, which runs to the fetch limit.
+fn endless() -> [u8; 104] {
+    let mut image = READ_RECORD;
+    image[48] = 0x03;
+    image[52] = 0x60;
+    image
+}
+
+/// How many commands the newest entry of unit 0 says were run.
+fn commands_run<S: Site, R: Wait>(rt: &R, system: &System<'_, S, Disk>) -> Option<u32>
+    requires { 0 < S.rows.units }
+{
+    let state = system.lock_of(0).lock(rt);
+    match state.book().trace().last() {
+        Some(Entry::Ran(_, count)) => Some(*count),
+        _ => None,
+    }
+}
+
+/// How many commands of a program without end a turn of each worker runs: of a channel alone, and of one that may have
+/// handlers too.
+fn turns<S: Site, R: Wait>(
+    rt: &R,
+    alloc: Global,
+    rows: &mut Rows,
+    books: Vec<UnitBook<Disk>>,
+) -> Result<[Option<u32>; 2], AllocError>
+    requires site { S.rows ≡ site_of rows.old }
+    requires fresh { AreFresh rows.old }
+    requires books { AreBooks S.rows.units books.items }
+    requires two { S.rows.units ≡ 2 }
+{
+    let (system, mut tasks, _) = System::<S, Disk>::new(alloc, rows, books)?;
+    for task in tasks.iter_mut() {
+        issue_over(rt, alloc, task, 0, &endless())?;
+    }
+    let gate = OneTurn { stop: Stop::new() };
+    serve_channel(rt, &system, &[0], &gate, &gate.stop);
+    let of_channel = commands_run(rt, &system);
+    let gate = OneTurn { stop: Stop::new() };
+    serve(rt, &system, &[0], &mut [], &gate, &gate.stop);
+    Ok([of_channel, commands_run(rt, &system)])
+}
+
+#[test]
+fn turns_have_a_number_of_commands(rt: HostRuntime) -> Result<(), Fail> {
+    let mut rows = Rows::new(rt.alloc(), 1, 2, 1, 1)?;
+    let books = disks(rt.alloc(), 1)?;
+    let turns = turns::<Brand, _>(&rt, rt.alloc(), &mut rows, books)?;
+    assert_eq!(rt; turns, [Some(16), Some(64)]);
+    Ok(())
+}
