@@ -9,7 +9,7 @@ use crate::notes::{early, note_doubles, note_unused};
 use crate::programs::{Issued, note_requests};
 use crate::races::Races;
 use crate::requests::why_rejected;
-use crate::suggestion::nearest;
+use crate::suggestion::meant_in_script;
 use crate::telling::{Found, Source, write_findings};
 use job_scenario::begins_event;
 use job_script::{
@@ -26,26 +26,6 @@ const SYMBOLIC: &str =
 
 /// Only a line of a scenario begins with this word.
 const EVENT: &str = "'{w}' begins an event of a scenario: use 'check --scenario' and 'step'";
-
-/// The words that begin the lines of a script.
-const FIRST_WORDS: [&str; 16] = [
-    "tasks",
-    "disk",
-    "tape",
-    "printer",
-    "rec",
-    "block",
-    "mark",
-    "fault",
-    "open",
-    "area",
-    "excp",
-    "purge",
-    "purgetask",
-    "close",
-    "reset",
-    "wait",
-];
 
 /// Reads a script, at most 1,048,576 bytes and one more. Writes every fault and note, in the order of lines, each with
 /// its place in the source. Returns whether a run would reject the script.
@@ -161,12 +141,7 @@ fn fault_of<'a>(
         return Ok(Finding::fault(line, words.line, cause));
     }
     let meant = meant(alloc, words)?;
-    if meant.is_some() {
-        cause.message = Message::new("no line begins with '{w}'", &[1]);
-    }
-    let mut finding = Finding::fault(line, words.line, cause);
-    finding.meant = meant;
-    Ok(finding)
+    Ok(Finding::of_first_word(line, words.line, cause, meant))
 }
 
 /// The first word that may be meant by an unknown one.
@@ -182,7 +157,7 @@ fn meant(alloc: Global, words: &Words<'_>) -> Result<Option<&'static str>, Alloc
     if is_symbolic(word) && !begins_line(&small) {
         return Ok(None);
     }
-    nearest(alloc, &small, &FIRST_WORDS)
+    meant_in_script(alloc, &small)
 }
 
 /// What a script declares as far as it was read, and what was found in it. A line with a fault adds nothing, but what

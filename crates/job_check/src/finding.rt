@@ -11,7 +11,7 @@ pub const SCRIPT: usize = usize::MAX;
 
 /// What is found: a fault, which has a name, or a note.
 #[derive(Clone, Copy)]
-pub enum FindingKind {
+pub(crate) enum FindingKind {
     Fault(FaultName, Message),
     Note(Message),
     /// A note that a CCW breaks a rule.
@@ -23,7 +23,7 @@ pub enum FindingKind {
 pub struct Finding<'a> {
     pub line: usize,
     pub bytes: &'a [u8],
-    pub kind: FindingKind,
+    pub(crate) kind: FindingKind,
     /// The known word that an unknown one may mean.
     pub meant: Option<&'static str>,
 }
@@ -36,6 +36,25 @@ impl<'a> Finding<'a> {
             bytes,
             kind: FindingKind::Fault(cause.name, cause.message),
             meant: None,
+        }
+    }
+
+    /// A fault of a line whose first word is unknown, and the known one that it may mean.
+    pub(crate) fn of_first_word(
+        line: usize,
+        bytes: &'a [u8],
+        cause: Cause,
+        meant: Option<&'static str>,
+    ) -> Self {
+        let message = match meant {
+            Some(_) => Message::new("no line begins with '{w}'", &[1]),
+            None => cause.message,
+        };
+        Finding {
+            line,
+            bytes,
+            kind: FindingKind::Fault(cause.name, message),
+            meant,
         }
     }
 }
@@ -57,7 +76,7 @@ pub fn tell(findings: &mut Vec<Finding<'_>>, line: usize, cause: Cause) -> Resul
 }
 
 /// Adds a finding in a line, in a text without words of the line.
-pub fn add(
+pub(crate) fn add(
     findings: &mut Vec<Finding<'_>>,
     line: usize,
     kind: FindingKind,

@@ -18,7 +18,7 @@ mod suggestion;
 mod telling;
 
 pub use check::check_script;
-pub use finding::{Finding, FindingKind, SCRIPT, write_meant};
+pub use finding::{Finding, SCRIPT, write_meant};
 pub use media::mount_faults;
 pub use requests::why_rejected;
 pub use suggestion::{fault_of_scenario, nearest};

@@ -2,7 +2,7 @@
 
 use crate::finding::Finding;
 use job_scenario::begins_event;
-use job_script::{Cause, Message, begins_line, is_symbolic};
+use job_script::{Cause, begins_line, is_symbolic};
 use script_words::Words;
 use std::alloc::{AllocError, Global};
 use strsim::osa_distance;
@@ -35,8 +35,9 @@ pub fn nearest<'k>(
     Ok(found)
 }
 
-/// The words that begin the lines of a scenario.
-const FIRST_WORDS: [&str; 26] = [
+/// The words that begin lines: those of a script are the first 16, and those of a scenario are all but the first.
+const FIRST_WORDS: [&str; 27] = [
+    "wait",
     "tasks",
     "disk",
     "tape",
@@ -47,12 +48,12 @@ const FIRST_WORDS: [&str; 26] = [
     "fault",
     "open",
     "area",
-    "room",
     "excp",
     "purge",
     "purgetask",
     "close",
     "reset",
+    "room",
     "take",
     "start",
     "run",
@@ -65,6 +66,11 @@ const FIRST_WORDS: [&str; 26] = [
     "expect",
 ];
 
+/// The word that begins lines of a script and may be meant by one in small letters.
+pub fn meant_in_script(alloc: Global, word: &[u8]) -> Result<Option<&'static str>, AllocError> {
+    nearest(alloc, word, &FIRST_WORDS[..16])
+}
+
 /// A fault of a line of a scenario. It names the first word that may be meant by an unknown one.
 pub fn fault_of_scenario<'a>(
     alloc: Global,
@@ -75,17 +81,11 @@ pub fn fault_of_scenario<'a>(
     let mut words = Words::new();
     words.scan(bytes);
     let first = words.word(0);
-    let mut cause = cause;
-    let mut meant = None;
     let is_known = begins_line(first) || begins_event(first) || is_symbolic(first);
-    if !is_known && words.is_printable() {
-        let small = first.to_ascii_lowercase(alloc)?;
-        meant = nearest(alloc, &small, &FIRST_WORDS)?;
+    if is_known || !words.is_printable() {
+        return Ok(Finding::fault(line, bytes, cause));
     }
-    if meant.is_some() {
-        cause.message = Message::new("no line begins with '{w}'", &[1]);
-    }
-    let mut finding = Finding::fault(line, bytes, cause);
-    finding.meant = meant;
-    Ok(finding)
+    let small = first.to_ascii_lowercase(alloc)?;
+    let meant = nearest(alloc, &small, &FIRST_WORDS[1..])?;
+    Ok(Finding::of_first_word(line, bytes, cause, meant))
 }
