@@ -45,6 +45,25 @@ fn commands_run<S: Site, R: Wait>(rt: &R, system: &System<'_, S, Disk>) -> Optio
 
 /// How many commands of a program without end a turn of each worker runs: of a channel alone, and of one that may have
 /// handlers too.
+fn turns_of<'r, S: Site, R: Wait>(
+    rt: &R,
+    alloc: Global,
+    system: &System<'r, S, Disk>,
+    tasks: &mut [Task<'r, S>],
+) -> Result<[Option<u32>; 2], AllocError>
+    requires { 0 < S.rows.units }
+{
+    let task = tasks.first_mut().ok_or(AllocError)?;
+    issue_over(rt, alloc, task, 0, &endless())?;
+    let gate = OneTurn { stop: Stop::new() };
+    serve_channel(rt, system, &[0], &gate, &gate.stop);
+    let of_channel = commands_run(rt, system);
+    let gate = OneTurn { stop: Stop::new() };
+    serve(rt, system, &[0], &mut [], &gate, &gate.stop);
+    Ok([of_channel, commands_run(rt, system)])
+}
+
+/// The turns of a system over these rows and books.
 fn turns<S: Site, R: Wait>(
     rt: &R,
     alloc: Global,
@@ -57,15 +76,7 @@ fn turns<S: Site, R: Wait>(
     requires two { S.rows.units ≡ 2 }
 {
     let (system, mut tasks, _) = System::<S, Disk>::new(alloc, rows, books)?;
-    for task in tasks.iter_mut() {
-        issue_over(rt, alloc, task, 0, &endless())?;
-    }
-    let gate = OneTurn { stop: Stop::new() };
-    serve_channel(rt, &system, &[0], &gate, &gate.stop);
-    let of_channel = commands_run(rt, &system);
-    let gate = OneTurn { stop: Stop::new() };
-    serve(rt, &system, &[0], &mut [], &gate, &gate.stop);
-    Ok([of_channel, commands_run(rt, &system)])
+    turns_of(rt, alloc, &system, tasks.as_mut_slice())
 }
 
 #[test]
