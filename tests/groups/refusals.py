@@ -231,7 +231,8 @@ TESTS = [
     (
         "component_tests",
         [
-            *(f"{it}_without_memory" for it in ("areas::areas", "disks::mount", "tapes::mount", "printers::mount")),
+            *(f"{it}_without_memory" for it in ("areas::areas", "disks::mount", "tapes::mount")),
+            *(f"{it}_without_memory" for it in ("tapes::record", "tape_images::load", "printers::mount")),
             *(f"{it}_without_memory" for it in ("queues::queues", "requests::requests", "rows::rows")),
         ],
         MUST_PASS,

@@ -27,6 +27,8 @@ mod scripts;
 #[cfg(test)]
 mod subchannels;
 #[cfg(test)]
+mod tape_images;
+#[cfg(test)]
 mod tapes;
 #[cfg(test)]
 mod verdicts;

@@ -1,4 +1,4 @@
-//! A tape as a device: mounting without memory. What its commands do is in tests/cases/histories/tapes.steps.
+//! A tape as a device: mounting and recording without memory. What its commands do is in tests/cases/histories/tapes.steps.
 
 use crate::devices::late_fault;
 use crate::memory::TWICE;
@@ -6,7 +6,7 @@ use device_port::{Device, MountError};
 use std::alloc::{AllocError, Global};
 use std::process::Abort;
 use std::test::Fail;
-use tape_unit::{InitialItem, Tape};
+use tape_unit::{InitialItem, Recording, RecordingError, Tape};
 
 /// Items, the empty one being a tape mark.
 fn items(alloc: Global, contents: &[&[u8]]) -> Result<Vec<InitialItem>, AllocError> {
@@ -22,7 +22,7 @@ fn items(alloc: Global, contents: &[&[u8]]) -> Result<Vec<InitialItem>, AllocErr
 }
 
 /// Asserts that a tape has these items, the empty one being a tape mark.
-fn expect_items(rt: &impl Abort, tape: &Tape, expected: &[&[u8]]) {
+pub fn expect_items(rt: &impl Abort, tape: &Tape, expected: &[&[u8]]) {
     let mut items = tape.items();
     for bytes in expected {
         let found = items.next().is_some_and(|item| {
@@ -71,6 +71,32 @@ fn mount_without_memory(rt: HostRuntime) -> Result<(), Fail> {
     };
     for tape in [&tape, &copy] {
         expect_items(&rt, tape, &TWO_ITEMS);
+    }
+    Ok(())
+}
+
+/// If memory runs out for an item of a recording, the items stay as they are, and the next try records it. A tape that
+/// is cut takes no more, and has its items when it is mounted. Run it with each allocation made to fail in turn.
+#[test]
+fn record_without_memory(rt: HostRuntime) -> Result<(), Fail> {
+    let mut tape = Recording::new(rt.alloc(), 4_294_967_296).or(Err("4 GiB are too many"))?;
+    if let Err(error) = tape.write_block(&[5]) {
+        assert!(rt; matches!(error, RecordingError::NoMemory));
+        assert_eq!(rt; tape.used(), 0);
+        tape.write_block(&[5]).or(Err(TWICE))?;
+    }
+    if let Err(error) = tape.write_tape_mark() {
+        assert!(rt; matches!(error, RecordingError::NoMemory));
+        assert_eq!(rt; tape.used(), 5);
+        tape.write_tape_mark().or(Err(TWICE))?;
+    }
+    tape.cut();
+    assert!(rt; matches!(tape.write_block(&[]), Err(RecordingError::BadBlock)));
+    assert!(rt; matches!(tape.write_tape_mark(), Err(RecordingError::Full)));
+    assert_eq!(rt; tape.used(), 9);
+    match tape.mount(rt.alloc(), &[late_fault()]) {
+        Ok(tape) => expect_items(&rt, &tape, &TWO_ITEMS),
+        Err(error) => assert!(rt; matches!(error, MountError::NoMemory)),
     }
     Ok(())
 }

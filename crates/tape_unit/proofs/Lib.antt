@@ -4,4 +4,5 @@ pub mod Reels
 pub mod Marks
 pub mod Loading
 pub mod Tapes
+pub mod Recordings
 mod Worked

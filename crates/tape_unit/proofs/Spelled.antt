@@ -8,8 +8,8 @@ use Rattle.byteorder.specs.Endian.{big_bytes}
 use Rattle.byteorder.specs.Numbers.{big_number-reads_back, length-bytes_high_first}
 use Rattle.device_port.specs.Moves.{padded, written}
 use Rattle.device_port.specs.Packed.{ReadsBack, image_of}
-use Rattle.device_port.proofs.Items.{written-written}
-use Rattle.tape_unit.specs.Item.{Item, tape_mark, block, content_of, item_with, is_item, size_of, packed, length_at, item_at, on_tape}
+use Rattle.device_port.proofs.Items.{written-written, length-written}
+use Rattle.tape_unit.specs.Item.{Item, tape_mark, block, content_of, item_with, is_item, size_of, length_of, packed, length_at, item_at, on_tape}
 use Rattle.tape_unit.specs.Reel.{bytes_of}
 
 pub short : (x : Item) → is_item x ≡ true → length (content_of x) ≤ 65_535
@@ -22,9 +22,12 @@ some bytes fits = grind (arith, nat_tests, fits)
 pub block_fits : (bytes : List ℕ) → 1 ≤ length bytes → length bytes ≤ 65_535 → is_item (block bytes) ≡ true
 block_fits bytes some short = grind (arith, nat_tests)
 
+pub length-length_of : (x : Item) → length (length_of x) ≡ 2
+length-length_of x = length-bytes_high_first 2 (length (content_of x))
+
 pub length-packed : (x : Item) → length (packed x) ≡ size_of x
-length-packed x = length-append (big_bytes 4 (length (content_of x))) (content_of x)
-    ∙ omega (arith, length-bytes_high_first 4 (length (content_of x)))
+length-packed x = length-append (length_of x) (content_of x ++ length_of x)
+    ∙ omega (arith, length-append (content_of x) (length_of x), length-length_of x)
 
 -- an item is what its data says
 pub item_with-content : (x : Item) → is_item x ≡ true → item_with (content_of x) ≡ x
@@ -36,24 +39,33 @@ pub content_of-item_with : (bytes : List ℕ) → content_of (item_with bytes) �
 content_of-item_with [] = refl
 content_of-item_with (byte ∷ bytes) = refl
 
-pub length_at-packed : (x : Item) (rest : List ℕ) → is_item x ≡ true → length_at (packed x ++ rest) ≡ length (content_of x)
-length_at-packed x rest fits =
-    let n = length (content_of x) in
-    let small = short x fits in
-    ap length_at (append_assoc (big_bytes 4 n) (content_of x) rest) ∙ big_number-reads_back 4 n (content_of x ++ rest) (omega arith)
+-- data of at most 65,535 bytes is an item
+pub item_with-fits : (bytes : List ℕ) → length bytes ≤ 65_535 → is_item (item_with bytes) ≡ true
+item_with-fits [] short = refl
+item_with-fits (byte ∷ bytes) short = block_fits (byte ∷ bytes) (omega arith) short
 
-pub drop-length_word : (x : Item) (rest : List ℕ) → drop 4 (packed x ++ rest) ≡ content_of x ++ rest
-drop-length_word x rest =
-    let n = length (content_of x) in
-    ap (drop 4) (append_assoc (big_bytes 4 n) (content_of x) rest) ∙ drop_at (big_bytes 4 n) (content_of x ++ rest) 4
-    (length-bytes_high_first 4 n)
+-- what follows the first length of an item
+pub regrouped : (x : Item) (rest : List ℕ) → packed x ++ rest ≡ length_of x ++ (content_of x ++ (length_of x ++ rest))
+regrouped x rest = append_assoc (length_of x) (content_of x ++ length_of x) rest
+    ∙ ap (λ (l : List ℕ). length_of x ++ l) (append_assoc (content_of x) (length_of x) rest)
+
+pub length_at-length_of : (x : Item) (rest : List ℕ) → is_item x ≡ true → length_at (length_of x ++ rest) ≡ length (content_of x)
+length_at-length_of x rest fits =
+    let small = short x fits in
+    big_number-reads_back 2 (length (content_of x)) rest (omega arith)
+
+pub length_at-packed : (x : Item) (rest : List ℕ) → is_item x ≡ true → length_at (packed x ++ rest) ≡ length (content_of x)
+length_at-packed x rest fits = ap length_at (regrouped x rest) ∙ length_at-length_of x (content_of x ++ (length_of x ++ rest)) fits
+
+pub drop-length_of : (x : Item) (rest : List ℕ) → drop 2 (packed x ++ rest) ≡ content_of x ++ (length_of x ++ rest)
+drop-length_of x rest = ap (drop 2) (regrouped x rest) ∙ drop_at (length_of x) (content_of x ++ (length_of x ++ rest)) 2 (length-length_of x)
 
 item_at-packed : (x : Item) (rest : List ℕ) → is_item x ≡ true → item_at (packed x ++ rest) ≡ x
 unfolding item_at
 item_at-packed x rest fits =
-    ap (λ (n : ℕ). item_with (take n (drop 4 (packed x ++ rest)))) (length_at-packed x rest fits)
-    ∙ ap (λ (l : List ℕ). item_with (take (length (content_of x)) l)) (drop-length_word x rest)
-    ∙ ap item_with (take_at (content_of x) rest (length (content_of x)) refl)
+    ap (λ (n : ℕ). item_with (take n (drop 2 (packed x ++ rest)))) (length_at-packed x rest fits)
+    ∙ ap (λ (l : List ℕ). item_with (take (length (content_of x)) l)) (drop-length_of x rest)
+    ∙ ap item_with (take_at (content_of x) (length_of x ++ rest) (length (content_of x)) refl)
     ∙ item_with-content x fits
 
 -- THE LAWS OF THE SPELLING
@@ -71,19 +83,25 @@ wide (x ∷ items) = omega (
   wide items,
 )
 
--- ---- an item written behind its length word
+-- ---- an item written between its lengths
 
-pub item_written : (image first second : List ℕ) (at : ℕ) (bytes : List ℕ) → at + (4 + length bytes) ≤ length image →
-    first ≡ written image at (big_bytes 4 (length bytes)) → second ≡ written first (at + 4) bytes
-    → second ≡ written image at (big_bytes 4 (length bytes) ++ bytes)
-item_written image first second at bytes room e1 e2 =
-    let word = big_bytes 4 (length bytes) in
-    let len = length-bytes_high_first 4 (length bytes) in
-    e2 ∙ ap (λ (l : List ℕ). written l (at + 4) bytes) e1 ∙ written-written image at (at + 4) word bytes (omega (arith, len))
-    (omega (arith, len))
+pub item_written : (image first second third : List ℕ) (at : ℕ) (bytes : List ℕ) → at + (4 + length bytes) ≤ length image →
+    first ≡ written image at (big_bytes 2 (length bytes)) → second ≡ written first (at + 2) bytes
+    → third ≡ written second (at + 2 + length bytes) (big_bytes 2 (length bytes))
+    → third ≡ written image at (big_bytes 2 (length bytes) ++ (bytes ++ big_bytes 2 (length bytes)))
+item_written image first second third at bytes room e1 e2 e3 =
+    let word = big_bytes 2 (length bytes) in
+    let len = length-bytes_high_first 2 (length bytes) in
+    let long : length first ≡ length image = ap length e1 ∙ length-written image at word (omega (arith, len)) in
+    e3 ∙ ap (λ (l : List ℕ). written l (at + 2 + length bytes) word) e2
+    ∙ written-written first (at + 2) (at + 2 + length bytes) bytes word (omega (arith, long)) refl
+    ∙ ap (λ (l : List ℕ). written l (at + 2) (bytes ++ word)) e1
+    ∙ written-written image at (at + 2) word (bytes ++ word) (omega (arith, len)) (omega (arith, len))
 
-pub packed-item_with : (bytes : List ℕ) → packed (item_with bytes) ≡ big_bytes 4 (length bytes) ++ bytes
-packed-item_with bytes = ap (λ (l : List ℕ). big_bytes 4 (length l) ++ l) (content_of-item_with bytes)
+pub packed-item_with : (bytes : List ℕ) →
+    packed (item_with bytes) ≡ big_bytes 2 (length bytes) ++ (bytes ++ big_bytes 2 (length bytes))
+packed-item_with bytes =
+    ap (λ (l : List ℕ). big_bytes 2 (length l) ++ (l ++ big_bytes 2 (length l))) (content_of-item_with bytes)
 
 -- the first bytes that are given, where there are as many
 pub padded-take : (n : ℕ) (given : List ℕ) → n ≤ length given → padded n given ≡ take n given

@@ -27,21 +27,25 @@ abbrev pub is_item : Item → Bool
 is_item tape_mark = true
 is_item (block bytes) = nat_le 1 (length bytes) && nat_le (length bytes) 65_535
 
--- how many bytes of the medium an item takes: four of a length word, and its data (profile)
+-- how many bytes of the medium an item takes: four for its length, and its data (profile)
 abbrev pub size_of : Item → ℕ
 size_of x = 4 + length (content_of x)
 
--- the bytes themselves: the length word has the highest byte first, and a tape mark's is zero (profile)
-abbrev pub packed : Item → List ℕ
-packed x = big_bytes 4 (length (content_of x)) ++ content_of x
+-- its length in two bytes, the highest first; a tape mark's is zero (profile)
+abbrev pub length_of : Item → List ℕ
+length_of x = big_bytes 2 (length (content_of x))
 
--- what a length word says of the bytes that begin with it
+-- the bytes themselves: the length is before the data and after it, so that the tape moves either way (profile)
+abbrev pub packed : Item → List ℕ
+packed x = length_of x ++ (content_of x ++ length_of x)
+
+-- the length that bytes begin with
 abbrev pub length_at : List ℕ → ℕ
-length_at bytes = big_number 4 bytes
+length_at bytes = big_number 2 bytes
 
 -- the item that bytes begin with
 unfoldable pub item_at : List ℕ → Item
-item_at bytes = item_with (take (length_at bytes) (drop 4 bytes))
+item_at bytes = item_with (take (length_at bytes) (drop 2 bytes))
 
 -- how a tape spells its items
 abbrev pub on_tape : Spelling Item

@@ -1,11 +1,16 @@
 -- A reel of tape: its size in bytes, and the items on it from the load point on.
-use Rattle.std.specs.Prelude.{◌≡◌, ℕ, ◌+◌, ◌/◌, ◌<◌, ◌≤◌, Bool, nat_le, List, [], ◌∷◌, ◌++◌, length, take, slice_index, slice_index_or}
-use Rattle.device_port.specs.Packed.{image_of, offset_of, HoldsItems, items_at}
+use Rattle.std.specs.Prelude.{◌≡◌, ℕ, ◌+◌, ◌≤◌, Bool, nat_le, List, [], ◌∷◌, ◌++◌, length, take, slice_index_or}
+use Rattle.device_port.specs.Packed.{image_of, offset_of, HoldsItems}
+use Rattle.tape_unit.specs.declared.position.Position.{Position}
 use Rattle.tape_unit.specs.Item.{Item, tape_mark, on_tape}
 
 pub record ReelState : Type 0 where
   pub size : ℕ
   pub items : List Item
+
+-- the most bytes that a reel has: 4 GiB
+abbrev pub longest_reel : ℕ
+longest_reel = 4_294_967_296
 
 -- the item at a place
 abbrev pub item_of : List Item → ℕ → Item
@@ -26,14 +31,12 @@ has_room_at reel place len = nat_le (bytes_before reel.items place + (4 + len)) 
 abbrev pub with_item_at : ReelState → ℕ → Item → ReelState
 with_item_at reel place x = record { size = reel.size; items = take place reel.items ++ x ∷ [] }
 
--- what the code keeps of a reel beside its items: where each begins, with room for the most that the medium holds
-pub record Index : Type 0 where
-  pub room : ℕ
-  pub offsets : List ℕ
+-- a position is on the reel with these items: its offset is the bytes of the items before it
+pub record IsOn (items : List Item) (position : Position) : Type 0 where
+  pub within : position.place ≤ length items
+  pub before : position.offset ≡ bytes_before items position.place
 
-pub record HoldsReel (bytes : List ℕ) (used : ℕ) (index : Index) : Type 0 where
-  pub holds : HoldsItems on_tape bytes used (length index.offsets)
-  pub indexed : (place : ℕ) → place < length index.offsets
-      → slice_index index.offsets place ≡ bytes_before (items_at on_tape (length index.offsets) bytes) place
-  pub room : index.room ≡ length bytes / 4
-  pub small : length bytes ≤ 16_777_216
+-- the buffer that the code keeps a reel in
+pub record HoldsReel (bytes : List ℕ) (used count : ℕ) : Type 0 where
+  pub holds : HoldsItems on_tape bytes used count
+  pub small : length bytes ≤ longest_reel

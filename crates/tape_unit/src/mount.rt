@@ -8,7 +8,8 @@ ghost use Rattle.tape_unit.specs.Item.{content_of};
 ghost use Rattle.tape_unit.specs.Reel.{bytes_of};
 ghost use Rattle.tape_unit.specs.Mount.{is_size, initial, is_initial, opening_items};
 
-use crate::reel::{LENGTH_WORD, Reel};
+use crate::position::Position;
+use crate::reel::{LENGTHS, Reel};
 pub use refusal::{Overrun, overrun_of};
 use std::alloc::{AllocError, Global};
 
@@ -65,7 +66,7 @@ pub fn fit(items: &[InitialItem], bytes: u64) -> bool
 {
     let mut total = 0;
     for item in items {
-        total += LENGTH_WORD as u64 + item.content().len() as u64;
+        total += LENGTHS as u64 + item.content().len() as u64;
         if total > bytes {
             return false;
         }
@@ -81,7 +82,7 @@ pub fn loaded(alloc: Global, items: &[InitialItem], bytes: u64) -> Result<Reel, 
     ensures { IfOk result (λ r. r ≡ record { size = bytes; items = opening_items items.now }) }
 {
     let mut reel = Reel::blank(alloc, bytes as usize)?;
-    let mut end = 0;
+    let mut end = Position::load_point();
     for item in items {
         end = reel.put(end, item.content());
     }

@@ -1,9 +1,10 @@
 //! A reader of the items on a tape.
 
-ghost use Rattle.std.specs.Prelude.{◌≡◌, MatchOption};
+ghost use Rattle.std.specs.Prelude.{◌≡◌, ◌≤◌, MatchOption, true, length};
 ghost use Rattle.std.specs.Iterator.{YieldsFirst, item_count};
-ghost use Rattle.tape_unit.specs.Item.{tape_mark, block, item_with, is_mark, content_of};
+ghost use Rattle.tape_unit.specs.Item.{tape_mark, block, item_with, is_item, is_mark, content_of};
 
+use crate::position::Position;
 use crate::reel::Reel;
 use std::marker::Model;
 
@@ -14,16 +15,20 @@ pub struct Stored<'a> {
 }
 
 impl<'a> Model for Stored<'a> {
+    ghost use Rattle.std.specs.Prelude.{◌≤◌, length};
     ghost use Rattle.tape_unit.specs.Item.{Item, item_with};
 
     ghost Value = { Item };
 
     ghost view = { λ s. item_with s.content.now };
+
+    ghost invariant = { λ s. length s.content.now ≤ 65_535 };
 }
 
 impl<'a> Stored<'a> {
     /// The item that has this data: none is a tape mark's.
     pub(crate) fn new(content: &'a [u8]) -> Self
+        requires { length content.now ≤ 65_535 }
         ensures { result ≡ item_with content.now }
     {
         Stored { content }
@@ -47,6 +52,14 @@ impl<'a> Stored<'a> {
         self.content.is_empty()
     }
 
+    /// How many bytes of data the item has; a tape mark has none.
+    pub fn len(&self) -> u16
+        ensures len { result ≡ length (content_of self.now) }
+        ensures item { is_item self.now ≡ true }
+    {
+        self.content.len() as u16
+    }
+
     /// The data of the item; a tape mark has none.
     pub fn content(&self) -> &'a [u8]
         ensures { result.now ≡ content_of self.now }
@@ -59,18 +72,19 @@ impl<'a> Stored<'a> {
 #[derive(Drop)]
 pub struct Items<'a> {
     reel: &'a Reel,
-    place: usize,
+    at: Position,
 }
 
 impl<'a> Model for Items<'a> {
-    ghost use Rattle.std.specs.Prelude.{List, ◌≤◌, drop, length};
+    ghost use Rattle.std.specs.Prelude.{List, drop};
     ghost use Rattle.tape_unit.specs.Item.{Item};
+    ghost use Rattle.tape_unit.specs.Reel.{IsOn};
 
     ghost Value = { List Item };
 
-    ghost view = { λ i. drop i.place i.reel.now.items };
+    ghost view = { λ i. drop i.at.place i.reel.now.items };
 
-    ghost invariant = { λ i. i.place ≤ length i.reel.now.items };
+    ghost invariant = { λ i. IsOn i.reel.now.items i.at };
 }
 
 impl<'a> Items<'a> {
@@ -78,7 +92,10 @@ impl<'a> Items<'a> {
     pub(crate) fn new(reel: &'a Reel) -> Self
         ensures { result ≡ reel.now.items }
     {
-        Items { reel, place: 0 }
+        Items {
+            reel,
+            at: Position::load_point(),
+        }
     }
 }
 
@@ -90,11 +107,11 @@ impl<'a> Iterator for Items<'a> {
     ghost remaining = { item_count (λ items. items) };
 
     fn next(&mut self) -> Option<Stored<'a>> {
-        if self.place == self.reel.len() {
+        if self.at.place == self.reel.len() {
             return None;
         }
-        let item = self.reel.item(self.place);
-        self.place += 1;
+        let item = self.reel.item(self.at);
+        self.at = self.reel.next(self.at);
         Some(item)
     }
 }

@@ -7,7 +7,8 @@ ghost use Rattle.tape_unit.specs.TapeLaws.{tape_lawful};
 
 use crate::command::{Command, Control};
 use crate::mount::{InitialItem, are_items, fit, is_size, loaded};
-use crate::reel::Reel;
+use crate::position::Position;
+use crate::reel::{LONGEST_BLOCK, Reel};
 use crate::stored::{Items, Stored};
 use device_port::{
     Acted, COMMAND_REJECT, Chain, Device, EQUIPMENT_CHECK, Fault, FaultScript, Flow, Given, Kind,
@@ -18,27 +19,24 @@ use io_images::Seek;
 use std::alloc::{AllocError, Global};
 use std::marker::Model;
 
-/// The most bytes that a block has.
-const LONGEST_BLOCK: usize = 65_535;
-
 /// A magnetic tape (profile), as contracts see it: the items on its reel, how many of them lie before the head,
 /// and the fault script.
 #[derive(Drop)]
 pub struct Tape {
     reel: Reel,
-    place: usize,
+    head: Position,
     faults: FaultScript,
 }
 
 impl Model for Tape {
-    ghost use Rattle.std.specs.Prelude.{◌≤◌, length};
+    ghost use Rattle.tape_unit.specs.Reel.{IsOn};
     ghost use Rattle.tape_unit.specs.Tape.{TapeState};
 
     ghost Value = { TapeState };
 
-    ghost view = { λ t. record { reel = t.reel; place = t.place; ordinals = t.faults } };
+    ghost view = { λ t. record { reel = t.reel; place = t.head.place; ordinals = t.faults } };
 
-    ghost invariant = { λ t. t.place ≤ length t.reel.items };
+    ghost invariant = { λ t. IsOn t.reel.items t.head };
 }
 
 impl Tape {
@@ -76,11 +74,18 @@ impl Tape {
         let Ok(faults) = FaultScript::new(alloc, faults) else {
             return Err(MountError::NoMemory);
         };
-        Ok(Tape {
+        Ok(Tape::wound(reel, faults))
+    }
+
+    /// A tape at its load point.
+    pub(crate) fn wound(reel: Reel, faults: FaultScript) -> Self
+        ensures { result ≡ record { reel = reel; place = 0; ordinals = faults } }
+    {
+        Tape {
             reel,
-            place: 0,
+            head: Position::load_point(),
             faults,
-        })
+        }
     }
 
     /// The items, from the load point on.
@@ -94,7 +99,7 @@ impl Tape {
     pub fn place(&self) -> usize
         ensures { result ≡ self.now.place }
     {
-        self.place
+        self.head.place
     }
 
     /// A command that moves no data.
@@ -121,12 +126,12 @@ impl Tape {
         ensures area { area.new ≡ stored chain.now (read self.old).bytes area.old }
         ensures place { SamePlace area.old area.new }
     {
-        if self.place == self.reel.len() {
+        if self.head.place == self.reel.len() {
             return Acted::unit_check(EQUIPMENT_CHECK);
         }
-        let item = self.reel.item(self.place);
+        let item = self.reel.item(self.head);
         chain.store(area, item.content());
-        self.place += 1;
+        self.head = self.reel.next(self.head);
         read_ended(&item)
     }
 
@@ -138,12 +143,13 @@ impl Tape {
         ensures area { area.new ≡ stored_back chain.now (read_backward self.old).bytes area.old }
         ensures place { SamePlace area.old area.new }
     {
-        if self.place == 0 {
+        if self.head.place == 0 {
             return Acted::unit_check(COMMAND_REJECT);
         }
-        let item = self.reel.item(self.place - 1);
+        let before = self.reel.previous(self.head);
+        let item = self.reel.item(before);
         chain.store_back(area, item.content());
-        self.place -= 1;
+        self.head = before;
         read_ended(&item)
     }
 
@@ -152,11 +158,11 @@ impl Tape {
         ensures acted { result ≡ (forward_space_block self.old).acted }
         ensures device { self.new ≡ (forward_space_block self.old).device }
     {
-        if self.place == self.reel.len() {
+        if self.head.place == self.reel.len() {
             return Acted::unit_check(EQUIPMENT_CHECK);
         }
-        let acted = spaced_ended(&self.reel.item(self.place));
-        self.place += 1;
+        let acted = spaced_ended(&self.reel.item(self.head));
+        self.head = self.reel.next(self.head);
         acted
     }
 
@@ -165,12 +171,11 @@ impl Tape {
         ensures acted { result ≡ (backspace_block self.old).acted }
         ensures device { self.new ≡ (backspace_block self.old).device }
     {
-        if self.place == 0 {
+        if self.head.place == 0 {
             return Acted::unit_check(COMMAND_REJECT);
         }
-        let acted = spaced_ended(&self.reel.item(self.place - 1));
-        self.place -= 1;
-        acted
+        self.head = self.reel.previous(self.head);
+        spaced_ended(&self.reel.item(self.head))
     }
 
     /// FORWARD SPACE FILE.
@@ -178,12 +183,11 @@ impl Tape {
         ensures acted { result ≡ (forward_space_file self.old).acted }
         ensures device { self.new ≡ (forward_space_file self.old).device }
     {
-        let end = self.reel.len();
-        let Some(blocks) = self.reel.blocks_ahead(self.place) else {
-            self.place = end;
+        let Some(mark) = self.reel.mark_ahead(self.head) else {
+            self.head = self.reel.end();
             return Acted::unit_check(EQUIPMENT_CHECK);
         };
-        self.place += blocks + 1;
+        self.head = self.reel.next(mark);
         Acted::normal_end(0)
     }
 
@@ -192,11 +196,11 @@ impl Tape {
         ensures acted { result ≡ (backspace_file self.old).acted }
         ensures device { self.new ≡ (backspace_file self.old).device }
     {
-        let Some(blocks) = self.reel.blocks_behind(self.place) else {
-            self.place = 0;
+        let Some(mark) = self.reel.mark_behind(self.head) else {
+            self.head = Position::load_point();
             return Acted::unit_check(COMMAND_REJECT);
         };
-        self.place -= blocks + 1;
+        self.head = mark;
         Acted::normal_end(0)
     }
 
@@ -205,7 +209,7 @@ impl Tape {
         ensures acted { result ≡ (rewind self.old).acted }
         ensures device { self.new ≡ (rewind self.old).device }
     {
-        self.place = 0;
+        self.head = Position::load_point();
         Acted::normal_end(0)
     }
 
@@ -216,10 +220,10 @@ impl Tape {
         ensures device { self.new ≡ (write self.old given.now).device }
     {
         let len = given.len().min(LONGEST_BLOCK);
-        if !self.reel.has_room(self.place, len) {
+        if !self.reel.has_room(self.head, len) {
             return Acted::unit_check(EQUIPMENT_CHECK);
         }
-        self.place = self.reel.put_given(self.place, given, len);
+        self.head = self.reel.put_given(self.head, given, len);
         Acted::normal_end(len as u32)
     }
 
@@ -238,10 +242,10 @@ impl Tape {
         ensures acted { result ≡ (write_tape_mark self.old).acted }
         ensures device { self.new ≡ (write_tape_mark self.old).device }
     {
-        if !self.reel.has_room(self.place, 0) {
+        if !self.reel.has_room(self.head, 0) {
             return Acted::unit_check(EQUIPMENT_CHECK);
         }
-        self.place = self.reel.put(self.place, &[]);
+        self.head = self.reel.put(self.head, &[]);
         Acted::normal_end(0)
     }
 }
@@ -314,7 +318,7 @@ impl Device for Tape {
     fn copy(&self) -> Result<Self, AllocError> {
         Ok(Tape {
             reel: self.reel.copy()?,
-            place: self.place,
+            head: self.head,
             faults: self.faults.copy()?,
         })
     }

@@ -5,7 +5,7 @@ ghost use Rattle.tape_unit.specs.Mount.{is_initial, opening_items};
 ghost use Rattle.tape_unit.specs.Reel.{bytes_of};
 
 use super::{InitialItem, are_items, fit, is_size};
-use crate::reel::LENGTH_WORD;
+use crate::reel::LENGTHS;
 
 impl InitialItem {
     /// How many bytes of data a block has that is empty or too long for a tape.
@@ -40,7 +40,7 @@ pub fn overrun_of(items: &[InitialItem], bytes: u64) -> Option<Overrun>
     let mut needed: u64 = 0;
     for other in items {
         needed = needed
-            .saturating_add(LENGTH_WORD as u64)
+            .saturating_add(LENGTHS as u64)
             .saturating_add(other.content().len() as u64);
         if needed <= bytes {
             item = item.saturating_add(1);

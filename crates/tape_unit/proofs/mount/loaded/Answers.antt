@@ -13,7 +13,7 @@ put-end-requires-clause-room c =
     let r = c.item-item.result in
     let fit : bytes_of (opening_items items) ≤ c.args.bytes = grind (arith, nat_tests, c.requires.fit) in
     let m = more items c.args.bytes k r c.loop-item-test.true c.item-item.is c.requires.items fit in
-    ap (λ (reel : ReelState). has_room_at reel c.loop-item.end (length c.content.result.now)) c.loop-item.invariant.loaded
+    ap (λ (reel : ReelState). has_room_at reel c.loop-item.end.place (length c.content.result.now)) c.loop-item.invariant.loaded
     ∙ ap (λ (n : ℕ). has_room_at (record { size = c.args.bytes; items = take k (opening_items items) }) n (length c.content.result.now))
     c.loop-item.invariant.end
     ∙ ap (λ (l : List ℕ). has_room_at (record { size = c.args.bytes; items = take k (opening_items items) }) k (length l)) c.content.ensures
@@ -28,11 +28,12 @@ loop-item-preserved c =
     let m = more items c.args.bytes k r c.loop-item-test.true c.item-item.is c.requires.items fit in
     record {
       loaded = c.put-end.ensures.reel
-          ∙ ap (λ (reel : ReelState). with_item_at reel c.loop-item.end (item_with c.content.result.now)) c.loop-item.invariant.loaded
+          ∙ ap (λ (reel : ReelState). with_item_at reel c.loop-item.end.place (item_with c.content.result.now)) c.loop-item.invariant.loaded
           ∙ ap (λ (n : ℕ). with_item_at (record { size = c.args.bytes; items = take k (opening_items items) }) n
           (item_with c.content.result.now)) c.loop-item.invariant.end
           ∙ ap (λ (l : List ℕ). with_item_at (record { size = c.args.bytes; items = take k (opening_items items) }) k (item_with l))
           c.content.ensures
           ∙ ap (λ (l : List Item). record { size = c.args.bytes; items = l }) m.items;
       end = c.put-end.ensures.behind ∙ ap (λ (n : ℕ). n + 1) c.loop-item.invariant.end;
+      on = c.put-end.ensures.on;
     }

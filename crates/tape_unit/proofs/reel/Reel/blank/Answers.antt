@@ -5,9 +5,9 @@ use Rattle.tape_unit.proofs.reel.Reel.blank.Goals as goal
 pub invariant_of-result : goal.invariant_of-result
 invariant_of-result c =
     let len : length c.in_ok-vec.field-0.items ≡ c.args.size = search rules in
-    (blank_kept c.args.size c.in_ok-vec.field-0.items c.in_ok-new.field-0 len c.requires c.in_ok-new.ensures).holds
+    (blank_kept c.args.size c.in_ok-vec.field-0.items len c.requires).holds
 
 pub returns : goal.returns
 returns c =
     let len : length c.in_ok-vec.field-0.items ≡ c.args.size = search rules in
-    (blank_kept c.args.size c.in_ok-vec.field-0.items c.in_ok-new.field-0 len c.requires c.in_ok-new.ensures).view
+    (blank_kept c.args.size c.in_ok-vec.field-0.items len c.requires).view

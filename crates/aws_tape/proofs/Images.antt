@@ -1,0 +1,75 @@
+-- An image is read chunk by chunk.
+use Rattle.std.proofs.Common.{◌≡◌, ℕ, zero, suc, ◌+◌, ◌<◌, ◌≤◌, Bool, false, cond, nat_lt, List, [], ◌∷◌, length, take, drop, Ok, Err, Result}
+use Rattle.std.proofs.Common.{refl, sym, ap, ◌∙◌, arith}
+use Rattle.std.proofs.lemmas.Bool.Decides.{nat_tests}
+use Rattle.std.proofs.lemmas.List.{length-drop}
+use Rattle.tape_unit.specs.Reel.{ReelState}
+use Rattle.aws_tape.specs.declared.fault.AwsError.{AwsError}
+use Rattle.aws_tape.specs.declared.chunk.Header.{Header}
+use Rattle.aws_tape.specs.declared.fault.AwsFault.{AwsFault}
+use Rattle.aws_tape.specs.declared.fault.AwsFault.TheVariants as fault
+use Rattle.aws_tape.specs.Chunk.{len_of}
+use Rattle.aws_tape.specs.Steps.{◌>>=◌}
+use Rattle.aws_tape.specs.Reading.{Between, at_offset, at_end, header_after, data_after, first_after, read_from}
+
+-- steps that agree
+same_step : {A B E : Type 0} (r : Result A E) (f g : A → Result B E) → ((x : A) → f x ≡ g x) → (r >>= f) ≡ (r >>= g)
+same_step (Ok x) f g same = same x
+same_step (Err e) f g same = refl
+
+-- what is left has fewer bytes than before
+less : (k : ℕ) (byte : ℕ) (rest : List ℕ) (n : ℕ) → length (byte ∷ rest) ≤ suc n → length (drop (6 + k) (byte ∷ rest)) ≤ n
+less k byte rest n le = omega (arith, length-drop (6 + k) (byte ∷ rest))
+
+-- as many chunks as there are bytes are enough
+enough : (n m offset : ℕ) (at : Between) (rest : List ℕ) → length rest ≤ n → length rest ≤ m →
+    read_from n offset at rest ≡ read_from m offset at rest
+unfolding read_from
+enough zero zero offset at rest le-n le-m = refl
+enough zero (suc m) offset at [] le-n le-m = refl
+enough zero (suc m) offset at (byte ∷ rest) le-n le-m = absurd (omega arith)
+enough (suc n) zero offset at [] le-n le-m = refl
+enough (suc n) zero offset at (byte ∷ rest) le-n le-m = absurd (omega arith)
+enough (suc n) (suc m) offset at [] le-n le-m = refl
+enough (suc n) (suc m) offset at (byte ∷ rest) le-n le-m =
+    let k = len_of (byte ∷ rest) in
+    same_step (at_offset offset (first_after at (byte ∷ rest)))
+    (λ next. read_from n (offset + (6 + k)) next (drop (6 + k) (byte ∷ rest)))
+    (λ next. read_from m (offset + (6 + k)) next (drop (6 + k) (byte ∷ rest)))
+    (λ next. enough n m (offset + (6 + k)) next (drop (6 + k) (byte ∷ rest)) (less k byte rest n le-n) (less k byte rest m le-m))
+
+pub read_chunk : (offset : ℕ) (at next : Between) (rest : List ℕ) → 0 < length rest → first_after at rest ≡ Ok next →
+    read_from (length rest) offset at rest
+    ≡ read_from (length (drop (6 + len_of rest) rest)) (offset + (6 + len_of rest)) next (drop (6 + len_of rest) rest)
+unfolding read_from
+read_chunk offset at next [] some first = absurd (omega arith)
+read_chunk offset at next (byte ∷ rest) some first =
+    let k = len_of (byte ∷ rest) in
+    let left = drop (6 + k) (byte ∷ rest) in
+    ap (λ (r : Result Between AwsFault). at_offset offset r
+    >>= λ (x : Between). read_from (length rest) (offset + (6 + k)) x left) first
+    ∙ enough (length rest) (length left) (offset + (6 + k)) next left (less k byte rest (length rest) (omega arith)) (omega arith)
+
+pub read_fault : (offset : ℕ) (at : Between) (rest : List ℕ) (e : AwsFault) → 0 < length rest → first_after at rest ≡ Err e →
+    read_from (length rest) offset at rest ≡ Err (record { fault = e; offset = offset })
+unfolding read_from
+read_fault offset at [] e some first = absurd (omega arith)
+read_fault offset at (byte ∷ rest) e some first =
+    let k = len_of (byte ∷ rest) in
+    ap (λ (r : Result Between AwsFault). at_offset offset r
+    >>= λ (x : Between). read_from (length rest) (offset + (6 + k)) x (drop (6 + k) (byte ∷ rest))) first
+
+pub read_end : (offset : ℕ) (at : Between) (rest : List ℕ) → length rest ≡ 0 →
+    read_from (length rest) offset at rest ≡ at_offset offset (at_end at)
+unfolding read_from
+read_end offset at [] none = refl
+read_end offset at (byte ∷ rest) none = absurd (omega arith)
+
+-- a chunk whose header breaks no rule goes by its data
+pub first_with : (at : Between) (rest : List ℕ) (header : Header) → 6 ≤ length rest → header_after at (take 6 rest) ≡ Ok header →
+    first_after at rest ≡ data_after at (len_of rest) (drop 6 rest) header
+first_with at rest header le is =
+    let long : nat_lt (length rest) 6 ≡ false = grind (arith, nat_tests) in
+    let whole = header_after at (take 6 rest) >>= data_after at (len_of rest) (drop 6 rest) in
+    ap (λ (b : Bool). cond b (Err fault.HeaderCutShort) whole) long
+    ∙ ap (λ (r : Result Header AwsFault). r >>= data_after at (len_of rest) (drop 6 rest)) is

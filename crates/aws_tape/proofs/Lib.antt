@@ -1,0 +1,2 @@
+-- The lemmas of aws_tape.
+pub mod Images

@@ -1,0 +1,65 @@
+//! The headers of chunks.
+
+ghost use Rattle.std.specs.Prelude.{◌≡◌, ◌<◌, ◌≤◌, length};
+ghost use Rattle.byteorder.specs.Endian.{little_number};
+ghost use Rattle.aws_tape.specs.Chunk.{kind_of, is_digit};
+
+use byteorder::{ByteOrder, LittleEndian};
+
+/// The bytes of a header.
+pub const HEADER: usize = 6;
+
+/// What a chunk is.
+#[derive(Clone, Copy, Debug, PartialEq, Eq)]
+pub enum Kind {
+    /// A tape mark.
+    Mark,
+    /// A block.
+    Whole,
+    /// The first part of a block.
+    First,
+    /// A part of a block between others.
+    Middle,
+    /// The last part of a block.
+    Last,
+}
+
+/// What a header says of its chunk.
+#[derive(Clone, Copy, Debug, PartialEq, Eq)]
+pub struct Header {
+    pub kind: Kind,
+    /// How many bytes of data follow the header.
+    pub len: u16,
+}
+
+impl Kind {
+    /// What a chunk is by byte 4 of its header.
+    pub fn decode(flags: u8) -> Option<Self>
+        ensures { result ≡ kind_of flags }
+    {
+        let kind = match flags {
+            0x40 => Kind::Mark,
+            0xA0 => Kind::Whole,
+            0x80 => Kind::First,
+            0x00 => Kind::Middle,
+            0x20 => Kind::Last,
+            _ => return None,
+        };
+        Some(kind)
+    }
+}
+
+/// The number in two bytes, the lowest first.
+pub fn number(bytes: &[u8]) -> u16
+    requires { 2 ≤ length bytes.now }
+    ensures { result ≡ little_number 2 bytes.now }
+{
+    LittleEndian::read_u16(bytes)
+}
+
+/// Whether a byte is an upper hexadecimal digit in ASCII.
+pub fn is_digit(byte: u8) -> bool
+    ensures { result ≡ is_digit byte }
+{
+    (byte >= 0x30 && byte <= 0x39) || (byte >= 0x41 && byte <= 0x46)
+}

@@ -1,0 +1,16 @@
+//! Images of tapes in the AWSTAPE format, read and written.
+//!
+//! An image is a list of chunks: a tape mark, or a part of a block. `load` reads an image to a recording of the tape,
+//! or returns the first fault of the image. `Reader` does so chunk by chunk. `put_block` and `put_mark` write an image in
+//! its canonical form, which has one chunk for each block.
+//!
+//! Tests: component_tests (`tape_images`).
+#![tactic(auto)]
+
+mod chunk;
+mod fault;
+mod reader;
+
+pub use chunk::{Header, Kind};
+pub use fault::{AwsError, AwsFault};
+pub use reader::{Reader, load};

@@ -1,0 +1,167 @@
+//! A tape that is recorded item by item.
+
+ghost use Rattle.std.specs.Prelude.{◌≡◌, ◌∷◌, [], IfSome, OnErr, OnOk, true};
+ghost use Rattle.tape_unit.specs.Item.{tape_mark, block, item_with, is_item};
+ghost use Rattle.tape_unit.specs.Reel.{bytes_of};
+
+use crate::reel::{LENGTHS, LONGEST_BLOCK, LONGEST_REEL, Reel, write_item};
+use crate::tape::Tape;
+use device_port::{Fault, FaultScript, MountError, is_script};
+use std::alloc::Global;
+use std::marker::Model;
+use thiserror::Error;
+
+/// Why a tape or an item is not recorded.
+#[derive(Clone, Copy, Debug, Drop, Error, PartialEq, Eq)]
+pub enum RecordingError {
+    /// The tape is to have more than 4 GiB.
+    #[error("a tape has at most 4,294,967,296 bytes")]
+    BadSize,
+    /// The block is empty or over 65,535 bytes.
+    #[error("a block has 1 to 65,535 bytes")]
+    BadBlock,
+    /// The item takes more bytes than the tape has left.
+    #[error("the tape is too short for its items")]
+    Full,
+    /// Out of memory.
+    #[error("out of memory")]
+    NoMemory,
+}
+
+/// A tape that is recorded item by item from its load point on, as from an image of a tape, and mounted then. It has up
+/// to 4 GiB, so it takes more than `Tape::mount` does. Its memory grows with its items.
+#[derive(Debug, Drop)]
+pub struct Recording {
+    bytes: Vec<u8>,
+    count: usize,
+    size: usize,
+}
+
+impl Model for Recording {
+    ghost use Rattle.device_port.specs.Packed.{items_at};
+    ghost use Rattle.tape_unit.specs.Item.{on_tape};
+    ghost use Rattle.tape_unit.specs.Reel.{ReelState};
+    ghost use Rattle.tape_unit.specs.Recording.{HoldsRecording};
+
+    ghost Value = { ReelState };
+
+    ghost view = { λ r. record { size = r.size; items = items_at on_tape r.count r.bytes.items } };
+
+    ghost invariant = { λ r. HoldsRecording r.bytes.items r.count r.size };
+}
+
+impl Recording {
+    ghost use Rattle.tape_unit.specs.Recording.{Begins, Records, MountsReel, with_item, cut};
+
+    /// A tape of `bytes` bytes with no item yet.
+    ///
+    /// Error: `BadSize` if it is to have more than 4 GiB.
+    pub fn new(alloc: Global, bytes: u64) -> Result<Self, RecordingError>
+        ensures { Begins bytes result }
+    {
+        if bytes > LONGEST_REEL {
+            return Err(RecordingError::BadSize);
+        }
+        Ok(Recording {
+            bytes: Vec::new(alloc),
+            count: 0,
+            size: bytes as usize,
+        })
+    }
+
+    /// How many bytes of the tape its items take: each four beside its data.
+    pub fn used(&self) -> u64
+        ensures { result ≡ bytes_of self.now.items }
+    {
+        self.bytes.len() as u64
+    }
+
+    /// Records a block after the items there.
+    ///
+    /// Errors, in this order: `BadBlock`, `Full`, `NoMemory`. The items stay as they are then.
+    pub fn write_block(&mut self, content: &[u8]) -> Result<(), RecordingError>
+        ensures answer { Records self.old (block content.now) result }
+        ensures recorded { OnOk result (self.new ≡ with_item self.old (block content.now)) }
+        ensures unchanged { OnErr result (self.new ≡ self.old) }
+    {
+        if content.is_empty() || content.len() > LONGEST_BLOCK {
+            return Err(RecordingError::BadBlock);
+        }
+        self.write(content)
+    }
+
+    /// Records a tape mark after the items there.
+    ///
+    /// Errors, in this order: `Full`, `NoMemory`. The items stay as they are then.
+    pub fn write_tape_mark(&mut self) -> Result<(), RecordingError>
+        ensures answer { Records self.old tape_mark result }
+        ensures recorded { OnOk result (self.new ≡ with_item self.old tape_mark) }
+        ensures unchanged { OnErr result (self.new ≡ self.old) }
+    {
+        self.write(&[])
+    }
+
+    /// Records an item after those there. An item without data is a tape mark.
+    fn write(&mut self, content: &[u8]) -> Result<(), RecordingError>
+        requires { is_item (item_with content.now) ≡ true }
+        ensures answer { Records self.old (item_with content.now) result }
+        ensures recorded { OnOk result (self.new ≡ with_item self.old (item_with content.now)) }
+        ensures unchanged { OnErr result (self.new ≡ self.old) }
+    {
+        let start = self.bytes.len();
+        let end = start + LENGTHS + content.len();
+        if end > self.size {
+            return Err(RecordingError::Full);
+        }
+        let Ok(()) = self.bytes.resize(end, 0) else {
+            return Err(RecordingError::NoMemory);
+        };
+        write_item(&mut self.bytes, start, content);
+        self.count += 1;
+        Ok(())
+    }
+
+    /// Cuts the tape after its last item, so that it has no room for another.
+    pub fn cut(&mut self)
+        ensures { self.new ≡ cut self.old }
+    {
+        self.size = self.bytes.len();
+    }
+
+    /// The tape at its load point, that meets these faults.
+    ///
+    /// Errors, in this order:
+    ///
+    /// - `BadMedium`: the faults are no fault script.
+    /// - `NoMemory`.
+    pub fn mount(self, alloc: Global, faults: &[Fault]) -> Result<Tape, MountError>
+        ensures { MountsReel self faults.now result }
+    {
+        if !is_script(faults) {
+            return Err(MountError::BadMedium);
+        }
+        let Some(reel) = self.wound() else {
+            return Err(MountError::NoMemory);
+        };
+        let Ok(faults) = FaultScript::new(alloc, faults) else {
+            return Err(MountError::NoMemory);
+        };
+        Ok(Tape::wound(reel, faults))
+    }
+
+    /// The reel, unless memory runs out.
+    fn wound(self) -> Option<Reel>
+        ensures { IfSome result (λ reel. reel ≡ self) }
+    {
+        let Recording {
+            mut bytes,
+            count,
+            size,
+        } = self;
+        let used = bytes.len();
+        let Ok(()) = bytes.resize(size, 0) else {
+            return None;
+        };
+        Some(Reel::of(bytes, used, count))
+    }
+}
