@@ -1,14 +1,11 @@
 -- The post of the active request: the fields stay those of the trace.
-use Rattle.unit_book.proofs.Names.{BookFields, ◌≡◌, ℕ, ◌&&◌, Some, None, List, [], ◌∷◌, ◌++◌, append_assoc, length, refl, sym, ap}
-use Rattle.unit_book.proofs.Names.{◌∙◌, eqb, inl, inr, cases_Bool, Storage, is_error, Status, Code, Meaning, Phase, Idle, Running, Pending}
-use Rattle.unit_book.proofs.Names.{Name, Piece, Active, Standing, OnChannel, Dcb, Entry, Post, request_named, attempts, stand, newest}
-use Rattle.unit_book.proofs.Names.{current, area, StillRunning, HasEnded, active_phase, is_opened, extents_of, flag, Legal, due, Free}
-use Rattle.unit_book.proofs.Names.{PostsActive, WithVerdict, OfActive, posted, posted_value, doomed_by_post, StandingTies, Ties, dcb_at}
-use Rattle.unit_book.proofs.Names.{dcb_of, noted, arith}
+use Rattle.unit_book.proofs.Names.{BookFields, ◌≡◌, ℕ, ◌&&◌, Some, None, List, [], ◌∷◌, ◌++◌, append_assoc, length, refl, sym, ap, ◌∙◌, eqb}
+use Rattle.unit_book.proofs.Names.{inl, inr, cases_Bool, Storage, is_error, Status, Code, Meaning, Phase, Idle, Name, Piece, Active}
+use Rattle.unit_book.proofs.Names.{Standing, Dcb, Entry, Post, request_named, attempts, stand, newest, current, area}
+use Rattle.unit_book.proofs.Names.{is_opened, extents_of, flag, Legal, due, Free, PostsActive, OfActive, posted, posted_value}
+use Rattle.unit_book.proofs.Names.{doomed_by_post, StandingTies, Ties, dcb_at, dcb_of, noted, arith}
 use Rattle.subchannel.specs.Subchannel.{tested_phase}
 use Rattle.request_piece.specs.Final.{posted_of}
-use Rattle.unit_book.specs.Media.{WasHalted}
-use Rattle.unit_book.specs.Legal.{PostsAs, WhileCovered, AfterHalt}
 use Rattle.unit_book.proofs.Facts.{NewestIs, active-is, active-post, waiting-post, without-started}
 use Rattle.unit_book.proofs.LegalFacts.{facts}
 use Rattle.unit_book.proofs.Same.{fits-free}
@@ -42,18 +39,9 @@ module _ {D : Type 0} {meaning : Meaning D} {mounted : D} {held : BookFields D} 
   abbrev n : Name
   n = a.piece.value.name
 
-  -- what is posted does not run
-  posts-runs : PostsAs meaning mounted n status code held.trace → active_phase meaning mounted n held.trace ≡ StillRunning → ⊥
-  posts-runs (WithVerdict e v) h = let k : HasEnded status ≡ StillRunning = sym e ∙ h in absurd cc
-  posts-runs (WhileCovered e v c i) h = let k : HasEnded status ≡ StillRunning = sym e ∙ h in absurd cc
-  posts-runs (AfterHalt e i) h = let k : WasHalted status ≡ StillRunning = sym e ∙ h in absurd cc
-
   tested-idle : (phase : Phase) (standing : Standing) → StandingTies meaning mounted held.trace phase a standing → tested_phase phase
       ≡ Idle
-  tested-idle Idle standing d = refl
-  tested-idle (Running place) OnChannel d = absurd (posts-runs p.as_ended d.1)
-  tested-idle (Pending pending) standing d = refl
-  tested-idle _ _ d = absurd d
+  tested-idle v0 standing d = grind (arith, common_steps)
 
   -- what is handed out is the value that the trace says
   pub value-is : posted_value a.piece.value status.csw status.sense code a.piece.value.area

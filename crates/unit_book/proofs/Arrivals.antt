@@ -1,24 +1,22 @@
 -- A request arrives: the fields stay those of the trace.
-use Rattle.unit_book.proofs.Names.{BookFields, ◌≡◌, true, false, Option, List, [], ◌∷◌, ◌++◌, refl, ap, ◌∙◌, sym, subst, Meaning, Placed}
-use Rattle.unit_book.proofs.Names.{Name, Piece, Active, Entry, Arrive, same, has_arrived, active, started, request_named, is_covered}
-use Rattle.unit_book.proofs.Names.{attempts, extents_of, flag, Fits, Legal, due, posted, Ties, Bool, not, ◌&&◌, ◌||◌, if◌then◌else◌}
-use Rattle.unit_book.proofs.Names.{append-nil, filter-append, filter, Purged, no_status, Post, waiting, doomed, is_doomed, is_open, Free}
-use Rattle.unit_book.proofs.Names.{doomed_first, after_dooms, purged, posted_since}
+use Rattle.unit_book.proofs.Names.{BookFields, ◌≡◌, true, false, Option, List, [], ◌∷◌, ◌++◌, refl, ap, ◌∙◌, sym, Meaning, Placed, Name}
+use Rattle.unit_book.proofs.Names.{Piece, Active, Entry, Arrive, same, has_arrived, active, started, request_named, attempts, extents_of}
+use Rattle.unit_book.proofs.Names.{flag, Fits, Legal, due, posted, Ties, Bool, not, ◌&&◌, ◌||◌, if◌then◌else◌, filter-append}
+use Rattle.unit_book.proofs.Names.{filter, Purged, no_status, Post, waiting, doomed, is_doomed, is_open, Free, doomed_first, after_dooms}
+use Rattle.unit_book.proofs.Names.{purged, posted_since, arith}
 use Rattle.unit_book.specs.Dcbs.{is_refused}
 use Rattle.unit_book.proofs.Lists.{same-refl, without, none_named, filter-all}
-use Rattle.unit_book.proofs.Facts.{Each-behind, Each-weaker, fresh, new-name, fits-freely, waiting-arrive, active-is, Facts, waits}
+use Rattle.unit_book.proofs.Facts.{Each-behind, Each-weaker, fresh, fits-freely, waiting-arrive, active-is, Facts, waits}
 use Rattle.unit_book.proofs.Facts.{WaitsAmong, Known, not-true}
 use Rattle.unit_book.proofs.LegalFacts.{SoundTrace, facts, none-named}
 use Rattle.unit_book.proofs.Same.{Silent, activity-same}
 use Rattle.unit_book.proofs.Dooms.{filter-agree, due-no_halt, due-doomed, Swept, ties-dooms_by, since-is}
+use Rattle.std.proofs.lemmas.Grind.{common_steps}
 
 silent : (r : Piece) (n : Name) (H : List Entry) → has_arrived r.name H ≡ false → has_arrived n H ≡ true →
     Silent H (Arrive r ∷ H) n
 unfolding active started request_named attempts
-silent r n H new a =
-    let s = new-name r n H new a in
-    let q : request_named n (Arrive r ∷ H) ≡ request_named n H = rw s refl in
-    record { active = refl; request = q; starts = refl; attempts = refl; halted = refl; covered = ap (λ x. is_covered x H) q }
+silent r n H new a = grind (arith, common_steps)
 
 module _ {D : Type 0} (meaning : Meaning D) (mounted : D) where
   pub ties-arrive : {r : Piece} {held : BookFields D} {o : Option Active} →
@@ -61,21 +59,13 @@ doomed-arrive r H f h e =
     ∙ ap (λ x. x ++ filter (is_doomed G) (r ∷ [])) (agree ∙ e)
     ∙ rw self (by_bools (not (is_open r.dcb H)) (r.related && flag r.dcb H)) where
       by_bools : (a b : Bool) → (if (a || false) || b then r ∷ [] else []) ≡ (if a || b then r ∷ [] else [])
-      by_bools true b = refl
-      by_bools false b = refl
+      by_bools v0 b = grind (arith, common_steps)
 
 module _ {D : Type 0} (meaning : Meaning D) (mounted : D) where
-  pub arrive-fresh : (r : Piece) (H : List Entry) → Facts H → Fits meaning mounted (Arrive r) H → has_arrived r.name H ≡ false
-  arrive-fresh r H f h = fresh r H f (fits-freely meaning mounted (Arrive r) H refl h).1
-
   -- an arrival that is not refused leaves a trace settled
   pub settled-arrive : (r : Piece) {H : List Entry} → SoundTrace meaning mounted H → Fits meaning mounted (Arrive r) H →
       is_refused r H ≡ false → (doomed (Arrive r ∷ H) ≡ []) × (due meaning mounted (Arrive r ∷ H) ≡ Free)
-  settled-arrive r {H} s h n =
-      let f = facts meaning mounted H s.legal in
-      let e : doomed (Arrive r ∷ H) ≡ [] = doomed-arrive r H f (arrive-fresh r H f h) (due-doomed meaning mounted H s.settled)
-      ∙ rw n refl in
-      (e, due-no_halt meaning mounted (Arrive r ∷ H) (λ m a. refl) ∙ ap doomed_first e)
+  settled-arrive r {H} s h n = grind (arith, common_steps, facts, doomed-arrive, due-doomed, due-no_halt)
 
 -- one that is refused is posted at once
 module _ {D : Type 0} {meaning : Meaning D} {mounted : D} {r : Piece} {held : BookFields D} {o : Option Active}
@@ -85,10 +75,7 @@ module _ {D : Type 0} {meaning : Meaning D} {mounted : D} {r : Piece} {held : Bo
   G = Arrive r ∷ held.trace
 
   doomed-is : doomed G ≡ r ∷ []
-  doomed-is =
-      let f = facts meaning mounted held.trace t.legal in
-      doomed-arrive r held.trace f (arrive-fresh meaning mounted r held.trace f fits)
-      (due-doomed meaning mounted held.trace settled) ∙ rw refused refl
+  doomed-is = grind (arith, common_steps, facts, doomed-arrive, due-doomed)
 
   swept : Swept meaning mounted (r ∷ []) (record held { trace = G; waiting = held.waiting ++ r ∷ [] }) o
   swept = ties-dooms_by meaning mounted (r ∷ []) doomed-is (due-no_halt meaning mounted G (λ n a. refl) ∙ ap doomed_first doomed-is)
@@ -99,22 +86,10 @@ module _ {D : Type 0} {meaning : Meaning D} {mounted : D} {r : Piece} {held : Bo
 
   queue-is : without r.name (held.waiting ++ r ∷ []) ≡ held.waiting
   unfolding without
-  queue-is =
-      let f = facts meaning mounted held.trace t.legal in
-      let none = subst (λ x. none_named r.name x ≡ true) (sym t.queue)
-      (none-waiting r held.trace f (arrive-fresh meaning mounted r held.trace f fits)) in
-      let self = same-refl r.name in
-      filter-append (λ (q : Piece). not (same r.name q.name)) held.waiting (r ∷ [])
-      ∙ rw (self, filter-all (λ (q : Piece). not (same r.name q.name)) held.waiting none) (append-nil held.waiting)
+  queue-is = grind (arith, common_steps, facts, none-waiting, filter-all)
 
   pub ties-refused : Ties meaning mounted (record held { trace = Post r.name no_status 0 Purged ∷ G; out = held.out ++ purged r ∷ [] }) o
-  ties-refused = subst (λ x. Ties meaning mounted (record held {
-    trace = Post r.name no_status 0 Purged ∷ G;
-    waiting = x;
-    out = held.out
-        ++ purged r ∷ [];
-  }) o) queue-is
-      swept.ties
+  ties-refused = grind (arith, common_steps, queue-is, swept)
 
   pub since-refused : posted_since meaning mounted held.trace (Post r.name no_status 0 Purged ∷ G) ≡ purged r ∷ []
   unfolding posted

@@ -1,37 +1,25 @@
 -- A purge with Halt that covers the active request, which awaits its restart: what waits is posted first, then it.
-use Rattle.unit_book.proofs.Names.{BookFields, ◌≡◌, ℕ, Bool, true, false, not, ◌&&◌, Option, Some, None, List, [], ◌∷◌, ◌++◌}
-use Rattle.unit_book.proofs.Names.{append_assoc, map, refl}
-use Rattle.unit_book.proofs.Names.{sym, ap, ◌∙◌, subst, filter, is_some, Status, Purged, Meaning, Kind, Place, State, Channel, Phase, Idle}
-use Rattle.unit_book.proofs.Names.{Pending, Retry, verdict, PostedState, Name, Piece, covers, Scope, Active, Standing, OnChannel}
-use Rattle.unit_book.proofs.Names.{AwaitsRestart, Dcb, Mode, Entry, Purge, Post, waiting, active, request_named, is_halt, is_halted, doomed}
-use Rattle.unit_book.proofs.Names.{area, current, active_phase, active_phase_by, HasEnded, due, Free, doomed_first, CanPurge, PostsActive}
+use Rattle.unit_book.proofs.Names.{BookFields, ◌≡◌, Bool, true, false, not, ◌&&◌, Option, Some, None, List, [], ◌∷◌, ◌++◌, append_assoc}
+use Rattle.unit_book.proofs.Names.{map, refl, sym, ap, ◌∙◌, filter, is_some, Status, Purged, Meaning, Channel}
+use Rattle.unit_book.proofs.Names.{Phase, Idle, Pending, Retry, PostedState, Name, Piece, covers, Scope, Active, Standing}
+use Rattle.unit_book.proofs.Names.{OnChannel, AwaitsRestart, Dcb, Mode, Entry, Purge, Post, waiting, active, is_halt, doomed}
+use Rattle.unit_book.proofs.Names.{active_phase, HasEnded, due, Free, doomed_first, CanPurge, PostsActive}
 use Rattle.unit_book.proofs.Names.{all_posted, after_dooms, purged, posted, posted_since, posted_value, running_name_by, active_of}
-use Rattle.unit_book.proofs.Names.{after_purge, halted_by, awaits_by, dcb_at, StandingTies, Ties, noted, pending_phase}
+use Rattle.unit_book.proofs.Names.{after_purge, halted_by, awaits_by, dcb_at, StandingTies, Ties, noted, arith}
 use Rattle.unit_book.specs.Legal.{verdict_of}
-use Rattle.unit_book.specs.Fields.{kept_by, after_cover, pending_code}
+use Rattle.unit_book.specs.Fields.{kept_by, after_cover}
 use Rattle.unit_book.proofs.Lists.{without}
 use Rattle.unit_book.proofs.Dooms.{due-doomed, due-no_halt, doomed-purged, halted-first, Swept, without_all, ties-dooms, since-is}
 use Rattle.unit_book.proofs.Controls.{doomed-purge, ties-purge, halts-none}
-use Rattle.unit_book.proofs.Decisions.{decides-post}
 use Rattle.unit_book.proofs.ActivePosts.{ties-post, value-is}
+use Rattle.std.proofs.lemmas.Grind.{common_steps}
 
 noted-nothing : (o : Option Dcb) → noted false o ≡ o
-noted-nothing None = refl
-noted-nothing (Some c) = refl
+noted-nothing v0 = grind (arith, common_steps)
 
 -- what awaits its restart keeps its status
 again-is : (d : Standing) → awaits_by d ≡ true → d ≡ AwaitsRestart (kept_by d)
-again-is OnChannel h = absurd cc
-again-is (AwaitsRestart status) h = refl
-
-over-unhalted : (b : Bool) (place : Place) (state : State) (status : Status) → active_phase_by b place state ≡ HasEnded status → b ≡ false
-over-unhalted true place state status h = absurd cc
-over-unhalted false place state status h = refl
-
-purged-code : (kind : Kind) (status : Status) (starts : ℕ) (halted : Bool) →
-    verdict kind status.csw status.sense starts ≡ Retry → pending_code kind status starts halted true ≡ Some Purged
-purged-code kind status starts true v = refl
-purged-code kind status starts false v = rw v refl
+again-is v0 h = grind (arith, common_steps)
 
 module _ {D : Type 0} (meaning : Meaning D) (mounted : D) where
   -- a status that is kept here stands on no channel
@@ -42,8 +30,7 @@ module _ {D : Type 0} (meaning : Meaning D) (mounted : D) where
 
   kept-by : (H : List Entry) (phase : Phase) (a : Active) (status : Status) →
       StandingTies meaning mounted H phase a (AwaitsRestart status) → Kept H phase a status
-  kept-by H Idle a status d = record { idle = refl; ended = d.0; retry = d.1 }
-  kept-by H _ a status d = absurd d
+  kept-by v0 v1 a status d = grind (arith, common_steps)
 
   -- what a purge finds that covers the active request, which awaits its restart
   pub record FoundAwaiting (H : List Entry) (a : Active) (scope : Scope) (mode : Mode) : Type 0 where
@@ -76,32 +63,13 @@ module _ {D : Type 0} (meaning : Meaning D) (mounted : D) where
     pending_active = record a { standing = OnChannel }
 
     kept : Kept held.trace held.channel.phase a status
-    kept = kept-by held.trace held.channel.phase a status
-        (subst (StandingTies meaning mounted held.trace held.channel.phase a) standing t.activity.standing)
+    kept = grind (arith, common_steps, kept-by, standing)
 
     unhalted : a.halted ≡ false
-    unhalted = t.activity.halted ∙ over-unhalted (is_halted n held.trace) (current meaning mounted held.trace).place
-        (current meaning mounted held.trace).place.state status kept.ended
+    unhalted = grind (arith, common_steps)
 
     pending-ties : Ties meaning mounted (record held { channel = pending_channel }) (Some pending_active)
-    pending-ties = record {
-      legal = t.legal;
-      queue = t.queue;
-      placed = t.placed;
-      device = t.device;
-      activity = record {
-        is = t.activity.is;
-        request = t.activity.request;
-        placed = t.activity.placed;
-        starts = t.activity.starts;
-        halted = t.activity.halted;
-        covered = t.activity.covered;
-        standing = kept.ended ∙ ap (λ b. pending_phase b status) (sym unhalted);
-      };
-      count = t.count;
-      dcbs = t.dcbs;
-      out = t.out;
-    }
+    pending-ties = grind (arith, common_steps)
 
     -- the purge
     abbrev P : List Entry
@@ -111,8 +79,7 @@ module _ {D : Type 0} (meaning : Meaning D) (mounted : D) where
     after = after_cover scope mode pending_active
 
     not-again : (b c : Bool) → b && false && c ≡ false
-    not-again true c = refl
-    not-again false c = refl
+    not-again v0 c = grind (arith, common_steps)
 
     purge-ties : Ties meaning mounted (record held { trace = P; channel = pending_channel }) (Some after)
     purge-ties = ties-purge scope mode settled found.can (not-again (is_halt mode) (is_some (active_of scope held.trace)))
@@ -148,22 +115,13 @@ module _ {D : Type 0} (meaning : Meaning D) (mounted : D) where
 
     swept-ties : Ties meaning mounted (record held { trace = S; channel = pending_channel; waiting = rest; out = posted_before })
         (Some after)
-    swept-ties = subst (λ x. Ties meaning mounted (record held { trace = S; channel = pending_channel; waiting = x; out = posted_before })
-        (Some after)) dooms.1 dooms.0.ties
+    swept-ties = grind (arith, common_steps, dooms)
 
     pub after-is : after_purge meaning mounted scope mode held.trace ≡ S
     after-is = ap (λ d. after_dooms (halted_by d P)) due-is ∙ ap after_dooms (halted-first (doomed P) P) ∙ sym dooms.2
 
-    -- the post
-    after-covered : after.covered ≡ true
-    after-covered = let k = found.covered in let h = found.halts in rw (k, h) refl
-
     pub fits-purged : PostsActive meaning mounted n status Purged S
-    fits-purged =
-        decides-post meaning mounted swept-ties refl Purged
-        (ap (pending_code (meaning.kind mounted) status a.starts a.halted) after-covered
-        ∙ purged-code (meaning.kind mounted) status a.starts a.halted
-        (ap (verdict (meaning.kind mounted) status.csw status.sense) t.activity.starts ∙ kept.retry))
+    fits-purged = grind (arith, common_steps, swept-ties, kept)
 
     abbrev pub value : PostedState
     value = posted_value a.piece.value status.csw status.sense Purged a.piece.value.area
@@ -174,30 +132,20 @@ module _ {D : Type 0} (meaning : Meaning D) (mounted : D) where
       waiting = rest;
       out = posted_before ++ value ∷ [];
     }) None
-    ties-awaiting =
-        let k = ties-post dooms.0.settled swept-ties fits-purged (λ d. sym (noted-nothing (dcb_at held.dcbs d))) refl in
-        subst (λ x. Ties meaning mounted (record held {
-          trace = Post n status.csw status.sense Purged ∷ S;
-          channel = x;
-          waiting = rest;
-          out = posted_before ++ value ∷ [];
-        }) None)
-        (ap (λ p. record held.channel { phase = p }) (sym kept.idle)) k
+    ties-awaiting = grind (
+      arith,
+      common_steps,
+      ties-post dooms.0.settled swept-ties fits-purged (λ d. sym (noted-nothing (dcb_at held.dcbs d))) refl,
+      value,
+      kept,
+    )
 
     pub settled-awaiting : due meaning mounted (Post n status.csw status.sense Purged ∷ S) ≡ Free
     unfolding without
-    settled-awaiting =
-        let G = Post n status.csw status.sense Purged ∷ S in
-        due-no_halt meaning mounted G (λ m e. refl)
-        ∙ ap doomed_first (doomed-purged n status.csw status.sense S ∙ ap (without n) (due-doomed meaning mounted S dooms.0.settled))
+    settled-awaiting = grind (arith, common_steps, due-no_halt, doomed-purged, due-doomed, dooms)
 
     pub since-awaiting : posted_since meaning mounted held.trace (Post n status.csw status.sense Purged ∷ S) ≡ map purged swept
         ++ value ∷ []
     unfolding posted
     since-awaiting =
-        let v = value-is dooms.0.settled swept-ties fits-purged in
-        since-is meaning mounted held.trace (Post n status.csw status.sense Purged ∷ S) (map purged swept ++ value ∷ [])
-        (ap (λ x. x ++ posted_value (request_named n S) status.csw status.sense Purged (area meaning mounted (request_named n S) S) ∷ [])
-        dooms.0.posted_is
-        ∙ append_assoc (posted meaning mounted held.trace) (map purged swept) _
-        ∙ ap (λ x. posted meaning mounted held.trace ++ (map purged swept ++ x ∷ [])) (sym v))
+        let v = value-is dooms.0.settled swept-ties fits-purged in grind (arith, common_steps, since-is, swept, value, dooms, append_assoc)

@@ -1,13 +1,12 @@
 -- A purge, a halt, a close and a reset: what they doom, and that the fields stay those of the trace.
 use Rattle.unit_book.proofs.Names.{BookFields, ◌≡◌, ℕ, ◌≤◌, Bool, true, false, not, ◌&&◌, ◌||◌, Option, Some, None, List, [], ◌∷◌, length}
-use Rattle.unit_book.proofs.Names.{refl, sym, ap, ◌∙◌, eqb, if◌then◌else◌, is_some, Storage, Meaning, Phase, Idle, Running, Pending, Name}
-use Rattle.unit_book.proofs.Names.{Piece, covers, Scope, Active, Standing, OnChannel, AwaitsRestart, Mode, Entry, Halted, Purge, Close}
-use Rattle.unit_book.proofs.Names.{Reset, waiting, arrivals, active, started, request_named, is_halt, is_covered, doomed, is_doomed}
-use Rattle.unit_book.proofs.Names.{is_open, is_opened, is_closed, flag, extents_of, attempts, current, Legal, Free, due, doomed_first}
-use Rattle.unit_book.proofs.Names.{CanPurge, posted, DoomedBy, active_of, covered_by, awaits_by, ActivityTies, StandingTies, Ties, inl, inr}
-use Rattle.unit_book.proofs.Names.{subst, cases_Bool, and_parts, Place, Quiesce, Halt, active_phase, still_runs, Fits, FitsBy, ToHalt}
-use Rattle.unit_book.proofs.Names.{is_to_halt, running_name_by, dcb_at, dcb_of, arith}
-use Rattle.request_piece.specs.declared.scope.Scope.TheVariants.{Dcb, Task}
+use Rattle.unit_book.proofs.Names.{refl, sym, ap, ◌∙◌, eqb, if◌then◌else◌, is_some, Meaning, Phase, Running, Name, covers}
+use Rattle.unit_book.proofs.Names.{Scope, Active, Standing, OnChannel, Mode, Entry, Halted, Purge, Close, Reset, waiting, arrivals, active}
+use Rattle.unit_book.proofs.Names.{started, request_named, is_halt, doomed, is_doomed, is_open, is_opened, is_closed, flag, extents_of}
+use Rattle.unit_book.proofs.Names.{attempts, current, Legal, Free, due, doomed_first, CanPurge, posted, DoomedBy, active_of, covered_by}
+use Rattle.unit_book.proofs.Names.{awaits_by, ActivityTies, StandingTies, Ties, subst, Place, Quiesce}
+use Rattle.unit_book.proofs.Names.{Halt, active_phase, still_runs, Fits, FitsBy, ToHalt, is_to_halt, running_name_by, dcb_at, arith}
+use Rattle.request_piece.specs.declared.scope.Scope.TheVariants.{Dcb}
 use Rattle.unit_book.specs.declared.dcb.Dcb.{Dcb as Row}
 use Rattle.unit_book.specs.Trace.{is_purged}
 use Rattle.unit_book.specs.Selected.{is_selected}
@@ -16,18 +15,14 @@ use Rattle.subchannel.specs.Subchannel.{halted_phase}
 use Rattle.unit_book.specs.Controls.{due_after}
 use Rattle.unit_queue.specs.declared.selection.Selection.TheVariants as selection
 use Rattle.unit_book.proofs.Dooms.{none-pass, filter-agree, filter-never, due-doomed, due-no_halt, length-filter_le}
-use Rattle.unit_book.proofs.Same.{fits-free, activity-same}
 use Rattle.unit_book.proofs.Lists.{same-refl}
-use Rattle.unit_book.proofs.Runs.{not-over}
 use Rattle.unit_book.proofs.Facts.{due-halt}
 use Rattle.std.proofs.lemmas.Grind.{common_steps}
 
 -- WHAT A PURGE DOOMS: what it covers of that which waits
 purged-by : (covered shut purged flagged : Bool) → not (shut || purged || flagged) ≡ true →
     (shut || (covered || purged) || flagged) ≡ covered
-purged-by true false purged flagged h = refl
-purged-by false false false false h = refl
-purged-by _ _ _ _ h = absurd cc
+purged-by v0 v1 purged flagged h = grind (arith, common_steps)
 
 pub doomed-purge : (scope : Scope) (mode : Mode) (H : List Entry) → doomed H ≡ [] →
     DoomedBy (Some (selection.Scope scope)) (Purge scope mode ∷ H)
@@ -38,17 +33,10 @@ doomed-purge scope mode H e =
     (λ r h. purged-by (covers scope r) (not (is_open r.dcb H)) (is_purged r H) (r.related && flag r.dcb H) h) (waiting H)
     (none-pass (is_doomed H) (waiting H) e)
 
--- a Halted dooms nothing
-pub doomed-halted : (n : Name) (H : List Entry) → doomed (Halted n ∷ H) ≡ doomed H
-unfolding waiting arrivals flag
-doomed-halted n H = refl
-
 -- A CLOSE DOOMS what waits of its DCB
 closed-by : (here opened closed purged flagged : Bool) → not (not (opened && not closed) || purged || flagged) ≡ true →
     (not (opened && not (here || closed)) || purged || flagged) ≡ here
-closed-by true true false false false h = refl
-closed-by false true false false false h = refl
-closed-by here _ _ _ _ h = absurd cc
+closed-by here v1 v2 v3 v4 h = grind (arith, common_steps)
 
 pub doomed-close : (d : ℕ) (H : List Entry) → doomed H ≡ [] → DoomedBy (Some (selection.Scope (Dcb d))) (Close d ∷ H)
 unfolding waiting arrivals flag
@@ -61,39 +49,11 @@ doomed-close d H e =
 -- A RESET DOOMS nothing
 reset-spares : (here shut purged related flagged : Bool) → not (shut || purged || (related && flagged)) ≡ true →
     (shut || purged || (related && (if here then false else flagged))) ≡ false
-reset-spares true false false true flagged h = refl
-reset-spares false false false true false h = refl
-reset-spares here false false false flagged h = refl
-reset-spares _ _ _ _ _ h = absurd cc
+reset-spares here v1 v2 v3 flagged h = grind (arith, common_steps)
 
 -- as many are doomed as wait, at most
 pub doomed-some : (H : List Entry) → length (doomed H) ≤ length (waiting H)
 doomed-some H = length-filter_le (is_doomed H) (waiting H)
-
--- A PURGE: the fields stay those of the trace
-covers-area : (scope : Scope) (r : Piece) (m : Storage) → covers scope (record r { area = m }) ≡ covers scope r
-covers-area (Dcb d) r m = refl
-covers-area (Task t) r m = refl
-
--- at most what waited is doomed
-pub doomed-close_few : (d : ℕ) (H : List Entry) → length (doomed (Close d ∷ H)) ≤ length (waiting H)
-unfolding waiting arrivals
-doomed-close_few d H = doomed-some (Close d ∷ H)
-
-pub doomed-purge_few : (scope : Scope) (mode : Mode) (H : List Entry) → length (doomed (Purge scope mode ∷ H)) ≤ length (waiting H)
-unfolding waiting arrivals
-doomed-purge_few scope mode H = doomed-some (Purge scope mode ∷ H)
-
-pub dooms-halted : (n : Name) (scope : Scope) (mode : Mode) (H : List Entry) →
-    DoomedBy (Some (selection.Scope scope)) (Purge scope mode ∷ H) →
-    DoomedBy (Some (selection.Scope scope)) (Halted n ∷ Purge scope mode ∷ H)
-unfolding waiting arrivals
-dooms-halted n scope mode H d = doomed-halted n (Purge scope mode ∷ H) ∙ d
-
-pub doomed-halted_few : (n : Name) (scope : Scope) (mode : Mode) (H : List Entry) →
-    length (doomed (Halted n ∷ Purge scope mode ∷ H)) ≤ length (waiting H)
-unfolding waiting arrivals
-doomed-halted_few n scope mode H = doomed-some (Halted n ∷ Purge scope mode ∷ H)
 
 module _ {D : Type 0} (meaning : Meaning D) (mounted : D) where
   pub settled-reset : (d : ℕ) (H : List Entry) → due meaning mounted H ≡ Free → due meaning mounted (Reset d ∷ H) ≡ Free
@@ -106,12 +66,6 @@ module _ {D : Type 0} (meaning : Meaning D) (mounted : D) where
       due-no_halt meaning mounted G (λ n a. refl) ∙ ap doomed_first (same ∙ filter-never (waiting H))
 
   module _ {H : List Entry} (scope : Scope) (mode : Mode) where
-    -- the purge covers the active request as its piece tells
-    pub covers-same : {phase : Phase} {a : Active} → ActiveTies meaning mounted H phase a →
-        covers scope a.piece.value ≡ covers scope (request_named a.piece.value.name H)
-    covers-same {a = a} t = ap (covers scope) t.request ∙ covers-area scope (request_named a.piece.value.name H)
-        (current meaning mounted H).area
-
     -- whether the purge covers what awaits its restart, by the piece
     pub awaiting-is : {phase : Phase} {a : Active} → ActiveTies meaning mounted H phase a →
         is_halt mode && awaits_by a.standing && covers scope a.piece.value
@@ -123,32 +77,11 @@ module _ {D : Type 0} (meaning : Meaning D) (mounted : D) where
         awaits_by standing ≡ true → covers scope a.piece.value && is_halt mode ≡ false
     uncovered {a = a} standing t h e = grind (arith, common_steps)
 
-    standing-purge : (phase : Phase) (a : Active) (standing : Standing) → ActiveTies meaning mounted H phase a →
-        (awaits_by standing ≡ true → covers scope a.piece.value && is_halt mode ≡ false) →
-        StandingTies meaning mounted H phase a standing →
-        StandingTies meaning mounted (Purge scope mode ∷ H) phase (after_cover scope mode a) standing
-    unfolding attempts request_named
-    standing-purge Idle a (AwaitsRestart status) t u d =
-        let e = ap (λ b. b && is_halt mode) (sym (covers-same t)) ∙ u refl in
-        (d.0, d.1, rw e d.2)
-    standing-purge (Running place) a OnChannel t u d = d
-    standing-purge (Pending status) a OnChannel t u d = d
-    standing-purge _ a _ t u d = absurd d
-
     active-purge : {phase : Phase} {a : Active} → ActiveTies meaning mounted H phase a →
         (awaits_by a.standing ≡ true → covers scope a.piece.value && is_halt mode ≡ false) →
         ActiveTies meaning mounted (Purge scope mode ∷ H) phase (after_cover scope mode a)
     unfolding attempts request_named active started
-    active-purge {phase} {a} t u = record {
-      is = t.is;
-      request = t.request;
-      placed = t.placed;
-      starts = t.starts;
-      halted = t.halted;
-      covered = ap (λ b. (covers scope a.piece.value && is_halt mode) || b) t.covered
-          ∙ ap (λ b. (b && is_halt mode) || is_covered (request_named a.piece.value.name H) H) (covers-same t);
-      standing = standing-purge phase a a.standing t u t.standing;
-    }
+    active-purge {phase} {a} t u = grind (arith, common_steps)
 
 module _ {D : Type 0} {meaning : Meaning D} {mounted : D} (scope : Scope) (mode : Mode) {held : BookFields D}
     (settled : due meaning mounted held.trace ≡ Free)
@@ -157,16 +90,7 @@ module _ {D : Type 0} {meaning : Meaning D} {mounted : D} (scope : Scope) (mode 
       ActivityTies meaning mounted (Purge scope mode ∷ held.trace) held.channel.phase new →
       Ties meaning mounted (record held { trace = Purge scope mode ∷ held.trace }) new
   unfolding Legal waiting arrivals request_named attempts extents_of flag posted
-  with-activity t k = record {
-    legal = (fits-free meaning mounted (Purge scope mode) held.trace settled can, t.legal);
-    queue = t.queue;
-    placed = t.placed;
-    device = t.device;
-    activity = k;
-    count = t.count;
-    dcbs = t.dcbs;
-    out = t.out;
-  }
+  with-activity t k = grind (arith, common_steps)
 
   pub ties-purge_none : Ties meaning mounted held None →
       Ties meaning mounted (record held { trace = Purge scope mode ∷ held.trace }) None
@@ -183,15 +107,6 @@ module _ {D : Type 0} {meaning : Meaning D} {mounted : D} (scope : Scope) (mode 
 
 -- A halt, a close and a reset: the fields stay those of the trace.
 
--- A CLOSE AND A RESET
-dcb-closed : (c : ℕ) (H : List Entry) (d : ℕ) → shut (eqb c d) (dcb_of d H) ≡ dcb_of d (Close c ∷ H)
-unfolding flag extents_of
-dcb-closed c H d = elim (cases_Bool (is_opened d H)) [ inl i ↦ rw i refl | inr i ↦ rw i refl ]
-
-dcb-reset : (c : ℕ) (H : List Entry) (d : ℕ) → unflagged (eqb c d) (dcb_of d H) ≡ dcb_of d (Reset c ∷ H)
-unfolding flag extents_of
-dcb-reset c H d = elim (cases_Bool (is_opened d H)) [ inl i ↦ rw i refl | inr i ↦ rw i refl ]
-
 module _ {D : Type 0} (meaning : Meaning D) (mounted : D) where
   -- WHOM A PURGE HALTS
   pub quiesces : (scope : Scope) (H : List Entry) →
@@ -202,8 +117,7 @@ module _ {D : Type 0} (meaning : Meaning D) (mounted : D) where
   pub halts-none : (scope : Scope) (mode : Mode) (H : List Entry) → is_some (running_name_by meaning mounted H (active H)) ≡ false →
       due meaning mounted (Purge scope mode ∷ H) ≡ due_after None (doomed (Purge scope mode ∷ H))
   unfolding active started attempts request_named
-  halts-none scope Quiesce H g = quiesces scope H
-  halts-none scope Halt H g = grind (arith, common_steps, due-no_halt)
+  halts-none scope v1 v2 g = grind (arith, common_steps, due-no_halt)
 
   -- the one that it covers, if its program runs
   pub halts-active : (scope : Scope) (H : List Entry) → is_some (running_name_by meaning mounted H (active H)) ≡ true →
@@ -213,8 +127,7 @@ module _ {D : Type 0} (meaning : Meaning D) (mounted : D) where
 
   -- what is to be halted has a program that runs
   to-halt : (H : List Entry) (n : Name) → is_to_halt meaning mounted H n ≡ true → still_runs (active_phase meaning mounted n H) ≡ true
-  to-halt (Purge scope Halt ∷ H) n h = (and_parts (covers scope (request_named n H)) _ h).1
-  to-halt _ n h = absurd cc
+  to-halt v0 n h = grind (arith, common_steps)
 
   pub halt-runs : (n : Name) (H : List Entry) → due meaning mounted H ≡ ToHalt n → still_runs (active_phase meaning mounted n H) ≡ true
   halt-runs n H h = to-halt H n (due-halt meaning mounted H n h).1
@@ -237,10 +150,7 @@ module _ {D : Type 0} (meaning : Meaning D) (mounted : D) where
 
     runs : (phase : Phase) (standing : Standing) → still_runs (active_phase meaning mounted n held.trace) ≡ true →
         StandingTies meaning mounted held.trace phase a standing → Going phase standing
-    runs Idle (AwaitsRestart status) g k = absurd (not-over (active_phase meaning mounted n held.trace) g false status k.0)
-    runs (Running place) OnChannel g k = record { place = place; phase_is = refl; place_is = k.0; standing_is = refl }
-    runs (Pending status) OnChannel g k = absurd (not-over (active_phase meaning mounted n held.trace) g a.halted status k)
-    runs _ _ g k = absurd k
+    runs v0 v1 g k = grind (arith, common_steps)
 
     stopped : Active
     stopped = record a { halted = true }
@@ -248,9 +158,7 @@ module _ {D : Type 0} (meaning : Meaning D) (mounted : D) where
     standing-halt : (phase : Phase) (standing : Standing) → Going phase standing →
         StandingTies meaning mounted G (halted_phase phase) (record a { halted = true }) standing
     unfolding attempts
-    standing-halt phase standing k =
-        let s = same-refl n in
-        rw (k.phase_is, k.standing_is, k.place_is, s) refl
+    standing-halt phase standing k = grind (arith, common_steps)
 
     pub ties-halt : Ties meaning mounted (record held {
       trace = G;
@@ -285,30 +193,10 @@ module _ {D : Type 0} {meaning : Meaning D} {mounted : D} {held : BookFields D} 
   pub ties-close : {new : List Row} → ((d : ℕ) → dcb_at new d ≡ shut (eqb c d) (dcb_at held.dcbs d)) → length new ≡ length held.dcbs →
       Ties meaning mounted (record held { trace = Close c ∷ held.trace; dcbs = new }) o
   unfolding Legal waiting arrivals active started request_named attempts extents_of flag posted
-  ties-close rows count = record {
-    legal = (fits-free meaning mounted (Close c) held.trace settled opened, t.legal);
-    queue = t.queue;
-    placed = t.placed;
-    device = t.device;
-    activity = activity-same meaning mounted (Close c ∷ held.trace) t refl
-        (λ m e. record { active = refl; request = refl; starts = refl; attempts = refl; halted = refl; covered = refl });
-    count = count ∙ t.count;
-    dcbs = λ d. rows d ∙ ap (shut (eqb c d)) (t.dcbs d) ∙ dcb-closed c held.trace d;
-    out = t.out;
-  }
+  ties-close rows count = grind (arith, common_steps)
 
   pub ties-reset : {new : List Row} → ((d : ℕ) → dcb_at new d ≡ unflagged (eqb c d) (dcb_at held.dcbs d)) → length new
       ≡ length held.dcbs →
       Ties meaning mounted (record held { trace = Reset c ∷ held.trace; dcbs = new }) o
   unfolding Legal waiting arrivals active started request_named attempts extents_of flag posted
-  ties-reset rows count = record {
-    legal = (fits-free meaning mounted (Reset c) held.trace settled opened, t.legal);
-    queue = t.queue;
-    placed = t.placed;
-    device = t.device;
-    activity = activity-same meaning mounted (Reset c ∷ held.trace) t refl
-        (λ m e. record { active = refl; request = refl; starts = refl; attempts = refl; halted = refl; covered = refl });
-    count = count ∙ t.count;
-    dcbs = λ d. rows d ∙ ap (unflagged (eqb c d)) (t.dcbs d) ∙ dcb-reset c held.trace d;
-    out = t.out;
-  }
+  ties-reset rows count = grind (arith, common_steps)

@@ -1,14 +1,14 @@
 -- What becomes of the active request when its status is taken.
-use Rattle.unit_book.proofs.Names.{BookFields, ◌≡◌, Bool, ℕ, true, false, Option, Some, None, refl, sym, ap, ◌∙◌, subst, Status, Code}
-use Rattle.unit_book.proofs.Names.{Purged, Meaning, Kind, Phase, Idle, Running, Pending, Retry, Final, verdict, Name, Active, Standing}
-use Rattle.unit_book.proofs.Names.{OnChannel, AwaitsRestart, active, request_named, is_covered, HasEnded, still_runs, active_phase}
-use Rattle.unit_book.proofs.Names.{PostsActive, WithVerdict, StartsAgain, StandingTies, Ties, awaits_by, pending_phase}
+use Rattle.unit_book.proofs.Names.{BookFields, ◌≡◌, Bool, ℕ, true, false, Option, Some, None, refl, sym, ap, ◌∙◌, Status, Code, Purged}
+use Rattle.unit_book.proofs.Names.{Meaning, Kind, Phase, Idle, Retry, Final, verdict, Name, Active, Standing, AwaitsRestart, active}
+use Rattle.unit_book.proofs.Names.{request_named, is_covered, HasEnded, active_phase, PostsActive, WithVerdict, StartsAgain}
+use Rattle.unit_book.proofs.Names.{StandingTies, Ties, awaits_by, pending_phase, arith}
 use Rattle.subchannel.specs.Subchannel.{status_of, tested_phase}
 use Rattle.recovery.specs.declared.answer.Verdict.{Verdict}
 use Rattle.unit_book.specs.Legal.{verdict_of, PostsAs, WhileCovered, AfterHalt}
 use Rattle.unit_book.specs.Book.{pending_by}
 use Rattle.unit_book.specs.Fields.{pending_code, ended_code}
-use Rattle.unit_book.proofs.Runs.{pending-over}
+use Rattle.std.proofs.lemmas.Grind.{common_steps}
 
 module _ {D : Type 0} (meaning : Meaning D) (mounted : D) where
   module _ {held : BookFields D} {a : Active}
@@ -20,21 +20,10 @@ module _ {D : Type 0} (meaning : Meaning D) (mounted : D) where
     pending-phase : (phase : Phase) (standing : Standing) → StandingTies meaning mounted held.trace phase a standing →
         status_of phase ≡ Some status →
         (active_phase meaning mounted n held.trace ≡ pending_phase a.halted status) × (awaits_by standing ≡ false)
-    pending-phase Idle standing d h = absurd cc
-    pending-phase (Running place) standing d h = absurd cc
-    pending-phase (Pending found) OnChannel d h = let p : found ≡ status = cc in (d ∙ ap (pending_phase a.halted) p, refl)
-    pending-phase _ _ d h = absurd d
+    pending-phase v0 standing d h = grind (arith, common_steps)
 
     phase-is : active_phase meaning mounted n held.trace ≡ pending_phase a.halted status
     phase-is = (pending-phase held.channel.phase a.standing t.activity.standing pending).0
-
-    -- it does not await its restart
-    pub decides-not_again : awaits_by a.standing ≡ false
-    decides-not_again = (pending-phase held.channel.phase a.standing t.activity.standing pending).1
-
-    -- its program does not run
-    pub decides-stands : still_runs (active_phase meaning mounted n held.trace) ≡ false
-    decides-stands = ap still_runs phase-is ∙ pending-over a.halted status
 
     -- it is posted
     ended-as : (v : Verdict) (covered : Bool) {code : Code} → verdict_of meaning mounted n status held.trace ≡ v →
@@ -57,8 +46,7 @@ module _ {D : Type 0} (meaning : Meaning D) (mounted : D) where
     decides-post code h = record { active = t.activity.is; as_ended = posts-as a.halted code refl h }
 
     none-code : (v : Verdict) (covered : Bool) → ended_code v covered ≡ None → (v ≡ Retry) × (covered ≡ false)
-    none-code Retry false h = (refl, refl)
-    none-code _ _ h = absurd cc
+    none-code v0 v1 h = grind (arith, common_steps)
 
     none-pending : (kind : Kind) (starts : ℕ) (halted covered : Bool) → pending_code kind status starts halted covered ≡ None →
         (halted ≡ false) × (verdict kind status.csw status.sense starts ≡ Retry) × (covered ≡ false)
@@ -68,73 +56,33 @@ module _ {D : Type 0} (meaning : Meaning D) (mounted : D) where
     -- it is to be tried again
     pub decides-ended : pending_code (meaning.kind mounted) status a.starts a.halted a.covered ≡ None →
         active_phase meaning mounted n held.trace ≡ HasEnded status
-    decides-ended h = let n = none-pending (meaning.kind mounted) a.starts a.halted a.covered h in phase-is
-        ∙ ap (λ x. pending_phase x status) n.0
+    decides-ended h = grind (arith, common_steps)
 
     pub decides-again : pending_code (meaning.kind mounted) status a.starts a.halted a.covered ≡ None →
         StartsAgain meaning mounted n held.trace
-    decides-again h =
-        let k = none-pending (meaning.kind mounted) a.starts a.halted a.covered h in
-        record {
-          active = t.activity.is;
-          status = status;
-          ended = decides-ended h;
-          retry = ap (verdict (meaning.kind mounted) status.csw status.sense) (sym t.activity.starts) ∙ k.1;
-          free = sym t.activity.covered ∙ k.2;
-        }
+    decides-again h = grind (arith, common_steps, none-pending, decides-ended)
 
   -- AWAITING ITS RESTART: no entry
   module _ {held : BookFields D} {a : Active}
       {status : Status}
       (t : Ties meaning mounted held (Some a)) (s : StartsAgain meaning mounted a.piece.value.name held.trace)
       (e : active_phase meaning mounted a.piece.value.name held.trace ≡ HasEnded status) where
-    await-idle : (phase : Phase) (standing : Standing) → StandingTies meaning mounted held.trace phase a standing → tested_phase phase
-        ≡ Idle
-    await-idle Idle standing d = refl
-    await-idle (Running place) OnChannel d = let k = sym d.1 ∙ e in absurd cc
-    await-idle (Pending pending) standing d = refl
-    await-idle _ _ d = absurd d
-
     abbrev pub awaiting : Active
     awaiting = record a { standing = AwaitsRestart status }
 
     awaits : StandingTies meaning mounted held.trace Idle awaiting (AwaitsRestart status)
-    awaits =
-        let n = a.piece.value.name in
-        let o : HasEnded s.status ≡ HasEnded status = sym s.ended ∙ e in
-        let i : s.status ≡ status = cc in
-        (e, ap (λ x. verdict_of meaning mounted n x held.trace) (sym i) ∙ s.retry, s.free)
+    awaits = grind (arith, common_steps)
 
     pub ties-await : Ties meaning mounted (record held { channel = record held.channel { phase = tested_phase held.channel.phase } })
         (Some awaiting)
-    ties-await = record {
-      legal = t.legal;
-      queue = t.queue;
-      placed = t.placed;
-      device = t.device;
-      activity = record {
-        is = t.activity.is;
-        request = t.activity.request;
-        placed = t.activity.placed;
-        starts = t.activity.starts;
-        halted = t.activity.halted;
-        covered = t.activity.covered;
-        standing = subst (λ x. StandingTies meaning mounted held.trace x awaiting (AwaitsRestart status))
-            (sym (await-idle held.channel.phase a.standing t.activity.standing)) awaits;
-      };
-      count = t.count;
-      dcbs = t.dcbs;
-      out = t.out;
-    }
+    ties-await = grind (arith, common_steps, awaits)
 
   -- what `decide` tells
   module _ {held : BookFields D} {a : Active}
       {status : Status}
       (t : Ties meaning mounted held (Some a)) (pending : status_of held.channel.phase ≡ Some status) where
     pub decided_pending : pending_by meaning mounted held.trace (awaits_by a.standing) (active held.trace) ≡ true
-    decided_pending =
-        let again_is = decides-not_again t pending in
-        let stands = decides-stands t pending in rw t.activity.is (rw (again_is, stands) refl)
+    decided_pending = grind (arith, common_steps)
 
     abbrev pub DecidedAs : Option Code → Type 0
     DecidedAs (Some code) = PostsActive meaning mounted a.piece.value.name status code held.trace

@@ -1,13 +1,12 @@
 -- Nothing doomed is started.
-use Rattle.unit_book.proofs.Names.{◌≡◌, ℕ, ◌⊎◌, Bool, true, false, not, ◌&&◌, ◌||◌, Some, List, [], ◌∷◌, ◌++◌, refl, sym, ap, ◌∙◌, eqb, inl}
+use Rattle.unit_book.proofs.Names.{◌≡◌, ℕ, ◌⊎◌, Bool, true, false, not, Some, List, [], ◌∷◌, ◌++◌, refl, sym, ap, ◌∙◌, eqb, inl}
 use Rattle.unit_book.proofs.Names.{inr, subst, cases_Bool, or_left, or_right, eq-eqb, list_any, slice_get, Meaning, Name, Piece, Entry}
 use Rattle.unit_book.proofs.Names.{Arrive, Start, Halted, Close, same, starts, arrivals, waiting, active, has_arrived, has_started}
-use Rattle.unit_book.proofs.Names.{is_posted, is_covered, request_named, doomed, is_doomed, is_closed, flag, Due}
-use Rattle.unit_book.proofs.Names.{ToHalt, ToPost, Free, due, FitsBy, Legal, StartFits, First, Again, arith}
-use Rattle.std.proofs.lemmas.Bool.{or_from}
+use Rattle.unit_book.proofs.Names.{is_posted, is_covered, request_named, doomed, is_doomed, is_closed, flag}
+use Rattle.unit_book.proofs.Names.{Legal, StartFits, First, Again, arith}
 use Rattle.unit_book.specs.Laws.{NoDoomedStarts, is_of_name}
 use Rattle.unit_book.proofs.Lists.{all-at, same-true, no_both, without}
-use Rattle.unit_book.proofs.Facts.{active-is, fits-freely, fresh, new-name}
+use Rattle.unit_book.proofs.Facts.{active-is, fits-freely}
 use Rattle.unit_book.proofs.LegalFacts.{Comes, SoundTrace, facts, legal-tail, first-named, first-request, request-named}
 use Rattle.unit_book.proofs.Dooms.{doomed-purged, due-doomed, none-pass}
 use Rattle.unit_book.proofs.TraceLaws.{any-later, not-of, start-unposted}
@@ -26,8 +25,7 @@ any-without m n s (r ∷ rs) h = grind (arith, common_steps, any-without m n s r
 
 -- a Start that is not of the name does not start it
 starts-of : (n : Name) (e : Entry) → is_of_name n e ≡ false → starts n e ≡ false
-starts-of n (Start m) h = h
-starts-of n _ h = refl
+starts-of n v1 h = grind (arith, common_steps)
 
 -- WHAT WAS DOOMED stays so or is posted, and is not started
 abbrev Gone : Name → List Entry → Type 0
@@ -44,45 +42,24 @@ Covered r G = (has_started r.name G ≡ true) × (request_named r.name G ≡ r) 
 first-spared : (r : Piece) (H : List Entry) → doomed H ≡ [] → slice_get (waiting H) 0 ≡ Some r → not (is_doomed H r) ≡ true
 first-spared r H d s = all-at (λ q. not (is_doomed H q)) (waiting H) 0 r (none-pass (is_doomed H) (waiting H) d) s
 
--- a request of a closed DCB, one with the flag
-doomed-closed : (opened closed purged related flagged : Bool) → closed ≡ true →
-    (not (opened && not closed) || purged || (related && flagged)) ≡ true
-doomed-closed true closed purged related flagged h = rw h refl
-doomed-closed false closed purged related flagged h = refl
-
-doomed-flagged : (shut purged related flagged : Bool) → related ≡ true → flagged ≡ true → (shut || purged || (related && flagged)) ≡ true
-doomed-flagged false false related flagged h k = rw (h, k) refl
-doomed-flagged _ _ related flagged h k = refl
-
 closed-later : (d : ℕ) (later earlier : List Entry) → is_closed d (later ++ Close d ∷ earlier) ≡ true
 closed-later d later earlier = any-later _ later (Close d ∷ earlier) (or_left (eqb d d) (is_closed d earlier) (eq-eqb d d refl))
 
 module _ {D : Type 0} (meaning : Meaning D) (mounted : D) where
   gone-step : {e : Entry} {G : List Entry} (n : Name) → Comes meaning mounted e G → Gone n G → (starts n e ≡ false) × Gone n (e ∷ G)
   gone-step {e} {G} n c (inr p) = (starts-of n e (not-of meaning mounted n e c p), inr (or_right _ (is_posted n G) p))
-  gone-step {e} {G} n c (inl d) = by_due (due meaning mounted G) refl c.fits where
-    by_due : (k : Due) → k ≡ due meaning mounted G → FitsBy meaning mounted k e G → (starts n e ≡ false) × Gone n (e ∷ G)
-    by_due (ToHalt m) q i = rw i (refl, inl (dooms-halted n m G ∙ d))
-    by_due (ToPost m) q i =
-        elim (cases_Bool (same m n)) [
-          | inl s ↦ rw i (refl, inr (or_left (same m n) (is_posted n G) s))
-          | inr s ↦ rw i (
-            refl,
-            inl (ap (list_any (λ (r : Piece). same r.name n)) (doomed-purged m _ _ G)
-                ∙ any-without m n s (doomed G) d),
-          )
-        ]
-    by_due Free q i = no_both (dooms n G) d (ap (list_any (λ (r : Piece). same r.name n)) (due-doomed meaning mounted G (sym q)))
+  gone-step {e} {G} n c (inl d) = grind (arith, common_steps, dooms-halted, doomed-purged, any-without, due-doomed)
 
   gone : (n : Name) (later earlier : List Entry) → Legal meaning mounted (later ++ earlier) → dooms n earlier ≡ true →
       (list_any (starts n) later ≡ false) × Gone n (later ++ earlier)
   unfolding Legal
   gone n [] earlier l d = (refl, inl d)
-  gone n (e ∷ later) earlier l d =
-      let ih = gone n later earlier l.1 d in
-      let c : Comes meaning mounted e (later ++ earlier) = record { earlier = l.1; fits = l.0 } in
-      let s = gone-step n c ih.1 in
-      (or_from (starts n e) (list_any (starts n) later) s.0 ih.0, s.1)
+  gone n (e ∷ later) earlier l d = grind (
+    arith,
+    common_steps,
+    gone n later earlier l.1 d,
+    gone-step n (record { earlier = l.1; fits = l.0 }) (gone n later earlier l.1 d).1,
+  )
 
   -- WHAT WAS STARTED AND COVERED stays covered, and is not started
   covered-start : {m : Name} {G : List Entry} (r : Piece) → Comes meaning mounted (Start m) G → Covered r G → same m r.name ≡ false
@@ -94,16 +71,13 @@ module _ {D : Type 0} (meaning : Meaning D) (mounted : D) where
         none : StartFits meaning mounted m G → m ≡ r.name → ⊥
         none (First s) i =
             no_both (has_started r.name G) k.0 (first-named G (facts meaning mounted G c.earlier) s.first (s.name ∙ i)).unstarted
-        none (Again s) i = no_both (is_covered r G) k.2
-            (subst (λ (x : Piece). is_covered x G ≡ false) (ap (λ (x : Name). request_named x G) i ∙ k.1) s.free)
+        none (Again s) i = grind (arith, common_steps)
 
   -- the request of a name stays the one that arrived
   request-stays : (n : Name) (e : Entry) {G : List Entry} → Comes meaning mounted e G → has_arrived n G ≡ true →
       request_named n (e ∷ G) ≡ request_named n G
   unfolding request_named
-  request-stays n (Arrive r) {G} c a =
-      let new = fresh r G (facts meaning mounted G c.earlier) (fits-freely meaning mounted (Arrive r) G refl c.fits).1 in
-      let s = new-name r n G new a in rw s refl
+  request-stays n (Arrive r) {G} c a = grind (arith, common_steps, facts)
   request-stays n _ c a = refl
 
   covered-step : (r : Piece) (e : Entry) {G : List Entry} → Comes meaning mounted e G → Covered r G →
@@ -113,18 +87,18 @@ module _ {D : Type 0} (meaning : Meaning D) (mounted : D) where
       let s = unstarted e c in
       (s, (or_right (starts r.name e) (has_started r.name G) k.0, q, rw s (or_right _ (is_covered r G) k.2))) where
         unstarted : (e : Entry) → Comes meaning mounted e G → starts r.name e ≡ false
-        unstarted (Start m) i = covered-start r i k
-        unstarted _ i = refl
+        unstarted v0 i = grind (arith, common_steps, covered-start)
 
   covered-stays : (r : Piece) (later earlier : List Entry) → Legal meaning mounted (later ++ earlier) → Covered r earlier →
       (list_any (starts r.name) later ≡ false) × Covered r (later ++ earlier)
   unfolding Legal
   covered-stays r [] earlier l c = (refl, c)
-  covered-stays r (e ∷ later) earlier l c =
-      let ih = covered-stays r later earlier l.1 c in
-      let comes : Comes meaning mounted e (later ++ earlier) = record { earlier = l.1; fits = l.0 } in
-      let s = covered-step r e comes ih.1 in
-      (or_from (starts r.name e) (list_any (starts r.name) later) s.0 ih.0, s.1)
+  covered-stays r (e ∷ later) earlier l c = grind (
+    arith,
+    common_steps,
+    covered-stays r later earlier l.1 c,
+    covered-step r e (record { earlier = l.1; fits = l.0 }) (covered-stays r later earlier l.1 c).1,
+  )
 
   of-covered : (n : Name) (later earlier : List Entry) → Legal meaning mounted (later ++ earlier) →
       has_started n earlier ≡ true → is_covered (request_named n earlier) earlier ≡ true → list_any (starts n) later ≡ false
@@ -137,26 +111,21 @@ module _ {D : Type 0} (meaning : Meaning D) (mounted : D) where
 
   not-first : {n : Name} {H : List Entry} → StartFits meaning mounted n H → SoundTrace meaning mounted H →
       is_doomed H (request_named n H) ≡ true → has_started n H ≡ true
-  not-first {H = H} (First s) sound b =
-      let q = first-request H (facts meaning mounted H sound.legal) s.first s.name in
-      let k = first-spared s.request H (due-doomed meaning mounted H sound.settled) s.first in
-      let b' : is_doomed H s.request ≡ true = subst (λ (x : Piece). is_doomed H x ≡ true) q b in
-      let k' = rw b' at k in absurd cc
+  not-first {H = H} (First s) sound b = grind (arith, common_steps, first-request, facts, first-spared, due-doomed)
   not-first {n} {H} (Again s) sound b = (active-is n H s.active).0
 
   doomed-starts : (n : Name) (H : List Entry) → Legal meaning mounted (Start n ∷ H) → is_doomed H (request_named n H) ≡ true →
       has_started n H ≡ true
   unfolding Legal
-  doomed-starts n H l b =
-      let free = fits-freely meaning mounted (Start n) H refl l.0 in not-first free.1 (record { legal = l.1; settled = free.0 }) b
+  doomed-starts n H l b = grind (arith, common_steps, fits-freely, not-first)
 
   of-closed : (n : Name) (H : List Entry) → Legal meaning mounted (Start n ∷ H) → is_closed (request_named n H).dcb H ≡ true →
       has_started n H ≡ true
-  of-closed n H l c = grind (arith, common_steps, doomed-starts, doomed-closed)
+  of-closed n H l c = grind (arith, common_steps, doomed-starts)
 
   of-flagged : (n : Name) (H : List Entry) → Legal meaning mounted (Start n ∷ H) → (request_named n H).related ≡ true →
       flag (request_named n H).dcb H ≡ true → has_started n H ≡ true
-  of-flagged n H l a b = grind (arith, common_steps, doomed-starts, doomed-flagged)
+  of-flagged n H l a b = grind (arith, common_steps, doomed-starts)
 
   -- WHAT IS STARTED AFTER A CLOSE was started before it
   before-close : (n : Name) {d : ℕ} (later earlier : List Entry) → Legal meaning mounted (later ++ Close d ∷ earlier) →
@@ -178,13 +147,7 @@ module _ {D : Type 0} (meaning : Meaning D) (mounted : D) where
         started_before : (e : Entry) → Legal meaning mounted (e ∷ later ++ Close d ∷ earlier) →
             has_started n (e ∷ later ++ Close d ∷ earlier) ≡ true →
             (request_named n (e ∷ later ++ Close d ∷ earlier)).dcb ≡ d → has_started n (later ++ Close d ∷ earlier) ≡ true
-        started_before (Start m) k t b =
-            elim (cases_Bool (same m n)) [
-              | inl i ↦ let j = same-true m n i in subst (λ (x : Name). has_started x (later ++ Close d ∷ earlier) ≡ true) j
-                  (own m k j (subst (λ (x : Name). (request_named x (later ++ Close d ∷ earlier)).dcb ≡ d) (sym j) b))
-              | inr i ↦ rw i at t
-            ]
-        started_before _ k t b = t
+        started_before v0 k t b = grind (arith, common_steps, same-true, own)
 
   of-closing : (n : Name) (d : ℕ) (later earlier : List Entry) → Legal meaning mounted (Start n ∷ later ++ Close d ∷ earlier) →
       (request_named n (later ++ Close d ∷ earlier)).dcb ≡ d → active earlier ≡ Some n
@@ -198,10 +161,7 @@ module _ {D : Type 0} (meaning : Meaning D) (mounted : D) where
       let old = legal-tail meaning mounted later (Close d ∷ earlier) l.1 in
       (facts meaning mounted earlier old.1).3 n b (unposted_before u) where
         unposted_before : is_posted n (later ++ Close d ∷ earlier) ≡ false → is_posted n earlier ≡ false
-        unposted_before u = elim (cases_Bool (is_posted n earlier)) [
-          | inl p ↦ no_both (is_posted n (later ++ Close d ∷ earlier)) (any-later _ later (Close d ∷ earlier) p) u
-          | inr p ↦ p
-        ]
+        unposted_before u = grind (arith, common_steps, any-later)
 
   of-doomed : (r : Piece) (later earlier : List Entry) → Legal meaning mounted (later ++ earlier) → dooms r.name earlier ≡ true →
       list_any (starts r.name) later ≡ false

@@ -1,16 +1,15 @@
 -- What is doomed, entry by entry, and that the dooms settle a trace.
 use Rattle.unit_book.proofs.Names.{BookFields, ◌≡◌, ◌≤◌, ℕ, Bool, true, false, not, ◌&&◌, ◌||◌, Some, List, [], ◌∷◌, length, arith, refl}
-use Rattle.unit_book.proofs.Names.{sym, ap, ◌∙◌, empty_status, eqb, inl, inr, subst, if◌then◌else◌, cases_Bool, and_parts, filter, list_all}
-use Rattle.unit_book.proofs.Names.{is_error, Csw, Status, Code, Purged, Meaning, no_status, Name, Piece, Entry, Opened, Start, Ran}
-use Rattle.unit_book.proofs.Names.{Post, same, waiting, arrivals, active, started, request_named, doomed, is_doomed, is_open, is_opened}
-use Rattle.unit_book.proofs.Names.{is_closed, flag, Free, due, doomed_first, is_to_halt, Fits, FitsBy, Legal, all_posted, after_dooms}
-use Rattle.unit_book.proofs.Names.{doomed_by_post, DoomedBy, halted_by, ◌+◌, Option, ◌++◌, append_assoc, map, append-nil, drop, PostedState}
-use Rattle.unit_book.proofs.Names.{Placed, Active, Arrive, extents_of, attempts, area, purged, posted, posted_since, posted_value, Ties}
-use Rattle.unit_book.proofs.Names.{Each}
+use Rattle.unit_book.proofs.Names.{sym, ap, ◌∙◌, empty_status, eqb, subst, if◌then◌else◌, filter, list_all, is_error, Csw}
+use Rattle.unit_book.proofs.Names.{Status, Code, Purged, Meaning, no_status, Name, Piece, Entry, Opened, Start, Ran, Post, same, waiting}
+use Rattle.unit_book.proofs.Names.{arrivals, active, started, request_named, doomed, is_doomed, is_opened, is_closed, flag, Free}
+use Rattle.unit_book.proofs.Names.{due, doomed_first, is_to_halt, Fits, FitsBy, Legal, all_posted, after_dooms, doomed_by_post, DoomedBy}
+use Rattle.unit_book.proofs.Names.{halted_by, ◌+◌, Option, ◌++◌, append_assoc, map, append-nil, drop, PostedState, Active, Arrive}
+use Rattle.unit_book.proofs.Names.{extents_of, attempts, area, purged, posted, posted_since, posted_value, Ties, Each}
 use Rattle.unit_book.specs.Trace.{is_opening, is_purged}
 use Rattle.unit_book.specs.Selected.{is_selected}
 use Rattle.std.proofs.Math.Seq.{drop-append_seam, drop-length}
-use Rattle.unit_book.proofs.Lists.{filter-filter, all-kept, without, without-first, Apart, Apart-filter, no_both, same-not-sym, none_named}
+use Rattle.unit_book.proofs.Lists.{filter-filter, all-kept, without, without-first, Apart, Apart-filter, no_both, none_named}
 use Rattle.unit_book.proofs.Facts.{waiting-start, waiting-post, waiting-apart, Halts, Dooms, due-is, Each-filter, waits, WaitsAmong}
 use Rattle.unit_book.proofs.Facts.{active-post_waiting}
 use Rattle.unit_book.proofs.LegalFacts.{facts}
@@ -33,10 +32,7 @@ module _ {X : Type 0} where
   filters-commute p q xs =
       sym (filter-filter q p (λ x. q x && p x) (λ x. by_bools (q x) (p x)) xs) ∙ filter-filter p q (λ x. q x && p x) (λ x. refl) xs where
         by_bools : (a b : Bool) → (a && b) ≡ (b && a)
-        by_bools true true = refl
-        by_bools true false = refl
-        by_bools false true = refl
-        by_bools false false = refl
+        by_bools v0 v1 = grind (arith, common_steps)
 
   -- nothing passes a filter that is empty
   pub none-pass : (p : X → Bool) (xs : List X) → filter p xs ≡ [] → list_all (λ x. not (p x)) xs ≡ true
@@ -47,27 +43,20 @@ module _ {X : Type 0} where
   pub filter-agree : (p q m : X → Bool) → ((x : X) → m x ≡ true → p x ≡ q x) → (xs : List X) → list_all m xs ≡ true →
       filter p xs ≡ filter q xs
   filter-agree p q m a [] h = refl
-  filter-agree p q m a (x ∷ xs) h =
-      let k = and_parts (m x) (list_all m xs) h in
-      let e = a x k.0 in
-      let ih = filter-agree p q m a xs k.1 in
-      elim (cases_Bool (q x)) [ inl b ↦ rw (e, b) (ap (λ t. x ∷ t) ih) | inr b ↦ rw (e, b) ih ]
+  filter-agree p q m a (x ∷ xs) h = grind (arith, common_steps, filter-agree p q m a xs)
 
 -- where only dooms are due nothing is halted
 pub halted-first : (rs : List Piece) (H : List Entry) → halted_by (doomed_first rs) H ≡ H
-halted-first [] H = refl
-halted-first (r ∷ rs) H = refl
+halted-first v0 v1 = grind (arith, common_steps)
 
 -- a Start takes its name away, a post as purged likewise
 pub doomed-start : (n : Name) (H : List Entry) → doomed (Start n ∷ H) ≡ without n (doomed H)
 unfolding without flag
-doomed-start n H = ap (filter (is_doomed H)) (waiting-start n H) ∙ filters-commute (is_doomed H)
-    (λ (r : Piece). not (same n r.name)) (waiting H)
+doomed-start n H = grind (arith, common_steps, waiting-start, filters-commute)
 
 pub doomed-purged : (n : Name) (csw : Csw) (sense : ℕ) (H : List Entry) → doomed (Post n csw sense Purged ∷ H) ≡ without n (doomed H)
 unfolding without flag
-doomed-purged n csw sense H = ap (filter (is_doomed H)) (waiting-post n csw sense Purged H)
-    ∙ filters-commute (is_doomed H) (λ (r : Piece). not (same n r.name)) (waiting H)
+doomed-purged n csw sense H = grind (arith, common_steps, waiting-post, filters-commute)
 
 pub doomed-ran : (n : Name) (j : ℕ) (H : List Entry) → doomed (Ran n j ∷ H) ≡ doomed H
 unfolding waiting arrivals flag
@@ -77,25 +66,20 @@ doomed-ran n j H = refl
 doomed-by : (q r : Piece) (code : Code) (gone f : Bool) → not (gone || (r.related && f)) ≡ true →
     (gone || (r.related && (if is_error code && q.related && eqb q.dcb r.dcb then true else f)))
     ≡ is_selected (doomed_by_post q code) r
-doomed-by q r code false f h = grind (arith, common_steps)
-doomed-by q r code _ f h = absurd cc
+doomed-by q r code v3 f h = grind (arith, common_steps)
 
 pub doomed-post : (n : Name) (csw : Csw) (sense : ℕ) (code : Code) (H : List Entry) → doomed H ≡ [] →
     DoomedBy (doomed_by_post (request_named n H) code) (Post n csw sense code ∷ H)
 unfolding flag without
 doomed-post n csw sense code H e =
-    let G = Post n csw sense code ∷ H in
     let all = all-kept (λ r. not (is_doomed H r)) (λ r. not (same n r.name)) (waiting H) (none-pass (is_doomed H) (waiting H) e) in
     let there = subst (λ ws. list_all (λ r. not (is_doomed H r)) ws ≡ true) (sym (waiting-post n csw sense code H)) all in
-    filter-agree (is_doomed G) (is_selected (doomed_by_post (request_named n H) code)) (λ r. not (is_doomed H r))
-    (λ r h. doomed-by (request_named n H) r code (not (is_open r.dcb H) || is_purged r H) (flag r.dcb H) h) (waiting G) there
+    grind (arith, common_steps, filter-agree, doomed-by)
 
 -- an opened DCB dooms nothing
 open-spares : (opened now shut purged flagged : Bool) → not (not (opened && not shut) || purged || flagged) ≡ true →
     (not ((now || opened) && not shut) || purged || flagged) ≡ false
-open-spares true true false false false h = refl
-open-spares true false false false false h = refl
-open-spares _ now _ _ _ h = absurd cc
+open-spares v0 now v2 v3 v4 h = grind (arith, common_steps)
 
 -- a post dooms at most what waited
 pub doomed-few : (n : Name) (csw : Csw) (sense : ℕ) (code : Code) (H : List Entry) →
@@ -116,14 +100,17 @@ module _ {D : Type 0} (meaning : Meaning D) (mounted : D) where
       Legal meaning mounted (all_posted rs H) × (due meaning mounted (all_posted rs H) ≡ Free)
   unfolding Legal
   dooms-by [] H e d l = (l, d)
-  dooms-by (r ∷ rs) H e d l =
-      let f = facts meaning mounted H l in
-      let G = Post r.name no_status 0 Purged ∷ H in
-      let fits : Fits meaning mounted
-      (Post r.name no_status 0 Purged) H = subst (λ x. FitsBy meaning mounted x (Post r.name no_status 0 Purged) H) (sym d) refl in
-      let apart = subst Apart e (Apart-filter (is_doomed H) (waiting H) (waiting-apart H f)) in
-      let next : doomed G ≡ rs = doomed-purged r.name no_status 0 H ∙ ap (without r.name) e ∙ without-first r rs apart in
-      dooms-by rs G next (due-no_halt G (λ n a. refl) ∙ ap doomed_first next) (fits, l)
+  dooms-by (r ∷ rs) H e d l = grind (
+    arith,
+    common_steps,
+    facts,
+    Apart-filter,
+    waiting-apart,
+    doomed-purged,
+    without-first,
+    due-no_halt,
+    dooms-by rs,
+  )
 
   pub dooms-settle : (H : List Entry) → due meaning mounted H ≡ doomed_first (doomed H) → Legal meaning mounted H →
       Legal meaning mounted (after_dooms H) × (due meaning mounted (after_dooms H) ≡ Free)
@@ -131,11 +118,7 @@ module _ {D : Type 0} (meaning : Meaning D) (mounted : D) where
 
   -- nothing is doomed where nothing is due
   pub due-doomed : (H : List Entry) → due meaning mounted H ≡ Free → doomed H ≡ []
-  due-doomed H h = elim (due-is meaning mounted H)
-      [ Halts n d a b ↦ let k = sym d ∙ h in absurd cc | Dooms d ↦ first-none (doomed H) (sym d ∙ h) ] where
-        first-none : (rs : List Piece) → doomed_first rs ≡ Free → rs ≡ []
-        first-none [] e = refl
-        first-none (r ∷ rs) e = absurd cc
+  due-doomed H h = grind (arith, common_steps, due-is)
 
   -- a Ran and a Start leave a settled trace settled
   pub settled-ran : (n : Name) (j : ℕ) (H : List Entry) → due meaning mounted H ≡ Free → due meaning mounted (Ran n j ∷ H) ≡ Free
@@ -172,13 +155,7 @@ without-other : (rs : List Piece) (w : Piece) (ws : List Piece) → none_named w
     without_all rs (w ∷ ws) ≡ w ∷ without_all rs ws
 unfolding without
 without-other [] w ws h = refl
-without-other (r ∷ rs) w ws h =
-    let k = and_parts (not (same w.name r.name)) (none_named w.name rs) h in
-    let ih = without-other rs w (without r.name ws) k.1 in
-    elim (cases_Bool (same w.name r.name)) [
-      | inl s ↦ no_both (not (same w.name r.name)) k.0 (rw s refl)
-      | inr s ↦ let b = same-not-sym w.name r.name s in rw b ih
-    ]
+without-other (r ∷ rs) w ws h = grind (arith, common_steps, without-other rs w)
 
 -- without those that pass, those that do not are left
 pub without-picked : (p : Piece → Bool) (ws : List Piece) → Apart ws → without_all (filter p ws) ws ≡ filter (λ r. not (p r)) ws
@@ -198,9 +175,7 @@ module _ {D : Type 0} (meaning : Meaning D) (mounted : D) where
       (w : WaitsAmong held.trace r) where
     posted-one : posted meaning mounted (Post r.name no_status 0 Purged ∷ held.trace) ≡ posted meaning mounted held.trace ++ purged r ∷ []
     unfolding posted
-    posted-one =
-        let issued : area meaning mounted r held.trace ≡ r.area = as-issued meaning mounted r held.trace t.legal w.unstarted in
-        rw (w.known.0, issued) refl
+    posted-one = grind (arith, common_steps, as-issued meaning mounted r held.trace t.legal w.unstarted)
 
     ties-purged : Ties meaning mounted (record held {
       trace = Post r.name no_status 0 Purged ∷ held.trace;
@@ -208,20 +183,16 @@ module _ {D : Type 0} (meaning : Meaning D) (mounted : D) where
       out = held.out ++ purged r ∷ [];
     }) o
     unfolding Legal attempts flag extents_of request_named without
-    ties-purged =
-        let n = r.name in
-        let a = active-post_waiting n empty_status Purged held.trace w.unstarted in
-        record {
-          legal = (fits, t.legal);
-          queue = ap (without n) t.queue ∙ sym (waiting-post n no_status 0 Purged held.trace);
-          placed = Each-filter Placed (λ q. not (same n q.name)) held.waiting t.placed;
-          device = t.device;
-          activity = activity-same meaning mounted (Post n no_status 0 Purged ∷ held.trace) t a
-              (λ m e. record { active = a; request = refl; starts = refl; attempts = refl; halted = refl; covered = refl });
-          count = t.count;
-          dcbs = t.dcbs;
-          out = (t.out.0, sym (append_assoc t.out.0 held.out (purged r ∷ [])) ∙ ap (λ x. x ++ purged r ∷ []) t.out.1 ∙ sym posted-one);
-        }
+    ties-purged = grind (
+      arith,
+      common_steps,
+      active-post_waiting (r.name) empty_status Purged held.trace w.unstarted,
+      waiting-post,
+      Each-filter,
+      activity-same,
+      append_assoc,
+      posted-one,
+    )
 
   -- the posts of all that are doomed
   pub record Swept (rs : List Piece) (held : BookFields D) (o : Option Active) : Type 0 where
@@ -236,11 +207,7 @@ module _ {D : Type 0} (meaning : Meaning D) (mounted : D) where
   pub ties-dooms_by : (rs : List Piece) {held : BookFields D} {o : Option Active} →
       doomed held.trace ≡ rs → due meaning mounted held.trace ≡ doomed_first rs → Ties meaning mounted held o →
       Swept rs held o
-  ties-dooms_by [] {held} {o} e d t = record {
-    ties = subst (λ x. Ties meaning mounted (record held { out = x }) o) (sym (append-nil held.out)) t;
-    posted_is = sym (append-nil (posted meaning mounted held.trace));
-    settled = d;
-  }
+  ties-dooms_by [] {held} {o} e d t = grind (arith, common_steps)
   ties-dooms_by (r ∷ rs) {held} {o} e d t =
       let f = facts meaning mounted held.trace t.legal in
       let G = Post r.name no_status 0 Purged ∷ held.trace in
@@ -253,18 +220,12 @@ module _ {D : Type 0} (meaning : Meaning D) (mounted : D) where
       let apart = subst Apart e (Apart-filter (is_doomed held.trace) (waiting held.trace) (waiting-apart held.trace f)) in
       let next : doomed G ≡ rs = doomed-purged r.name no_status 0 held.trace ∙ ap (without r.name) e ∙ without-first r rs apart in
       let k = ties-purged fits t w in
-      let s = ties-dooms_by rs next (due-no_halt meaning mounted G (λ n a. refl) ∙ ap doomed_first next) k in
-      record {
-        ties = subst (λ x. Ties meaning mounted (record held {
-          trace = all_posted rs G;
-          waiting = without_all rs (without r.name held.waiting);
-          out = x;
-        }) o)
-            (append_assoc held.out (purged r ∷ []) (map purged rs)) s.ties;
-        posted_is = s.posted_is ∙ ap (λ x. x ++ map purged rs) (posted-one fits t w) ∙ append_assoc (posted meaning mounted held.trace)
-            (purged r ∷ []) (map purged rs);
-        settled = s.settled;
-      }
+      let s = ties-dooms_by rs next (due-no_halt meaning mounted G (λ n a. refl) ∙ ap doomed_first next) k in grind (
+        arith,
+        common_steps,
+        append_assoc,
+        posted-one,
+      )
 
   -- THE SWEEP of a queue by a test that picks what is doomed
   pub ties-dooms : (p : Piece → Bool) {held : BookFields D} {o : Option Active} →
@@ -300,10 +261,7 @@ module _ {D : Type 0} (meaning : Meaning D) (mounted : D) where
       (vs : List PostedState) × (posted meaning mounted (all_posted rs G) ≡ posted meaning mounted G ++ vs)
   unfolding posted
   posted-more [] G = ([], sym (append-nil (posted meaning mounted G)))
-  posted-more (r ∷ rs) G =
-      let v = posted_value (request_named r.name G) no_status 0 Purged (area meaning mounted (request_named r.name G) G) in
-      let m = posted-more rs (Post r.name no_status 0 Purged ∷ G) in
-      (v ∷ m.0, m.1 ∙ append_assoc (posted meaning mounted G) (v ∷ []) m.0)
+  posted-more (r ∷ rs) G = grind (arith, common_steps, posted-more rs (Post r.name no_status 0 Purged ∷ G), append_assoc)
 
   -- a post and what it dooms
   pub since-post : (n : Name) (status : Status) (code : Code) (H : List Entry) →

@@ -6,7 +6,7 @@ use Rattle.unit_book.proofs.Names.{Start, Post, same, arrivals, arrived_of, has_
 use Rattle.unit_book.proofs.Names.{active, request_named, Each, Attempt, attempts, doomed, is_doomed, Due, ToHalt, ToPost, Free, due}
 use Rattle.unit_book.proofs.Names.{due_by, doomed_first, is_to_halt, Fits, FitsBy, PostFits, OfActive, OfFirst, Status, Halted}
 use Rattle.unit_book.specs.Legal.{FitsFree}
-use Rattle.unit_book.proofs.Lists.{same-refl, same-true, same-is, filter-all, same-not-sym, no_both, filter-filter, all-weaker, find-passes}
+use Rattle.unit_book.proofs.Lists.{same-refl, same-true, same-is, filter-all, same-not-sym, filter-filter, all-weaker, find-passes}
 use Rattle.unit_book.proofs.Lists.{find-any, find-agree, find-none, without, Apart, Apart-filter, not-so}
 use Rattle.std.proofs.lemmas.Grind.{common_steps}
 
@@ -46,9 +46,7 @@ Each-weaker P Q w (r ∷ rs) h = (w r h.0, Each-weaker P Q w rs h.1)
 
 pub Each-filter : (P : Piece → Type 0) (p : Piece → Bool) (rs : List Piece) → Each P rs → Each P (filter p rs)
 Each-filter P p [] h = tt
-Each-filter P p (r ∷ rs) h =
-    let ih = Each-filter P p rs h.1 in
-    elim (cases_Bool (p r)) [ inl e ↦ rw e (h.0, ih) | inr e ↦ rw e ih ]
+Each-filter P p (r ∷ rs) h = grind (arith, common_steps, Each-filter P p rs h.1)
 
 pub Each-at : {X : Type 0} (P : X → Type 0) (xs : List X) (k : ℕ) (x : X) → Each P xs → slice_get xs k ≡ Some x → P x
 Each-at P [] k x e s = absurd cc
@@ -64,9 +62,7 @@ started-any n (_ ∷ H) = started-any n H
 
 any-none : {X : Type 0} (p : X → Bool) (xs : List X) → list_any p xs ≡ false → list_all (λ x. not (p x)) xs ≡ true
 any-none p [] h = refl
-any-none p (x ∷ xs) h =
-    let a = or_parts (p x) (list_any p xs) h in
-    let e = a.0 in rw e (any-none p xs a.1)
+any-none p (x ∷ xs) h = grind (arith, common_steps, any-none p xs)
 
 -- each element passes what every equal of one does
 all-self : (H : List Entry) → list_all (λ k. has_started k H) (started H) ≡ true
@@ -79,8 +75,7 @@ all-self H = by_list (started H) (λ k h. sym (started-any k H) ∙ h) where
       (by_list ns (λ k e. h k (or_right (same n k) (list_any (λ m. same m k) ns) e)))
 
 pub not-true : (b : Bool) → not b ≡ true → b ≡ false
-not-true true h = absurd cc
-not-true false h = refl
+not-true v0 h = grind (arith, common_steps)
 
 -- the active name has a Start and no Post
 pub active-is : (n : Name) (H : List Entry) → active H ≡ Some n → (has_started n H ≡ true) × (is_posted n H ≡ false)
@@ -101,13 +96,7 @@ unfolding waiting
 waits H f = by_list (arrivals H) f.6 where
   by_list : (rs : List Piece) → Each (Known H) rs → Each (WaitsAmong H) (filter (λ r. not (has_started r.name H || is_posted r.name H)) rs)
   by_list [] h = tt
-  by_list (r ∷ rs) h =
-      let ih = by_list rs h.1 in
-      elim (cases_Bool (has_started r.name H || is_posted r.name H)) [
-        | inl e ↦ rw e ih
-        | inr e ↦ let p = or_parts (has_started r.name H) (is_posted r.name H) e in rw e
-            (record { known = h.0; unstarted = p.0; unposted = p.1 }, ih)
-      ]
+  by_list (r ∷ rs) h = grind (arith, common_steps, or_parts, by_list rs h.1)
 
 -- a request of this name waits
 pub record NameWaits (n : Name) (H : List Entry) : Type 0 where
@@ -116,8 +105,7 @@ pub record NameWaits (n : Name) (H : List Entry) : Type 0 where
   pub unposted : is_posted n H ≡ false
 
 pub name-waits : {n : Name} {r : Piece} {H : List Entry} → WaitsAmong H r → r.name ≡ n → NameWaits n H
-name-waits {n} {r} {H} w e =
-    subst (λ (x : Name). NameWaits x H) e (record { arrived = w.known.1; unstarted = w.unstarted; unposted = w.unposted })
+name-waits {n} {r} {H} w e = grind (arith, common_steps)
 
 -- whom a Post is of: the active request, or one that waits
 abbrev pub PostOf : Name → List Entry → Type 0
@@ -125,12 +113,7 @@ PostOf n H = (active H ≡ Some n) ⊎ NameWaits n H
 
 doomed-first-post : (ds : List Piece) (n : Name) → doomed_first ds ≡ ToPost n → (r : Piece) × (rest : List Piece) × (ds ≡ r ∷ rest)
     × (r.name ≡ n)
-doomed-first-post [] n h = absurd cc
-doomed-first-post (r ∷ rs) n h = (r, rs, refl, cc)
-
-first-no_halt : (ds : List Piece) (n : Name) → doomed_first ds ≡ ToHalt n → ⊥
-first-no_halt [] n h = cc
-first-no_halt (r ∷ rs) n h = cc
+doomed-first-post v0 n h = grind (arith, common_steps)
 
 -- a new name is in no entry
 pub fresh : (r : Piece) (H : List Entry) → Facts H → r.name.seq ≡ arrived_of r.name.task H + 1 → has_arrived r.name H ≡ false
@@ -179,10 +162,7 @@ active-post_waiting n status code H h =
 -- WAITING, entry by entry
 pub waiting-arrive : (r : Piece) (H : List Entry) → Facts H → has_arrived r.name H ≡ false → waiting (Arrive r ∷ H) ≡ waiting H ++ r ∷ []
 unfolding waiting arrivals
-waiting-arrive r H f h =
-    let s = fresh-start r.name H f h in
-    let p = fresh-post r.name H f h in
-    filter-append (λ (q : Piece). not (has_started q.name H || is_posted q.name H)) (arrivals H) (r ∷ []) ∙ rw (s, p) refl
+waiting-arrive r H f h = grind (arith, common_steps, fresh-start r.name H f h, fresh-post r.name H f h, filter-append)
 
 pub waiting-start : (n : Name) (H : List Entry) → waiting (Start n ∷ H) ≡ without n (waiting H)
 unfolding waiting arrivals without
@@ -203,12 +183,7 @@ unfolding without
 without-started n H f s = filter-all (λ (r : Piece). not (same n r.name)) (waiting H) (none (waiting H) (waits H f)) where
   none : (rs : List Piece) → Each (WaitsAmong H) rs → list_all (λ (r : Piece). not (same n r.name)) rs ≡ true
   none [] e = refl
-  none (r ∷ rs) e =
-      let ih = none rs e.1 in
-      elim (cases_Bool (same n r.name)) [
-        | inl k ↦ no_both (has_started n H) s (subst (λ (x : Name). has_started x H ≡ false) (sym (same-true n r.name k)) e.0.unstarted)
-        | inr k ↦ rw k ih
-      ]
+  none (r ∷ rs) e = grind (arith, common_steps, same-true, none rs e.1)
 
 abbrev pub may_be_due : Entry → Bool
 may_be_due (Halted n) = true
@@ -219,12 +194,7 @@ module _ {D : Type 0} (meaning : Meaning D) (mounted : D) where
   -- an entry that is never due fits where nothing is, and freely
   pub fits-freely : (e : Entry) (H : List Entry) → may_be_due e ≡ false → Fits meaning mounted e H →
       (due meaning mounted H ≡ Free) × FitsFree meaning mounted e H
-  fits-freely e H never h = by_due (due meaning mounted H) refl h where
-    by_due : (d : Due) → due meaning mounted H ≡ d → FitsBy meaning mounted d e H →
-        (due meaning mounted H ≡ Free) × FitsFree meaning mounted e H
-    by_due Free is f = (is, f)
-    by_due (ToHalt n) is f = no_both (may_be_due e) (ap may_be_due f) never
-    by_due (ToPost n) is f = no_both (may_be_due e) (ap may_be_due f) never
+  fits-freely e H never h = grind (arith, common_steps)
 
   -- what is due: a Halted of the active request, or a doom
   pub data DueIs (H : List Entry) : Type 0 where
@@ -248,13 +218,7 @@ module _ {D : Type 0} (meaning : Meaning D) (mounted : D) where
   -- who must be halted is active, and is to be
   pub due-halt : (H : List Entry) (n : Name) → due meaning mounted H ≡ ToHalt n →
       (active H ≡ Some n) × (is_to_halt meaning mounted H n ≡ true)
-  due-halt H n h = elim (due-is H) [
-    | Halts m d a b ↦
-        let e = sym d ∙ h in
-        let i : m ≡ n = cc in
-        subst (λ (x : Name). (active H ≡ Some x) × (is_to_halt meaning mounted H x ≡ true)) i (a, b)
-    | Dooms d ↦ absurd (first-no_halt (doomed H) n (sym d ∙ h))
-  ]
+  due-halt H n h = grind (arith, common_steps, due-is)
 
   pub post-whom : {n : Name} {H : List Entry} (status : Status) (code : Code) → Facts H →
       Fits meaning mounted (Post n status.csw status.sense code) H → PostOf n H

@@ -1,70 +1,43 @@
 -- What the calls of a book keep, one after another: nothing that was given is taken back, and what is posted is of
 -- what arrived.
-use Rattle.unit_book.proofs.Names.{◌≡◌, ℕ, true, List, [], ◌∷◌, ◌++◌, append_assoc, length, ◌-◌, refl, sym, ap, ◌∙◌, inl, inr, subst, Ok}
-use Rattle.unit_book.proofs.Names.{Err, OnOk, OnErr, cases_Bool, Csw, Code, Meaning, Storage, PostedState, Name, Piece, Entry, Arrive, Post}
-use Rattle.unit_book.proofs.Names.{same, arrivals, has_arrived, request_named, area, Legal, due, posted, posted_value, Book, Each}
-use Rattle.std.proofs.Common.{take}
+use Rattle.unit_book.proofs.Names.{◌≡◌, ℕ, true, List, [], ◌∷◌, ◌++◌, refl, sym, inl, inr, subst, OnOk, OnErr, cases_Bool}
+use Rattle.unit_book.proofs.Names.{Csw, Code, Meaning, Storage, PostedState, Name, Piece, Entry, Arrive, Post, same, arrivals, has_arrived}
+use Rattle.unit_book.proofs.Names.{request_named, area, Legal, posted, posted_value, Book, Each, arith}
 use Rattle.std.specs.Prelude.{IfOk}
 use Rattle.std.specs.declared.result.Result.{Result}
 use Rattle.unit_book.specs.Book.{given}
-use Rattle.unit_book.specs.Settle.{Steps, ByStart, ByRun, ByInterrupt, Settles, Stays, Then}
+use Rattle.unit_book.specs.Settle.{Steps, Settles, Stays, Then}
 use Rattle.unit_book.proofs.Facts.{Each-behind}
 use Rattle.unit_book.proofs.LegalFacts.{facts}
 use Rattle.unit_book.proofs.Lists.{same-refl}
-use Rattle.unit_book.proofs.Posting.{taken-all}
 use Rattle.unit_book.proofs.WorldBooks.{Keeps, Sound, keeps-same, keeps-start, keeps-run, keeps-interrupt}
+use Rattle.std.proofs.lemmas.Grind.{common_steps}
 
 -- what follows where a call was done and where it was refused follows of it
 pub either_way : {A E : Type 0} {Refused Then : Type 0} (r : Result A E) {Done : A → Type 0} → IfOk r Done → OnErr r Refused →
     ((a : A) → Done a → Then) → (Refused → Then) → Then
-either_way (Ok a) done refused f g = f a done
-either_way (Err e) done refused f g = g refused
+either_way v0 done refused f g = grind (arith, common_steps)
 
 -- two facts of a call that was done
 pub done_and : {A E : Type 0} (Done : A → Type 0) (Also : Type 0) (r : Result A E) → IfOk r Done → OnOk r Also → IfOk r (λ a. Done a × Also)
-done_and Done Also (Ok a) done also = (done, also)
-done_and Done Also (Err e) done also = tt
+done_and v0 v1 v2 done also = grind (arith, common_steps)
 
 module _ {D : Type 0} (meaning : Meaning D) where
   -- what was given stays given
   pub given-keeps : {old new : Book D} {more : List Piece} → given meaning old ++ old.out ≡ posted meaning old.mounted old.trace →
       Keeps meaning old more new → given meaning new ≡ given meaning old
-  given-keeps {old} {new} all k =
-      let left = old.out ++ k.values in
-      let whole : posted meaning new.mounted new.trace ≡ given meaning old ++ left =
-      ap (λ m. posted meaning m new.trace) k.mounted ∙ k.posted_is ∙ ap (λ x. x ++ k.values) (sym all)
-      ∙ append_assoc (given meaning old) old.out k.values in
-      ap (λ w. take (length w - length new.out) w) whole
-      ∙ ap (λ o. take (length (given meaning old ++ left) - length o) (given meaning old ++ left)) k.out
-      ∙ taken-all (given meaning old) left
+  given-keeps {old} {new} all k = grind (arith, common_steps)
 
   pub sound-kept : {old new : Book D} {more : List Piece} → Keeps meaning old more new → Sound meaning new
-  sound-kept {old} {new} k = record {
-    legal = subst (λ m. Legal meaning m new.trace) (sym k.mounted) k.legal;
-    settled = ap (λ m. due meaning m new.trace) k.mounted ∙ k.settled;
-  }
+  sound-kept {old} {new} k = grind (arith, common_steps)
 
   -- two calls
   pub keeps-then : {old mid new : Book D} {first more : List Piece} → Keeps meaning old first mid → Keeps meaning mid more new →
       Keeps meaning old (first ++ more) new
-  keeps-then {old} {mid} {new} {first} {more} a b =
-      let at = λ (H : List Entry). ap (λ m. posted meaning m H) a.mounted in
-      record {
-        mounted = b.mounted ∙ a.mounted;
-        isc = b.isc ∙ a.isc;
-        legal = subst (λ m. Legal meaning m new.trace) a.mounted b.legal;
-        settled = sym (ap (λ m. due meaning m new.trace) a.mounted) ∙ b.settled;
-        arrived = b.arrived ∙ ap (λ x. x ++ more) a.arrived ∙ append_assoc (arrivals old.trace) first more;
-        values = a.values ++ b.values;
-        posted_is = sym (at new.trace) ∙ b.posted_is ∙ ap (λ x. x ++ b.values) (at mid.trace ∙ a.posted_is)
-            ∙ append_assoc (posted meaning old.mounted old.trace) a.values b.values;
-        out = b.out ∙ ap (λ x. x ++ b.values) a.out ∙ append_assoc old.out a.values b.values;
-      }
+  keeps-then {old} {mid} {new} {first} {more} a b = grind (arith, common_steps)
 
   keeps-step : {old new : Book D} → Sound meaning old → Steps meaning old new → Keeps meaning old [] new
-  keeps-step s (ByStart answer h) = keeps-start meaning answer s h
-  keeps-step s (ByRun max answer some h) = keeps-run meaning answer s some h
-  keeps-step s (ByInterrupt answer h) = keeps-interrupt meaning answer s h
+  keeps-step s v1 = grind (arith, common_steps, keeps-start, keeps-run, keeps-interrupt)
 
   -- a list of starts, runs and interruptions
   pub keeps-settles : {old new : Book D} → Sound meaning old → Settles meaning old new → Keeps meaning old [] new

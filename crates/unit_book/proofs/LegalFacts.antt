@@ -1,5 +1,5 @@
 -- The facts hold of every legal trace.
-use Rattle.unit_book.proofs.Names.{sym, ◌≡◌, ℕ, ◌+◌, true, false, Some, List, [], ◌∷◌, ◌++◌, refl, ap, ◌∙◌, arith, eqb, inl, inr, subst}
+use Rattle.unit_book.proofs.Names.{sym, ◌≡◌, ℕ, ◌+◌, true, false, Some, List, [], ◌∷◌, ◌++◌, refl, ap, ◌∙◌, arith, inl, inr, subst}
 use Rattle.unit_book.proofs.Names.{eq-eqb, or_parts, or_left, or_right, cases_Bool, slice_get, Meaning, Name, Piece, Code, Entry, Arrive}
 use Rattle.unit_book.proofs.Names.{Start, Ran, Post, same, arrivals, arrived_of, has_arrived, is_posted, waiting, started, active}
 use Rattle.unit_book.proofs.Names.{request_named, Each, attempts, due, Legal, StartFits, First, Again, Status, Free, Fits}
@@ -33,15 +33,7 @@ facts-arrive r H f e = (starts', posts', numbers, f.3, newest', apart', known') 
   posts' n h = or_right (same r.name n) (has_arrived n H) (f.1 n h)
 
   numbers : Numbered (Arrive r ∷ H)
-  numbers n h =
-      elim (cases_Bool (same r.name n)) [
-        | inl s ↦
-            let k : n ≡ r.name = sym (same-true r.name n s) in
-            rw k (omega (arith, e, arrived_of-arrive true r.name.task r H (eq-eqb r.name.task r.name.task refl)))
-        | inr s ↦
-            let a : has_arrived n H ≡ true = rw s at h in
-            omega (arith, f.2 n a, arrived_of-arrive (eqb r.name.task n.task) n.task r H refl)
-      ]
+  numbers n h = grind (arith, common_steps, same-true, arrived_of-arrive, eq-eqb)
 
   newest' : Newest (Arrive r ∷ H)
   newest' n a =
@@ -56,9 +48,7 @@ facts-arrive r H f e = (starts', posts', numbers, f.3, newest', apart', known') 
   still q k = let s = new-name r q.name H new k.1 in (rw s k.0, or_right (same r.name q.name) (has_arrived q.name H) k.1)
 
   known' : Each (Known (Arrive r ∷ H)) (arrivals H ++ r ∷ [])
-  known' = let s = same-refl r.name in Each-behind (Known (Arrive r ∷ H)) (arrivals H) r
-      (Each-weaker (Known H) (Known (Arrive r ∷ H)) still (arrivals H) f.6)
-      (rw s refl, or_left (same r.name r.name) (has_arrived r.name H) s)
+  known' = grind (arith, common_steps, same-refl, Each-behind, Each-weaker, still, or_left)
 
 -- the request of a name that arrived has the name
 pub request-named : (n : Name) (H : List Entry) → has_arrived n H ≡ true → (request_named n H).name ≡ n
@@ -114,8 +104,7 @@ facts-post {n} {H} status code f whom = (f.0, posts', f.2, one_by whom, newest_b
       active-post_waiting n status code H w.unstarted ∙ f.3 m h b.1
 
   newest_by : PostOf n H → Newest G
-  newest_by (inl a) m h = let b = active-post status code H f a in let k = sym b ∙ h in absurd cc
-  newest_by (inr w) m h = f.4 m (sym (active-post_waiting n status code H w.unstarted) ∙ h)
+  newest_by v0 m h = grind (arith, common_steps, active-post, active-post_waiting)
 
 -- who waits at a place
 pub waits-at : (r : Piece) (at : ℕ) (H : List Entry) → Facts H → slice_get (waiting H) at ≡ Some r → WaitsAmong H r

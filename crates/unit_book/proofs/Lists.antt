@@ -1,6 +1,6 @@
 -- Names, and filters of lists of requests and names.
 use Rattle.unit_book.proofs.Names.{◌≡◌, ℕ, Bool, true, false, not, ◌&&◌, Some, None, List, [], ◌∷◌, ◌++◌, refl, sym, ap, ◌∙◌, eqb, inl, inr}
-use Rattle.unit_book.proofs.Names.{eq-eqb, and_parts, and_from, or_left, or_right, cases_Bool, filter, list_any, list_all, Name}
+use Rattle.unit_book.proofs.Names.{eq-eqb, and_parts, and_from, cases_Bool, filter, list_any, list_all, Name}
 use Rattle.unit_book.proofs.Names.{Piece, same, slice_get, drop, zero, suc, length, arith, ◌⊎◌}
 use Rattle.std.specs.List.{find}
 use Rattle.std.proofs.lemmas.List.Folds.{list_all-append}
@@ -22,14 +22,11 @@ pub same-sym : (a b : Name) → same a b ≡ true → same b a ≡ true
 same-sym a b h = same-is b a (sym (same-true a b h))
 
 pub no_both : {C : Type 0} (b : Bool) → b ≡ true → b ≡ false → C
-no_both b h k = absurd (clash (sym h ∙ k)) where
-  clash : true ≡ false → ⊥
-  clash e = cc
+no_both b h k = grind (arith, common_steps)
 
 -- what would follow is not so
 pub not-so : (a b : Bool) → (a ≡ true → b ≡ true) → b ≡ false → a ≡ false
-not-so true b f h = no_both b (f refl) h
-not-so false b f h = refl
+not-so v0 b f h = grind (arith, common_steps)
 
 pub same-not-sym : (a b : Name) → same a b ≡ false → same b a ≡ false
 same-not-sym a b h = elim (cases_Bool (same b a)) [ inl e ↦ no_both (same a b) (same-sym b a e) h | inr e ↦ e ]
@@ -52,15 +49,11 @@ module _ {X : Type 0} where
   -- what holds of all holds of what passes
   pub all-kept : (q p : X → Bool) (xs : List X) → list_all q xs ≡ true → list_all q (filter p xs) ≡ true
   all-kept q p [] h = refl
-  all-kept q p (x ∷ xs) h =
-      let a = and_parts (q x) (list_all q xs) h in
-      let ih = all-kept q p xs a.1 in
-      elim (cases_Bool (p x)) [ inl e ↦ rw e (and_from (q x) _ a.0 ih) | inr e ↦ rw e ih ]
+  all-kept q p (x ∷ xs) h = grind (arith, common_steps, all-kept q p xs)
 
   pub all-weaker : (p q : X → Bool) → ((x : X) → p x ≡ true → q x ≡ true) → (xs : List X) → list_all p xs ≡ true → list_all q xs ≡ true
   all-weaker p q w [] h = refl
-  all-weaker p q w (x ∷ xs) h = let a = and_parts (p x) (list_all p xs) h in and_from (q x) (list_all q xs) (w x a.0)
-      (all-weaker p q w xs a.1)
+  all-weaker p q w (x ∷ xs) h = grind (arith, common_steps, all-weaker p q w xs)
 
   pub all-append : (p : X → Bool) (xs ys : List X) → list_all p xs ≡ true → list_all p ys ≡ true → list_all p (xs ++ ys) ≡ true
   all-append p xs ys h k = list_all-append p xs ys ∙ and_from (list_all p xs) (list_all p ys) h k
@@ -72,26 +65,16 @@ module _ {X : Type 0} where
 
   pub find-any : (p q : X → Bool) (xs : List X) (x : X) → find p xs ≡ Some x → q x ≡ true → list_any q xs ≡ true
   find-any p q [] x h k = absurd cc
-  find-any p q (y ∷ ys) x h k =
-      let ih : find p ys ≡ Some x → list_any q ys ≡ true = λ t. find-any p q ys x t k in
-      elim (cases_Bool (p y)) [
-        | inl e ↦ let h' = rw e at h in let s : y ≡ x = cc in or_left (q y) (list_any q ys) (rw s k)
-        | inr e ↦ or_right (q y) (list_any q ys) (ih (rw e at h))
-      ]
+  find-any p q (y ∷ ys) x h k = grind (arith, common_steps, find-any p q ys x)
 
   -- tests that agree on the elements find the same
   pub find-agree : (p q m : X → Bool) → ((x : X) → m x ≡ true → p x ≡ q x) → (xs : List X) → list_all m xs ≡ true → find p xs ≡ find q xs
   find-agree p q m a [] h = refl
-  find-agree p q m a (x ∷ xs) h =
-      let k = and_parts (m x) (list_all m xs) h in
-      let e = a x k.0 in let f = find-agree p q m a xs k.1 in rw (e, f) refl
+  find-agree p q m a (x ∷ xs) h = grind (arith, common_steps, find-agree p q m a xs)
 
   pub find-none : (p : X → Bool) (xs : List X) → list_all (λ x. not (p x)) xs ≡ true → find p xs ≡ None
   find-none p [] h = refl
-  find-none p (x ∷ xs) h =
-      let k = and_parts (not (p x)) (list_all (λ y. not (p y)) xs) h in
-      let ih = find-none p xs k.1 in
-      elim (cases_Bool (p x)) [ inl e ↦ no_both (not (p x)) k.0 (rw e refl) | inr e ↦ rw e ih ]
+  find-none p (x ∷ xs) h = grind (arith, common_steps, find-none p xs)
 
   -- all of a list pass, so the one at a place does
   pub all-at : (p : X → Bool) (xs : List X) (i : ℕ) (x : X) → list_all p xs ≡ true → slice_get xs i ≡ Some x → p x ≡ true
@@ -120,21 +103,12 @@ Apart (r ∷ rs) = (none_named r.name rs ≡ true) × Apart rs
 pub Apart-filter : (p : Piece → Bool) (rs : List Piece) → Apart rs → Apart (filter p rs)
 unfolding Apart
 Apart-filter p [] h = tt
-Apart-filter p (r ∷ rs) h =
-    let ih = Apart-filter p rs h.1 in
-    let k = all-kept (λ s. not (same r.name s.name)) p rs h.0 in
-    elim (cases_Bool (p r)) [ inl e ↦ rw e (k, ih) | inr e ↦ rw e ih ]
+Apart-filter p (r ∷ rs) h = grind (arith, common_steps, all-kept, Apart-filter p rs h.1)
 
 pub Apart-push : (rs : List Piece) (r : Piece) → Apart rs → none_named r.name rs ≡ true → Apart (rs ++ r ∷ [])
 unfolding Apart
 Apart-push [] r h k = (refl, tt)
-Apart-push (s ∷ rs) r h k =
-    let a = and_parts (not (same r.name s.name)) (none_named r.name rs) k in
-    let ih = Apart-push rs r h.1 a.1 in
-    elim (cases_Bool (same r.name s.name)) [
-      | inl e ↦ no_both (not (same r.name s.name)) a.0 (rw e refl)
-      | inr e ↦ let b = same-not-sym r.name s.name e in (all-append (λ t. not (same s.name t.name)) rs (r ∷ []) h.0 (rw b refl), ih)
-    ]
+Apart-push (s ∷ rs) r h k = grind (arith, common_steps, Apart-push rs r h.1)
 
 -- the first goes
 pub without-first : (r : Piece) (rs : List Piece) → Apart (r ∷ rs) → without r.name (r ∷ rs) ≡ rs
@@ -143,5 +117,4 @@ without-first r rs h = let e = same-refl r.name in rw e (filter-all (λ s. not (
 
 -- the first and the rest
 pub first-rest : {X : Type 0} (xs : List X) (x : X) → slice_get xs 0 ≡ Some x → xs ≡ x ∷ drop 1 xs
-first-rest [] x h = absurd cc
-first-rest (y ∷ xs) x h = let e : y ≡ x = cc in ap (λ z. z ∷ xs) e
+first-rest v0 x h = grind (arith, common_steps)

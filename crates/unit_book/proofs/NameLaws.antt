@@ -1,30 +1,23 @@
 -- A name that arrived has one place; at most one request is active.
-use Rattle.unit_book.proofs.Names.{◌≡◌, ◌≤◌, ◌+◌, Bool, true, false, not, ◌&&◌, ◌||◌, Option, Some, None, List, [], ◌∷◌, length, refl}
+use Rattle.unit_book.proofs.Names.{◌≡◌, ◌≤◌, true, false, not, ◌&&◌, ◌||◌, Option, Some, None, List, [], ◌∷◌, length, refl}
 use Rattle.unit_book.proofs.Names.{sym, ap, ◌∙◌, arith, inl, inr, subst, cases_Bool, filter, list_any, Meaning, Name, Entry, Arrive}
 use Rattle.unit_book.proofs.Names.{Start, same, starts, arrivals, has_arrived, has_started, is_posted, waiting, active, starts_of}
 use Rattle.unit_book.proofs.Names.{Legal, StartFits, First, Again}
-use Rattle.unit_book.specs.Laws.{OnePlace, FewStarts, waits, is_one, is_active, times}
+use Rattle.unit_book.specs.Laws.{OnePlace, FewStarts, waits, is_one, is_active}
 use Rattle.unit_book.proofs.Lists.{same-true, same-refl, no_both}
 use Rattle.unit_book.proofs.Facts.{Facts, active-is, fits-freely}
 use Rattle.unit_book.proofs.LegalFacts.{facts, first-named}
 use Rattle.unit_book.proofs.Restarts.{retry-few}
 use Rattle.unit_book.proofs.Starts.{no-starts}
 use Rattle.std.proofs.Math.Bool.{and_comm}
-use Rattle.std.proofs.lemmas.List.Folds.{list_any-append}
 use Rattle.std.proofs.lemmas.Map.Views.{any-filter_same}
+use Rattle.std.proofs.lemmas.Grind.{common_steps}
 
 -- who has arrived is among the arrivals
 pub arrived-any : (n : Name) (H : List Entry) → has_arrived n H ≡ list_any (λ r. same r.name n) (arrivals H)
 unfolding arrivals
 arrived-any n [] = refl
-arrived-any n (Arrive r ∷ H) = ap (λ b. same r.name n || b) (arrived-any n H)
-    ∙ flip (same r.name n) (list_any (λ r. same r.name n) (arrivals H))
-    ∙ sym (list_any-append (λ r. same r.name n) (arrivals H) (r ∷ [])) where
-      flip : (a b : Bool) → (a || b) ≡ (b || (a || false))
-      flip true true = refl
-      flip true false = refl
-      flip false true = refl
-      flip false false = refl
+arrived-any n (Arrive r ∷ H) = grind (arith, common_steps, arrived-any n H)
 arrived-any n (_ ∷ H) = arrived-any n H
 
 -- a name waits if it arrived and was neither started nor posted
@@ -59,16 +52,7 @@ active-one n H f = by_active (active H) refl where
 
 module _ {D : Type 0} (meaning : Meaning D) where
   pub one-place : OnePlace meaning
-  one-place mounted n H l a =
-      let f = facts meaning mounted H l in
-      let w = waits-is n H in
-      let v = active-one n H f in
-      rw (w, v, a) (by_bools (has_started n H) (is_posted n H)) where
-        by_bools : (s p : Bool) → times (not (s || p)) + times (s && not p) + times p ≡ 1
-        by_bools true true = refl
-        by_bools true false = refl
-        by_bools false true = refl
-        by_bools false false = refl
+  one-place mounted n H l a = grind (arith, common_steps, facts, waits-is, active-one)
 
   module _ (mounted : D) where
     start-few : (n : Name) (H : List Entry) → Facts H → StartFits meaning mounted n H → length (filter (starts n) H) ≤ 10

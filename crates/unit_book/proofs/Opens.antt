@@ -1,22 +1,23 @@
 -- A DCB is opened: the fields stay those of the trace.
-use Rattle.unit_book.proofs.Names.{BookFields, ◌≡◌, ℕ, zero, suc, ◌+◌, ◌-◌, ◌≤◌, Bool, true, false, not, ◌&&◌, ◌||◌, Option, Some, None}
-use Rattle.unit_book.proofs.Names.{List, [], ◌∷◌, ◌++◌, length, length-append, refl, sym, ap, ◌∙◌, arith, eqb, inl, inr, subst}
+use Rattle.unit_book.proofs.Names.{BookFields, ◌≡◌, ℕ, ◌+◌, ◌-◌, ◌≤◌, true, false, not, ◌&&◌, ◌||◌, Option, Some, None}
+use Rattle.unit_book.proofs.Names.{List, [], ◌∷◌, ◌++◌, length, length-append, refl, sym, ap, arith, eqb, inl, inr, subst}
 use Rattle.unit_book.proofs.Names.{if◌then◌else◌, cases_Bool, and_parts, or_right, eqb-true, eq-eqb, slice_get-append_right, slice_get}
-use Rattle.unit_book.proofs.Names.{is_error, Status, Code, Purged, Extent, Meaning, Idle, Name, Piece, Active, Dcb, Entry, Opened, Arrive}
+use Rattle.unit_book.proofs.Names.{is_error, Status, Code, Extent, Meaning, Idle, Name, Piece, Active, Dcb, Entry, Opened, Arrive}
 use Rattle.unit_book.proofs.Names.{Start, Close, Reset, Post, same, has_started, waiting, arrivals, active, started}
 use Rattle.unit_book.proofs.Names.{request_named, is_open, is_opened, is_closed, opened_count, extents_of, flag, attempts, stand, Due}
-use Rattle.unit_book.proofs.Names.{ToHalt, ToPost, Free, due, FitsBy, Legal, StartFits, First, Again, PostFits, OfActive, OfFirst, posted}
+use Rattle.unit_book.proofs.Names.{Free, due, FitsBy, Legal, StartFits, First, Again, PostFits, OfActive, OfFirst, posted}
 use Rattle.unit_book.proofs.Names.{Ties, dcb_at, dcb_of, ProcessingMethod, Input, Output}
 use Rattle.unit_book.specs.Trace.{opens, is_input}
 use Rattle.unit_book.specs.Legal.{OpenFits}
 use Rattle.unit_book.specs.Fields.{HasRow, fields_of}
-use Rattle.unit_book.proofs.Lists.{same-true, no_both, not-so, at-push}
+use Rattle.unit_book.proofs.Lists.{same-true, not-so, at-push}
 use Rattle.unit_book.proofs.Facts.{fits-freely, fresh, new-name, active-is}
 use Rattle.unit_book.proofs.LegalFacts.{SoundTrace, facts, first-request}
 use Rattle.unit_book.proofs.Dooms.{due-doomed}
 use Rattle.unit_book.proofs.Same.{activity-same, fits-free}
 use Rattle.unit_book.proofs.Seeks.{waits-open}
 use Rattle.unit_book.proofs.Starts.{no-input}
+use Rattle.std.proofs.lemmas.Grind.{common_steps}
 
 more : (d : ℕ) (H : List Entry) (e : Entry) → is_opened d H ≡ true → is_opened d (e ∷ H) ≡ true
 more d H e h = or_right (opens d e) (is_opened d H) h
@@ -32,13 +33,7 @@ module _ {D : Type 0} (meaning : Meaning D) (mounted : D) where
   pub opened-few : (d : ℕ) (H : List Entry) → Legal meaning mounted H → is_opened d H ≡ true → (1 ≤ d) × (d ≤ opened_count H)
   unfolding Legal
   opened-few d [] l h = absurd cc
-  opened-few d (Opened c i x ∷ H) l h =
-      let ih : is_opened d H ≡ true → (1 ≤ d) × (d ≤ opened_count H) = λ k. opened-few d H l.1 k in
-      let f = (fits-freely meaning mounted (Opened c i x) H refl l.0).1.next in
-      elim (cases_Bool (eqb c d)) [
-        | inl e ↦ let k : c ≡ d = eqb-true c d e in (omega (arith, k, f), omega (arith, k, f))
-        | inr e ↦ let k = ih (rw e at h) in (k.0, omega (arith, k.1))
-      ]
+  opened-few d (Opened c i x ∷ H) l h = grind (arith, common_steps, opened-few d H l.1)
   opened-few d (_ ∷ H) l h = opened-few d H l.1 h
 
   -- a DCB that was closed was opened
@@ -46,14 +41,7 @@ module _ {D : Type 0} (meaning : Meaning D) (mounted : D) where
   unfolding Legal
   closed-opened d [] l h = absurd cc
   closed-opened d (Opened c i x ∷ H) l h = more d H (Opened c i x) (closed-opened d H l.1 h)
-  closed-opened d (Close c ∷ H) l h =
-      let ih : is_closed d H ≡ true → is_opened d H ≡ true = λ k. closed-opened d H l.1 k in
-      elim (cases_Bool (eqb c d)) [
-        | inl e ↦
-            let still : is_open c H ≡ true = (fits-freely meaning mounted (Close c) H refl l.0).1 in
-            subst (λ (x : ℕ). is_opened x H ≡ true) (eqb-true c d e) (and_parts (is_opened c H) (not (is_closed c H)) still).0
-        | inr e ↦ ih (rw e at h)
-      ]
+  closed-opened d (Close c ∷ H) l h = grind (arith, common_steps, closed-opened d H l.1)
   closed-opened d (_ ∷ H) l h = closed-opened d H l.1 h
 
   -- the DCB of what waits first, where nothing is due
@@ -72,9 +60,7 @@ module _ {D : Type 0} (meaning : Meaning D) (mounted : D) where
 
   start-opened : {n : Name} {H : List Entry} → StartFits meaning mounted n H → SoundTrace meaning mounted H →
       (has_started n H ≡ true → is_opened (request_named n H).dcb H ≡ true) → is_opened (request_named n H).dcb H ≡ true
-  start-opened {H = H} (First s) sound ih =
-      let q = first-request H (facts meaning mounted H sound.legal) s.first s.name in
-      rw q (first-opened s.request H sound.settled s.first)
+  start-opened {H = H} (First s) sound ih = grind (arith, common_steps, first-request, facts, first-opened)
   start-opened {n} {H} (Again s) sound ih = ih (active-is n H s.active).0
 
   -- THE DCB of a request that was started was opened
@@ -108,24 +94,18 @@ module _ {D : Type 0} (meaning : Meaning D) (mounted : D) where
     free : due meaning mounted H ≡ Free → PostFits meaning mounted n status code H →
         is_opened (request_named n H).dcb H ≡ true
     free d (OfActive p) = started-opened n H l.1 (active-is n H p.active).0
-    free d (OfFirst p) =
-        let q = first-request H (facts meaning mounted H l.1) p.fails.first p.fails.name in
-        rw q (first-opened p.fails.request H d p.fails.first)
+    free d (OfFirst p) = grind (arith, common_steps, first-request, facts, first-opened)
 
     by_due : (k : Due) → due meaning mounted H ≡ k → FitsBy meaning mounted k (Post n status.csw status.sense code) H →
         is_opened (request_named n H).dcb H ≡ true
-    by_due (ToHalt m) d g = absurd cc
-    by_due (ToPost m) d g = let p : code ≡ Purged = cc in let k = ap is_error (sym p) ∙ e in absurd cc
-    by_due Free d g = free d g
+    by_due v0 d g = grind (arith, common_steps, free)
 
   -- a DCB with the flag was opened
   pub flag-opened : (d : ℕ) (H : List Entry) → Legal meaning mounted H → flag d H ≡ true → is_opened d H ≡ true
   unfolding Legal flag
   flag-opened d [] l h = absurd cc
   flag-opened d (Opened c i x ∷ H) l h = more d H (Opened c i x) (flag-opened d H l.1 h)
-  flag-opened d (Reset c ∷ H) l h =
-      let ih : flag d H ≡ true → is_opened d H ≡ true = λ k. flag-opened d H l.1 k in
-      elim (cases_Bool (eqb c d)) [ inl e ↦ let k = rw e at h in absurd cc | inr e ↦ ih (rw e at h) ]
+  flag-opened d (Reset c ∷ H) l h = grind (arith, common_steps, flag-opened d H l.1)
   flag-opened d (Post n c s k ∷ H) l h =
       let ih : flag d H ≡ true → is_opened d H ≡ true = λ g. flag-opened d H l.1 g in
       elim (cases_Bool (is_error k && (request_named n H).related && eqb (request_named n H).dcb d)) [
@@ -155,8 +135,7 @@ module _ {D : Type 0} (meaning : Meaning D) (mounted : D) where
         row m = Some (record { method = m; extents = x; closed = false; in_error = false })
 
         by_method : (m : ProcessingMethod) → (if is_input m || false then Input else Output) ≡ m
-        by_method Input = refl
-        by_method Output = refl
+        by_method v0 = grind (arith, common_steps)
 
 module _ {D : Type 0} (meaning : Meaning D) (mounted : D) where
   pub ties-open : {d : ℕ} (method : ProcessingMethod) {x : List Extent} {held : BookFields D} {o : Option Active} →
@@ -186,14 +165,10 @@ module _ {D : Type 0} (meaning : Meaning D) (mounted : D) where
 
     -- a number that is not 0 is one more than a place
     positive : (c : ℕ) → eqb c 0 ≡ false → 1 ≤ c
-    positive zero z = absurd cc
-    positive (suc c) z = omega arith
+    positive v0 z = grind (arith, common_steps)
 
     other : (c : ℕ) → eqb d c ≡ false → eqb c 0 ≡ false → slice_get (held.dcbs ++ row ∷ []) (c - 1) ≡ slice_get held.dcbs (c - 1)
-    other c e z = elim (at-push held.dcbs row (c - 1)) [
-      | inl k ↦ k
-      | inr k ↦ no_both (eqb d c) (eq-eqb d c (omega (arith, place, k.0, positive c z))) e
-    ]
+    other c e z = grind (arith, common_steps, at-push, row, eq-eqb, place, positive)
 
     same_at : (c : ℕ) → eqb d c ≡ false → dcb_at (held.dcbs ++ row ∷ []) c ≡ dcb_at held.dcbs c
     same_at c e = elim (cases_Bool (eqb c 0)) [ inl z ↦ rw z refl | inr z ↦ let k = other c e z in rw z k ]
@@ -204,35 +179,16 @@ module _ {D : Type 0} (meaning : Meaning D) (mounted : D) where
         rw z (slice_get-append_right held.dcbs (row ∷ []) (d - 1) 0 (omega (arith, place)))
 
     at : (c : ℕ) → dcb_at (held.dcbs ++ row ∷ []) c ≡ dcb_of c (Opened d method x ∷ held.trace)
-    at c = elim (cases_Bool (eqb d c)) [
-      | inl e ↦ subst (λ (y : ℕ). dcb_at (held.dcbs ++ row ∷ []) y ≡ dcb_of y (Opened d method x ∷ held.trace)) (eqb-true d c e)
-          (new_at ∙ sym (dcb-new meaning mounted method t.legal f))
-      | inr e ↦ same_at c e ∙ t.dcbs c ∙ sym (dcb-other c d method x held.trace e)
-    ]
+    at c = grind (arith, common_steps, row, eqb-true, new_at, dcb-new, same_at, dcb-other)
 
   -- a trace without entries
   pub ties-new : (isc : ℕ) → Ties meaning mounted (fields_of [] (record { isc = isc; device = Some mounted; phase = Idle }) [] [] []) None
   unfolding Legal waiting arrivals active started attempts stand posted
-  ties-new isc = record {
-    legal = tt;
-    queue = refl;
-    placed = tt;
-    device = refl;
-    activity = (refl, refl);
-    count = refl;
-    dcbs = λ d. by_zero (eqb d 0) (d - 1);
-    out = ([], refl);
-  } where
-    by_zero : (z : Bool) (k : ℕ) → (if z then None else slice_get [] k) ≡ dcb_of k []
-    by_zero true k = refl
-    by_zero false k = refl
+  ties-new isc = grind (arith, common_steps)
 
   -- a DCB that was never opened has no flag
   pub no-flag : (d : ℕ) (H : List Entry) → Legal meaning mounted H → dcb_of d H ≡ None → flag d H ≡ false
-  no-flag d H l h = elim (cases_Bool (is_opened d H)) [
-    | inl o ↦ let k = rw o at h in absurd cc
-    | inr o ↦ not-so (flag d H) (is_opened d H) (flag-opened meaning mounted d H l) o
-  ]
+  no-flag d H l h = grind (arith, common_steps, flag-opened)
 
   -- at most 65,535 DCBs are opened
   pub opened-most : (H : List Entry) → Legal meaning mounted H → opened_count H ≤ 65535

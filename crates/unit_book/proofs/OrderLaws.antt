@@ -1,15 +1,13 @@
 -- The first Starts are a subsequence of the arrivals.
 use Rattle.unit_book.proofs.Names.{◌≡◌, Bool, true, false, not, ◌&&◌, ◌||◌, Some, List, [], ◌∷◌, ◌++◌, append_assoc, map, refl, sym, ap}
-use Rattle.unit_book.proofs.Names.{◌∙◌, inl, inr, subst, cases_Bool, and_parts, or_right, append-nil, filter-append, filter, list_all}
+use Rattle.unit_book.proofs.Names.{◌∙◌, inl, inr, subst, cases_Bool, or_right, append-nil, filter-append, filter, list_all}
 use Rattle.unit_book.proofs.Names.{slice_get, drop, Status, Code, Meaning, Name, Piece, Entry, Arrive, Start, Post, same, arrivals}
-use Rattle.unit_book.proofs.Names.{has_arrived, has_started, is_posted, waiting, active, Legal, StartFits, First, Again, Each, arith}
+use Rattle.unit_book.proofs.Names.{has_arrived, has_started, is_posted, waiting, Legal, StartFits, First, Again, Each, arith}
 use Rattle.unit_book.specs.Laws.{first_starts, StartsInOrder}
-use Rattle.unit_book.proofs.Lists.{same-true, same-refl, no_both, filter-filter, filter-all, without, none_named, Apart, without-first}
-use Rattle.unit_book.proofs.Lists.{first-rest}
+use Rattle.unit_book.proofs.Lists.{same-true, same-refl, filter-filter, filter-all, without, none_named, Apart, without-first, first-rest}
 use Rattle.unit_book.proofs.Facts.{Facts, active-is, fits-freely, fresh, fresh-start, fresh-post, post-whom, PostOf, waiting-arrive}
 use Rattle.unit_book.proofs.Facts.{waiting-start, waiting-post, waiting-apart, waits, WaitsAmong, without-started}
 use Rattle.unit_book.proofs.LegalFacts.{facts, first-waits}
-use Rattle.std.proofs.lemmas.List.{map-append}
 use Rattle.std.proofs.lemmas.Grind.{common_steps}
 
 -- the arrivals that were started, and those that were started or are not posted
@@ -39,17 +37,13 @@ started-same n H s m = grind (arith, common_steps)
 
 filter-same : {X : Type 0} (p q : X → Bool) → ((x : X) → p x ≡ q x) → (xs : List X) → filter p xs ≡ filter q xs
 filter-same p q h [] = refl
-filter-same p q h (x ∷ xs) = let e = h x in let ih = filter-same p q h xs in elim (cases_Bool (q x))
-    [ inl b ↦ rw (e, b) (ap (λ t. x ∷ t) ih) | inr b ↦ rw (e, b) ih ]
+filter-same p q h (x ∷ xs) = grind (arith, common_steps, filter-same p q h xs)
 
 -- the tail of what waits has no Start, whatever name but its first gets one
 rest-unstarted : (n : Name) (H : List Entry) (rs : List Piece) → none_named n rs ≡ true → Each (WaitsAmong H) rs →
     filter (λ (r : Piece). same n r.name || has_started r.name H) rs ≡ []
 rest-unstarted n H [] a e = refl
-rest-unstarted n H (r ∷ rs) a e =
-    let k = and_parts (not (same n r.name)) (none_named n rs) a in
-    let ih = rest-unstarted n H rs k.1 e.1 in
-    elim (cases_Bool (same n r.name)) [ inl s ↦ no_both (not (same n r.name)) k.0 (rw s refl) | inr s ↦ rw (s, e.0.unstarted) ih ]
+rest-unstarted n H (r ∷ rs) a e = grind (arith, common_steps, rest-unstarted n H rs)
 
 -- both together, by induction
 abbrev InOrder : List Entry → Type 0
@@ -60,13 +54,10 @@ unfolding arrivals
 ordered-arrive r H f new o =
     let s = fresh-start r.name H f new in
     let p = fresh-post r.name H f new in
-    let play : in_play (Arrive r ∷ H) ≡ in_play H ++ r ∷ [] = filter-append
-    (λ (q : Piece). has_started q.name H || not (is_posted q.name H)) (arrivals H) (r ∷ []) ∙ rw (s, p) refl in
-    let begun_is : begun (Arrive r ∷ H) ≡ begun H = filter-append (λ (q : Piece). has_started q.name H) (arrivals H) (r ∷ [])
-    ∙ rw s (append-nil (begun H)) in
+    let begun_is : begun (Arrive r ∷ H) ≡ begun H = filter-append (λ (q : Piece). has_started q.name H) (arrivals H) (r ∷ []) ∙ rw s
+    (append-nil (begun H)) in
     let waits_is = waiting-arrive r H f new in
-    play ∙ ap (λ x. x ++ r ∷ []) o ∙ append_assoc (begun H) (waiting H) (r ∷ []) ∙ ap (λ x. begun H ++ x) (sym waits_is)
-    ∙ ap (λ x. x ++ waiting (Arrive r ∷ H)) (sym begun_is)
+    grind (arith, common_steps, append_assoc, begun)
 
 ordered-again : (n : Name) (H : List Entry) → Facts H → has_started n H ≡ true → Ordered H →
     Ordered (Start n ∷ H) × (begun (Start n ∷ H) ≡ begun H)
@@ -116,16 +107,12 @@ ordered-first r H f first o =
         | inr s ↦ rw s refl
       ] where
         by_bool : (b : Bool) → true ≡ (b || true)
-        by_bool true = refl
-        by_bool false = refl
+        by_bool v0 = grind (arith, common_steps)
 
       all-more : (n : Name) (H : List Entry) (rs : List Piece) →
           list_all (λ (q : Piece). same n q.name || has_started q.name H) (filter (λ q. has_started q.name H) rs) ≡ true
       all-more n H [] = refl
-      all-more n H (q ∷ rs) =
-          let ih = all-more n H rs in
-          elim (cases_Bool (has_started q.name H))
-          [ inl s ↦ let k = or_right (same n q.name) (has_started q.name H) s in rw s (rw k ih) | inr s ↦ rw s ih ]
+      all-more n H (q ∷ rs) = grind (arith, common_steps, or_right, all-more n H rs)
 
 ordered-post : {n : Name} {H : List Entry} (status : Status) (code : Code) → Facts H → PostOf n H → Ordered H →
     Ordered (Post n status.csw status.sense code ∷ H)
@@ -138,10 +125,7 @@ ordered-post {n} {H} status code f (inl a) o =
     play ∙ o ∙ ap (λ x. begun H ++ x) (sym waits_is) where
       at : has_started n H ≡ true → (r : Piece) → (has_started r.name H || not (same n r.name || is_posted r.name H))
           ≡ (has_started r.name H || not (is_posted r.name H))
-      at s r = elim (cases_Bool (same n r.name)) [
-        | inl e ↦ let k : has_started r.name H ≡ true = rw (← same-true n r.name e) s in rw (e, k) refl
-        | inr e ↦ rw e refl
-      ]
+      at s r = grind (arith, common_steps, same-true)
 ordered-post {n} {H} status code f (inr w) o =
     let play = filter-filter (λ (r : Piece). has_started r.name H || not (is_posted r.name H)) (λ r. not (same n r.name))
     (λ r. has_started r.name H || not (same n r.name || is_posted r.name H)) at (arrivals H) in
@@ -151,28 +135,24 @@ ordered-post {n} {H} status code f (inr w) o =
     ∙ ap (λ x. begun H ++ x) (sym (waiting-post n status.csw status.sense code H)) where
       at : (r : Piece) → (has_started r.name H || not (same n r.name || is_posted r.name H))
           ≡ (not (same n r.name) && (has_started r.name H || not (is_posted r.name H)))
-      at r = elim (cases_Bool (same n r.name)) [
-        | inl e ↦ let k : has_started r.name H ≡ false = rw (← same-true n r.name e) w.unstarted in rw (e, k) refl
-        | inr e ↦ rw e refl
-      ]
+      at r = grind (arith, common_steps, same-true)
 
 module _ {D : Type 0} (meaning : Meaning D) (mounted : D) where
   order-start : {n : Name} {H : List Entry} → Facts H → StartFits meaning mounted n H → InOrder H → InOrder (Start n ∷ H)
   unfolding first_starts
-  order-start {n} {H} f (First s) o =
-      let w = first-waits s.request H f s.first in
-      let k = ordered-first s.request H f s.first o.0 in
-      let names : first_starts (Start s.request.name ∷ H) ≡ first_starts H ++ s.request.name ∷ [] = rw w.unstarted refl in
-      subst (λ (x : Name). InOrder (Start x ∷ H)) s.name (
-        k.0,
-        names ∙ ap (λ x. x ++ s.request.name ∷ []) o.1 ∙ sym (map-append (λ (q : Piece). q.name) (begun H) (s.request ∷ []))
-            ∙ ap (map (λ (q : Piece). q.name)) (sym k.1),
-      )
-  order-start {n} {H} f (Again s) o =
-      let st = (active-is n H s.active).0 in
-      let k = ordered-again n H f st o.0 in
-      let names : first_starts (Start n ∷ H) ≡ first_starts H = rw st refl in
-      (k.0, names ∙ o.1 ∙ ap (map (λ (q : Piece). q.name)) (sym k.1))
+  order-start {n} {H} f (First s) o = grind (
+    arith,
+    common_steps,
+    first-waits s.request H f s.first,
+    ordered-first s.request H f s.first o.0,
+    begun,
+  )
+  order-start {n} {H} f (Again s) o = grind (
+    arith,
+    common_steps,
+    (active-is n H s.active).0,
+    ordered-again n H f ((active-is n H s.active).0) o.0,
+  )
 
   in-order : (H : List Entry) → Legal meaning mounted H → InOrder H
   unfolding Legal waiting arrivals first_starts

@@ -1,5 +1,5 @@
 -- The posts of the swept requests, one after another.
-use Rattle.unit_book.proofs.Names.{BookFields, ◌≡◌, ℕ, ◌+◌, ◌≤◌, Some, None, List, [], ◌∷◌, ◌++◌, append_assoc, length, length-append, map}
+use Rattle.unit_book.proofs.Names.{BookFields, ◌≡◌, ℕ, ◌+◌, ◌≤◌, Some, List, [], ◌∷◌, ◌++◌, append_assoc, length, length-append, map}
 use Rattle.unit_book.proofs.Names.{sym, ap, ◌∙◌, arith, subst, slice_get, drop, Buffer, Purged, no_status, PostedState, Placed, Piece}
 use Rattle.unit_book.proofs.Names.{Queue, queue, Entry, Post, Each, all_posted, purged, ◌-◌, Option, Meaning, Active, posted, Ties}
 use Rattle.circular_buffer.specs.Buffer.{buffer}
@@ -9,6 +9,7 @@ use Rattle.std.specs.Prelude.{IfSome}
 use Rattle.unit_book.proofs.Dooms.{all_posted-push}
 use Rattle.unit_book.proofs.Lists.{first-rest}
 use Rattle.std.proofs.lemmas.List.{map-append}
+use Rattle.std.proofs.lemmas.Grind.{common_steps}
 
 -- where the posts of the swept requests are: what is left of the queue, the trace, what is out, and the room for entries
 pub record PostingPlace : Type 0 where
@@ -60,8 +61,7 @@ module _ {start now next : PostingPlace} {r : Piece} (s : Posting start now) (n 
 -- The posted values that were not yet taken.
 
 pub length-rest : {X : Type 0} (xs : List X) → length (drop 1 xs) ≤ length xs
-length-rest [] = omega arith
-length-rest (x ∷ xs) = omega arith
+length-rest v0 = grind (arith, common_steps)
 
 module _ {D : Type 0} (meaning : Meaning D) (mounted : D) where
   pub ties-taken : {held : BookFields D} {o : Option Active} →
@@ -90,24 +90,11 @@ taken-more given left v rest e =
     let s : given ++ left ≡ (given ++ v ∷ []) ++ rest = ap (λ x. given ++ x) e ∙ sym (append_assoc given (v ∷ []) rest) in
     ap (λ k. take k (given ++ left)) n ∙ ap (take (length (given ++ v ∷ []))) s ∙ take-append_seam (given ++ v ∷ []) rest
 
-pub taken-all : {X : Type 0} (given left : List X) → take (length (given ++ left) - length left) (given ++ left) ≡ given
-taken-all given left =
-    let n : length (given ++ left) - length left ≡ length given = omega (arith, length-append given left) in
-    ap (λ k. take k (given ++ left)) n ∙ take-append_seam given left
-
 -- the first of what is out is taken
 pub given-more : {X : Type 0} (given left whole : List X) (v : X) → given ++ left ≡ whole → Some v ≡ slice_get left 0 →
     take (length whole - length (drop 1 left)) whole ≡ take (length whole - length left) whole ++ v ∷ []
-given-more {X} given left whole v e f = subst (λ w. take (length w - length (drop 1 left)) w ≡ take (length w - length left) w ++ v ∷ []) e
-    (by_left left f) where
-      by_left : (xs : List X) → Some v ≡ slice_get xs 0 → take (length (given ++ xs) - length (drop 1 xs)) (given ++ xs)
-          ≡ take (length (given ++ xs) - length xs) (given ++ xs) ++ v ∷ []
-      by_left [] k = absurd cc
-      by_left (x ∷ xs) k =
-          let i : x ≡ v = cc in
-          taken-more given (x ∷ xs) v xs (ap (λ y. y ∷ xs) i) ∙ ap (λ g. g ++ v ∷ []) (sym (taken-all given (x ∷ xs)))
+given-more {X} given left whole v e f = grind (arith, common_steps, taken-more)
 
 pub given-some : {X : Type 0} (given left whole : List X) (o : Option X) → given ++ left ≡ whole → o ≡ slice_get left 0 →
     IfSome o (λ v. take (length whole - length (drop 1 left)) whole ≡ take (length whole - length left) whole ++ v ∷ [])
-given-some given left whole None e f = tt
-given-some given left whole (Some v) e f = given-more given left whole v e f
+given-some given left whole v3 e f = grind (arith, common_steps, given-more)

@@ -1,7 +1,7 @@
 -- A further start of the active request: the fields stay those of the trace.
-use Rattle.unit_book.proofs.Names.{BookFields, ◌≡◌, ℕ, ◌+◌, ◌≤◌, true, false, Some, ◌∷◌, refl, sym, ap, ◌∙◌, arith, subst, Csw, Meaning}
+use Rattle.unit_book.proofs.Names.{BookFields, ◌≡◌, ℕ, ◌+◌, ◌≤◌, true, false, Some, ◌∷◌, refl, sym, ap, ◌∙◌, arith, Csw, Meaning}
 use Rattle.unit_book.proofs.Names.{Kind, Program, Channel, Phase, Idle, Running, Pending, ssch_started, Retry, verdict, Name, Piece, Active}
-use Rattle.unit_book.proofs.Names.{Standing, OnChannel, AwaitsRestart, Start, same, starts_of, request_named, extents_of, flag, mask_of}
+use Rattle.unit_book.proofs.Names.{Standing, OnChannel, AwaitsRestart, Start, same, request_named, extents_of, flag, mask_of}
 use Rattle.unit_book.proofs.Names.{current, device, Legal, due, Free, StartsAgain, posted, StandingTies, Ties, awaits_by, dcb_at, mask_at}
 use Rattle.device_port.specs.Meaning.{Lawful}
 use Rattle.ccw_programs.specs.Place.{start_place}
@@ -41,10 +41,7 @@ module _ {D : Type 0} (meaning : Meaning D) (mounted : D) where
 
     is-idle : (phase : Phase) (standing : Standing) → StandingTies meaning mounted held.trace phase a standing → awaits_by standing ≡ true →
         phase ≡ Idle
-    is-idle Idle standing d h = refl
-    is-idle (Running place) OnChannel d h = absurd cc
-    is-idle (Pending status) OnChannel d h = absurd cc
-    is-idle _ _ d h = absurd d
+    is-idle v0 standing d h = grind (arith, common_steps)
 
     -- it may be started again
     pub may-restart : StartsAgain meaning mounted n held.trace
@@ -65,15 +62,16 @@ module _ {D : Type 0} (meaning : Meaning D) (mounted : D) where
 
     -- it was started at most ten times
     pub few-starts : a.starts ≤ 10
-    few-starts = let e = t.activity.starts in let s = may-restart in rw e
-        (retry-few (meaning.kind mounted) s.status.csw s.status.sense (starts_of n held.trace) s.retry)
+    few-starts = grind (arith, common_steps)
 
     -- its seek fits the device
     pub restart-fits : Lawful meaning → TakesSeek meaning held.channel.device a.piece.value.seek
-    restart-fits law =
-        let f = seeks meaning mounted held.trace t.legal n (active-is n held.trace t.activity.is).0 in
-        let seek_is = ap (λ (r : Piece). r.seek) t.activity.request in
-        rw (seek_is, t.device) (fits-device meaning mounted law held.trace (request_named n held.trace).seek f)
+    restart-fits law = grind (
+      arith,
+      common_steps,
+      seeks meaning mounted held.trace t.legal n (active-is n held.trace t.activity.is).0,
+      fits-device,
+    )
 
     pub ties-restart : {mask : ℕ} → mask ≡ mask_at (dcb_at held.dcbs a.piece.value.dcb) →
         Ties meaning mounted (record held {
@@ -122,7 +120,4 @@ module _ {D : Type 0} (meaning : Meaning D) (mounted : D) where
           count = t.count;
           dcbs = t.dcbs;
           out = t.out;
-        } in
-        subst (λ x. Ties meaning mounted (record held { trace = G; channel = ssch_started meaning held.channel r.start r.seek mask x })
-        (Some (restarted a)))
-        (sym idle) whole
+        } in grind (arith, common_steps)

@@ -1,41 +1,25 @@
 -- The seek of a request that was started is one of the device.
-use Rattle.unit_book.proofs.Names.{StartsFirst, ◌≡◌, ℕ, ◌+◌, ◌<◌, ◌≤◌, Bool, true, false, not, ◌&&◌, Option, Some, None, List, [], ◌∷◌}
+use Rattle.unit_book.proofs.Names.{StartsFirst, ◌≡◌, ℕ, Bool, true, false, not, ◌&&◌, Option, Some, List, [], ◌∷◌}
 use Rattle.unit_book.proofs.Names.{length, refl, ◌∙◌, arith, eqb, inl, inr, subst, cases_Bool, and_parts, and_from, or_parts, list_all}
 use Rattle.unit_book.proofs.Names.{slice_get, Extent, Meaning, Kind, Name, Piece, Entry, Opened, Arrive, Start, passes_check, same}
 use Rattle.unit_book.proofs.Names.{has_started, waiting, request_named, is_opened, is_closed, is_open, extents_of, doomed}
 use Rattle.unit_book.proofs.Names.{is_doomed, Attempt, attempts, stand, device, beginning, Legal, StartFits, First, Again}
-use Rattle.std.proofs.Common.{◌*◌}
-use Rattle.std.proofs.lemmas.Bool.{ltb-true, lt-ltb, leb-true}
 use Rattle.std.specs.Prelude.{nat_lt, nat_le}
 use Rattle.io_images.specs.declared.seek.Seek.{Seek}
 use Rattle.device_port.specs.Meaning.{Lawful, fits, fits_seek}
 use Rattle.device_port.specs.declared.kind.Kind.TheVariants.{Disk}
 use Rattle.ccw_programs.proofs.StepLaws.{device-stays}
-use Rattle.unit_book.specs.Extents.{track, last_track, is_extent, is_inside, counts_tracks, takes_extents, lies_within}
+use Rattle.unit_book.specs.Extents.{is_extent, takes_extents, lies_within}
 use Rattle.unit_book.proofs.Lists.{same-true, all-at}
 use Rattle.unit_book.proofs.Facts.{fits-freely, fresh, new-name, active-is, not-true}
 use Rattle.unit_book.proofs.LegalFacts.{SoundTrace, facts, first-request}
 use Rattle.unit_book.proofs.Dooms.{none-pass, due-doomed}
 use Rattle.std.proofs.lemmas.Grind.{common_steps}
 
--- a track not after the end of an extent is on a cylinder of the disk
-cylinder-within : {heads cylinders : ℕ} (c h : ℕ) {e g : ℕ} → e < cylinders → g < heads → c * heads + h ≤ e * heads + g → c < cylinders
-cylinder-within {heads} {cylinders} c h {e} a b l = grind (arith, common_steps)
-
 within-fits : (cylinders heads : ℕ) (seek : Seek) (o : Option Extent) →
     ((e : Extent) → o ≡ Some e → is_extent cylinders heads e ≡ true) → lies_within heads seek o ≡ true →
     nat_lt seek.cylinder cylinders ≡ true
-within-fits cylinders heads seek None is w = absurd cc
-within-fits cylinders heads seek (Some e) is w =
-    let i = and_parts (is_inside cylinders heads e) (counts_tracks heads e) (is e refl) in
-    let a = and_parts (nat_lt e.start_cylinder cylinders && nat_lt e.start_head heads && nat_lt e.end_cylinder cylinders)
-    (nat_lt e.end_head heads) i.0 in
-    let b = and_parts (nat_lt e.start_cylinder cylinders && nat_lt e.start_head heads) (nat_lt e.end_cylinder cylinders) a.0 in
-    let l = (and_parts _ (nat_le (track heads seek.cylinder seek.head) (last_track heads e)) w).1 in
-    lt-ltb seek.cylinder cylinders (
-    cylinder-within seek.cylinder seek.head (ltb-true e.end_cylinder cylinders b.1)
-    (ltb-true e.end_head heads a.1)
-    (leb-true (track heads seek.cylinder seek.head) (last_track heads e) l))
+within-fits cylinders heads seek v3 is w = grind (arith, common_steps)
 
 -- a seek that passes the extent check fits the device
 check-fits : (cylinders heads : ℕ) (extents : List Extent) (seek : Seek) → takes_extents Disk cylinders heads extents ≡ true →
@@ -45,13 +29,10 @@ check-fits cylinders heads extents seek t p =
     let a = and_parts ((eqb seek.bin 0) && nat_lt seek.head heads) (lies_within heads seek (slice_get extents seek.extent)) p in
     let b = and_parts (eqb seek.bin 0) (nat_lt seek.head heads) a.0 in
     let c = within-fits cylinders heads seek (slice_get extents seek.extent)
-    (λ e s. all-at (is_extent cylinders heads) extents seek.extent e all s) a.1 in
-    and_from ((eqb seek.bin 0) && nat_lt seek.cylinder cylinders) (nat_lt seek.head heads)
-    (and_from (eqb seek.bin 0) (nat_lt seek.cylinder cylinders) b.0 c) b.1
+    (λ e s. all-at (is_extent cylinders heads) extents seek.extent e all s) a.1 in grind (arith, common_steps, and_from)
 
 not-false : (b : Bool) → not b ≡ false → b ≡ true
-not-false true h = refl
-not-false false h = absurd cc
+not-false v0 h = grind (arith, common_steps)
 
 -- what waits where nothing is doomed is of an open DCB
 pub waits-open : (r : Piece) (H : List Entry) → doomed H ≡ [] → slice_get (waiting H) 0 ≡ Some r → is_open r.dcb H ≡ true
@@ -84,8 +65,7 @@ module _ {D : Type 0} (meaning : Meaning D) (mounted : D) where
         by_kind : (kind : Kind) → takes_extents kind (meaning.cylinders mounted) (meaning.heads mounted) x ≡ true →
             passes_check kind (meaning.heads mounted) x s.request.seek ≡ true →
             fits_seek kind (meaning.cylinders mounted) (meaning.heads mounted) s.request.seek ≡ true
-        by_kind Disk k q = check-fits (meaning.cylinders mounted) (meaning.heads mounted) x s.request.seek k q
-        by_kind _ k q = refl
+        by_kind v0 k q = grind (arith, common_steps, check-fits, x)
 
   start-fits : {n : Name} {H : List Entry} → StartFits meaning mounted n H → SoundTrace meaning mounted H →
       (has_started n H ≡ true → SeekFits (request_named n H)) → SeekFits (request_named n H)

@@ -1,12 +1,11 @@
 -- A list of starts, runs and interruptions: what it adds, and that an attempt of a request brings a book nearer to
 -- having nothing to do.
 use Rattle.unit_book.proofs.Names.{◌≡◌, ◌≤◌, ◌<◌, ℕ, zero, suc, ◌+◌, ◌-◌, Bool, true, false, not, ◌||◌, Option, Some, None, List, [], ◌∷◌}
-use Rattle.unit_book.proofs.Names.{◌++◌, append_assoc, length, refl, sym, ap, ◌∙◌, arith, inl, inr, subst, if◌then◌else◌, slice_get}
-use Rattle.unit_book.proofs.Names.{is_some, cases_Bool, Csw, Code, ExtentViolated, Purged, Meaning, Program, after, length_of, is_running}
-use Rattle.unit_book.proofs.Names.{no_status, Name, Piece, Starting, Busy, Started, Violated, NothingRuns, RanSome, Interruption}
-use Rattle.unit_book.proofs.Names.{NothingPending, TriedAgain, WasPosted, Entry, Start, Ran, Post, same, arrivals, has_started, is_posted}
-use Rattle.unit_book.proofs.Names.{waiting, started, active, starts_of, is_halted, Place, State, Attempt, attempts, newest, beginning}
-use Rattle.unit_book.proofs.Names.{stand, current, active_phase, active_phase_by, still_runs, doomed, all_posted, after_dooms, Legal}
+use Rattle.unit_book.proofs.Names.{◌++◌, append_assoc, length, refl, sym, ap, ◌∙◌, arith, subst, if◌then◌else◌, slice_get, is_some, Csw}
+use Rattle.unit_book.proofs.Names.{Code, ExtentViolated, Purged, Meaning, Program, after, length_of, is_running, no_status, Name, Piece}
+use Rattle.unit_book.proofs.Names.{Starting, Busy, Started, Violated, NothingRuns, RanSome, Interruption, NothingPending, TriedAgain}
+use Rattle.unit_book.proofs.Names.{WasPosted, Entry, Start, Ran, Post, same, arrivals, has_started, is_posted, waiting, started, active}
+use Rattle.unit_book.proofs.Names.{starts_of, newest, current, active_phase, still_runs, doomed, all_posted, after_dooms, Legal}
 use Rattle.unit_book.proofs.Names.{StartsAgain, StartsFirst, Book, StartsBook, RunsBook, InterruptsBook, MayStart, MayFirst, MayAgain}
 use Rattle.std.proofs.Common.{◌*◌}
 use Rattle.std.specs.Prelude.{min}
@@ -14,18 +13,17 @@ use Rattle.std.specs.List.{find}
 use Rattle.ccw_programs.proofs.StepLaws.{step-ended, step-later, length-ends, length-few}
 use Rattle.unit_book.specs.declared.answer.Starting.TheVariants.{Idle}
 use Rattle.unit_book.specs.declared.answer.Running.{Running as RunAnswer}
-use Rattle.ccw_programs.specs.declared.context.State.TheVariants.{Running, Ended}
 use Rattle.unit_book.specs.Legal.{FailsCheck}
 use Rattle.unit_book.specs.Answers.{StartsOne}
 use Rattle.unit_book.specs.Book.{active_count, is_pending}
-use Rattle.unit_book.specs.Settle.{AddsService, Settles, Stays, Then, Steps, ByStart, ByRun, ByInterrupt, distance, is_service, starts_left}
-use Rattle.unit_book.specs.Settle.{unposted}
+use Rattle.unit_book.specs.Settle.{AddsService, Settles, Stays, Then, Steps, distance, is_service, starts_left, unposted}
 use Rattle.unit_book.proofs.Lists.{same-refl, no_both, all-append, all-filter, without, all-at}
 use Rattle.unit_book.proofs.Facts.{NewestIs, active-is, active-start, active-post, waiting-start, waiting-post}
 use Rattle.unit_book.proofs.LegalFacts.{facts}
 use Rattle.unit_book.proofs.Dooms.{length-filter_le}
 use Rattle.unit_book.proofs.Restarts.{retry-few}
-use Rattle.unit_book.proofs.Runs.{current-ran, runs-running}
+use Rattle.unit_book.proofs.Runs.{current-ran}
+use Rattle.std.proofs.lemmas.Grind.{common_steps}
 
 -- WHAT IS ADDED
 
@@ -65,37 +63,19 @@ module _ {D : Type 0} (meaning : Meaning D) where
   served-none b = record { adds = adds-none b.trace; mounted = refl; isc = refl; capacity = refl }
 
   starts-served : (old new : Book D) (answer : Starting) → StartsBook meaning old answer new → IsServed old new
-  starts-served old new (Started n) h =
-      let e = h.1 in rw e (record { adds = adds-one (Start n) old.trace refl; mounted = refl; isc = refl; capacity = refl })
-  starts-served old new (Violated n) h =
-      let e = h.1 in rw e (record { adds = adds-post n no_status 0 ExtentViolated old.trace; mounted = refl; isc = refl; capacity = refl })
-  starts-served old new _ h = let e = h.2 in rw e (served-none old)
+  starts-served old new v2 h = grind (arith, common_steps, adds-one, adds-post)
 
   runs-served : (old new : Book D) (max : ℕ) (answer : RunAnswer) → RunsBook meaning old max answer new → IsServed old new
-  runs-served old new max NothingRuns h = let e = h.1 in rw e (served-none old)
-  runs-served old new max (RanSome commands pending) h =
-      let e = h.adds in rw e (record { adds = adds-one (Ran h.name commands) old.trace refl; mounted = refl; isc = refl; capacity = refl })
+  runs-served old new max v3 h = grind (arith, common_steps, adds-one)
 
   interrupts-served : (old new : Book D) (answer : Interruption) → InterruptsBook meaning old answer new → IsServed old new
-  interrupts-served old new NothingPending h = let e = h.1 in rw e (served-none old)
-  interrupts-served old new (TriedAgain n) h =
-      let e = h.2 in rw e (record { adds = adds-none old.trace; mounted = refl; isc = refl; capacity = refl })
-  interrupts-served old new (WasPosted n code) h =
-      let a = adds-post n h.1.status.csw h.1.status.sense code old.trace in
-      rw h.1.extends (record { adds = a; mounted = refl; isc = refl; capacity = refl })
+  interrupts-served old new v2 h = grind (arith, common_steps, adds-post)
 
   step-served : (old new : Book D) → Steps meaning old new → IsServed old new
-  step-served old new (ByStart answer h) = starts-served old new answer h
-  step-served old new (ByRun max answer some h) = runs-served old new max answer h
-  step-served old new (ByInterrupt answer h) = interrupts-served old new answer h
+  step-served old new v2 = grind (arith, common_steps, starts-served, runs-served, interrupts-served)
 
   served-more : (old mid new : Book D) → IsServed old mid → IsServed mid new → IsServed old new
-  served-more old mid new a b = record {
-    adds = adds-more old.trace mid.trace new.trace a.adds b.adds;
-    mounted = b.mounted ∙ a.mounted;
-    isc = b.isc ∙ a.isc;
-    capacity = b.capacity ∙ a.capacity;
-  }
+  served-more old mid new a b = grind (arith, common_steps, adds-more)
 
   pub settles-served : {old new : Book D} → Settles meaning old new → IsServed old new
   settles-served {old} Stays = served-none old
@@ -111,27 +91,17 @@ module _ {D : Type 0} (meaning : Meaning D) where
 module _ {X : Type 0} where
   find-still_none : (p q : X → Bool) → ((x : X) → q x ≡ true → p x ≡ true) → (xs : List X) → find p xs ≡ None → find q xs ≡ None
   find-still_none p q w [] h = refl
-  find-still_none p q w (x ∷ xs) h =
-      let ih : find p xs ≡ None → find q xs ≡ None = λ k. find-still_none p q w xs k in
-      elim (cases_Bool (p x)) [
-        | inl e ↦ let k = rw e at h in absurd cc
-        | inr e ↦ let k = rw e at h in elim (cases_Bool (q x)) [ inl f ↦ no_both (p x) (w x f) e | inr f ↦ rw f (ih k) ]
-      ]
+  find-still_none p q w (x ∷ xs) h = grind (arith, common_steps, find-still_none p q w xs)
 
 first-fewer : (r : Piece) (rs : List Piece) → slice_get rs 0 ≡ Some r → length (without r.name rs) < length rs
 unfolding without
 first-fewer r [] e = absurd cc
-first-fewer r (q ∷ qs) e =
-    let i : q ≡ r = cc in
-    let s = same-refl r.name in
-    let few = length-filter_le (λ (p : Piece). not (same r.name p.name)) qs in
-    rw (i, s) (omega (arith, few))
+first-fewer r (q ∷ qs) e = grind (arith, common_steps, length-filter_le)
 
 -- WHAT IS LEFT TO DO, entry by entry
 
 not-or_right : (a b : Bool) → not (a || b) ≡ true → b ≡ false
-not-or_right false false h = refl
-not-or_right _ _ h = absurd cc
+not-or_right v0 v1 h = grind (arith, common_steps)
 
 pub first-unposted : (r : Piece) (H : List Entry) → slice_get (waiting H) 0 ≡ Some r → is_posted r.name H ≡ false
 unfolding waiting
@@ -142,9 +112,7 @@ first-unposted r H e =
 pub still-none : (n : Name) (csw : Csw) (sense : ℕ) (code : Code) (H : List Entry) → active H ≡ None →
     active (Post n csw sense code ∷ H) ≡ None
 unfolding active started
-still-none n csw sense code H h =
-    find-still_none (λ k. not (is_posted k H)) (λ k. not (same n k || is_posted k H))
-    (λ k e. rw (not-or_right (same n k) (is_posted k H) e) refl) (started H) h
+still-none n csw sense code H h = grind (arith, common_steps, find-still_none)
 
 pub posts-none : (rs : List Piece) (H : List Entry) → active H ≡ None → active (all_posted rs H) ≡ None
 posts-none [] H h = h
@@ -153,8 +121,7 @@ posts-none (r ∷ rs) H h = posts-none rs (Post r.name no_status 0 Purged ∷ H)
 post-fewer : (n : Name) (csw : Csw) (sense : ℕ) (code : Code) (H : List Entry) →
     length (waiting (Post n csw sense code ∷ H)) ≤ length (waiting H)
 unfolding without
-post-fewer n csw sense code H = rw (waiting-post n csw sense code H)
-    (length-filter_le (λ (r : Piece). not (same n r.name)) (waiting H))
+post-fewer n csw sense code H = grind (arith, common_steps, waiting-post, length-filter_le)
 
 start-fewer : (n : Name) (H : List Entry) → length (waiting (Start n ∷ H)) ≤ length (waiting H)
 unfolding without
@@ -162,11 +129,7 @@ start-fewer n H = rw (waiting-start n H) (length-filter_le (λ (r : Piece). not 
 
 posts-fewer : (rs : List Piece) (H : List Entry) → length (waiting (all_posted rs H)) ≤ length (waiting H)
 posts-fewer [] H = omega arith
-posts-fewer (r ∷ rs) H =
-    let G = Post r.name no_status 0 Purged ∷ H in
-    let ih = posts-fewer rs G in
-    let one = post-fewer r.name no_status 0 Purged H in
-    omega (arith, ih, one)
+posts-fewer (r ∷ rs) H = grind (arith, common_steps, post-fewer, posts-fewer rs)
 
 module _ {D : Type 0} (meaning : Meaning D) (mounted : D) where
   -- a program that goes on has fetched 4,096 CCWs at most
@@ -174,40 +137,18 @@ module _ {D : Type 0} (meaning : Meaning D) (mounted : D) where
       (after meaning k p).place.fetched ≤ 4096
   unfolding after
   fetched-few zero p b h = b
-  fetched-few (suc k) p b h =
-      let q = after meaning k p in
-      let ih : is_running q.place.state ≡ true → q.place.fetched ≤ 4096 = λ r. fetched-few k p b r in
-      elim (cases_Bool (is_running q.place.state)) [
-        | inl r ↦ (step-later meaning q (ih r) r h).1
-        | inr r ↦ let e = step-ended meaning q r in no_both (is_running q.place.state) (rw e at h) r
-      ]
+  fetched-few (suc k) p b h = grind (arith, common_steps, step-later, step-ended, fetched-few k p b)
 
   current-few : (H : List Entry) → is_running (current meaning mounted H).place.state ≡ true →
       (current meaning mounted H).place.fetched ≤ 4096
   unfolding newest
-  current-few H h = by_attempts (attempts H) h where
-    by_attempts : (tries : List Attempt) → is_running (newest meaning mounted tries).place.state ≡ true →
-        (newest meaning mounted tries).place.fetched ≤ 4096
-    by_attempts [] h = omega arith
-    by_attempts (a ∷ rest) h = fetched-few a.commands (beginning meaning mounted (stand meaning mounted rest) a) (omega arith) h
+  current-few H h = grind (arith, common_steps, fetched-few)
 
   -- as many commands as a program is long end it
   runs-out : (n : Name) (j : ℕ) (H : List Entry) → NewestIs n H → still_runs (active_phase meaning mounted n H) ≡ true →
       j ≡ min 4294967295 (length_of meaning (current meaning mounted H)) →
       still_runs (active_phase meaning mounted n (Ran n j ∷ H)) ≡ false
-  runs-out n j H w h e =
-      let p = current meaning mounted H in
-      let few = length-few meaning 4097 p in
-      let k : j ≡ length_of meaning p = omega (arith, e, few) in
-      let r = runs-running (is_halted n H) p.place p.place.state h in
-      let ends = length-ends meaning p (current-few H (ap is_running r.1)) in
-      let c = current-ran meaning mounted n j H w in
-      let x : is_running (current meaning mounted (Ran n j ∷ H)).place.state ≡ false = rw (c, k) ends in
-      over-by (is_halted n H) (current meaning mounted (Ran n j ∷ H)).place (current meaning mounted (Ran n j ∷ H)).place.state x where
-        over-by : (b : Bool) (place : Place) (state : State) → is_running state ≡ false → still_runs (active_phase_by b place state) ≡ false
-        over-by true place state h = refl
-        over-by false place Running h = absurd cc
-        over-by false place (Ended csw sense) h = refl
+  runs-out n j H w h e = grind (arith, common_steps, length-few, length-ends, current-few, current-ran)
 
 -- after the start a request was posted, or one is on the channel
 data Begun {D : Type 0} (old mid : Book D) : Type 0 where
@@ -259,16 +200,7 @@ module _ {D : Type 0} (meaning : Meaning D) where
 
   violated-begun : (old mid : Book D) (n : Name) → FailsCheck meaning old.mounted n old.trace →
       mid.trace ≡ after_dooms (Post n no_status 0 ExtentViolated ∷ old.trace) → Begun old mid
-  violated-begun old mid n s e =
-      let H = old.trace in
-      let G = Post n no_status 0 ExtentViolated ∷ H in
-      let none = posts-none (doomed G) G (still-none n no_status 0 ExtentViolated H s.none) in
-      let fewer = subst (λ (x : Name). length (without x (waiting H)) < length (waiting H)) s.name
-      (first-fewer s.request (waiting H) s.first) in
-      let left = ap length (waiting-post n no_status 0 ExtentViolated H) in
-      let more = posts-fewer (doomed G) G in
-      let zero_active = ap active_count none in
-      Posted (rw e none) (rw e (omega (arith, fewer, left, more, zero_active)))
+  violated-begun old mid n s e = grind (arith, common_steps, posts-none, still-none, first-fewer, waiting-post, posts-fewer)
 
   begins : (old mid : Book D) (answer : Starting) → (answer ≡ Idle → ⊥) → StartsBook meaning old answer mid → Begun old mid
   begins old mid Busy k h = let e = h.2 in rw e (still-busy old (active old.trace) refl h.0 h.1)
@@ -309,8 +241,7 @@ module _ {D : Type 0} (meaning : Meaning D) where
         ≡ false = none-runs (still_runs (active_phase meaning t.mid.mounted n t.mid.trace)) (rw a at h.0) in
         rw e (record { is = a; pending = rw (a, g, quiet) refl; left = refl; starts = refl }) where
           none-runs : (b : Bool) → (if b then Some n else None) ≡ None → b ≡ false
-          none-runs true k = absurd cc
-          none-runs false k = refl
+          none-runs v0 k = grind (arith, common_steps)
     by_answer (RanSome commands pending) h =
         let e = h.adds in
         let k = some-runs (still_runs (active_phase meaning t.mid.mounted n t.mid.trace)) h.name (rw a at h.running) in
@@ -323,16 +254,13 @@ module _ {D : Type 0} (meaning : Meaning D) where
         let out = runs-out meaning t.mid.mounted n commands t.mid.trace w k.0 h.count in
         record { is = rw now a; pending = rw (now, still, same_again, a, g, out) refl; left = rw now refl; starts = rw now refl } where
           some-runs : (b : Bool) (m : Name) → (if b then Some n else None) ≡ Some m → (b ≡ true) × (m ≡ n)
-          some-runs true m k = (refl, sym (some-is k))
-          some-runs false m k = absurd (none-is k)
+          some-runs v0 m k = grind (arith, common_steps, some-is, none-is)
 
   run-none : (mid ran : Book D) (answer : RunAnswer) → active mid.trace ≡ None → RunsBook meaning mid 4294967295 answer ran → ran ≡ mid
-  run-none mid ran NothingRuns a h = h.1
-  run-none mid ran (RanSome commands pending) a h = absurd (none-is (rw a at h.running))
+  run-none mid ran v2 a h = grind (arith, common_steps)
 
   interrupt-none : (ran new : Book D) (answer : Interruption) → active ran.trace ≡ None → InterruptsBook meaning ran answer new → new ≡ ran
-  interrupt-none ran new NothingPending a h = h.1
-  interrupt-none ran new _ a h = let k = rw a at h.0 in absurd cc
+  interrupt-none ran new v2 a h = grind (arith, common_steps)
 
   -- after the interruption the request was posted, or awaits its restart
   ends : {old new : Book D} (n : Name) (t : Tried old new) (left : ℕ) → active t.ran.trace ≡ Some n → is_pending meaning t.ran ≡ true →
@@ -347,29 +275,13 @@ module _ {D : Type 0} (meaning : Meaning D) where
         (retry-few (meaning.kind t.ran.mounted) s.status.csw s.status.sense (starts_of m t.ran.trace) s.retry) in
         let less = few ten in
         rw (h.2, a) (omega (arith, less))
-    by_answer (WasPosted m code) h =
-        let H = t.ran.trace in
-        let x = h.1 in
-        let G = Post m x.status.csw x.status.sense code ∷ H in
-        let e : new.trace ≡ after_dooms G = ap (λ (b : Book D). b.trace) x.extends in
-        let none = posts-none (doomed G) G
-        (active-post x.status code H (facts meaning t.ran.mounted H t.legal) x.fits.active) in
-        let first = post-fewer m x.status.csw x.status.sense code H in
-        let more = posts-fewer (doomed G) G in
-        let one = ap active_count a in
-        let zero_active = ap active_count none in
-        let twelve : starts_left (after_dooms G) new.awaits (active (after_dooms G)) ≡ 12 = rw none refl in
-        rw e (omega (arith, first, more, one, zero_active, twelve))
+    by_answer (WasPosted m code) h = grind (arith, common_steps, posts-none, active-post, facts, post-fewer, posts-fewer)
 
   -- AN ATTEMPT BRINGS A BOOK NEARER
   pub nearer : (old new : Book D) → Tried old new → distance new < distance old
   nearer old new t = by_begun (begins old t.mid t.starting t.found t.started_as) where
     by_begun : Begun old t.mid → distance new < distance old
-    by_begun (Posted none fewer) =
-        let e = run-none t.mid t.ran t.running none t.ran_as in
-        let f = interrupt-none t.ran new t.ending (rw e none) t.ended_as ∙ e in
-        let twelve : starts_left t.mid.trace t.mid.awaits (active t.mid.trace) ≡ 12 = rw none refl in
-        rw f (omega (arith, fewer, twelve))
+    by_begun (Posted none fewer) = grind (arith, common_steps, run-none, interrupt-none)
     by_begun (OnChannel n is a left few) =
         let p = pends n t is a in
         let d = ends n t (starts_left old.trace old.awaits (active old.trace)) p.is p.pending (rw p.starts few) in

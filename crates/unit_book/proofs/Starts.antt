@@ -1,12 +1,12 @@
 -- A first start: the fields stay those of the trace.
 use Rattle.unit_book.proofs.Names.{no_status, empty_status, ExtentViolated, BookFields, ◌≡◌, ℕ, Bool, true, false, ◌||◌, Option, Some, None}
-use Rattle.unit_book.proofs.Names.{List, [], ◌∷◌, length, refl, sym, ap, ◌∙◌, eqb, inl, inr, subst, cases_Bool, and_parts, and_from}
-use Rattle.unit_book.proofs.Names.{or_parts, or_left, or_right, filter, list_any, list_all, slice_get, drop, Meaning, Program, after}
-use Rattle.unit_book.proofs.Names.{Channel, Idle, Running, ssch_started, Placed, Name, Piece, Active, OnChannel, Dcb, Entry, Opened}
-use Rattle.unit_book.proofs.Names.{Start, Ran, same, starts, has_started, waiting, active, request_named, passes_check, is_opened}
-use Rattle.unit_book.proofs.Names.{extents_of, flag, mask_of, Attempt, attempts, stand, newest, current, device, area, Legal, due, Free}
-use Rattle.unit_book.proofs.Names.{First, StartsFirst, posted, Each, Ties, dcb_at, dcb_of, mask_at, ◌&&◌, ◌++◌, append_assoc}
-use Rattle.unit_book.proofs.Names.{Storage, is_error, Post, Fits, posted_value, noted}
+use Rattle.unit_book.proofs.Names.{List, [], ◌∷◌, length, refl, sym, ap, ◌∙◌, eqb, inl, inr, subst, cases_Bool, and_from}
+use Rattle.unit_book.proofs.Names.{or_parts, or_left, filter, list_any, list_all, slice_get, drop, Meaning, Program, after}
+use Rattle.unit_book.proofs.Names.{Channel, Idle, Running, ssch_started, Placed, Name, Piece, Active, OnChannel, Dcb, Entry, Opened, Start}
+use Rattle.unit_book.proofs.Names.{Ran, same, starts, has_started, waiting, active, request_named, passes_check, is_opened, extents_of}
+use Rattle.unit_book.proofs.Names.{flag, mask_of, Attempt, attempts, stand, newest, current, device, area, Legal, due, Free, First}
+use Rattle.unit_book.proofs.Names.{StartsFirst, posted, Each, Ties, dcb_at, dcb_of, mask_at, ◌&&◌, ◌++◌, append_assoc, is_error}
+use Rattle.unit_book.proofs.Names.{Post, Fits, posted_value, noted, arith}
 use Rattle.std.specs.Global.{Box}
 use Rattle.std.specs.Prelude.{option_map, box_value, MatchOption, IsSomeAnd}
 use Rattle.ccw_programs.specs.Place.{start_place}
@@ -16,12 +16,13 @@ use Rattle.unit_book.specs.Trace.{opens_for_input}
 use Rattle.unit_book.specs.Media.{lengthened}
 use Rattle.unit_book.specs.Legal.{passes}
 use Rattle.unit_book.specs.Fields.{extents_at, active_field_count}
-use Rattle.unit_book.proofs.Lists.{all-weaker, same-true, same-refl, same-is, no_both, without, without-first, Apart, first-rest}
+use Rattle.unit_book.proofs.Lists.{all-weaker, same-refl, same-is, without, without-first, Apart, first-rest}
 use Rattle.unit_book.proofs.Facts.{active-start, waiting-start, waiting-apart, fits-freely, Each-at, waiting-post, active-post_waiting}
 use Rattle.unit_book.proofs.LegalFacts.{facts, first-waits, waits-at}
 use Rattle.unit_book.proofs.Same.{fits-free, activity-same}
 use Rattle.unit_book.proofs.TraceLaws.{start-unposted}
 use Rattle.unit_book.proofs.ActivePosts.{dcb-post}
+use Rattle.std.proofs.lemmas.Grind.{common_steps}
 
 -- the name of the attempt was started
 abbrev named_within : List Entry → Attempt → Bool
@@ -30,18 +31,11 @@ named_within H a = has_started a.request.name H
 lengthened-named : (H : List Entry) (n : Name) (j : ℕ) (rest : List Attempt) → list_all (named_within H) rest ≡ true →
     list_all (named_within H) (lengthened n j rest) ≡ true
 lengthened-named H n j [] h = refl
-lengthened-named H n j (a ∷ rest) h =
-    let p = and_parts (named_within H a) (list_all (named_within H) rest) h in
-    let ih = lengthened-named H n j rest p.1 in
-    elim (cases_Bool (same a.request.name n)) [
-      | inl s ↦ rw s (and_from (named_within H a) (list_all (named_within H) rest) p.0 p.1)
-      | inr s ↦ rw s (and_from (named_within H a) (list_all (named_within H) (lengthened n j rest)) p.0 ih)
-    ]
+lengthened-named H n j (a ∷ rest) h = grind (arith, common_steps, lengthened-named H n j rest)
 
 named-more : (H : List Entry) (n : Name) (rest : List Attempt) → list_all (named_within H) rest ≡ true →
     list_all (named_within (Start n ∷ H)) rest ≡ true
-named-more H n rest h = all-weaker (named_within H) (named_within (Start n ∷ H))
-    (λ a k. or_right (same n a.request.name) (named_within H a) k) rest h
+named-more H n rest h = grind (arith, common_steps, all-weaker)
 
 pub no-starts : (n : Name) (H : List Entry) → has_started n H ≡ false → length (filter (starts n) H) ≡ 0
 no-starts n [] h = refl
@@ -67,8 +61,7 @@ pub extents-is : (d : ℕ) (H : List Entry) → extents_at (dcb_of d H) ≡ exte
 extents-is d H = elim (cases_Bool (is_opened d H)) [ inl o ↦ rw o refl | inr o ↦ let i = no-extents d H o in rw (o, i) refl ]
 
 pub placed-rest : (rs : List Piece) → Each Placed rs → Each Placed (drop 1 rs)
-placed-rest [] h = tt
-placed-rest (q ∷ rs) h = h.1
+placed-rest v0 h = grind (arith, common_steps)
 
 abbrev pub held_first : Box Piece → Active
 held_first b = record { piece = b; starts = 1; halted = false; covered = false; standing = OnChannel }
@@ -99,14 +92,7 @@ module _ {D : Type 0} (meaning : Meaning D) (mounted : D) where
       list_all (named_within H) rest ≡ true → (stand meaning mounted rest).area r ≡ r.area
   unfolding stand
   as-issued_by r H u [] h = refl
-  as-issued_by r H u (a ∷ rest) h =
-      let p = and_parts (named_within H a) (list_all (named_within H) rest) h in
-      let ih = as-issued_by r H u rest p.1 in
-      elim (cases_Bool (same r.name a.request.name)) [
-        | inl s ↦ no_both (has_started r.name H)
-            (subst (λ (x : Name). has_started x H ≡ true) (sym (same-true r.name a.request.name s)) p.0) u
-        | inr s ↦ rw s ih
-      ]
+  as-issued_by r H u (a ∷ rest) h = grind (arith, common_steps, as-issued_by r H u rest)
 
   -- the storage of what was never started is as issued
   pub as-issued : (r : Piece) (H : List Entry) → Legal meaning mounted H → has_started r.name H ≡ false → area meaning mounted r H ≡ r.area
@@ -136,11 +122,7 @@ module _ {D : Type 0} (meaning : Meaning D) (mounted : D) where
       (slice_get (waiting held.trace) 0 ≡ Some r)
       × (passes meaning mounted r held.trace ≡ passes_check (meaning.kind mounted) (meaning.heads mounted)
       (extents_at (dcb_at held.dcbs r.dcb)) r.seek)
-  first-told {held} {o} {r} t h = (
-    ap (λ x. slice_get x 0) (sym t.queue) ∙ h,
-    ap (λ x. passes_check (meaning.kind mounted) (meaning.heads mounted) x r.seek)
-        (sym (ap extents_at (t.dcbs r.dcb) ∙ extents-is r.dcb held.trace)),
-  )
+  first-told {held} {o} {r} t h = grind (arith, common_steps, extents-is)
 
   -- what a first start finds: the request that waits first, which fits, and the mask of its DCB
   pub record FoundFirst (held : BookFields D) (r : Piece) (mask : ℕ) : Type 0 where
@@ -202,12 +184,7 @@ module _ {D : Type 0} (meaning : Meaning D) (mounted : D) where
           count = t.count;
           dcbs = t.dcbs;
           out = t.out;
-        } in
-        subst (λ x. Ties meaning mounted (record held {
-          trace = G;
-          channel = ssch_started meaning held.channel r.start r.seek mask x;
-          waiting = drop 1 held.waiting;
-        }) (Some (held_first b))) (sym idle) whole
+        } in grind (arith, common_steps)
 
 module _ {D : Type 0} {meaning : Meaning D} {mounted : D} where
   -- the first of the queue is started, and what is taken from the queue is made active
@@ -223,10 +200,11 @@ module _ {D : Type 0} {meaning : Meaning D} {mounted : D} where
       × (active_field_count made ≡ 1)
   ties-first None made t found popped_is made_is = absurd cc
   ties-first (Some b) None t found popped_is made_is = absurd made_is
-  ties-first (Some b) (Some a) {r = r} {held = held} {mask = mask} t found popped_is made_is =
-      let e : r ≡ b.value = cc in
-      let k = ties-start meaning mounted b t (subst (λ (x : Piece). FoundFirst meaning mounted held x mask) e found) in
-      (rw (made_is, e) k, refl)
+  ties-first (Some b) (Some a) {r = r} {held = held} {mask = mask} t found popped_is made_is = grind (
+    arith,
+    common_steps,
+    ties-start meaning mounted b t (subst (λ (x : Piece). FoundFirst meaning mounted held x mask) (cc) found),
+  )
 
 -- The post of a request that waits first: the fields stay those of the trace.
 
@@ -237,11 +215,12 @@ module _ {D : Type 0} {meaning : Meaning D} {mounted : D} where
     pub waiting-value : slice_get (waiting held.trace) 0 ≡ Some r →
         posted_value r no_status 0 ExtentViolated r.area ≡ posted_value (request_named r.name held.trace) no_status 0 ExtentViolated
         (area meaning mounted (request_named r.name held.trace) held.trace)
-    waiting-value there =
-        let w = waits-at r 0 held.trace (facts meaning mounted held.trace t.legal) there in
-        let issued : area meaning mounted r held.trace ≡ r.area = as-issued meaning mounted r held.trace t.legal w.unstarted in
-        ap (λ (m : Storage). posted_value r no_status 0 ExtentViolated m) (sym issued)
-        ∙ ap (λ q. posted_value q no_status 0 ExtentViolated (area meaning mounted q held.trace)) (sym w.known.0)
+    waiting-value there = grind (
+      arith,
+      common_steps,
+      waits-at r 0 held.trace (facts meaning mounted held.trace t.legal) there,
+      as-issued meaning mounted r held.trace t.legal (waits-at r 0 held.trace (facts meaning mounted held.trace t.legal) there).unstarted,
+    )
 
     pub ties-first_post : {new : List Dcb} → Fits meaning mounted (Post r.name no_status 0 ExtentViolated) held.trace →
         slice_get (waiting held.trace) 0 ≡ Some r →

@@ -1,8 +1,7 @@
 -- Laws of legal traces.
-use Rattle.unit_book.proofs.Names.{◌≡◌, Bool, true, false, Some, List, [], ◌∷◌, ◌++◌, refl, sym, ap, ◌∙◌, inl, inr, or_left, or_right}
+use Rattle.unit_book.proofs.Names.{◌≡◌, Bool, true, false, Some, List, [], ◌∷◌, ◌++◌, refl, sym, ap, ◌∙◌, or_left, or_right}
 use Rattle.unit_book.proofs.Names.{list_any, Meaning, Name, Entry, Arrive, Start, Ran, Halted, Post, same, is_posted, active, Due, ToHalt}
 use Rattle.unit_book.proofs.Names.{ToPost, Free, due, FitsBy, Legal, StartFits, First, Again, arith}
-use Rattle.std.proofs.lemmas.Bool.{or_from}
 use Rattle.std.proofs.lemmas.List.Folds.{list_any-append}
 use Rattle.unit_book.specs.Laws.{PostsLast, is_of_name}
 use Rattle.unit_book.proofs.Lists.{same-refl}
@@ -15,8 +14,7 @@ unposted : (n m : Name) (H : List Entry) → is_posted n H ≡ true → is_poste
 unposted n m H p q = grind (arith, common_steps)
 
 whom-unposted : (m : Name) (H : List Entry) → PostOf m H → is_posted m H ≡ false
-whom-unposted m H (inl a) = (active-is m H a).1
-whom-unposted m H (inr w) = w.unposted
+whom-unposted m v1 v2 = grind (arith, common_steps, active-is)
 
 -- what an older part has, the whole has
 pub any-later : (p : Entry → Bool) (later earlier : List Entry) → list_any p earlier ≡ true → list_any p (later ++ earlier) ≡ true
@@ -50,10 +48,7 @@ module _ {D : Type 0} (meaning : Meaning D) (mounted : D) where
       list_any (is_of_name n) later ≡ false
   unfolding Legal
   none-later n [] earlier p l = refl
-  none-later n (e ∷ later) earlier p l =
-      let c : Comes meaning mounted e (later ++ earlier) = record { earlier = l.1; fits = l.0 } in
-      or_from (is_of_name n e) (list_any (is_of_name n) later) (not-of n e c (any-later _ later earlier p))
-      (none-later n later earlier p l.1)
+  none-later n (e ∷ later) earlier p l = grind (arith, common_steps, not-of, none-later n later earlier p l.1)
 
 pub posts-last : {D : Type 0} (meaning : Meaning D) → PostsLast meaning
 posts-last meaning mounted n csw sense code later earlier l =

@@ -1,12 +1,11 @@
 -- What each call of a book keeps: a legal trace with nothing due, and that what is posted is out.
-use Rattle.unit_book.proofs.Names.{empty_status, ◌≡◌, ◌≤◌, ℕ, suc, ◌+◌, Bool, true, false, Option, Some, None, List, [], ◌∷◌, ◌++◌, refl}
-use Rattle.unit_book.proofs.Names.{sym, ap, ◌∙◌, arith, inl, inr, subst, cases_Bool, append-nil, ExtentViolated, Extent, Meaning}
-use Rattle.unit_book.proofs.Names.{length_of, PostedState, Name, Piece, Scope, Starting, Started, Violated, NothingRuns, RanSome}
-use Rattle.unit_book.proofs.Names.{Interruption, NothingPending, TriedAgain, WasPosted, Mode, Entry, Arrive}
-use Rattle.unit_book.proofs.Names.{Reset, arrivals, arrived_of, active, is_open, still_runs, active_phase, current, Free, due, Legal}
-use Rattle.unit_book.proofs.Names.{StartFits, First, Again, OfActive, OfFirst, CanPurge, posted, after_dooms, Book, running_name_by, Adds}
-use Rattle.unit_book.proofs.Names.{Extends, MayStart, MayFirst, MayAgain, StartsBook, RunsBook, InterruptsBook, PurgesBy, covers_awaiting}
-use Rattle.unit_book.proofs.Names.{after_purge, ProcessingMethod, is_halted}
+use Rattle.unit_book.proofs.Names.{empty_status, ◌≡◌, ◌≤◌, ℕ, ◌+◌, Bool, true, false, List, [], ◌∷◌, ◌++◌, refl, sym, ap, ◌∙◌, arith}
+use Rattle.unit_book.proofs.Names.{inl, inr, subst, cases_Bool, append-nil, ExtentViolated, Extent, Meaning, PostedState, Name, Piece}
+use Rattle.unit_book.proofs.Names.{Scope, Starting, Started, Violated, NothingRuns, RanSome, Interruption, NothingPending, TriedAgain}
+use Rattle.unit_book.proofs.Names.{WasPosted, Mode, Entry, Arrive, Reset, arrivals, arrived_of, is_open}
+use Rattle.unit_book.proofs.Names.{Free, due, Legal, StartFits, OfActive, OfFirst, CanPurge, posted, after_dooms, Book}
+use Rattle.unit_book.proofs.Names.{Adds, Extends, MayStart, StartsBook, RunsBook, InterruptsBook, PurgesBy, covers_awaiting, after_purge}
+use Rattle.unit_book.proofs.Names.{ProcessingMethod}
 use Rattle.ccw_programs.proofs.StepLaws.{steps_within-running}
 use Rattle.unit_book.specs.declared.answer.Running.{Running}
 use Rattle.unit_book.specs.declared.answer.Purging.{Purging}
@@ -14,11 +13,10 @@ use Rattle.unit_book.specs.declared.answer.Closing.{Closing}
 use Rattle.unit_book.specs.Legal.{RanFits}
 use Rattle.unit_book.specs.Answers.{OpensBook, RunsOn}
 use Rattle.unit_book.specs.Controls.{PurgesBook, ClosesBy, ClosesBook}
-use Rattle.unit_book.proofs.Dooms.{since-is}
-use Rattle.unit_book.proofs.Runs.{runs-running, running-phase}
 use Rattle.unit_book.proofs.LegalFacts.{SoundTrace}
 use Rattle.unit_book.proofs.WorldTraces.{Grows, grows-not, grows-open, grows-arrive, grows-start, grows-ran, grows-post, grows-close}
 use Rattle.unit_book.proofs.WorldTraces.{grows-reset, grows-purge, grows-purged}
+use Rattle.std.proofs.lemmas.Grind.{common_steps}
 
 module _ {D : Type 0} (meaning : Meaning D) where
   -- A CALL KEEPS A BOOK: the trace stays legal and nothing is due; these requests arrived; what was posted is out
@@ -38,18 +36,7 @@ module _ {D : Type 0} (meaning : Meaning D) where
 
   keeps-posts : {old new : Book D} {H : List Entry} {again : Bool} {more : List Piece} → Extends meaning old H again new →
       Grows meaning old.mounted old.trace H more → Keeps old more new
-  keeps-posts {old} {H = H} p g =
-      let s = since-is meaning old.mounted old.trace H g.values g.posted_is in
-      rw p (record {
-        mounted = refl;
-        isc = refl;
-        legal = g.legal;
-        settled = g.settled;
-        arrived = g.arrived;
-        values = g.values;
-        posted_is = g.posted_is;
-        out = ap (λ x. old.out ++ x) s;
-      })
+  keeps-posts {old} {H = H} p g = grind (arith, common_steps)
 
   -- a call that posts nothing
   keeps-adds : {old new : Book D} {H : List Entry} {again : Bool} →
@@ -85,8 +72,7 @@ module _ {D : Type 0} (meaning : Meaning D) where
   keeps-open {dcb = dcb} {method} {extents} s h = keeps-adds h.adds (grows-open dcb method extents s h.fits) refl
 
   start-fits : (old : Book D) (n : Name) → MayStart meaning old n → StartFits meaning old.mounted n old.trace
-  start-fits old n (MayFirst f) = First f
-  start-fits old n (MayAgain a f) = Again f
+  start-fits old n v2 = grind (arith, common_steps)
 
   pub keeps-start : {old new : Book D} (answer : Starting) → Sound old → StartsBook meaning old answer new → Keeps old [] new
   unfolding posted
@@ -96,33 +82,9 @@ module _ {D : Type 0} (meaning : Meaning D) where
       keeps-posts h.1 (grows-post n empty_status ExtentViolated s f)
   keeps-start _ s h = keeps-same s h.2
 
-  -- a program that is to run is that of the active request, and goes
-  pub running-is : (mounted : D) (H : List Entry) (n : Name) → running_name_by meaning mounted H (active H) ≡ Some n →
-      (active H ≡ Some n) × (still_runs (active_phase meaning mounted n H) ≡ true)
-  running-is mounted H n h = by_active (active H) h where
-    by_active : (o : Option Name) → running_name_by meaning mounted H o ≡ Some n →
-        (o ≡ Some n) × (still_runs (active_phase meaning mounted n H) ≡ true)
-    by_active None e = absurd cc
-    by_active (Some m) e =
-        elim (cases_Bool (still_runs (active_phase meaning mounted m H))) [
-          | inl b ↦ let e' = rw b at e in let q : m
-              ≡ n = cc in (ap Some q, subst (λ (x : Name). still_runs (active_phase meaning mounted x H) ≡ true) q b)
-          | inr b ↦ let e' = rw b at e in absurd cc
-        ]
-
   ran-fits : (old : Book D) {new : Book D} {max commands : ℕ} {pending : Bool} → 1 ≤ max →
       (h : RunsOn meaning old max commands pending new) → RanFits meaning old.mounted h.name commands old.trace
-  ran-fits old m h =
-      let p = current meaning old.mounted old.trace in
-      let a = running-is old.mounted old.trace h.name h.running in
-      let g = runs-running (is_halted h.name old.trace) p.place p.place.state a.1 in
-      let n : length_of meaning p ≡ suc _ = steps_within-running meaning 4096 p (rw g.1 refl) in
-      record {
-        active = a.0;
-        running = running-phase (is_halted h.name old.trace) p.place p.place.state g;
-        some = omega (arith, m, n, h.count);
-        left = omega (arith, h.count);
-      }
+  ran-fits old m h = grind (arith, common_steps, steps_within-running)
 
   pub keeps-run : {old new : Book D} {max : ℕ} (answer : Running) → Sound old → 1 ≤ max → RunsBook meaning old max answer new →
       Keeps old [] new

@@ -1,6 +1,6 @@
 -- In a world the requests of a task are first started in the order of sending.
 use Rattle.unit_book.proofs.Names.{◌≡◌, ◌≤◌, ℕ, suc, ◌+◌, ◌==◌, Bool, false, Some, List, [], ◌∷◌, length, map, refl, sym, ap, ◌∙◌}
-use Rattle.unit_book.proofs.Names.{arith, inl, inr, subst, cases_Bool, append-nil, filter-append, filter, slice_get, slice_get-append_right}
+use Rattle.unit_book.proofs.Names.{arith, inl, inr, subst, cases_Bool, filter, slice_get, slice_get-append_right}
 use Rattle.unit_book.proofs.Names.{Meaning, Name, Piece, Entry, arrivals, arrived_of, has_arrived, has_started}
 use Rattle.unit_book.specs.Laws.{first_starts}
 use Rattle.unit_book.specs.World.{World, requests_of}
@@ -49,7 +49,7 @@ module _ {D : Type 0} (meaning : Meaning D) (w : World D) (k : Kept meaning w) w
 
   started-sent : (task : ℕ) → filter (λ r. has_started r.name H) (requests_of task (arrivals H)) ≡ filter (λ r. has_started r.name H)
       (w.sent task)
-  started-sent task = grind (arith, common_steps, append-nil, flight-unstarted, filter-append)
+  started-sent task = grind (arith, common_steps, flight-unstarted)
 
   pub first-started : (task : ℕ) →
       filter (λ n. n.task == task) (first_starts H) ≡ map (λ r. r.name) (filter (λ r. has_started r.name H) (w.sent task))

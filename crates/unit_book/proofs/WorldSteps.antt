@@ -1,7 +1,7 @@
 -- What each step of a world keeps: what was sent arrived or is in flight, and what was posted is got, on its way back
 -- or out.
-use Rattle.unit_book.proofs.Names.{◌≡◌, ◌⊎◌, ℕ, ◌+◌, ◌==◌, true, Some, List, [], ◌∷◌, ◌++◌, append_assoc, length, refl, sym, ap, ◌∙◌, arith}
-use Rattle.unit_book.proofs.Names.{eqb, inl, inr, subst, cases_Bool, eqb-true, eq-eqb, append-nil, filter-append, slice_get, drop}
+use Rattle.unit_book.proofs.Names.{◌≡◌, ℕ, ◌+◌, true, Some, List, [], ◌∷◌, ◌++◌, append_assoc, length, refl, sym, ap, ◌∙◌, arith}
+use Rattle.unit_book.proofs.Names.{eqb, subst, eqb-true, eq-eqb, append-nil, filter-append, slice_get, drop}
 use Rattle.unit_book.proofs.Names.{slice_get-append_right, Meaning, PostedState, Name, Piece, arrivals, arrived_of, Legal, posted, Book}
 use Rattle.unit_book.proofs.Names.{Each}
 use Rattle.unit_book.specs.Legal.{Settled}
@@ -12,6 +12,7 @@ use Rattle.unit_book.proofs.WorldTraces.{opened-only}
 use Rattle.unit_book.proofs.WorldBooks.{Keeps, Sound, keeps-arrive, keeps-open, keeps-start, keeps-run, keeps-interrupt, keeps-purge}
 use Rattle.unit_book.proofs.WorldBooks.{keeps-close, keeps-reset}
 use Rattle.unit_book.proofs.Lists.{at-push, first-rest, name-is}
+use Rattle.std.proofs.lemmas.Grind.{common_steps}
 
 module _ {D : Type 0} (meaning : Meaning D) where
   -- WHAT HOLDS BETWEEN STEPS
@@ -30,36 +31,7 @@ module _ {D : Type 0} (meaning : Meaning D) where
   -- A CALL OF THE BOOK, at which these requests arrive
   call-kept : (w : World D) {book : Book D} {more : List Piece} (rest : List Piece) → Kept w → Keeps meaning w.book more book →
       w.flight ≡ more ++ rest → Kept (record w { book = book; flight = rest })
-  call-kept w {book} {more} rest k c before = record {
-    received = received;
-    numbered = k.numbered;
-    for_unit = k.for_unit;
-    returned = returned;
-    legal = let m = c.mounted in rw m c.legal;
-    settled = let m = c.mounted in rw m c.settled;
-  } where
-    received : (task : ℕ) → requests_of task (arrivals book.trace) ++ requests_of task rest ≡ w.sent task
-    received task =
-        let A = requests_of task (arrivals w.book.trace) in
-        let test = λ (r : Piece). r.name.task == task in
-        let a : requests_of task (arrivals book.trace) ≡ A ++ requests_of task more
-        = ap (requests_of task) c.arrived ∙ filter-append test (arrivals w.book.trace) more in
-        let f : requests_of task w.flight ≡ requests_of task more ++ requests_of task rest
-        = ap (requests_of task) before ∙ filter-append test more rest in
-        rw a (append_assoc A (requests_of task more) (requests_of task rest)) ∙ ap (λ x. A ++ x) (sym f) ∙ k.received task
-
-    returned : (task : ℕ) → values_of task (posted meaning book.mounted book.trace) ≡ (w.got task ++ w.back task) ++ values_of task book.out
-    returned task =
-        let G = w.got task ++ w.back task in
-        let test = λ (v : PostedState). v.name.task == task in
-        let p : values_of task (posted meaning book.mounted book.trace)
-        ≡ values_of task (posted meaning w.book.mounted w.book.trace) ++ values_of task c.values
-        = ap (λ d. values_of task (posted meaning d book.trace)) c.mounted ∙ ap (values_of task) c.posted_is
-        ∙ filter-append test (posted meaning w.book.mounted w.book.trace) c.values in
-        let o : values_of task book.out ≡ values_of task w.book.out ++ values_of task c.values
-        = ap (values_of task) c.out ∙ filter-append test w.book.out c.values in
-        p ∙ ap (λ x. x ++ values_of task c.values) (k.returned task) ∙ append_assoc G (values_of task w.book.out) (values_of task c.values)
-        ∙ ap (λ x. G ++ x) (sym o)
+  call-kept w {book} {more} rest k c before = grind (arith, common_steps)
 
   in-book : {old new : World D} → Kept old → InBook old new → Keeps meaning old.book [] new.book → Kept new
   in-book {old} {new} k e c = subst Kept (sym e) (call-kept old old.flight k c refl)
@@ -67,51 +39,17 @@ module _ {D : Type 0} (meaning : Meaning D) where
   -- A REQUEST IS ACCEPTED
   accept-kept : (w : World D) (r : Piece) → Kept w → r.unit ≡ w.unit → r.name.seq ≡ length (w.sent r.name.task) + 1 →
       Kept (record w { sent = one_more_of_task w.sent r.name.task r; flight = w.flight ++ r ∷ [] })
-  accept-kept w r k of_unit next = record {
-    received = received;
-    numbered = numbered;
-    for_unit = for_unit;
-    returned = k.returned;
-    legal = k.legal;
-    settled = k.settled;
-  } where
-    sent : ℕ → List Piece
-    sent = one_more_of_task w.sent r.name.task r
-
-    received : (task : ℕ) → requests_of task (arrivals w.book.trace) ++ requests_of task (w.flight ++ r ∷ []) ≡ sent task
-    received task =
-        let A = requests_of task (arrivals w.book.trace) in
-        let F = requests_of task w.flight in
-        let f = filter-append (λ (q : Piece). q.name.task == task) w.flight (r ∷ []) in
-        let o = k.received task in
-        rw f (elim (cases_Bool (eqb r.name.task task)) [
-          | inl t ↦ rw t (sym (append_assoc A F (r ∷ [])) ∙ ap (λ x. x ++ r ∷ []) o)
-          | inr t ↦ rw t (ap (λ x. A ++ x) (append-nil F) ∙ o)
-        ])
-
-    numbered : (task at : ℕ) (q : Piece) → slice_get (sent task) at ≡ Some q → q.name ≡ record { task = task; seq = at + 1 }
-    numbered task at q h =
-        elim (cases_Bool (eqb r.name.task task)) [
-          | inl t ↦ of_task (eqb-true r.name.task task t) (at-push (w.sent task) r at) (rw t at h)
-          | inr t ↦ k.numbered task at q (rw t at h)
-        ] where
-          of_task : r.name.task ≡ task → slice_get (w.sent task ++ r ∷ []) at ≡ slice_get (w.sent task) at
-              ⊎ ((at ≡ length (w.sent task)) × (slice_get (w.sent task ++ r ∷ []) at ≡ Some r)) →
-              slice_get (w.sent task ++ r ∷ []) at ≡ Some q → q.name ≡ record { task = task; seq = at + 1 }
-          of_task t (inl e) g = k.numbered task at q (sym e ∙ g)
-          of_task t (inr e) g =
-              let last : Some r ≡ Some q = sym e.1 ∙ g in
-              let i : r ≡ q = cc in
-              let n : r.name.seq ≡ length (w.sent task) + 1 = subst (λ x. r.name.seq ≡ length (w.sent x) + 1) t next in
-              name-is q.name (record { task = task; seq = at + 1 }) (ap (λ (p : Piece). p.name.task) (sym i) ∙ t)
-              (ap (λ (p : Piece). p.name.seq) (sym i) ∙ n ∙ ap (λ x. x + 1) (sym e.0))
-
-    for_unit : (task : ℕ) → Each (λ q. q.unit ≡ w.unit) (sent task)
-    for_unit task =
-        elim (cases_Bool (eqb r.name.task task)) [
-          | inl t ↦ rw t (Each-behind (λ q. q.unit ≡ w.unit) (w.sent task) r (k.for_unit task) of_unit)
-          | inr t ↦ rw t (k.for_unit task)
-        ]
+  accept-kept w r k of_unit next = grind (
+    arith,
+    common_steps,
+    filter-append,
+    append_assoc,
+    append-nil,
+    eqb-true,
+    at-push,
+    name-is,
+    Each-behind,
+  )
 
   -- A REQUEST ARRIVES: it has the next number of its task
   next-number : (w : World D) (r : Piece) (rest : List Piece) → Kept w → w.flight ≡ r ∷ rest →
@@ -135,47 +73,12 @@ module _ {D : Type 0} (meaning : Meaning D) where
   -- A VALUE GOES BACK
   deliver-kept : (w : World D) (value : PostedState) → Kept w → slice_get w.book.out 0 ≡ Some value →
       Kept (record w { book = record w.book { out = drop 1 w.book.out }; back = one_more_of_task w.back value.name.task value })
-  deliver-kept w value k first = record {
-    received = k.received;
-    numbered = k.numbered;
-    for_unit = k.for_unit;
-    returned = returned;
-    legal = k.legal;
-    settled = k.settled;
-  } where
-    returned : (task : ℕ) → values_of task (posted meaning w.book.mounted w.book.trace)
-        ≡ (w.got task ++ one_more_of_task w.back value.name.task value task) ++ values_of task (drop 1 w.book.out)
-    returned task =
-        let R = values_of task (drop 1 w.book.out) in
-        let o : values_of task w.book.out ≡ values_of task (value ∷ drop 1 w.book.out) = ap (values_of task)
-        (first-rest w.book.out value first) in
-        k.returned task ∙ ap (λ x. (w.got task ++ w.back task) ++ x) o ∙ elim (cases_Bool (eqb value.name.task task)) [
-          | inl t ↦
-              rw t (sym (append_assoc (w.got task ++ w.back task) (value ∷ []) R)
-              ∙ ap (λ x. x ++ R) (append_assoc (w.got task) (w.back task) (value ∷ [])))
-          | inr t ↦ rw t refl
-        ]
+  deliver-kept w value k first = grind (arith, common_steps)
 
   -- A TASK COLLECTS A VALUE
   collect-kept : (w : World D) (task : ℕ) (value : PostedState) → Kept w → slice_get (w.back task) 0 ≡ Some value →
       Kept (record w { back = without_first w.back task; got = one_more_of_task w.got task value })
-  collect-kept w task value k first = record {
-    received = k.received;
-    numbered = k.numbered;
-    for_unit = k.for_unit;
-    returned = λ t. k.returned t ∙ ap (λ x. x ++ values_of t w.book.out) (moved t);
-    legal = k.legal;
-    settled = k.settled;
-  } where
-    moved : (t : ℕ) → w.got t ++ w.back t ≡ one_more_of_task w.got task value t ++ without_first w.back task t
-    moved t =
-        elim (cases_Bool (eqb task t)) [
-          | inl e ↦
-              let there = subst (λ x. slice_get (w.back x) 0 ≡ Some value) (eqb-true task t e) first in
-              rw e (ap (λ x. w.got t ++ x) (first-rest (w.back t) value there)
-              ∙ sym (append_assoc (w.got t) (value ∷ []) (drop 1 (w.back t))))
-          | inr e ↦ rw e refl
-        ]
+  collect-kept w task value k first = grind (arith, common_steps)
 
   -- EACH STEP KEEPS IT
   step-kept : (old new : World D) → Kept old → Step meaning old new → Kept new

@@ -3,7 +3,7 @@ use Rattle.unit_book.proofs.Names.{◌≡◌, ℕ, ◌+◌, true, List, [], ◌�
 use Rattle.unit_book.proofs.Names.{Status, Code, Purged, Extent, Meaning, PostedState, Name, Piece, Scope, Mode, Entry, Opened, Arrive}
 use Rattle.unit_book.proofs.Names.{Start, Ran, Halted, Purge, Close, Reset, Post, arrivals, arrived_of, request_named, doomed, is_open}
 use Rattle.unit_book.proofs.Names.{area, Free, due, doomed_first, FitsBy, Legal, StartFits, PostFits, OfActive, PostsActive, CanPurge}
-use Rattle.unit_book.proofs.Names.{posted, posted_value, after_dooms, halted_by, after_purge, ProcessingMethod}
+use Rattle.unit_book.proofs.Names.{posted, posted_value, after_dooms, halted_by, after_purge, ProcessingMethod, arith}
 use Rattle.unit_book.specs.Trace.{is_opening}
 use Rattle.unit_book.specs.Legal.{OpenFits, RanFits}
 use Rattle.unit_book.proofs.Lists.{without}
@@ -14,6 +14,7 @@ use Rattle.unit_book.proofs.Dooms.{doomed-purged, due-doomed, due-no_halt, dooms
 use Rattle.unit_book.proofs.Dooms.{settled-start, halted-first, posted-more}
 use Rattle.unit_book.proofs.Controls.{settled-reset}
 use Rattle.unit_book.proofs.Facts.{DueIs, Halts, Dooms, due-is}
+use Rattle.std.proofs.lemmas.Grind.{common_steps}
 
 module _ {D : Type 0} (meaning : Meaning D) (mounted : D) where
   -- A TRACE GREW: it is legal, nothing is due, these requests arrived, and these values were posted
@@ -28,13 +29,7 @@ module _ {D : Type 0} {meaning : Meaning D} {mounted : D} {H : List Entry} where
   -- what leaves the posts as they are
   grows-quietly : (G : List Entry) → Legal meaning mounted G → due meaning mounted G ≡ Free → arrivals G ≡ arrivals H →
       posted meaning mounted G ≡ posted meaning mounted H → Grows meaning mounted H G []
-  grows-quietly G l s a p = record {
-    legal = l;
-    settled = s;
-    arrived = a ∙ sym (append-nil (arrivals H));
-    values = [];
-    posted_is = p ∙ sym (append-nil (posted meaning mounted H));
-  }
+  grows-quietly G l s a p = grind (arith, common_steps)
 
   pub grows-not : SoundTrace meaning mounted H → Grows meaning mounted H H []
   grows-not s = grows-quietly H s.legal s.settled refl refl
@@ -62,9 +57,7 @@ module _ {D : Type 0} {meaning : Meaning D} {mounted : D} {H : List Entry} where
   pub grows-open : (d : ℕ) (method : ProcessingMethod) (x : List Extent) → SoundTrace meaning mounted H → OpenFits meaning mounted d x H →
       Grows meaning mounted H (Opened d method x ∷ H) []
   unfolding Legal arrivals posted
-  grows-open d method x s f =
-      grows-quietly (Opened d method x ∷ H) (fits-free meaning mounted (Opened d method x) H s.settled f, s.legal)
-      (settled-open meaning mounted (Opened d method x) H refl s.settled) refl refl
+  grows-open d method x s f = grind (arith, common_steps, settled-open)
 
   pub grows-arrive : (r : Piece) → SoundTrace meaning mounted H → r.name.seq ≡ arrived_of r.name.task H + 1 →
       Grows meaning mounted H (after_dooms (Arrive r ∷ H)) (r ∷ [])
@@ -81,8 +74,7 @@ module _ {D : Type 0} {meaning : Meaning D} {mounted : D} {H : List Entry} where
   pub grows-ran : (n : Name) (j : ℕ) → SoundTrace meaning mounted H → RanFits meaning mounted n j H →
       Grows meaning mounted H (Ran n j ∷ H) []
   unfolding Legal arrivals posted
-  grows-ran n j s f = grows-quietly (Ran n j ∷ H) (fits-free meaning mounted (Ran n j) H s.settled f, s.legal)
-      (settled-ran meaning mounted n j H s.settled) refl refl
+  grows-ran n j s f = grind (arith, common_steps, settled-ran)
 
   pub grows-post : (n : Name) (status : Status) (code : Code) → SoundTrace meaning mounted H → PostFits meaning mounted n status code H →
       Grows meaning mounted H (after_dooms (Post n status.csw status.sense code ∷ H)) []
@@ -101,8 +93,7 @@ module _ {D : Type 0} {meaning : Meaning D} {mounted : D} {H : List Entry} where
 
   pub grows-reset : (d : ℕ) → SoundTrace meaning mounted H → is_open d H ≡ true → Grows meaning mounted H (Reset d ∷ H) []
   unfolding Legal arrivals posted
-  grows-reset d s f = grows-quietly (Reset d ∷ H) (fits-free meaning mounted (Reset d) H s.settled f, s.legal)
-      (settled-reset meaning mounted d H s.settled) refl refl
+  grows-reset d s f = grind (arith, common_steps, settled-reset)
 
   -- a purge, with the Halted that is due and the dooms
   pub grows-purge : (scope : Scope) (mode : Mode) → SoundTrace meaning mounted H → CanPurge meaning mounted scope H →

@@ -1,6 +1,6 @@
 -- The laws of worlds: in a finished one each request that was sent has one post.
-use Rattle.unit_book.proofs.Names.{◌≡◌, ◌≤◌, ℕ, ◌+◌, Bool, true, false, None, List, [], ◌∷◌, refl, ap, ◌∙◌, arith, inl}
-use Rattle.unit_book.proofs.Names.{inr, cases_Bool, append-nil, Meaning, Name, Entry, Post, same, arrivals, has_arrived}
+use Rattle.unit_book.proofs.Names.{◌≡◌, ◌≤◌, ℕ, ◌+◌, Bool, true, None, List, [], ◌∷◌, refl, ap, ◌∙◌, arith, inl}
+use Rattle.unit_book.proofs.Names.{inr, cases_Bool, Meaning, Name, Entry, Post, same, arrivals, has_arrived}
 use Rattle.unit_book.proofs.Names.{is_posted, waiting, active, Legal, Each}
 use Rattle.unit_book.specs.Laws.{times}
 use Rattle.unit_book.specs.World.{World, IsOpening, IsFinished, Reaches}
@@ -52,7 +52,7 @@ module _ {D : Type 0} (meaning : Meaning D) where
       (arrivals H) (facts meaning mounted H l).6
 
   finished-posts : (w : World D) → Kept meaning w → IsFinished w → (task : ℕ) → Each (λ r. posts_of r.name w.book.trace ≡ 1) (w.sent task)
-  finished-posts w k f task = grind (arith, common_steps, Each-filter, finished-once, append-nil)
+  finished-posts w k f task = grind (arith, common_steps, Each-filter, finished-once)
 
   worlds-keep : (first last : World D) → IsOpening meaning first → Reaches meaning first last → KeepsRequests meaning last
   worlds-keep first last o r =
@@ -69,15 +69,7 @@ module _ {D : Type 0} (meaning : Meaning D) where
         finished = finished-posts last k;
       } where
         once : {k : ℕ} (b : Bool) → k ≡ times b → k ≤ 1
-        once true e = omega (arith, e)
-        once false e = omega (arith, e)
+        once v0 e = grind (arith, common_steps)
 
   pub world-laws : WorldLaws meaning
-  world-laws = record {
-    keeps = worlds-keep;
-    posts_last = posts-last meaning;
-    one_place = one-place meaning;
-    in_order = starts-in-order meaning;
-    none_doomed = no-doomed-starts meaning;
-    few_starts = few-starts meaning;
-  }
+  world-laws = grind (arith, common_steps, worlds-keep, posts-last, one-place, starts-in-order, no-doomed-starts, few-starts)

@@ -1,15 +1,13 @@
-use Rattle.unit_book.proofs.Names.{◌∷◌, Close}
-use Rattle.unit_book.proofs.Calls.{add-then-sweep, posted-close, pending-close}
+use Rattle.unit_book.proofs.Names.{◌∷◌, refl, Close, posted}
+use Rattle.unit_book.proofs.Calls.{add-then-sweep, pending-close}
 use Rattle.unit_book.proofs.book.UnitBook.close_open.Goals as goal
 
 pub returns-clause-ok : goal.returns-clause-ok
+unfolding posted
 returns-clause-ok g c =
-    let m = g.D.Device.meaning in
     let old = c.self.inside.entries in
     let a = rw c.in_ok-reserve_posts.ensures.book at c.close.ensures.book in
-    rw (← c.self.view_is)
-    (add-then-sweep m old (Close c.args.dcb ∷ old.trace)
-    (posted-close m old.mounted c.args.dcb old.trace) a c.sweep.ensures.book)
+    rw (← c.self.view_is) (add-then-sweep g.D.Device.meaning old (Close c.args.dcb ∷ old.trace) refl a c.sweep.ensures.book)
 
 pub returns-clause-pending : goal.returns-clause-pending
 returns-clause-pending g c =

@@ -1,8 +1,10 @@
-use Rattle.unit_book.proofs.Names.{◌∷◌, reverse, refl, Close}
-use Rattle.unit_book.proofs.Controls.{doomed-close, doomed-close_few, ties-close}
+use Rattle.unit_book.proofs.Names.{◌∷◌, reverse, Close, waiting, arrivals}
+use Rattle.unit_book.proofs.Controls.{doomed-close, doomed-some, ties-close}
 use Rattle.unit_book.proofs.Dooms.{due-doomed, due-no_halt}
 use Rattle.unit_book.proofs.Opens.{open-row}
 use Rattle.unit_book.proofs.entries.Entries.close.Goals as goal
+use Rattle.unit_book.proofs.Names.{arith}
+use Rattle.std.proofs.lemmas.Grind.{common_steps}
 
 pub invariant_of-self : goal.invariant_of-self
 invariant_of-self g c =
@@ -12,19 +14,14 @@ invariant_of-self g c =
     (rw c.write.ensures.items k, c.self.invariant.1)
 
 pub returns-clause-due : goal.returns-clause-due
-returns-clause-due g c =
-    let i = c.self.inside in
-    rw c.write.ensures.items (due-no_halt g.D.Device.meaning i.mounted (Close c.args.dcb ∷ reverse i.trace.items) (λ n a. refl))
+returns-clause-due g c = grind (arith, common_steps, due-no_halt)
 
 pub returns-clause-dooms : goal.returns-clause-dooms
-returns-clause-dooms g c =
-    let i = c.self.inside in
-    let settled = rw (← c.self.view_is) at c.requires.settled in
-    rw c.write.ensures.items
-    (doomed-close c.args.dcb (reverse i.trace.items) (due-doomed g.D.Device.meaning i.mounted (reverse i.trace.items) settled))
+returns-clause-dooms g c = grind (arith, common_steps, doomed-close, due-doomed)
 
 pub returns-clause-few : goal.returns-clause-few
-returns-clause-few g c = rw (← c.self.view_is) (rw c.write.ensures.items (doomed-close_few c.args.dcb (reverse c.self.inside.trace.items)))
+unfolding waiting arrivals
+returns-clause-few g c = rw (← c.self.view_is, c.write.ensures.items) (doomed-some (Close c.args.dcb ∷ reverse c.self.inside.trace.items))
 
 pub close-requires : goal.close-requires
 close-requires g c =

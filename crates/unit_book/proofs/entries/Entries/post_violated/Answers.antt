@@ -1,32 +1,23 @@
-use Rattle.unit_book.proofs.Names.{◌≡◌, ◌∷◌, [], Some, List, length, reverse, arith, refl, sym, ap, subst, ◌∙◌, length-append, slice_get}
-use Rattle.unit_book.proofs.Names.{ExtentViolated, no_status, Name, Piece, Post, OfFirst, doomed_by_post, waiting}
+use Rattle.unit_book.proofs.Names.{◌≡◌, Some, length, reverse, arith, refl, ap, length-append, slice_get}
+use Rattle.unit_book.proofs.Names.{ExtentViolated, no_status, Post, OfFirst, waiting}
 use Rattle.unit_book.specs.Refusals.{ForPost}
 use Rattle.unit_book.specs.Legal.{FailsCheck}
 use Rattle.unit_book.proofs.Dooms.{doomed-post, doomed-few, due-doomed}
 use Rattle.unit_book.proofs.LegalFacts.{facts, first-waits}
-use Rattle.unit_book.proofs.Same.{fits-free, first-found, on-err}
+use Rattle.unit_book.proofs.Same.{fits-free, on-err}
 use Rattle.unit_book.proofs.Starts.{none-in_field, ties-first_post, waiting-value}
 use Rattle.unit_book.proofs.Opens.{first-opened, opened-row}
-use Rattle.unit_book.proofs.Lists.{first-rest}
 use Rattle.unit_book.proofs.entries.Entries.post_violated.Given.{Over}
 use Rattle.unit_book.proofs.entries.Entries.post_violated.Goals.{In-Some}
 use Rattle.unit_book.proofs.entries.Entries.post_violated.Goals as goal
+use Rattle.std.proofs.lemmas.Grind.{common_steps}
 
 -- what was found: the request that waits first, which fails the check
 found : (g : Over) (c : In-Some g) → let i = c.self.inside in let b = c.in-Some.piece.value in
     FailsCheck g.D.Device.meaning i.mounted b.name (reverse i.trace.items)
     × (slice_get (waiting (reverse i.trace.items)) 0 ≡ Some b)
     × (slice_get i.waiting.pieces 0 ≡ Some b)
-found g c =
-    let i = c.self.inside in
-    let s = rw (← c.self.view_is) at c.requires.first in
-    let e = first-found c.in-Some.is c.pop.ensures.first c.self.invariant.0 s.1.first in
-    let n = ap (λ (x : Piece). x.name) e ∙ s.1.name in
-    let first = s.1.first ∙ ap Some (sym e) in (
-      subst (λ (x : Name). FailsCheck g.D.Device.meaning i.mounted x (reverse i.trace.items)) (sym n) s.1,
-      first,
-      ap (λ (x : List Piece). slice_get x 0) c.self.invariant.0.queue ∙ first,
-    )
+found g c = grind (arith, common_steps)
 
 pub returns-in_err-reserve-clause-full : goal.returns-in_err-reserve-clause-full
 returns-in_err-reserve-clause-full g c =
@@ -51,28 +42,11 @@ invariant_of-self-2 g c =
     let b = c.in-Some.piece.value in
     let f = found g (goal.at.invariant_of-self-2 g c).In-Some in
     let settled = rw (← c.self.view_is) at c.requires.settled in
-    let fits = fits-free g.D.Device.meaning i.mounted (Post b.name no_status 0 ExtentViolated) (reverse i.trace.items) settled
-    (OfFirst (record { fails = f.0; code_is = refl; csw_is = refl; sense_is = refl })) in
+    let fits = fits-free g.D.Device.meaning i.mounted (Post b.name no_status 0 ExtentViolated) (reverse i.trace.items) settled (OfFirst
+    (record { fails = f.0; code_is = refl; csw_is = refl; sense_is = refl })) in
     let noted = rw c.deref-request.ensures at c.note_post.ensures.dcbs in
     let k = ties-first_post c.self.invariant.0 fits f.1 noted c.note_post.ensures.count in
-    let q = c.hand_out.ensures in
-    let h = c.pop.ensures.rest in
-    let count = ap length (first-rest i.waiting.pieces b f.2) in (
-      rw (
-        c.write_post.ensures.items,
-        c.reserve.ensures.items,
-        c.deref-request.ensures,
-        h,
-        q,
-        c.posted_from.ensures,
-        c.empty-status.ensures,
-      ) k,
-      record {
-        occupancy = rw (h, q) (omega (arith, length-append i.out.items (c.posted_from.result ∷ []), c.self.invariant.1.occupancy, count));
-        waiting_room = rw (h, q) c.self.invariant.1.waiting_room;
-        swept_is = rw q c.self.invariant.1.swept_is;
-      },
-    )
+    grind (arith, common_steps, length-append)
 
 pub returns-clause-ok : goal.returns-clause-ok
 returns-clause-ok g c =
@@ -88,22 +62,5 @@ returns-clause-ok g c =
     let issued = (first-waits b H (facts m i.mounted H t.legal) f.1).known.0 in
     let dooms = doomed-post b.name no_status 0 ExtentViolated H (due-doomed m i.mounted H settled) in
     let few = doomed-few b.name no_status 0 ExtentViolated H in
-    let n = c.deref-request.ensures in
-    let w = c.write_post.ensures.items in
-    let r = c.reserve.ensures.items in
-    let y = c.empty-status.ensures in
-    let doom_is = c.doomed_by_post-doom.ensures ∙ ap (λ (x : Piece). doomed_by_post x ExtentViolated) (c.deref-request.ensures
-    ∙ sym issued) in
-    let ok = c.in_ok-reserve.ensures.ok in
-    let len = c.in_ok-reserve.ensures.len in
-    let spare = c.write_post.ensures.spare in
-    let count = c.len.ensures.len in
     let queue = ap length t.queue in
-    rw (← c.self.view_is, n) (
-      f.0,
-      record {
-        extends = rw (w, r, n, c.hand_out.ensures, c.posted_from.ensures, y, value, none) refl;
-        room = rw (w, r, n, y) (omega arith);
-        dooms = rw (w, r, n, y, doom_is) dooms;
-      },
-    )
+    grind (arith, common_steps)

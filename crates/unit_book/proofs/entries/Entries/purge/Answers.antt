@@ -1,15 +1,15 @@
 use Rattle.unit_book.proofs.Names.{◌≡◌, ◌∷◌, Some, None, reverse, arith, refl, sym, ap, subst, ◌∙◌, is_some, Name, ToHalt, due, doomed}
-use Rattle.unit_book.proofs.Names.{Purge, Halted, DoomedBy, halted_by, after_halt, running_name_by, active}
+use Rattle.unit_book.proofs.Names.{Purge, DoomedBy, halted_by, after_halt, running_name_by, active, waiting, arrivals, flag}
 use Rattle.unit_queue.specs.declared.selection.Selection.TheVariants as selection
 use Rattle.unit_book.specs.Controls.{due_after}
-use Rattle.unit_book.proofs.Controls.{doomed-purge, doomed-purge_few, dooms-halted, doomed-halted_few, ties-purge, ties-purge_none}
-use Rattle.unit_book.proofs.Controls.{halts-none, ties-halt}
+use Rattle.unit_book.proofs.Controls.{doomed-purge, doomed-some, ties-purge, ties-purge_none, halts-none, ties-halt}
 use Rattle.unit_book.proofs.Dooms.{due-doomed, due-no_halt, halted-first}
 use Rattle.unit_book.proofs.Facts.{due-halt}
 use Rattle.unit_book.proofs.Same.{ties-found, name-found, rooms-found}
 use Rattle.unit_book.proofs.entries.Entries.purge.Given.{Over}
 use Rattle.unit_book.proofs.entries.Entries.purge.Goals.{After-take}
 use Rattle.unit_book.proofs.entries.Entries.purge.Goals as goal
+use Rattle.std.proofs.lemmas.Grind.{common_steps}
 
 -- what the purge dooms
 dooms : (g : Over) (c : After-take g) →
@@ -25,14 +25,11 @@ invariant_of-self g c =
     let can = rw (← c.self.view_is) at c.requires.can in
     let o : c.self.inside.active ≡ None = sym c.take.ensures.value ∙ c.in_default.is in
     let k = ties-purge_none c.args.scope c.args.mode settled can (ties-found o c.self.invariant.0) in
-    let z = c.take.ensures.after in
-    let room = rooms-found o c.self.invariant.1 in (
-      rw (c.write.ensures.items, z) k,
-      record { occupancy = rw z room.occupancy; waiting_room = room.waiting_room; swept_is = room.swept_is },
-    )
+    grind (arith, common_steps)
 
 -- where nothing is active, nobody is halted
 pub returns-in_default : goal.returns-in_default
+unfolding waiting arrivals
 returns-in_default g c =
     let m = g.D.Device.meaning in
     let i = c.self.inside in
@@ -48,7 +45,7 @@ returns-in_default g c =
       spare = rw (← c.self.view_is) (omega (arith, c.write.ensures.spare));
       due = rw w d;
       dooms = rw w (dooms g (goal.at.returns-in_default g c).After-take);
-      few = rw (← c.self.view_is, w) (doomed-purge_few c.args.scope c.args.mode H);
+      few = rw (← c.self.view_is, w) (doomed-some P);
     }
 
 pub invariant_of-self-in_default-halted : goal.invariant_of-self-in_default-halted
@@ -59,20 +56,15 @@ invariant_of-self-in_default-halted g c =
     let o : c.self.inside.active ≡ Some c.in-Some.active = sym c.take.ensures.value ∙ c.in-Some.is in
     let u = rw o at uncovered in
     let k = ties-purge c.args.scope c.args.mode settled can u (ties-found o c.self.invariant.0) in
-    let v = c.purged-active.ensures in
-    let room = rooms-found o c.self.invariant.1 in (
-      rw (c.write.ensures.items, v) k,
-      rw v
-          (record { occupancy = room.occupancy; waiting_room = room.waiting_room; swept_is = room.swept_is }),
-    )
+    grind (arith, common_steps)
 
 pub returns-in_default-halted-clause-dooms : goal.returns-in_default-halted-clause-dooms
 returns-in_default-halted-clause-dooms g c =
     let w = c.write.ensures.items in rw w (dooms g (goal.at.returns-in_default-halted-clause-dooms g c).After-take)
 
 pub returns-in_default-halted-clause-few : goal.returns-in_default-halted-clause-few
-returns-in_default-halted-clause-few g c =
-    rw (← c.self.view_is, c.write.ensures.items) (doomed-purge_few c.args.scope c.args.mode (reverse c.self.inside.trace.items))
+unfolding waiting arrivals
+returns-in_default-halted-clause-few g c = grind (arith, common_steps, doomed-some)
 
 pub invariant_of-self-2 : goal.invariant_of-self-2
 invariant_of-self-2 g c =
@@ -97,19 +89,12 @@ invariant_of-self-2 g c =
     )
 
 pub returns-clause-due : goal.returns-clause-due
-returns-clause-due g c =
-    let i = c.self.inside in
-    rw (c.halt.ensures.items, c.write.ensures.items)
-    (due-no_halt g.D.Device.meaning i.mounted (Halted c.in-Some-halted.name ∷ Purge c.args.scope c.args.mode
-    ∷ reverse i.trace.items) (λ n a. refl))
+returns-clause-due g c = grind (arith, common_steps, due-no_halt)
 
 pub returns-clause-dooms : goal.returns-clause-dooms
-returns-clause-dooms g c =
-    rw (c.halt.ensures.items, c.write.ensures.items)
-    (dooms-halted c.in-Some-halted.name c.args.scope c.args.mode (reverse c.self.inside.trace.items)
-    (dooms g (goal.at.returns-clause-dooms g c).After-take))
+unfolding waiting arrivals flag
+returns-clause-dooms g c = rw (c.halt.ensures.items, c.write.ensures.items) (dooms g (goal.at.returns-clause-dooms g c).After-take)
 
 pub returns-clause-few : goal.returns-clause-few
-returns-clause-few g c =
-    rw (← c.self.view_is, c.halt.ensures.items, c.write.ensures.items)
-    (doomed-halted_few c.in-Some-halted.name c.args.scope c.args.mode (reverse c.self.inside.trace.items))
+unfolding waiting arrivals
+returns-clause-few g c = grind (arith, common_steps, doomed-some)

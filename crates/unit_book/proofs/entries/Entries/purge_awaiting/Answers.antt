@@ -1,6 +1,6 @@
-use Rattle.unit_book.proofs.Names.{◌≡◌, ◌++◌, [], ◌∷◌, Some, length, length-append, append_assoc, map, reverse, arith, refl, sym, ap, ◌∙◌}
-use Rattle.unit_book.proofs.Names.{true, Ties, PostsActive, and_parts, ◌&&◌, is_halt, awaits_by, covers_awaiting, subst, Purged, filter}
-use Rattle.unit_book.proofs.Names.{Queue, queue, Placed, covers, purged, posted_value}
+use Rattle.unit_book.proofs.Names.{◌≡◌, [], ◌∷◌, Some, length-append, append_assoc, map, reverse, arith, refl, sym, ap, ◌∙◌}
+use Rattle.unit_book.proofs.Names.{true, Ties, PostsActive, covers_awaiting, subst, Purged, filter}
+use Rattle.unit_book.proofs.Names.{Queue, covers, purged, posted_value}
 use Rattle.unit_book.specs.Fields.{kept_by, fields_of}
 use Rattle.unit_book.proofs.Facts.{Each-filter}
 use Rattle.std.proofs.lemmas.List.{length-map}
@@ -11,75 +11,23 @@ use Rattle.unit_book.proofs.Same.{ties-found, rooms-found, swept-found}
 use Rattle.unit_book.proofs.entries.Entries.purge_awaiting.Given.{Over}
 use Rattle.unit_book.proofs.entries.Entries.purge_awaiting.Goals.{After-is_covered_awaiting}
 use Rattle.unit_book.proofs.entries.Entries.purge_awaiting.Goals as goal
+use Rattle.std.proofs.lemmas.Grind.{common_steps}
 
 pub post_all-requires : goal.post_all-requires
-post_all-requires g c =
-    let i = c.self.inside in
-    let p = covers c.args.scope in
-    let spare = rw (← c.self.view_is) at c.requires.spare in
-    let room = c.self.invariant.1 in
-    let sw = swept-found c.sweep.ensures.swept room.swept_is in
-    let few = length-filters p i.waiting.pieces in
-    record {
-      spare = rw sw (omega (arith, spare, c.write.ensures.spare, few, ap length c.self.invariant.0.queue));
-      room = rw sw (omega (arith, room.occupancy, few));
-      placed = rw sw (Each-filter Placed p i.waiting.pieces c.self.invariant.0.placed);
-    }
+post_all-requires g c = grind (arith, common_steps, swept-found, length-filters, Each-filter)
 
 pub write_post-requires : goal.write_post-requires
-write_post-requires g c =
-    let p = covers c.args.scope in
-    let spare = rw (← c.self.view_is) at c.requires.spare in
-    let sw = swept-found c.sweep.ensures.swept c.self.invariant.1.swept_is in
-    let items_is = ap (λ (x : Queue). length x.pieces) sw in
-    omega (
-      arith,
-      spare,
-      c.write.ensures.spare,
-      c.post_all.ensures.spare,
-      items_is,
-      length-filters p c.self.inside.waiting.pieces,
-      ap length c.self.invariant.0.queue,
-    )
+write_post-requires g c = grind (arith, common_steps, swept-found, length-filters)
 
 pub hand_out-requires : goal.hand_out-requires
-hand_out-requires g c =
-    let i = c.self.inside in
-    let a = c.in-Some.active in
-    let p = covers c.args.scope in
-    let o : i.active ≡ Some a = sym c.take.ensures.value ∙ c.in-Some.is in
-    let room = rooms-found o c.self.invariant.1 in
-    let sw = swept-found c.sweep.ensures.swept room.swept_is in
-    let items_is = ap (λ (x : Queue). x.pieces) sw in
-    let out_is = rw items_is at c.post_all.ensures.out in
-    rw out_is (omega (
-      arith,
-      room.occupancy,
-      length-filters p i.waiting.pieces,
-      length-append i.out.items (map purged (filter p i.waiting.pieces)),
-      length-map (filter p i.waiting.pieces) purged,
-    ))
+hand_out-requires g c = grind (arith, common_steps, rooms-found, swept-found, length-filters, length-append, length-map)
 
 -- what was found: the active request awaits its restart, and the purge covers it
 found : (g : Over) (c : After-is_covered_awaiting g) → let i = c.self.inside in let m = g.D.Device.meaning in
     c.is_covered_awaiting.result ≡ true → (i.active ≡ Some c.in-Some.active)
     × Ties m i.mounted (fields_of (reverse i.trace.items) i.channel i.waiting.pieces i.dcbs i.out.items) (Some c.in-Some.active)
     × FoundAwaiting m i.mounted (reverse i.trace.items) c.in-Some.active c.args.scope c.args.mode
-found g c covered =
-    let o : c.self.inside.active ≡ Some c.in-Some.active = sym c.take.ensures.value ∙ c.in-Some.is in
-    let both = and_parts (is_halt c.args.mode && awaits_by c.in-Some.active.standing) (covers c.args.scope c.in-Some.active.piece.value)
-    (sym c.is_covered_awaiting.ensures ∙ covered) in
-    let awaits = and_parts (is_halt c.args.mode) (awaits_by c.in-Some.active.standing) both.0 in (
-      o,
-      ties-found o c.self.invariant.0,
-      record {
-        settled = rw (← c.self.view_is) at c.requires.settled;
-        can = rw (← c.self.view_is) at c.requires.can;
-        halts = awaits.0;
-        again = awaits.1;
-        covered = both.1;
-      },
-    )
+found g c covered = grind (arith, common_steps, ties-found)
 
 pub invariant_of-self-2 : goal.invariant_of-self-2
 invariant_of-self-2 g c =
@@ -90,38 +38,10 @@ invariant_of-self-2 g c =
     let room = rooms-found f.0 c.self.invariant.1 in
     let sw = swept-found c.sweep.ensures.swept room.swept_is in
     let items_is = ap (λ (x : Queue). x.pieces) sw in
-    let trace_is = rw items_is at c.post_all.ensures.trace in
     let out_is = rw items_is at c.post_all.ensures.out in
-    let kept = c.sweep.ensures.kept in
-    let q = c.hand_out.ensures in
-    let z = c.take.ensures.after in
     let few = length-filters p i.waiting.pieces in
-    let purges = map purged (filter p i.waiting.pieces) in (
-      rw (
-        c.write_post.ensures.items,
-        trace_is,
-        c.write.ensures.items,
-        kept,
-        q,
-        out_is,
-        c.posted_from.ensures,
-        c.kept_status-kept.ensures,
-        c.name-name.ensures,
-        z,
-      ) k,
-      record {
-        occupancy = rw (z, kept, q, out_is) (omega (
-          arith,
-          room.occupancy,
-          few,
-          length-append i.out.items purges,
-          length-map (filter p i.waiting.pieces) purged,
-          length-append (i.out.items ++ purges) (c.posted_from.result ∷ []),
-        ));
-        waiting_room = rw (kept, q, out_is) room.waiting_room;
-        swept_is = c.post_all.ensures.swept ∙ ap (λ (x : Queue). queue [] x.capacity) sw ∙ rw (q, out_is) refl;
-      },
-    )
+    let purges = map purged (filter p i.waiting.pieces) in
+    grind (arith, common_steps, length-append, length-map)
 
 pub returns-clause-book : goal.returns-clause-book
 returns-clause-book g c =
@@ -170,17 +90,10 @@ returns-clause-settled g c =
 -- whether the purge covers it, as the trace says
 told : (g : Over) (c : After-is_covered_awaiting g) →
     c.is_covered_awaiting.result ≡ covers_awaiting c.args.self.now c.args.scope c.args.mode
-told g c =
-    let i = c.self.inside in
-    let o : i.active ≡ Some c.in-Some.active = sym c.take.ensures.value ∙ c.in-Some.is in
-    let t = ties-found o c.self.invariant.0 in
-    rw (← c.self.view_is, o)
-    (c.is_covered_awaiting.ensures ∙ awaiting-is g.D.Device.meaning i.mounted c.args.scope c.args.mode t.activity)
+told g c = grind (arith, common_steps, awaiting-is)
 
 pub returns-clause-covered : goal.returns-clause-covered
 returns-clause-covered g c = sym c.if-not-is_covered_awaiting.false ∙ told g (goal.at.returns-clause-covered g c).After-is_covered_awaiting
 
 pub returns-then-not-is_covered_awaiting-clause-covered : goal.returns-then-not-is_covered_awaiting-clause-covered
-returns-then-not-is_covered_awaiting-clause-covered g c =
-    sym c.if-not-is_covered_awaiting.true
-    ∙ told g (goal.at.returns-then-not-is_covered_awaiting-clause-covered g c).After-is_covered_awaiting
+returns-then-not-is_covered_awaiting-clause-covered g c = grind (arith, common_steps, told)

@@ -1,7 +1,8 @@
-use Rattle.unit_book.proofs.Names.{reverse}
 use Rattle.unit_book.proofs.Controls.{settled-reset, ties-reset}
 use Rattle.unit_book.proofs.Opens.{open-row}
 use Rattle.unit_book.proofs.entries.Entries.reset.Goals as goal
+use Rattle.unit_book.proofs.Names.{arith}
+use Rattle.std.proofs.lemmas.Grind.{common_steps}
 
 pub invariant_of-self : goal.invariant_of-self
 invariant_of-self g c =
@@ -11,10 +12,7 @@ invariant_of-self g c =
     (rw c.write.ensures.items k, c.self.invariant.1)
 
 pub returns-clause-settled : goal.returns-clause-settled
-returns-clause-settled g c =
-    let i = c.self.inside in
-    let settled = rw (← c.self.view_is) at c.requires.settled in
-    rw c.write.ensures.items (settled-reset g.D.Device.meaning i.mounted c.args.dcb (reverse i.trace.items) settled)
+returns-clause-settled g c = grind (arith, common_steps, settled-reset)
 
 pub reset-requires : goal.reset-requires
 reset-requires g c =

@@ -8,6 +8,8 @@ use Rattle.unit_book.proofs.entries.Entries.run.Given.{Over}
 use Rattle.unit_book.proofs.entries.Entries.run.Goals.{In-Some-run, In_default-run, After-run}
 use Rattle.unit_book.specs.Fields.{with_area, fields_of}
 use Rattle.unit_book.proofs.entries.Entries.run.Goals as goal
+use Rattle.unit_book.proofs.Names.{arith}
+use Rattle.std.proofs.lemmas.Grind.{common_steps}
 
 -- what was found: the active request
 found : (g : Over) (c : After-run g) → let i = c.self.inside in
@@ -45,10 +47,7 @@ quiet g c =
     (q.0, q.1, c.run.ensures.same ∙ ap (with_area a) q.2)
 
 pub returns-in_default-run : goal.returns-in_default-run
-returns-in_default-run g c =
-    let q = quiet g (goal.at.returns-in_default-run g c).In_default-run in
-    let o : c.self.inside.active ≡ Some c.in-Some.active = sym c.take.ensures.value ∙ c.in-Some.is in
-    rw (← c.self.view_is) (q.0, rw (q.2, q.1, o) refl)
+returns-in_default-run g c = grind (arith, common_steps, quiet)
 
 pub invariant_of-self-in_default-run : goal.invariant_of-self-in_default-run
 invariant_of-self-in_default-run g c =

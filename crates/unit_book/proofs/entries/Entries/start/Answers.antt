@@ -1,4 +1,4 @@
-use Rattle.unit_book.proofs.Names.{◌≡◌, true, Some, reverse, arith, sym, ap, ◌∙◌, Piece, ssch_started, awaits_by, MayAgain}
+use Rattle.unit_book.proofs.Names.{◌≡◌, true, Some, reverse, arith, ap, Piece, MayAgain}
 use Rattle.unit_book.specs.Refusals.{ForStart}
 use Rattle.unit_book.specs.Fields.{awaits_of, fields_of}
 use Rattle.std.proofs.Common.{rules}
@@ -7,19 +7,14 @@ use Rattle.unit_book.proofs.Same.{ties-found, rooms-found}
 use Rattle.unit_book.proofs.entries.Entries.start.Given.{Over}
 use Rattle.unit_book.proofs.entries.Entries.start.Goals.{After-awaits}
 use Rattle.unit_book.proofs.entries.Entries.start.Goals as goal
+use Rattle.std.proofs.lemmas.Grind.{common_steps}
 
 -- what was found: the active request awaits its restart
 found : (g : Over) (c : After-awaits g) → let i = c.self.inside in let a = c.in-Some.active in c.awaits.result ≡ true →
     (i.active ≡ Some a) × FoundAgain g.D.Device.meaning i.mounted
     (fields_of (reverse i.trace.items) i.channel i.waiting.pieces i.dcbs i.out.items) a
     × (awaits_of i.active ≡ true)
-found g c again =
-    let o : c.self.inside.active ≡ Some c.in-Some.active = sym c.take.ensures.value ∙ c.in-Some.is in
-    let told : awaits_by c.in-Some.active.standing ≡ true = sym c.awaits.ensures ∙ again in (
-      o,
-      record { ties = ties-found o c.self.invariant.0; settled = rw (← c.self.view_is) at c.requires; again = told },
-      ap awaits_of o ∙ told,
-    )
+found g c again = grind (arith, common_steps, ties-found)
 
 pub returns-in-Err-clause-full : goal.returns-in-Err-clause-full
 returns-in-Err-clause-full g c =
@@ -39,12 +34,8 @@ invariant_of-self-2 g c =
     let f = found g (goal.at.invariant_of-self-2 g c).After-awaits c.if-not-awaits.false in
     let dcb_is = ap (λ (x : Piece). x.dcb) c.deref-request.ensures in
     let k = ties-restart m i.mounted f.1 (rw dcb_is at c.mask-mask.ensures) in
-    let l = c.launch.ensures
-    ∙ ap (λ (x : Piece). ssch_started m i.channel x.start x.seek c.mask-mask.result i.channel.phase) c.deref-request.ensures in
-    let room = rooms-found f.0 c.self.invariant.1 in (
-      rw (c.write.ensures.items, c.reserve.ensures.items, c.name-name.ensures, l, c.restarted.ensures) k,
-      record { occupancy = room.occupancy; waiting_room = room.waiting_room; swept_is = room.swept_is },
-    )
+    let room = rooms-found f.0 c.self.invariant.1 in
+    grind (arith, common_steps)
 
 pub returns-clause-ok : goal.returns-clause-ok
 returns-clause-ok g c =

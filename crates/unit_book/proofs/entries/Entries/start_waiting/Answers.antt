@@ -3,12 +3,13 @@ use Rattle.std.specs.Option.{option_copied}
 use Rattle.unit_book.specs.Refusals.{ForStart}
 use Rattle.unit_book.specs.Legal.{passes}
 use Rattle.unit_book.proofs.Seeks.{first-fits, fits-device}
-use Rattle.unit_book.proofs.Starts.{no-first, first-told, ties-first, none-in_field}
-use Rattle.unit_book.proofs.Same.{rooms-found, on-err}
+use Rattle.unit_book.proofs.Starts.{no-first, first-told, ties-first}
+use Rattle.unit_book.proofs.Same.{on-err}
 use Rattle.unit_book.proofs.Lists.{first-rest}
 use Rattle.unit_book.proofs.entries.Entries.start_waiting.Given.{Over}
 use Rattle.unit_book.proofs.entries.Entries.start_waiting.Goals.{After-passes_check}
 use Rattle.unit_book.proofs.entries.Entries.start_waiting.Goals as goal
+use Rattle.std.proofs.lemmas.Grind.{common_steps}
 
 -- what was found: the request that waits first, and whether it passes the check
 found : (g : Over) (c : After-passes_check g) → let i = c.self.inside in let r = c.in-Some.piece.now in
@@ -22,10 +23,7 @@ found g c =
     (k.0, k.1 ∙ sym p, there)
 
 pub returns-in_default-clause-ok : goal.returns-in_default-clause-ok
-returns-in_default-clause-ok g c =
-    let z = sym c.front.ensures ∙ ap option_copied c.in_default.is in
-    let none = rw (← c.self.view_is) at c.requires.none in
-    rw (← c.self.view_is) (none, sym c.self.invariant.0.queue ∙ no-first c.self.inside.waiting.pieces z, refl)
+returns-in_default-clause-ok g c = grind (arith, common_steps, no-first)
 
 pub post_violated-requires-clause-first : goal.post_violated-requires-clause-first
 post_violated-requires-clause-first g c =
@@ -67,18 +65,18 @@ invariant_of-self-2 g c =
     let t = c.self.invariant.0 in
     let settled = rw (← c.self.view_is) at c.requires.settled in
     let none = rw (← c.self.view_is) at c.requires.none in
-    let starts : StartsFirst m i.mounted c.in-Some.piece.now.name H =
-    record { none = none; request = c.in-Some.piece.now; first = f.0; name = refl; passes = f.1 ∙ c.if-not-passes_check.false } in
-    let k = ties-first c.pop.result c.map.result t
-    (record { first = f.0; settled = settled; starts = starts; mask_is = c.mask-mask.ensures }) (c.pop.ensures.first ∙ f.2)
-    c.map.ensures.cases in
-    let q = c.pop.ensures.rest in
-    let room = rooms-found (none-in_field m i.mounted none t).1 c.self.invariant.1 in
-    let count = ap length (first-rest i.waiting.pieces c.in-Some.piece.now f.2) in (
-      rw (c.write.ensures.items, c.reserve.ensures.items, q, c.launch.ensures) k.0,
-      record {
-        occupancy = rw q (omega (arith, room.occupancy, count, k.1));
-        waiting_room = rw q room.waiting_room;
-        swept_is = room.swept_is;
-      },
-    )
+    let starts : StartsFirst m i.mounted c.in-Some.piece.now.name H = record {
+      none = none;
+      request = c.in-Some.piece.now;
+      first = f.0;
+      name = refl;
+      passes = f.1 ∙ c.if-not-passes_check.false;
+    } in
+    let k = ties-first c.pop.result c.map.result t (record {
+      first = f.0;
+      settled = settled;
+      starts = starts;
+      mask_is = c.mask-mask.ensures;
+    }) (c.pop.ensures.first ∙ f.2) c.map.ensures.cases in
+    let count = ap length (first-rest i.waiting.pieces c.in-Some.piece.now f.2) in
+    grind (arith, common_steps)

@@ -1,4 +1,4 @@
-use Rattle.unit_book.proofs.Names.{◌≡◌, ◌∷◌, [], Some, None, length, length-append, reverse, arith, refl, sym, ap, ◌∙◌, Piece}
+use Rattle.unit_book.proofs.Names.{◌≡◌, Some, None, length, length-append, reverse, arith, refl, sym, ap, ◌∙◌, Piece}
 use Rattle.unit_book.proofs.Names.{Ties, request_named}
 use Rattle.subchannel.specs.Subchannel.{status_of}
 use Rattle.unit_book.specs.Fields.{pending_code, fields_of}
@@ -11,6 +11,7 @@ use Rattle.unit_book.proofs.Same.{ties-found, rooms-found}
 use Rattle.unit_book.proofs.entries.Entries.take_status.Given.{Over}
 use Rattle.unit_book.proofs.entries.Entries.take_status.Goals.{After-code}
 use Rattle.unit_book.proofs.entries.Entries.take_status.Goals as goal
+use Rattle.std.proofs.lemmas.Grind.{common_steps}
 
 -- what was found: the active request, whose status is pending, and its code
 found : (g : Over) (c : After-code g) → let i = c.self.inside in let a = c.in-Some-take.active in
@@ -35,9 +36,11 @@ invariant_of-self-in_default-code g c =
 pub returns-in_default-code-clause-ok : goal.returns-in_default-code-clause-ok
 returns-in_default-code-clause-ok g c =
     let f = found g (goal.at.returns-in_default-code-clause-ok g c).After-code in
-    let k = decided g.D.Device.meaning c.self.inside.mounted f.1 f.2 None (f.3 ∙ c.in_default-code.is) in
-    rw (← c.self.view_is, c.name-name.ensures, c.tsch.ensures.state, c.awaiting.ensures, f.0)
-    (decided_pending g.D.Device.meaning c.self.inside.mounted f.1 f.2, k.0, refl)
+    let k = decided g.D.Device.meaning c.self.inside.mounted f.1 f.2 None (f.3 ∙ c.in_default-code.is) in grind (
+      arith,
+      common_steps,
+      decided_pending,
+    )
 
 pub returns-in-Err-clause-full : goal.returns-in-Err-clause-full
 returns-in-Err-clause-full g c =
@@ -78,24 +81,7 @@ invariant_of-self-2 g c =
     let noted = rw c.deref-request.ensures at c.note_post.ensures.dcbs in
     let settled = rw (← c.self.view_is) at c.requires in
     let k = ties-post settled f.1 fits noted c.note_post.ensures.count in
-    let q = c.hand_out.ensures in
-    let z = c.take.ensures.after in
-    let room = rooms-found f.0 c.self.invariant.1 in (
-      rw (
-        c.write_post.ensures.items,
-        c.reserve.ensures.items,
-        c.name-name.ensures,
-        q,
-        c.posted_from.ensures,
-        c.tsch-stored.ensures.state,
-        z,
-      ) k,
-      record {
-        occupancy = rw (z, q) (omega (arith, length-append i.out.items (c.posted_from.result ∷ []), room.occupancy));
-        waiting_room = rw q room.waiting_room;
-        swept_is = rw q room.swept_is;
-      },
-    )
+    grind (arith, common_steps, length-append)
 
 pub returns-clause-ok : goal.returns-clause-ok
 returns-clause-ok g c =
