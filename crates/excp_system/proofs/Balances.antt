@@ -1,10 +1,8 @@
 -- A fact of each item, as far as a loop has come.
-use Rattle.std.proofs.Common.{◌≡◌, ℕ, ◌+◌, ◌<◌, ◌≤◌, List, [], ◌∷◌, length, get_or, take, Some, refl, sym, ap, ◌∙◌, subst, arith}
+use Rattle.std.proofs.Common.{◌≡◌, ℕ, ◌+◌, ◌<◌, ◌≤◌, List, [], ◌∷◌, length, get_or, take, refl, sym, subst, arith}
 use Rattle.std.specs.List.{All}
 use Rattle.std.proofs.lemmas.List.Elements.{All-more, All-get_or}
 use Rattle.std.proofs.lemmas.List.{take_all}
-use Rattle.std.proofs.lemmas.Option.{slice_get-get_or}
-use Rattle.excp_system.specs.Drained.{ArePlaced}
 
 module _ {A : Type 0} where
   pub all_more : (P : A → Type 0) (xs : List A) (i : ℕ) (x : A) → i < length xs → x ≡ get_or xs i x → All P (take i xs) → P x →
@@ -20,9 +18,3 @@ module _ {A : Type 0} where
   pub none_left : (xs : List A) → length xs ≤ 0 → xs ≡ []
   none_left [] le = refl
   none_left (x ∷ xs) le = absurd (omega arith)
-
-  pub placed_at : (number : A → ℕ) (count : ℕ) (xs : List A) (i : ℕ) (x : A) → ArePlaced number count xs → i < length xs →
-      x ≡ get_or xs i x → number x < count
-  placed_at number count xs i x placed lt is =
-      let at = placed.each i x (slice_get-get_or xs i x lt ∙ ap Some (sym is)) in
-      omega (arith, at, lt, placed.count_is)

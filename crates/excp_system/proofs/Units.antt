@@ -49,6 +49,7 @@ module _ {D : Type 0} (meaning : Meaning D) where
     unit-keeps new owing k =
         let a : arrivals new.trace ≡ arrivals old.trace = k.arrived ∙ append-nil (arrivals old.trace) in
         record {
+          of_site = is.of_site;
           intake_is = is.intake_is ∙ ap (taker_of (intake_rows s) s.tasks unit) (sym a);
           back_is = is.back_is;
           count = is.count;
@@ -71,6 +72,7 @@ module _ {D : Type 0} (meaning : Meaning D) where
         r.unit ≡ unit →
         intake' ≡ record intake { taken = intake.taken ++ r ∷ [] } → IsUnit meaning s (locked unit new notice owes) intake' back notice
     unit-takes new r intake' k lt mine taken = record {
+      of_site = is.of_site;
       intake_is = taken ∙ ap (λ (t : Taking Piece). record t { taken = t.taken ++ r ∷ [] }) is.intake_is
           ∙ ap (taker_of (intake_rows s) s.tasks unit) (sym k.arrived);
       back_is = is.back_is;
@@ -98,6 +100,7 @@ module _ {D : Type 0} (meaning : Meaning D) where
         let t = value.name.task in
         let more = sent_to back t ++ value ∷ [] in
         record {
+          of_site = is.of_site;
           intake_is = is.intake_is ∙ ap (λ (b : Book D). taker_of (intake_rows s) s.tasks unit (arrivals b.trace)) (sym same);
           back_is = ap (λ (f : FanState PostedState). f.number) sends ∙ is.back_is;
           count = ap (λ (f : FanState PostedState). length f.sent) sends ∙ length-set back.sent t more ∙ is.count;

@@ -67,10 +67,14 @@ pub record AreBooks {D : Type 0} (units : ℕ) (books : List (Book D)) : Type 0 
   pub count_is : length books ≡ units
   pub opened : (unit : ℕ) (b : Book D) → slice_get books unit ≡ Some b → list_all is_opening b.trace ≡ true
 
+-- a task that has sent nothing to any of these units, and collected nothing
+abbrev pub fresh_task : ℕ → ℕ → TaskState
+fresh_task units number = record { number = number; sent = replicate units []; got = [] }
+
 -- tasks that have sent and collected nothing, each at the place of its number
 pub record AreTasks (count units : ℕ) (tasks : List TaskState) : Type 0 where
   pub count_is : length tasks ≡ count
-  pub each : (t : ℕ) (w : TaskState) → slice_get tasks t ≡ Some w → w ≡ record { number = t; sent = replicate units []; got = [] }
+  pub each : (t : ℕ) (w : TaskState) → slice_get tasks t ≡ Some w → w ≡ fresh_task units t
 
 -- the handlers of the eight subclasses, each at the place of its subclass, which took nothing
 pub record AreHandlers (handlers : List HandlerState) : Type 0 where

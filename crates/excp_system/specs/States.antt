@@ -1,5 +1,6 @@
 -- WHAT A UNIT'S LOCK KEEPS, and what a task has (profile).
-use Rattle.std.specs.Prelude.{◌≡◌, ◌<◌, ℕ, Bool, false, List, [], slice_index_or, length}
+use Rattle.std.specs.Prelude.{◌≡◌, ◌<◌, ◌≤◌, ◌-◌, ◌^◌, ℕ, Bool, false, List, [], slice_index_or, length}
+use Rattle.std.specs.List.{All, sum_by}
 use Rattle.device_port.specs.Meaning.{Meaning}
 use Rattle.request_piece.specs.PostedState.{PostedState}
 use Rattle.request_piece.specs.declared.piece.Piece.{Piece}
@@ -27,10 +28,11 @@ owing_nothing unit book notified = record { unit = unit; book = book; notified =
 abbrev pub AreOf : SiteRows → ℕ → List Piece → Type 0
 AreOf s unit requests = Each (λ r. (r.name.task < s.tasks) × (r.unit ≡ unit)) requests
 
--- what a lock keeps: its intake has taken what arrived at the book; each task was sent what the book gave of its
--- posted values; and its ends are of the rows that the site has for this unit
+-- what a lock keeps: its unit is of the site; its intake has taken what arrived at the book; each task was sent what the
+-- book gave of its posted values; and its ends are of the rows that the site has for this unit
 pub record IsUnit {D : Type 0} (meaning : Meaning D) (s : SiteRows) (v : Locked D) (intake : Taking Piece) (back : FanState PostedState)
     (notice : Sending Notice) : Type 0 where
+  pub of_site : v.unit < s.units
   pub intake_is : intake ≡ taker_of (intake_rows s) s.tasks v.unit (arrivals v.book.trace)
   pub back_is : back.number ≡ v.unit
   pub count : length back.sent ≡ s.tasks
@@ -48,17 +50,30 @@ pub record TaskState : Type 0 where
 abbrev pub sent_by : TaskState → ℕ → List Piece
 sent_by t unit = slice_index_or t.sent unit []
 
--- the ends of a task are of the rows that the site has for it
+-- how many requests a task sent, to all units together
+abbrev pub sent_count : TaskState → ℕ
+sent_count t = sum_by length t.sent
+
+-- how many posted values it has yet to collect, if each that it collected is of a request of its own
+abbrev pub awaited_count : TaskState → ℕ
+awaited_count t = sent_count t - length t.got
+
+-- a task is of the site, and sends each unit no more requests than there are numbers; units have 16-bit numbers; and
+-- its ends are of the rows that the site has for it
 pub record IsTask (s : SiteRows) (v : TaskState) (out : FanState Piece) (collected : Taking PostedState) : Type 0 where
+  pub of_site : v.number < s.tasks
   pub out_is : out ≡ record { number = v.number; sent = v.sent }
   pub collected_is : collected ≡ taker_of (post_rows s) s.units v.number v.got
   pub count : length v.sent ≡ s.units
+  pub few_units : s.units < 2 ^ 16
+  pub few : All (λ requests. length requests ≤ 2 ^ 32 - 1) v.sent
 
 -- the interruption subclass of a handler, and the notices that it took
 pub record HandlerState : Type 0 where
   pub isc : ℕ
   pub taken : List Notice
 
--- the end of a handler is of the notice row that the site has for its subclass
-abbrev pub IsHandler : SiteRows → HandlerState → Taking Notice → Type 0
-IsHandler s v end = end ≡ taker_of (notice_rows s) s.units v.isc v.taken
+-- a handler is of one of the eight subclasses, and its end is of the notice row that the site has for it
+pub record IsHandler (s : SiteRows) (v : HandlerState) (end : Taking Notice) : Type 0 where
+  pub isc_fits : v.isc ≤ 7
+  pub end_is : end ≡ taker_of (notice_rows s) s.units v.isc v.taken

@@ -1,7 +1,7 @@
 //! Whether anything is on its way.
 
-ghost use Rattle.std.specs.Prelude.{◌<◌, ◌↔◌, IsTrue};
-ghost use Rattle.excp_system.specs.Drained.{ArePlaced, Drained, IsDrained, IsTaken};
+ghost use Rattle.std.specs.Prelude.{◌↔◌, IsTrue};
+ghost use Rattle.excp_system.specs.Drained.{Drained, IsDrained, IsTaken};
 
 use crate::site::Site;
 use crate::task::Task;
@@ -9,10 +9,8 @@ use crate::unit::UnitState;
 use device_port::Device;
 
 /// Whether nothing is out at any unit, and each intake and post row has had as many items taken as sent. It looks at
-/// all units and all tasks of a system, each at the place of its number. It takes no memory.
+/// all of these units and tasks. It takes no memory.
 pub fn drained<S: Site, D: Device>(units: &[UnitState<'_, S, D>], tasks: &[Task<'_, S>]) -> bool
-    requires units { ArePlaced (λ unit. unit.unit) S.rows.units units.now }
-    requires tasks { ArePlaced (λ task. task.number) S.rows.tasks tasks.now }
     ensures { IsTrue result ↔ Drained D.meaning units.now tasks.now }
 {
     for unit in units {
@@ -25,8 +23,6 @@ pub fn drained<S: Site, D: Device>(units: &[UnitState<'_, S, D>], tasks: &[Task<
 
 /// Whether nothing is out at a unit, and nothing is on its way between it and the tasks.
 fn is_drained<S: Site, D: Device>(unit: &UnitState<'_, S, D>, tasks: &[Task<'_, S>]) -> bool
-    requires unit { unit.now.unit < S.rows.units }
-    requires tasks { ArePlaced (λ task. task.number) S.rows.tasks tasks.now }
     ensures { IsTrue result ↔ IsDrained D.meaning tasks.now unit.now }
 {
     if unit.book().out_len() > 0 {
@@ -42,8 +38,6 @@ fn is_drained<S: Site, D: Device>(unit: &UnitState<'_, S, D>, tasks: &[Task<'_, 
 
 /// Whether nothing is on its way between a unit and a task.
 fn is_taken<S: Site, D: Device>(unit: &UnitState<'_, S, D>, task: &Task<'_, S>) -> bool
-    requires unit { unit.now.unit < S.rows.units }
-    requires task { task.now.number < S.rows.tasks }
     ensures { IsTrue result ↔ IsTaken D.meaning unit.now task.now }
 {
     unit.took(task.number()) == task.issued(unit.unit())

@@ -1,6 +1,6 @@
 //! The notices of one interruption subclass.
 
-ghost use Rattle.std.specs.Prelude.{◌≡◌, ◌<◌, IfNone, IfSome};
+ghost use Rattle.std.specs.Prelude.{◌≡◌, ◌<◌, ◌≤◌, IfNone, IfSome};
 ghost use Rattle.excp_system.specs.Calls.{NoticeRowWasEmpty, TakesNotice};
 ghost use Rattle.excp_system.specs.States.{IsHandler};
 
@@ -44,7 +44,8 @@ impl<'r, S: Site> IscTaker<'r, S> {
 
     /// The interruption subclass, 0 to 7. It takes no memory.
     pub fn isc(&self) -> u8
-        ensures { result ≡ self.now.isc }
+        ensures is { result ≡ self.now.isc }
+        ensures few { result ≤ 7 }
     {
         self.isc
     }

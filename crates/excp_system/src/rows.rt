@@ -1,6 +1,6 @@
 //! The rows of a system.
 
-ghost use Rattle.std.specs.Prelude.{◌≡◌, ◌<◌, ◌≤◌, IfOk};
+ghost use Rattle.std.specs.Prelude.{◌≡◌, ◌<◌, ◌≤◌, ◌^◌, IfOk};
 ghost use Rattle.excp_system.specs.Opening.{AreFans, AreFresh, ArePlain, AreTakers, site_of};
 ghost use Rattle.excp_system.specs.Sites.{intake_rows, notice_rows, post_rows};
 
@@ -117,6 +117,7 @@ pub(crate) struct Ends<'r, S: Site> {
     pub(crate) back: Vec<Fan<'r, Returned, PostRows<S>>>,
     pub(crate) notice: Vec<Fan<'r, Notice, NoticeRows<S>>>,
     pub(crate) handled: Vec<Taker<'r, Notice>>,
+    ghost few_units: { S.rows.units < 2 ^ 16 },
     ghost out_are: { AreFans S.rows.tasks S.rows.units out.items },
     ghost collected_are: { AreTakers (post_rows S.rows) S.rows.units S.rows.tasks collected.items },
     ghost intake_are: { AreTakers (intake_rows S.rows) S.rows.tasks S.rows.units intake.items },

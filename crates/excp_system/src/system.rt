@@ -1,6 +1,6 @@
 //! Units under locks.
 
-ghost use Rattle.std.specs.Prelude.{◌≡◌, ◌<◌, ◌≤◌, IfErr, IfOk, vec_capacity, vec_len};
+ghost use Rattle.std.specs.Prelude.{◌≡◌, ◌<◌, ◌≤◌, ◌^◌, IfErr, IfOk, vec_capacity, vec_len};
 ghost use Rattle.excp_system.specs.Opening.{AreBooks, AreFans, AreFresh, AreHandlers, AreTakers, AreTasks, site_of};
 ghost use Rattle.excp_system.specs.Sites.{intake_rows, notice_rows, post_rows};
 
@@ -62,8 +62,8 @@ impl<'r, S: Site, D: Device> System<'r, S, D> {
     }
 
     /// Purges the requests of a task at each unit, in the order of their numbers, each under its lock: there is no one
-    /// moment for all units. Returns for each unit what is active there, or that memory ran out there, which changes
-    /// nothing at that unit. If there is no memory for the answers, nothing changes at all.
+    /// moment for all units. Any number is allowed. Returns for each unit what is active there, or that memory ran out
+    /// there, which changes nothing at that unit. If there is no memory for the answers, nothing changes at all.
     pub fn purge_task<R: Wait>(
         &self,
         rt: &R,
@@ -141,6 +141,7 @@ fn make_tasks<'r, S: Site>(
     out: Vec<Fan<'r, Sent, IntakeRows<S>>>,
     collected: Vec<Taker<'r, Returned>>,
 ) -> Result<Vec<Task<'r, S>>, AllocError>
+    requires few_units { S.rows.units < 2 ^ 16 }
     requires out { AreFans S.rows.tasks S.rows.units out.items }
     requires collected { AreTakers (post_rows S.rows) S.rows.units S.rows.tasks collected.items }
     ensures { IfOk result (λ tasks. AreTasks S.rows.tasks S.rows.units tasks.items) }

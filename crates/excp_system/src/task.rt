@@ -1,6 +1,7 @@
 //! A task's ends of the rows.
 
 ghost use Rattle.std.specs.Prelude.{◌≡◌, ◌<◌, ◌≤◌, ◌-◌, ◌^◌, length, IfErr, IfNone, IfSome, OnErr, OnOk};
+ghost use Rattle.std.specs.List.{All};
 ghost use Rattle.fifo_row.specs.Lists.{of};
 ghost use Rattle.excp_system.specs.Calls.{TaskCollects, IntakeWasFull, Issues, PostRowWasEmpty, next_name};
 ghost use Rattle.excp_system.specs.Sites.{unit_of};
@@ -51,9 +52,21 @@ impl<'r, S: Site> Task<'r, S> {
 
     /// The number of the task. It takes no memory.
     pub fn number(&self) -> u16
-        ensures { result ≡ self.now.number }
+        ensures is { result ≡ self.now.number }
+        ensures of_site { result < S.rows.tasks }
     {
         self.number
+    }
+
+    /// What holds of a task at any time: it is of the site, and it has sent each unit at most 4,294,967,295 requests. It
+    /// takes no memory.
+    pub fn holds(&self)
+        ensures of_site { self.now.number < S.rows.tasks }
+        ensures count { length self.now.sent ≡ S.rows.units }
+        ensures few_units { S.rows.units < 2 ^ 16 }
+        ensures few { All (λ requests. length requests ≤ 2 ^ 32 - 1) self.now.sent }
+    {
+        let _ = &self.out;
     }
 
     /// How many requests it sent to a unit.
@@ -101,6 +114,8 @@ impl<'r, S: Site> Task<'r, S> {
         ensures was_full { OnErr result (IntakeWasFull S.rows self.old request.unit) }
     {
         let unit = request.unit();
+        // its number has 32 bits, which bounds how many requests the task has sent
+        let _name = request.name();
         match self.out.send(rt, unit, Sent::new(request)) {
             Ok(()) => Ok(()),
             Err(Full(sent)) => Err(Full(sent.into_request())),

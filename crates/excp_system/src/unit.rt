@@ -72,7 +72,8 @@ impl<'r, S: Site, D: Device> UnitState<'r, S, D> {
 
     /// The number of the unit. It takes no memory.
     pub fn unit(&self) -> u16
-        ensures { result ≡ self.now.unit }
+        ensures is { result ≡ self.now.unit }
+        ensures of_site { result < S.rows.units }
     {
         self.unit
     }

@@ -3,7 +3,7 @@
 ghost use Rattle.std.specs.Prelude.{◌≡◌, length, take, OnOk};
 ghost use Rattle.std.specs.List.{All};
 ghost use Rattle.unit_book.specs.Settle.{IsIdle};
-ghost use Rattle.excp_system.specs.Drained.{ArePlaced, Drained};
+ghost use Rattle.excp_system.specs.Drained.{Drained};
 ghost use Rattle.post_ledger.specs.Parting.{Paired};
 ghost use Rattle.post_ledger.specs.Work.{CollectsAll, Works};
 
@@ -101,8 +101,6 @@ pub(crate) fn drain<S: Site, D: Device, R: Wait>(
     tasks: &mut Vec<Task<'_, S>>,
     posts: &mut Vec<Posts>,
 ) -> Result<(), AllocError>
-    requires units { ArePlaced (λ unit. unit.unit) S.rows.units units.old.items }
-    requires tasks { ArePlaced (λ task. task.number) S.rows.tasks tasks.old.items }
     requires count { length posts.old.items ≡ length tasks.old.items }
     requires lists { All (λ lists. length lists ≡ S.rows.units) posts.old.items }
     ensures works { Paired Works units.old.items units.new.items }

@@ -105,7 +105,8 @@ impl<'r, S: Site, D: Device> UnitState<'r, S, D> {
         answer
     }
 
-    /// Purges the requests of a task, as [`unit_book::UnitBook::purge_task`].
+    /// Purges the requests of a task, as [`unit_book::UnitBook::purge_task`]. Any number is allowed: of a task without
+    /// requests the purge covers nothing.
     pub fn purge_task<R: Wait>(
         &mut self,
         rt: &R,

@@ -1,13 +1,7 @@
 use Rattle.std.proofs.Common.{◌∙◌, refl, sym}
 use Rattle.excp_system.specs.Drained.{IsDrained}
-use Rattle.excp_system.specs.States.{Locked}
-use Rattle.excp_system.proofs.Balances.{all_at, all_done, all_more, placed_at}
+use Rattle.excp_system.proofs.Balances.{all_at, all_done, all_more}
 use Rattle.excp_system.proofs.balance.drained.Goals as goal
-
-pub is_drained-requires-clause-unit : goal.is_drained-requires-clause-unit
-is_drained-requires-clause-unit g c =
-    placed_at (λ (unit : Locked _). unit.unit) g.S.Site.rows.units c.args.units.now c.loop-unit.unit-index c.unit-item.result
-    c.requires.units c.loop-unit-test.true c.unit-item.is
 
 pub returns-then-not-is_drained : goal.returns-then-not-is_drained
 returns-then-not-is_drained g c = (

@@ -1,7 +1,8 @@
-use Rattle.std.proofs.Common.{◌≡◌, ◌+◌, ◌<◌, [], ◌∷◌, ◌++◌, length, sym, ap, ◌∙◌, arith, length-append, drop, inl, inr}
+use Rattle.std.proofs.Common.{◌≡◌, ◌+◌, [], ◌∷◌, ◌++◌, length, sym, ap, ◌∙◌, arith, length-append, drop, inl, inr}
 use Rattle.std.specs.Iterator.Adapters.{zip_first, zip_second}
 use Rattle.std.specs.Vec.Iter.{into_iter_items}
 use Rattle.std.proofs.lemmas.List.{length-drop}
+use Rattle.std.proofs.lemmas.Option.{slice_get_within}
 use Rattle.excp_system.specs.Sites.{notice_rows, end_of}
 use Rattle.excp_system.specs.Fans.{FanState, sent_to}
 use Rattle.excp_system.proofs.Places.{drop_get, drop_next}
@@ -36,6 +37,7 @@ new-unit-requires g c =
     let notice_at = drop_get u c.args.ends.notice.items (into_iter_items (zip_second (zip_second rest))) fan
     (sym i.notices ∙ steps.1.1.0) in
     is_unit g.D.Device.meaning s u c.number.result b intake back fan c.into_end-notice.result c.number.ensures
+    (omega (arith, slice_get_within c.args.ends.back.items u back back_at, c.args.ends.back_are.count_is))
     (c.requires.books.opened u b book_at)
     (c.args.ends.intake_are.each u intake intake_at)
     (c.args.ends.back_are.each u back back_at)

@@ -3,11 +3,23 @@ use Rattle.std.proofs.Common.{append_assoc}
 use Rattle.std.specs.Prelude.{slice_get}
 use Rattle.std.specs.Vec.Iter.{into_iter_items}
 use Rattle.std.proofs.lemmas.Grind.{common_steps}
+use Rattle.std.proofs.lemmas.Option.{slice_get_within}
 use Rattle.fifo_row.specs.Ends.{Taking}
 use Rattle.excp_system.specs.States.{HandlerState}
-use Rattle.excp_system.proofs.Places.{get_seam}
-use Rattle.excp_system.proofs.Makes.{handlers_next}
+use Rattle.excp_system.proofs.Places.{get_at_seam, get_seam}
+use Rattle.excp_system.proofs.Makes.{handlers_next, is_handler}
 use Rattle.excp_system.proofs.system.make_handlers.Goals as goal
+
+pub new-requires : goal.new-requires
+new-requires g c =
+    let i = c.loop-taker.invariant in
+    let end = c.in-Some.taker in
+    let k = length c.loop-taker.yielded in
+    let rest = into_iter_items c.next.new.self in
+    let all : c.args.handled.items ≡ c.loop-taker.yielded ++ end ∷ rest = first_of (search rules, grind (arith, common_steps)) in
+    let there = get_at_seam c.loop-taker.yielded rest all in
+    is_handler g.S.Site.rows k c.loop-taker.isc end i.turn
+    (omega (arith, slice_get_within c.args.handled.items k end there, c.requires.count_is)) (c.requires.each k end there)
 
 pub loop-taker-preserved : goal.loop-taker-preserved
 loop-taker-preserved g c =

@@ -1,8 +1,8 @@
-use Rattle.std.proofs.Common.{◌≡◌, ◌+◌, List, [], ◌∷◌, ◌++◌, length, Some, sym, ap, ◌∙◌, subst, arith, length-append, drop}
+use Rattle.std.proofs.Common.{◌≡◌, ◌+◌, List, [], ◌∷◌, ◌++◌, length, sym, ap, ◌∙◌, subst, arith, length-append, drop}
 use Rattle.std.specs.Iterator.Adapters.{zip_first, zip_second}
-use Rattle.std.specs.Prelude.{slice_get}
 use Rattle.std.specs.Vec.Iter.{into_iter_items}
 use Rattle.fifo_row.specs.Ends.{Taking}
+use Rattle.std.proofs.lemmas.Option.{slice_get_within}
 use Rattle.excp_system.specs.Opening.{AreTasks}
 use Rattle.excp_system.proofs.Places.{drop_get, drop_next}
 use Rattle.excp_system.proofs.Makes.{is_task, tasks_next}
@@ -17,8 +17,9 @@ new-requires g c =
     let there = drop_get t c.args.out.items (into_iter_items (zip_first c.next.new.self)) fan (sym i.fans ∙ c.in-Some.ensures.steps.0.0) in
     let there' = drop_get t c.args.collected.items (into_iter_items (zip_second c.next.new.self)) end
     (sym i.takers ∙ c.in-Some.ensures.steps.1.0) in
-    is_task g.S.Site.rows t c.number.result fan end c.number.ensures (c.requires.out.each t fan there)
-    (c.requires.collected.each t end there')
+    is_task g.S.Site.rows t c.number.result fan end c.number.ensures
+    (omega (arith, slice_get_within c.args.out.items t fan there, c.requires.out.count_is)) c.requires.few_units
+    (c.requires.out.each t fan there) (c.requires.collected.each t end there')
 
 pub loop-fan-preserved : goal.loop-fan-preserved
 loop-fan-preserved g c =

@@ -1,9 +1,9 @@
-use Rattle.std.proofs.Common.{List, ◌∙◌, refl, subst, sym}
-use Rattle.excp_system.specs.Drained.{ArePlaced, Drained}
+use Rattle.std.proofs.Common.{List, ◌∙◌, refl, subst}
+use Rattle.excp_system.specs.Drained.{Drained}
 use Rattle.excp_system.specs.States.{Locked, TaskState}
 use Rattle.post_ledger.specs.Work.{Works}
 use Rattle.post_ledger.proofs.Pairs.{paired_more, paired_same}
-use Rattle.post_ledger.proofs.Works.{collects_more, collects_none, placed_tasks, placed_units, works_more, works_none}
+use Rattle.post_ledger.proofs.Works.{collects_more, collects_none, works_more, works_none}
 use Rattle.post_ledger.proofs.drain.drain.Goals as goal
 
 pub loop-init : goal.loop-init
@@ -22,17 +22,6 @@ returns-in_err-gather_all-clause-works g c = paired_more Works works_more c.loop
 
 pub returns-in_err-gather_all-clause-collects : goal.returns-in_err-gather_all-clause-collects
 returns-in_err-gather_all-clause-collects g c = collects_more g.S.Site.rows.units c.loop.invariant.collects c.gather_all.ensures.collects
-
-pub drained-requires-clause-units : goal.drained-requires-clause-units
-drained-requires-clause-units g c =
-    subst (ArePlaced (λ (v : Locked _). v.unit) g.S.Site.rows.units) (sym c.as_slice.ensures.value)
-    (placed_units g.S.Site.rows.units c.requires.units (paired_more Works works_more c.loop.invariant.works c.work_all.ensures.works))
-
-pub drained-requires-clause-tasks : goal.drained-requires-clause-tasks
-drained-requires-clause-tasks g c =
-    subst (ArePlaced (λ (w : TaskState). w.number) g.S.Site.rows.tasks) (sym c.as_slice-in-loop.ensures.value)
-    (placed_tasks g.S.Site.rows.units g.S.Site.rows.tasks c.requires.tasks
-    (collects_more g.S.Site.rows.units c.loop.invariant.collects c.gather_all.ensures.collects))
 
 pub returns-then-drained-clause-works : goal.returns-then-drained-clause-works
 returns-then-drained-clause-works g c = paired_more Works works_more c.loop.invariant.works c.work_all.ensures.works

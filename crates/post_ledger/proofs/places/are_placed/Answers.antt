@@ -10,7 +10,7 @@ returns-then-from-place-clause-mixed g c =
     let v = c.index-units-place.result in
     let at : slice_get c.args.units.now c.loop-place.place ≡ Some v =
     slice_get-get_or c.args.units.now c.loop-place.place v c.loop-place-test.true ∙ ap Some (sym c.index-units-place.is) in
-    λ _. (c.loop-place.place, v, at, λ same. omega (arith, same, c.unit.ensures, c.from.ensures, c.if-from-place.true))
+    λ _. (c.loop-place.place, v, at, λ same. omega (arith, same, c.unit.ensures.is, c.from.ensures, c.if-from-place.true))
 
 pub loop-place-preserved : goal.loop-place-preserved
 loop-place-preserved g c =
@@ -18,7 +18,7 @@ loop-place-preserved g c =
     let at : slice_get c.args.units.now c.loop-place.place ≡ Some v =
     slice_get-get_or c.args.units.now c.loop-place.place v c.loop-place-test.true ∙ ap Some (sym c.index-units-place.is) in
     before_more (λ k (u : Locked _). u.unit ≡ k) c.args.units.now c.loop-place.place v at c.loop-place.invariant
-    (omega (arith, c.unit.ensures, c.from.ensures, c.if-from-place.false))
+    (omega (arith, c.unit.ensures.is, c.from.ensures, c.if-from-place.false))
 
 pub returns-clause-placed : goal.returns-clause-placed
 returns-clause-placed g c =

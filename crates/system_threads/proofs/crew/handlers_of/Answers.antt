@@ -16,7 +16,7 @@ loop-taker-preserved g c =
     let old = c.index_mut.result.now in
     let all : c.args.takers.items ≡ yielded ++ taker ∷ into_iter_items c.next.new.self =
     first_of (search rules, grind (arith, common_steps)) in
-    let place : c.from.result ≡ taker.isc = c.from.ensures ∙ c.isc.ensures in
+    let place : c.from.result ≡ taker.isc = c.from.ensures ∙ c.isc.ensures.is in
     let handlers_count : length handlers ≡ c.args.count = c.loop-taker.invariant.shared.count_is in
     let within : c.from.result % c.args.count < length handlers =
     subst (λ n. c.from.result % c.args.count < n) (sym handlers_count) (mod-lt c.from.result c.requires) in
