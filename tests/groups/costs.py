@@ -45,6 +45,10 @@ TIMES = [("small", 4_000, 9, 20), ("waits", 3_300, 9, 20), ("loops", 4_000, 9, 2
 # and one that looks at each idle unit in each pass 1.6 times for the second.
 UNITS = [("spread", 20_000, "small", 1.9), ("lone", 2_000, "loops", 1.5)]
 
+# The same with 16 channel workers and one handler. On four processors most of the 16 look for work at any moment, so the run
+# takes up to four processors for as long as the handler needs, where one worker and one handler take two.
+CHANNELS = [("spread", 20_000, "small", 6, "--channels", "16", "--handlers", "1")]
+
 # The kind, a number of requests, and the most processor time for each second that passes: one worker is busy, and the two
 # tasks that wait for it sleep. Each thread that did not would take one more, where there is a processor for it.
 AWAKE = [("pair", 12_000, 1.7)]
@@ -110,10 +114,11 @@ def grows(setup, kind, count, times, most):
     return text
 
 
-def keeps_up(setup, kind, count, alone_kind, most):
-    """Requests among 64 units take at most `most` times as long as on one alone: the least of some runs, by turns."""
+def keeps_up(setup, kind, count, alone_kind, most, *words):
+    """Requests among 64 units, by these workers, take at most `most` times as long as on one unit alone by one of each kind:
+    the least of some runs, by turns."""
     with script_of(alone_kind, count) as one, script_of(kind, count) as more:
-        seconds = [(cost(setup, one, count)[0], cost(setup, more, count)[0]) for _ in range(ROUNDS)]
+        seconds = [(cost(setup, one, count)[0], cost(setup, more, count, *words)[0]) for _ in range(ROUNDS)]
     alone, among = (min(column) for column in zip(*seconds))
     text = f"{kind} {count}: {among:.3f} s, on one unit {alone:.3f} s, {among / alone:.1f} times, at most {most}"
     require(among <= most * alone, text)
@@ -151,6 +156,7 @@ def cases(setup):
         ("memory", fits, MEMORY),
         ("processor time", grows, TIMES),
         ("units", keeps_up, UNITS),
+        ("units by 16 channels", keeps_up, CHANNELS),
         ("threads that wait", sleeps, AWAKE),
         ("workers on one processor", gives_way, CROWDS),
     ):

@@ -232,7 +232,8 @@ TESTS = [
         "component_tests",
         [
             *(f"{it}_without_memory" for it in ("areas::areas", "disks::mount", "tapes::mount")),
-            *(f"{it}_without_memory" for it in ("tapes::record", "tape_images::load", "printers::mount")),
+            *(f"{it}_without_memory" for it in ("tapes::record", "tape_images::load", "tape_images::save")),
+            "printers::mount_without_memory",
             *(f"{it}_without_memory" for it in ("queues::queues", "requests::requests", "rows::rows")),
         ],
         MUST_PASS,

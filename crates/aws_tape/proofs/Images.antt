@@ -1,5 +1,6 @@
 -- An image is read chunk by chunk.
-use Rattle.std.proofs.Common.{◌≡◌, ℕ, zero, suc, ◌+◌, ◌<◌, ◌≤◌, Bool, false, cond, nat_lt, List, [], ◌∷◌, length, take, drop, Ok, Err, Result}
+use Rattle.std.proofs.Common.{◌≡◌, ℕ, zero, suc, ◌+◌, ◌<◌, ◌≤◌, Bool, false, cond}
+use Rattle.std.proofs.Common.{nat_lt, List, [], ◌∷◌, length, take, drop, Ok, Err, Result}
 use Rattle.std.proofs.Common.{refl, sym, ap, ◌∙◌, arith}
 use Rattle.std.proofs.lemmas.Bool.Decides.{nat_tests}
 use Rattle.std.proofs.lemmas.List.{length-drop}
@@ -10,7 +11,7 @@ use Rattle.aws_tape.specs.declared.fault.AwsFault.{AwsFault}
 use Rattle.aws_tape.specs.declared.fault.AwsFault.TheVariants as fault
 use Rattle.aws_tape.specs.Chunk.{len_of}
 use Rattle.aws_tape.specs.Steps.{◌>>=◌}
-use Rattle.aws_tape.specs.Reading.{Between, at_offset, at_end, header_after, data_after, first_after, read_from}
+use Rattle.aws_tape.specs.Reading.{Between, at_offset, image_end, header_after, data_after, first_after, read_from}
 
 -- steps that agree
 same_step : {A B E : Type 0} (r : Result A E) (f g : A → Result B E) → ((x : A) → f x ≡ g x) → (r >>= f) ≡ (r >>= g)
@@ -60,7 +61,7 @@ read_fault offset at (byte ∷ rest) e some first =
     >>= λ (x : Between). read_from (length rest) (offset + (6 + k)) x (drop (6 + k) (byte ∷ rest))) first
 
 pub read_end : (offset : ℕ) (at : Between) (rest : List ℕ) → length rest ≡ 0 →
-    read_from (length rest) offset at rest ≡ at_offset offset (at_end at)
+    read_from (length rest) offset at rest ≡ at_offset offset (image_end at)
 unfolding read_from
 read_end offset at [] none = refl
 read_end offset at (byte ∷ rest) none = absurd (omega arith)

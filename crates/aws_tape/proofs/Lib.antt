@@ -1,2 +1,3 @@
 -- The lemmas of aws_tape.
 pub mod Images
+pub mod Written

@@ -15,8 +15,8 @@ abbrev pub previous_of : List ℕ → ℕ
 previous_of header = little_number 2 (drop 2 header)
 
 -- byte 4: what the chunk is
-abbrev pub kind_of : ℕ → Option Kind
-kind_of flags =
+abbrev pub chunk_kind : ℕ → Option Kind
+chunk_kind flags =
     if flags == 0x40 then Some Mark
     else if flags == 0xA0 then Some Whole
     else if flags == 0x80 then Some First

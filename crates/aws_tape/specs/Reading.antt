@@ -1,18 +1,19 @@
 -- What the bytes of an image of a tape say: the items of the tape, or the first rule that they break.
-use Rattle.std.specs.Prelude.{◌≡◌, ℕ, zero, suc, ◌+◌, ◌%◌, Bool, true, false, not, nat_lt, ◌&&◌, ◌==◌, List, [], ◌∷◌, ◌++◌, length, take, drop, slice_index}
+use Rattle.std.specs.Prelude.{◌≡◌, ℕ, zero, suc, ◌+◌, ◌%◌, Bool, true, false, not, nat_lt, ◌&&◌, ◌==◌}
+use Rattle.std.specs.Prelude.{List, [], ◌∷◌, ◌++◌, length, take, drop, slice_index}
 use Rattle.std.specs.Prelude.{Option, Some, None, is_some, Result, Ok, Err, if◌then◌else◌}
 use Rattle.std.specs.Global.{Vec}
 use Rattle.std.specs.List.{list_all}
 use Rattle.tape_unit.specs.Item.{tape_mark, block}
 use Rattle.tape_unit.specs.Reel.{ReelState, bytes_of}
-use Rattle.tape_unit.specs.Recording.{with_item, has_room}
+use Rattle.tape_unit.specs.Recording.{with_item, takes_item}
 use Rattle.aws_tape.specs.declared.chunk.Header.{Header}
 use Rattle.aws_tape.specs.declared.chunk.Kind.{Kind}
 use Rattle.aws_tape.specs.declared.chunk.Kind.TheVariants.{Mark, Whole, First, Middle, Last}
 use Rattle.aws_tape.specs.declared.fault.AwsError.{AwsError}
 use Rattle.aws_tape.specs.declared.fault.AwsFault.{AwsFault}
 use Rattle.aws_tape.specs.declared.fault.AwsFault.TheVariants as fault
-use Rattle.aws_tape.specs.Chunk.{len_of, previous_of, kind_of, is_digit}
+use Rattle.aws_tape.specs.Chunk.{len_of, previous_of, chunk_kind, is_digit}
 use Rattle.aws_tape.specs.Steps.{◌>>=◌}
 
 -- BETWEEN TWO CHUNKS: the items so far, the bytes so far of a block that is open, and the length of the chunk before
@@ -24,29 +25,29 @@ pub record Between : Type 0 where
 -- ---- the rules of a header, the first that it breaks
 
 -- where a chunk may be: parts of a block are in their order, and a mark is between blocks and has no data
-abbrev pub placed : Kind → ℕ → Bool → Result Header AwsFault
-placed Mark len true = Err fault.MarkInBlock
-placed Mark len false = if len == 0 then Ok (record { kind = Mark; len = len }) else Err fault.MarkWithData
-placed Whole len true = Err fault.BlockInBlock
-placed Whole len false = Ok (record { kind = Whole; len = len })
-placed First len true = Err fault.BlockInBlock
-placed First len false = Ok (record { kind = First; len = len })
-placed Middle len true = Ok (record { kind = Middle; len = len })
-placed Middle len false = Err fault.NoBlockOpen
-placed Last len true = Ok (record { kind = Last; len = len })
-placed Last len false = Err fault.NoBlockOpen
+abbrev pub in_place : Kind → ℕ → Bool → Result Header AwsFault
+in_place Mark len true = Err fault.MarkInBlock
+in_place Mark len false = if len == 0 then Ok (record { kind = Mark; len = len }) else Err fault.MarkWithData
+in_place Whole len true = Err fault.BlockInBlock
+in_place Whole len false = Ok (record { kind = Whole; len = len })
+in_place First len true = Err fault.BlockInBlock
+in_place First len false = Ok (record { kind = First; len = len })
+in_place Middle len true = Ok (record { kind = Middle; len = len })
+in_place Middle len false = Err fault.NoBlockOpen
+in_place Last len true = Ok (record { kind = Last; len = len })
+in_place Last len false = Err fault.NoBlockOpen
 
 abbrev pub of_kind : Option Kind → ℕ → Bool → Result Header AwsFault
 of_kind None len is_open = Err fault.BadFlags
-of_kind (Some kind) len is_open = placed kind len is_open
+of_kind (Some kind) len is_open = in_place kind len is_open
 
 -- whether nothing was read yet
-abbrev pub at_start : Between → Bool
-at_start at = (bytes_of at.reel.items == 0) && not (is_some at.block)
+abbrev pub nothing_read : Between → Bool
+nothing_read at = (bytes_of at.reel.items == 0) && not (is_some at.block)
 
 -- whether the image begins as a FakeTape file does
 abbrev pub is_fake : Between → List ℕ → Bool
-is_fake at header = at_start at && list_all is_digit header
+is_fake at header = nothing_read at && list_all is_digit header
 
 -- what a header of six bytes says, or the first rule that it breaks
 abbrev pub header_after : Between → List ℕ → Result Header AwsFault
@@ -55,30 +56,30 @@ header_after at header =
     else if not (slice_index header 4 % 4 == 0) then Err fault.Compressed
     else if not (slice_index header 5 == 0) then Err fault.BadSpare
     else if not (previous_of header == at.previous) then Err fault.BadPrevious
-    else of_kind (kind_of (slice_index header 4)) (len_of header) (is_some at.block)
+    else of_kind (chunk_kind (slice_index header 4)) (len_of header) (is_some at.block)
 
 -- ---- the rules of the data
 
 -- the bytes so far of a block
-abbrev pub so_far : Option (List ℕ) → List ℕ
-so_far None = []
-so_far (Some bytes) = bytes
+abbrev pub block_so_far : Option (List ℕ) → List ℕ
+block_so_far None = []
+block_so_far (Some bytes) = bytes
 
 -- a block that goes on has at most 65,535 bytes
-abbrev pub opened : List ℕ → Result (List ℕ) AwsFault
-opened bytes = if nat_lt 65_535 (length bytes) then Err fault.LongBlock else Ok bytes
+abbrev pub going_on : List ℕ → Result (List ℕ) AwsFault
+going_on bytes = if nat_lt 65_535 (length bytes) then Err fault.LongBlock else Ok bytes
 
 -- a block that ends has at least one, and the tape has room for it
 abbrev pub recorded : ReelState → List ℕ → Result ReelState AwsFault
 recorded reel bytes =
     if length bytes == 0 then Err fault.EmptyBlock
     else if nat_lt 65_535 (length bytes) then Err fault.LongBlock
-    else if not (has_room reel (block bytes)) then Err fault.TapeFull
+    else if not (takes_item reel (block bytes)) then Err fault.TapeFull
     else Ok (with_item reel (block bytes))
 
 -- the tape has room for a mark
 abbrev pub marked : ReelState → Result ReelState AwsFault
-marked reel = if not (has_room reel tape_mark) then Err fault.TapeFull else Ok (with_item reel tape_mark)
+marked reel = if not (takes_item reel tape_mark) then Err fault.TapeFull else Ok (with_item reel tape_mark)
 
 abbrev pub between_blocks : ℕ → Result ReelState AwsFault → Result Between AwsFault
 between_blocks len reel = reel >>= λ r. Ok (record { reel = r; block = None; previous = len })
@@ -90,9 +91,9 @@ inside_block len reel bytes = bytes >>= λ b. Ok (record { reel = reel; block = 
 abbrev pub chunk_after : Between → Kind → List ℕ → Result Between AwsFault
 chunk_after at Mark bytes = between_blocks (length bytes) (marked at.reel)
 chunk_after at Whole bytes = between_blocks (length bytes) (recorded at.reel bytes)
-chunk_after at First bytes = inside_block (length bytes) at.reel (opened bytes)
-chunk_after at Middle bytes = inside_block (length bytes) at.reel (opened (so_far at.block ++ bytes))
-chunk_after at Last bytes = between_blocks (length bytes) (recorded at.reel (so_far at.block ++ bytes))
+chunk_after at First bytes = inside_block (length bytes) at.reel (going_on bytes)
+chunk_after at Middle bytes = inside_block (length bytes) at.reel (going_on (block_so_far at.block ++ bytes))
+chunk_after at Last bytes = between_blocks (length bytes) (recorded at.reel (block_so_far at.block ++ bytes))
 
 -- what a call answers: what the definition gives, out of memory apart
 abbrev pub Answers : {A : Type 0} → Result A AwsFault → Result A AwsFault → Type 0
@@ -101,8 +102,8 @@ Answers given (Err e) = (e ≡ fault.NoMemory → ⊥) → given ≡ Err e
 
 -- what adding data to a block answers
 abbrev pub Joins : List ℕ → Result (Vec ℕ) AwsFault → Type 0
-Joins bytes (Ok v) = opened bytes ≡ Ok v.items
-Joins bytes (Err e) = (e ≡ fault.NoMemory → ⊥) → opened bytes ≡ Err e
+Joins bytes (Ok v) = going_on bytes ≡ Ok v.items
+Joins bytes (Err e) = (e ≡ fault.NoMemory → ⊥) → going_on bytes ≡ Err e
 
 -- ---- THE WHOLE IMAGE
 
@@ -111,10 +112,10 @@ abbrev pub start : ReelState → Between
 start reel = record { reel = reel; block = None; previous = 0 }
 
 -- after its last chunk no block is open
-abbrev pub at_end : Between → Result ReelState AwsFault
-at_end at = if is_some at.block then Err fault.BlockWithoutEnd else Ok at.reel
+abbrev pub image_end : Between → Result ReelState AwsFault
+image_end at = if is_some at.block then Err fault.BlockWithoutEnd else Ok at.reel
 
--- the data that follows a header, of so many bytes
+-- the data that follows a header, of `len` bytes
 abbrev pub data_after : Between → ℕ → List ℕ → Header → Result Between AwsFault
 data_after at len rest header =
     if nat_lt (length rest) len then Err fault.DataCutShort else chunk_after at header.kind (take len rest)
@@ -132,8 +133,8 @@ at_offset offset (Err e) = Err (record { fault = e; offset = offset })
 
 -- the chunks that are left, at most n of them, one after the other; `rest` begins at `offset`
 unfoldable pub read_from : ℕ → ℕ → Between → List ℕ → Result ReelState AwsError
-read_from zero offset at rest = at_offset offset (at_end at)
-read_from (suc n) offset at [] = at_offset offset (at_end at)
+read_from zero offset at rest = at_offset offset (image_end at)
+read_from (suc n) offset at [] = at_offset offset (image_end at)
 read_from (suc n) offset at (byte ∷ rest) =
     at_offset offset (first_after at (byte ∷ rest))
     >>= λ next. read_from n (offset + (6 + len_of (byte ∷ rest))) next (drop (6 + len_of (byte ∷ rest)) (byte ∷ rest))

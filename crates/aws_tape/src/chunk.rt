@@ -2,7 +2,7 @@
 
 ghost use Rattle.std.specs.Prelude.{◌≡◌, ◌<◌, ◌≤◌, length};
 ghost use Rattle.byteorder.specs.Endian.{little_number};
-ghost use Rattle.aws_tape.specs.Chunk.{kind_of, is_digit};
+ghost use Rattle.aws_tape.specs.Chunk.{chunk_kind, is_digit};
 
 use byteorder::{ByteOrder, LittleEndian};
 
@@ -35,7 +35,7 @@ pub struct Header {
 impl Kind {
     /// What a chunk is by byte 4 of its header.
     pub fn decode(flags: u8) -> Option<Self>
-        ensures { result ≡ kind_of flags }
+        ensures { result ≡ chunk_kind flags }
     {
         let kind = match flags {
             0x40 => Kind::Mark,

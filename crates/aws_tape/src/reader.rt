@@ -5,7 +5,7 @@ ghost use Rattle.std.specs.List.{list_all};
 ghost use Rattle.std.specs.Option.{option_map};
 ghost use Rattle.aws_tape.specs.declared.fault.AwsFault.TheVariants.{NoMemory};
 ghost use Rattle.aws_tape.specs.Chunk.{len_of, is_digit};
-ghost use Rattle.aws_tape.specs.Reading.{Answers, Joins, Loads, of_kind, marked, recorded, so_far};
+ghost use Rattle.aws_tape.specs.Reading.{Answers, Joins, Loads, of_kind, marked, recorded, block_so_far};
 
 use crate::chunk::{HEADER, Header, Kind, is_digit, number};
 use crate::fault::{AwsError, AwsFault};
@@ -52,7 +52,7 @@ fn placed(kind: Option<Kind>, len: u16, is_open: bool) -> Result<Header, AwsFaul
 }
 
 impl Reader {
-    ghost use Rattle.aws_tape.specs.Reading.{Answers, start, at_start, is_fake, header_after, chunk_after, data_after, first_after, at_end};
+    ghost use Rattle.aws_tape.specs.Reading.{Answers, start, nothing_read, is_fake, header_after, chunk_after, data_after, first_after, image_end};
 
     /// Reads an image to a tape, after the items there.
     pub fn new(alloc: Global, tape: Recording) -> Self
@@ -68,7 +68,7 @@ impl Reader {
 
     /// Whether nothing was read yet.
     fn is_at_start(&self) -> bool
-        ensures { result ≡ at_start self.now }
+        ensures { result ≡ nothing_read self.now }
     {
         self.tape.used() == 0 && self.block.is_none()
     }
@@ -121,9 +121,9 @@ impl Reader {
             Kind::Mark => (recorded_mark(tape)?, None),
             Kind::Whole => (recorded(tape, data)?, None),
             Kind::First => (tape, Some(joined(Vec::new(alloc), data)?)),
-            Kind::Middle => (tape, Some(joined(so_far(alloc, block), data)?)),
+            Kind::Middle => (tape, Some(joined(block_so_far(alloc, block), data)?)),
             Kind::Last => {
-                let whole = joined(so_far(alloc, block), data)?;
+                let whole = joined(block_so_far(alloc, block), data)?;
                 (recorded(tape, &whole)?, None)
             }
         };
@@ -178,7 +178,7 @@ impl Reader {
     ///
     /// Error: `BlockWithoutEnd`.
     pub fn end(self) -> Result<Recording, AwsFault>
-        ensures { result ≡ at_end self }
+        ensures { result ≡ image_end self }
     {
         if self.block.is_some() {
             return Err(AwsFault::BlockWithoutEnd);
@@ -252,8 +252,8 @@ fn recorded(mut tape: Recording, bytes: &[u8]) -> Result<Recording, AwsFault>
 }
 
 /// The bytes so far of a block.
-fn so_far(alloc: Global, block: Option<Vec<u8>>) -> Vec<u8>
-    ensures { result.items ≡ so_far (option_map (λ v. v.items) block) }
+fn block_so_far(alloc: Global, block: Option<Vec<u8>>) -> Vec<u8>
+    ensures { result.items ≡ block_so_far (option_map (λ v. v.items) block) }
 {
     match block {
         Some(bytes) => bytes,

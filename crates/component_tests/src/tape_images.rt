@@ -3,9 +3,9 @@
 use crate::devices::late_fault;
 use crate::memory::TWICE;
 use crate::tapes::expect_items;
-use aws_tape::{AwsError, AwsFault, load};
+use aws_tape::{AwsError, AwsFault, load, save};
 use device_port::MountError;
-use std::alloc::Global;
+use std::alloc::{AllocError, Global};
 use std::process::Abort;
 use std::test::Fail;
 use tape_unit::Recording;
@@ -91,5 +91,29 @@ fn faults_of_images(rt: HostRuntime) -> Result<(), Fail> {
     expect_fault(&rt, alloc, &IMAGE[..23], AwsFault::BlockWithoutEnd, 23);
     expect_fault(&rt, alloc, &[0, 0, 0, 0, 0xA0, 0], AwsFault::EmptyBlock, 0);
     expect_fault(&rt, alloc, b"00000005000500", AwsFault::FakeTape, 0);
+    Ok(())
+}
+
+/// The image of the same items with one chunk for each block.
+const CANONICAL: [u8; 30] = [
+    3, 0, 0, 0, 0xA0, 0, 0xC1, 0xC2, 0xC3, 0, 0, 3, 0, 0x40, 0, 3, 0, 0, 0, 0xA0, 0, 1, 2, 3, 0, 0,
+    3, 0, 0x40, 0,
+];
+
+/// If memory runs out for a save, the next save succeeds. Run it with each allocation made to fail in turn.
+#[test]
+fn save_without_memory(rt: HostRuntime) -> Result<(), Fail> {
+    let Ok(mut tape) = loaded(rt.alloc(), 64, &IMAGE) else {
+        return Ok(());
+    };
+    tape.cut();
+    let Ok(tape) = tape.mount(rt.alloc(), &[]) else {
+        return Ok(());
+    };
+    let image = match save(rt.alloc(), tape.items()) {
+        Ok(image) => image,
+        Err(AllocError) => save(rt.alloc(), tape.items()).or(Err(TWICE))?,
+    };
+    assert!(rt; image.as_slice() == CANONICAL.as_slice());
     Ok(())
 }

@@ -1,6 +1,6 @@
 //! The tasks of a script.
 
-ghost use Rattle.std.specs.Prelude.{◌≡◌, ℕ, All, vec_len};
+ghost use Rattle.std.specs.Prelude.{◌≡◌, ℕ, ⊤, All, vec_len};
 ghost use Rattle.job_mount.specs.Requests.{CanBeDone};
 
 use crate::job::Job;
@@ -35,6 +35,8 @@ impl<'a> TaskProgram<AnyDevice> for ScriptTasks<'a> {
     type Outcome = Result<Lines, TaskError>;
 
     ghost units = { λ tasks. vec_len tasks.script.now.set_up.units };
+
+    ghost runs = { λ tasks old new outcome. ⊤ };
 
     fn run<S: Site, R: Wait>(
         &self,

@@ -1,6 +1,6 @@
 //! The task: while a block is printed from one buffer, the next is read into the other.
 
-ghost use Rattle.std.specs.Prelude.{◌≡◌, ◌<◌, ◌≤◌};
+ghost use Rattle.std.specs.Prelude.{◌≡◌, ◌<◌, ◌≤◌, ⊤};
 
 use any_device::AnyDevice;
 use anyhow::{Result, bail, ensure};
@@ -26,6 +26,8 @@ impl TaskProgram<AnyDevice> for CopyTape {
     type Outcome = Result<()>;
 
     ghost units = { λ _. 2 };
+
+    ghost runs = { λ _ old new outcome. ⊤ };
 
     fn run<S: Site, R: Wait>(
         &self,

@@ -4,7 +4,8 @@ ghost use Rattle.std.specs.Prelude.{◌≡◌, ◌<◌, ◌≤◌, ◌-◌, ◌^
 ghost use Rattle.std.specs.Arc.{arc_value};
 ghost use Rattle.request_piece.specs.Requests.{request_of};
 ghost use Rattle.excp_system.specs.Calls.{TaskCollects, IntakeWasFull, Issues, PostRowWasEmpty, next_name};
-ghost use Rattle.excp_system.specs.States.{sent_by};
+ghost use Rattle.excp_system.specs.States.{awaited_count, sent_by};
+ghost use Rattle.system_threads.specs.Counting.{HasCounted};
 ghost use Rattle.system_threads.specs.Issuing.{IssueRefused};
 
 use crate::alarm::Alarm;
@@ -33,8 +34,8 @@ pub enum IssueError {
     Full,
 }
 
-/// A task that counts which of its requests it still awaits, and sleeps until the next of them is posted. Contracts see
-/// the task: its number, what it sent to each unit, and what it collected.
+/// A task that counts how many posts it awaits, and sleeps until the next of them is there. Contracts see the task: its
+/// number, what it sent to each unit, and what it collected.
 ///
 /// A run keeps each request as it was issued, in the trace of its unit, until its report is dropped. That of
 /// [`Client::issue`] has a copy of its area, at most 8,192 bytes. Requests of [`Client::issue_over`] share one area, so a
@@ -42,26 +43,34 @@ pub enum IssueError {
 #[derive(Drop)]
 pub struct Client<'r, S: Site> {
     task: Task<'r, S>,
-    awaited: usize,
+    /// How many requests it sent.
+    issued: usize,
+    /// How many posted values it collected.
+    collected: usize,
     parker: Parker,
 }
 
 impl<'r, S: Site> Model for Client<'r, S> {
     ghost use Rattle.excp_system.specs.States.{TaskState};
+    ghost use Rattle.system_threads.specs.Counting.{HasCounted};
 
     ghost Value = { TaskState };
 
     ghost view = { λ c. c.task };
+
+    ghost invariant = { λ c. HasCounted c.task c.issued c.collected };
 }
 
 impl<'r, S: Site> Client<'r, S> {
-    /// The client of a task that awaits no request.
+    /// The client of a task that has sent and collected nothing.
     pub(crate) fn new(alloc: Global, task: Task<'r, S>) -> Result<Client<'r, S>, AllocError>
+        requires { HasCounted task 0 0 }
         ensures { IfOk result (λ client. client ≡ task.entry) }
     {
         Ok(Client {
             task,
-            awaited: 0,
+            issued: 0,
+            collected: 0,
             parker: Parker::new(alloc)?,
         })
     }
@@ -73,14 +82,18 @@ impl<'r, S: Site> Client<'r, S> {
 
     /// The number of the task.
     pub fn number(&self) -> u16
-        ensures { result ≡ self.now.number }
+        ensures is { result ≡ self.now.number }
+        ensures of_site { result < S.rows.tasks }
     {
         self.task.number()
     }
 
-    /// How many of its requests it has issued and not collected.
-    pub fn awaited(&self) -> usize {
-        self.awaited
+    /// How many posts it awaits: the count of the requests that it sent, less that of the posted values that it collected.
+    pub fn awaited(&self) -> usize
+        ensures { result ≡ awaited_count self.now }
+    {
+        self.task.holds();
+        self.issued.saturating_sub(self.collected)
     }
 
     /// The name of the next request to a unit, and none after the last number, 4,294,967,295 (profile).
@@ -102,8 +115,9 @@ impl<'r, S: Site> Client<'r, S> {
         ensures unchanged { OnErr result (self.new ≡ self.old) }
         ensures was_full { OnErr result (IntakeWasFull S.rows self.old request.unit) }
     {
+        self.task.holds();
         self.task.excp(rt, request)?;
-        self.awaited = self.awaited.saturating_add(1);
+        self.issued += 1;
         Ok(())
     }
 
@@ -167,7 +181,7 @@ impl<'r, S: Site> Client<'r, S> {
     ///
     /// If a call of a worker ran out of memory in [`LASTING_TURNS`](crate::LASTING_TURNS) turns in a row, a post may
     /// never come. So if there was none at one moment of the call, it then returns an error, whether a post is awaited
-    /// or not. Else it returns none if none is awaited.
+    /// or not. Else it returns none only if it has collected as many posts as it sent requests.
     pub fn next_post<R: Wait>(
         &mut self,
         rt: &R,
@@ -176,20 +190,22 @@ impl<'r, S: Site> Client<'r, S> {
         ensures collected { IfOk result (λ next. IfSome next (λ posted. TaskCollects self.old posted self.new)) }
         ensures of_unit { IfOk result (λ next. IfSome next (λ posted. posted.unit < S.rows.units)) }
         ensures none { IfOk result (λ next. IfNone next (self.new ≡ self.old)) }
+        ensures awaits_none { IfOk result (λ next. IfNone next (awaited_count self.old ≡ 0)) }
         ensures was_empty { IfOk result (λ next. IfNone next (PostRowWasEmpty S.rows self.old)) }
         ensures unchanged { OnErr result (self.new ≡ self.old) }
         ensures looked { OnErr result (PostRowWasEmpty S.rows self.old) }
     {
+        let awaits_none = self.awaited() == 0;
         let idle = Backoff::new();
         for _ in rt.forever() {
             if let Some(posted) = self.task.take_post(rt) {
-                self.awaited = self.awaited.saturating_sub(1);
+                self.collected = self.collected.saturating_add(1);
                 return Ok(Some(posted));
             }
             if alarm.raised() {
                 return Err(AllocError);
             }
-            if self.awaited == 0 {
+            if awaits_none {
                 break;
             }
             if idle.is_completed() {
@@ -201,8 +217,8 @@ impl<'r, S: Site> Client<'r, S> {
         Ok(None)
     }
 
-    /// The task.
-    pub(crate) fn into_task(self) -> Task<'r, S>
+    /// The task. It takes no memory.
+    pub fn into_task(self) -> Task<'r, S>
         ensures { result ≡ self.entry }
     {
         self.task

@@ -26,5 +26,5 @@ pub use crew::{ChannelWorker, Crew, Workers};
 pub use refusals::LASTING_TURNS;
 pub use run::{run_beside, run_program};
 pub use run_error::RunError;
-pub use runner::{PartsRoom, Runner, parted, runners};
+pub use runner::{NoThread, PartsRoom, Runner, parted, runners};
 pub use task_program::TaskProgram;

@@ -1,6 +1,6 @@
 //! How often in a row the calls of workers run out of memory.
 
-ghost use Rattle.std.specs.Prelude.{◌≡◌, ◌<◌};
+ghost use Rattle.std.specs.Prelude.{◌≡◌, ◌<◌, ◌≤◌, ◌+◌, ◌-◌, ◌^◌, ◌↔◌, IsTrue, false, min, true};
 ghost use Rattle.system_threads.specs.Turns.{IsOwnPlace, call_number, place_at};
 
 use excp_system::Point;
@@ -16,11 +16,65 @@ const MOST_UNITS: usize = 64;
 /// How many calls a worker makes.
 const POINTS: usize = 5;
 
-/// One call on one unit: in how many turns in a row it ran out of memory, and whether it is made again since.
+/// What is counted of one call on one unit: in how many turns in a row it ran out of memory, and whether it is made
+/// again since.
+#[derive(Clone, Copy)]
+struct Count {
+    turns: u32,
+    is_made: bool,
+}
+
+impl Count {
+    /// The count as the call is about to be made. If the call had memory the last time, the count begins again.
+    fn begun(self) -> Count
+        ensures again { self.is_made ≡ true → result.turns ≡ 0 }
+        ensures kept { self.is_made ≡ false → result.turns ≡ self.turns }
+        ensures made { result.is_made ≡ true }
+    {
+        Count {
+            turns: if self.is_made { 0 } else { self.turns },
+            is_made: true,
+        }
+    }
+
+    /// The count after the call ran out of memory once more.
+    fn refused(self) -> Count
+        ensures turns { result.turns ≡ min (self.turns + 1) (2 ^ 32 - 1) }
+        ensures unmade { result.is_made ≡ false }
+    {
+        Count {
+            turns: self.turns.saturating_add(1),
+            is_made: false,
+        }
+    }
+
+    /// Whether the call ran out of memory in [`LASTING_TURNS`] turns in a row.
+    fn is_lasting(self) -> bool
+        ensures { IsTrue result ↔ (LASTING_TURNS ≤ self.turns) }
+    {
+        self.turns >= LASTING_TURNS
+    }
+}
+
+/// The count of one call on one unit, which one thread after another has under the unit's lock.
 #[derive(Drop)]
 struct Tries {
-    refused: AtomicU32,
+    turns: AtomicU32,
     is_made: AtomicBool,
+}
+
+impl Tries {
+    fn load(&self) -> Count {
+        Count {
+            turns: self.turns.load(Ordering::SeqCst),
+            is_made: self.is_made.load(Ordering::SeqCst),
+        }
+    }
+
+    fn store(&self, count: Count) {
+        self.turns.store(count.turns, Ordering::SeqCst);
+        self.is_made.store(count.is_made, Ordering::SeqCst);
+    }
 }
 
 /// Counts, for each call on each unit, the turns in a row in which it ran out of memory. The calls on a unit come one
@@ -36,7 +90,7 @@ impl Refusals {
         let mut calls = Vec::with_capacity(alloc, MOST_UNITS * POINTS)?;
         for _ in 0..MOST_UNITS * POINTS {
             calls.push(Tries {
-                refused: AtomicU32::new(0),
+                turns: AtomicU32::new(0),
                 is_made: AtomicBool::new(false),
             })?;
         }
@@ -48,11 +102,10 @@ impl Refusals {
         let Some(tries) = self.calls.get(place_of(unit, point)) else {
             return;
         };
-        if tries.refused.load(Ordering::SeqCst) == 0 {
-            return;
-        }
-        if tries.is_made.swap(true, Ordering::SeqCst) {
-            tries.refused.store(0, Ordering::SeqCst);
+        let count = tries.load();
+        // a call that has memory each time writes nothing
+        if count.turns > 0 {
+            tries.store(count.begun());
         }
     }
 
@@ -61,10 +114,9 @@ impl Refusals {
         let Some(tries) = self.calls.get(place_of(unit, point)) else {
             return true;
         };
-        tries.is_made.store(false, Ordering::SeqCst);
-        let refused = tries.refused.load(Ordering::SeqCst).saturating_add(1);
-        tries.refused.store(refused, Ordering::SeqCst);
-        refused >= LASTING_TURNS
+        let count = tries.load().refused();
+        tries.store(count);
+        count.is_lasting()
     }
 }
 

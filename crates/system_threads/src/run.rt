@@ -1,14 +1,16 @@
 //! A run: the tasks of a system, each on a thread of its own, beside its workers.
 
-ghost use Rattle.std.specs.Prelude.{◌≡◌, ◌<◌, All, IfOk, is_some, length, true};
+ghost use Rattle.std.specs.Prelude.{◌≡◌, ◌<◌, All, IfErr, IfOk, is_some, length, map, true};
 ghost use Rattle.excp_system.specs.Drained.{ArePlaced};
 ghost use Rattle.excp_system.specs.Opening.{AreBooks, AreFresh, site_of};
-ghost use Rattle.post_ledger.specs.Report.{AreIdle, AreLegal, IsFor};
+ghost use Rattle.post_ledger.specs.Parting.{Paired};
+ghost use Rattle.post_ledger.specs.Report.{AreIdle, AreLegal, IsFor, PostedOnce, Received, Returned};
+ghost use Rattle.system_threads.specs.Running.{Accounts, HasRun};
 
 use crate::alarm::Alarm;
 use crate::crew::{Crew, Workers, start};
 use crate::run_error::RunError;
-use crate::runner::{PartsRoom, Runner, parted, runners};
+use crate::runner::{NoThread, PartsRoom, Runner, parted, runners};
 use crate::task_program::TaskProgram;
 use device_port::Device;
 use excp_system::{Gate, IscTaker, Rows, Site, Stop, System, Task};
@@ -25,7 +27,7 @@ const MOST_TASKS: usize = 64;
 
 /// Runs the tasks of a system of these rows and books by a program, beside these workers, and brings the run to its
 /// end. Returns the report of the run, which holds all posts that the tasks have not collected. With it, in order of
-/// tasks, it returns what each has left behind.
+/// tasks, it returns what each has left behind. The report accounts for what these tasks did.
 ///
 /// A worker that runs out of memory tries the call again at its next turn, and nothing is lost. If the same call on a
 /// unit runs out of memory in [`LASTING_TURNS`](crate::LASTING_TURNS) turns in a row, the tasks are woken, and their
@@ -54,6 +56,7 @@ pub fn run_program<D: Device + Send + Sync, P: TaskProgram<D>, R: Threads + Wait
     ensures legal { IfOk result (λ done. AreLegal D.meaning done.0) }
     ensures idle { IfOk result (λ done. AreIdle done.0) }
     ensures outcomes { IfOk result (λ done. length done.1.items ≡ rows.tasks) }
+    ensures accounts { IfOk result (λ done. Accounts D.meaning (P.runs program.now) rows.units rows.tasks done.0 done.1.items) }
 {
     run_at::<Brand, D, P, R>(rt, alloc, &mut rows, books, workers, program)
 }
@@ -80,6 +83,7 @@ fn run_at<
     ensures legal { IfOk result (λ done. AreLegal D.meaning done.0) }
     ensures idle { IfOk result (λ done. AreIdle done.0) }
     ensures outcomes { IfOk result (λ done. length done.1.items ≡ S.rows.tasks) }
+    ensures accounts { IfOk result (λ done. Accounts D.meaning (P.runs program.now) S.rows.units S.rows.tasks done.0 done.1.items) }
 {
     let units = rows.units();
     let used = subclasses_of(books.as_slice());
@@ -96,8 +100,8 @@ fn run_at<
 }
 
 /// Which interruption subclasses the units of these books have. To the others no notice comes.
-fn subclasses_of<D: Device>(books: &[UnitBook<D>]) -> [bool; 256] {
-    let mut used = [false; 256];
+fn subclasses_of<D: Device>(books: &[UnitBook<D>]) -> [bool; 8] {
+    let mut used = [false; 8];
     for book in books {
         used[usize::from(book.isc())] = true;
     }
@@ -105,7 +109,7 @@ fn subclasses_of<D: Device>(books: &[UnitBook<D>]) -> [bool; 256] {
 }
 
 /// Whether a taker of notices is of one of these subclasses.
-fn is_used<S: Site>(used: &[bool; 256], taker: &IscTaker<'_, S>) -> bool {
+fn is_used<S: Site>(used: &[bool; 8], taker: &IscTaker<'_, S>) -> bool {
     used[usize::from(taker.isc())]
 }
 
@@ -120,6 +124,9 @@ fn brought_to_end<'r, S: Site, D: Device, R: Wait>(
     ensures complete { IfOk result (λ report. IsFor S.rows.units S.rows.tasks report) }
     ensures legal { IfOk result (λ report. AreLegal D.meaning report) }
     ensures idle { IfOk result (λ report. AreIdle report) }
+    ensures received { IfOk result (λ report. Received report tasks.entry.items) }
+    ensures posted_once { IfOk result (λ report. PostedOnce report tasks.entry.items) }
+    ensures returned { IfOk result (λ report. Returned D.meaning report tasks.entry.items) }
 {
     let left = match finish(rt, alloc, system, tasks) {
         Ok(report) => return Ok(report),
@@ -133,8 +140,8 @@ fn brought_to_end<'r, S: Site, D: Device, R: Wait>(
 
 /// Runs all tasks by the program beside the workers, which pass this gate, and stops and joins these. The gate has to
 /// hand on each of its calls to the alarm, which counts the turns without memory and wakes the tasks; the alarm has to
-/// be [`Alarm::of`] these runners. If no thread can be made for a worker, no task runs, and the answer is
-/// [`RunError::NoThread`].
+/// be [`Alarm::of`] these runners. If no thread can be made for a worker, no task runs, and the runners come back. The
+/// crew does not: workers that were started have its takers until they end.
 pub fn run_beside<
     'r,
     S: Site + Send + Sync,
@@ -151,11 +158,13 @@ pub fn run_beside<
     crew: Crew<'r, S>,
     runners: Vec<Runner<'r, S, P::Outcome>>,
     program: &P,
-) -> Result<Vec<Runner<'r, S, P::Outcome>>, RunError>
+) -> Result<Vec<Runner<'r, S, P::Outcome>>, NoThread<'r, S, P::Outcome>>
     requires placed { ArePlaced (λ runner. runner.client.number) S.rows.tasks runners.items }
     requires units { S.rows.units ≡ P.units program.now }
     ensures placed { IfOk result (λ after. ArePlaced (λ runner. runner.client.number) S.rows.tasks after.items) }
     ensures ran { IfOk result (λ after. All (λ runner. is_some runner.outcome ≡ true) after.items) }
+    ensures runs { IfOk result (λ after. Paired (λ old new. HasRun (P.runs program.now) old.client new.client new.outcome) runners.entry.items after.items) }
+    ensures handed_back { IfErr result (λ refused. refused.runners.items ≡ runners.entry.items) }
 {
     let Crew { channels, handlers } = crew;
     let channels = channels.as_slice();
@@ -164,30 +173,56 @@ pub fn run_beside<
     thread::scope(
         thread::scope_env(),
         rt,
-        move |scope| -> Result<Vec<Runner<'_, S, P::Outcome>>, RunError>
+        move |scope| -> Result<Vec<Runner<'_, S, P::Outcome>>, NoThread<'_, S, P::Outcome>>
             requires placed { ArePlaced (λ runner. runner.client.number) S.rows.tasks runners.items }
             requires units { S.rows.units ≡ P.units program.now }
             ensures placed { IfOk result (λ after. ArePlaced (λ runner. runner.client.number) S.rows.tasks after.items) }
             ensures ran { IfOk result (λ after. All (λ runner. is_some runner.outcome ≡ true) after.items) }
+            ensures runs { IfOk result (λ after. Paired (λ old new. HasRun (P.runs program.entry.now) old.client new.client new.outcome) runners.entry.items after.items) }
+            ensures handed_back { IfErr result (λ refused. refused.runners.items ≡ runners.entry.items) }
         {
-            let mut runners = runners;
-            if let Err(error) = start(rt, alloc, scope, system, gate, channels, handlers, stop) {
+            if start(rt, alloc, scope, system, gate, channels, handlers, stop).is_err() {
                 stop.raise();
-                return Err(error);
+                return Err(NoThread { runners });
             }
-            run_each(
-                rt,
-                alloc,
-                system,
-                alarm,
-                runners.as_mut_slice(),
-                MOST_TASKS,
-                program,
-            );
+            let runners = run_all(rt, alloc, system, alarm, runners, program);
             stop.raise();
             Ok(runners)
         },
     )
+}
+
+/// Runs all tasks by the program.
+fn run_all<
+    'r,
+    S: Site + Send + Sync,
+    D: Device + Send + Sync,
+    P: TaskProgram<D>,
+    R: Threads + Wait + Sync,
+>(
+    rt: &R,
+    alloc: Global,
+    system: &System<'_, S, D>,
+    alarm: &Alarm,
+    mut runners: Vec<Runner<'r, S, P::Outcome>>,
+    program: &P,
+) -> Vec<Runner<'r, S, P::Outcome>>
+    requires placed { ArePlaced (λ runner. runner.client.number) S.rows.tasks runners.items }
+    requires units { S.rows.units ≡ P.units program.now }
+    ensures placed { ArePlaced (λ runner. runner.client.number) S.rows.tasks result.items }
+    ensures ran { All (λ runner. is_some runner.outcome ≡ true) result.items }
+    ensures runs { Paired (λ old new. HasRun (P.runs program.now) old.client new.client new.outcome) runners.entry.items result.items }
+{
+    run_each(
+        rt,
+        alloc,
+        system,
+        alarm,
+        runners.as_mut_slice(),
+        MOST_TASKS,
+        program,
+    );
+    runners
 }
 
 /// Runs all tasks by the program in at most `threads` threads.
@@ -211,6 +246,7 @@ fn run_each<
     requires units { S.rows.units ≡ P.units program.now }
     ensures placed { ArePlaced (λ runner. runner.client.number) S.rows.tasks runners.new }
     ensures ran { All (λ runner. is_some runner.outcome ≡ true) runners.new }
+    ensures runs { Paired (λ old new. HasRun (P.runs program.now) old.client new.client new.outcome) runners.old runners.new }
 {
     thread::for_each_mut(
         rt,
@@ -220,6 +256,7 @@ fn run_each<
             requires { S.rows.units ≡ P.units program.now }
             ensures number { runner.exit.now.client.number ≡ runner.entry.now.client.number }
             ensures ran { is_some runner.exit.now.outcome ≡ true }
+            ensures runs { HasRun (P.runs program.entry.now) runner.entry.now.client runner.exit.now.client runner.exit.now.outcome }
         { run_one(rt, alloc, system, alarm, runner, program) },
     );
 }
@@ -236,6 +273,7 @@ fn run_one<'r, S: Site, D: Device, P: TaskProgram<D>, R: Wait>(
     requires { S.rows.units ≡ P.units program.now }
     ensures number { runner.new.client.number ≡ runner.old.client.number }
     ensures ran { is_some runner.new.outcome ≡ true }
+    ensures runs { HasRun (P.runs program.now) runner.old.client runner.new.client runner.new.outcome }
 {
     let outcome = program.run(rt, alloc, system, alarm, &mut runner.client);
     runner.outcome = Some(outcome);

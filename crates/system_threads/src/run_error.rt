@@ -1,5 +1,7 @@
 //! Why a run ends without a report.
 
+use crate::runner::NoThread;
+use excp_system::Site;
 use post_ledger::Cause;
 use std::alloc::{AllocError, AllocFailed};
 use thiserror::Error;
@@ -23,6 +25,12 @@ impl From<Cause> for RunError {
             Cause::NoMemory => RunError::NoMemory,
             Cause::Mixed => RunError::Mixed,
         }
+    }
+}
+
+impl<'r, S: Site, O: Drop> From<NoThread<'r, S, O>> for RunError {
+    fn from(_: NoThread<'r, S, O>) -> Self {
+        RunError::NoThread
     }
 }
 

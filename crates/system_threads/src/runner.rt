@@ -1,6 +1,6 @@
 //! The tasks of a system before a run and after it.
 
-ghost use Rattle.std.specs.Prelude.{◌≡◌, ◌≤◌, [], All, IfOk, is_some, length, true, vec_capacity};
+ghost use Rattle.std.specs.Prelude.{◌≡◌, ◌≤◌, [], All, IfOk, Some, is_some, length, map, true, vec_capacity};
 ghost use Rattle.excp_system.specs.Drained.{ArePlaced};
 ghost use Rattle.excp_system.specs.Opening.{AreTasks};
 
@@ -15,13 +15,20 @@ pub struct Runner<'r, S: Site, O> {
     pub outcome: Option<O>,
 }
 
+/// No thread can be made for a worker. The runners, whose tasks did not run.
+#[derive(Drop)]
+pub struct NoThread<'r, S: Site, O> {
+    pub runners: Vec<Runner<'r, S, O>>,
+}
+
 /// The clients of the tasks of a system, which have not run yet.
 pub fn runners<'r, S: Site, O: Drop>(
     alloc: Global,
     tasks: Vec<Task<'r, S>>,
 ) -> Result<Vec<Runner<'r, S, O>>, AllocError>
     requires { AreTasks S.rows.tasks S.rows.units tasks.items }
-    ensures { IfOk result (λ runners. ArePlaced (λ runner. runner.client.number) S.rows.tasks runners.items) }
+    ensures clients { IfOk result (λ runners. map (λ runner. runner.client) runners.items ≡ tasks.entry.items) }
+    ensures placed { IfOk result (λ runners. ArePlaced (λ runner. runner.client.number) S.rows.tasks runners.items) }
 {
     let mut runners = Vec::with_capacity(alloc, tasks.len())?;
     for task in tasks {
@@ -56,16 +63,18 @@ impl<'r, S: Site, O: Drop> PartsRoom<'r, S, O> {
     }
 }
 
-/// The tasks of runners whose programs have ended, and what each has left behind, both in order of number. It takes no
-/// memory.
+/// The tasks of runners whose programs have ended, and what each has left behind, both in the order of the runners. It
+/// takes no memory.
 pub fn parted<'r, S: Site, O: Drop>(
     runners: Vec<Runner<'r, S, O>>,
     room: PartsRoom<'r, S, O>,
 ) -> (Vec<Task<'r, S>>, Vec<O>)
     requires placed { ArePlaced (λ runner. runner.client.number) S.rows.tasks runners.items }
     requires ran { All (λ runner. is_some runner.outcome ≡ true) runners.items }
-    ensures tasks { ArePlaced (λ task. task.number) S.rows.tasks result.0.items }
-    ensures outcomes { length result.1.items ≡ S.rows.tasks }
+    ensures tasks { result.0.items ≡ map (λ runner. runner.client) runners.entry.items }
+    ensures outcomes { map Some result.1.items ≡ map (λ runner. runner.outcome) runners.entry.items }
+    ensures placed { ArePlaced (λ task. task.number) S.rows.tasks result.0.items }
+    ensures count { length result.1.items ≡ S.rows.tasks }
 {
     let PartsRoom {
         mut tasks,

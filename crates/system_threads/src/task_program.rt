@@ -19,8 +19,13 @@ pub trait TaskProgram<D: Device>: Sync {
     /// What a task leaves behind when it has ended.
     type Outcome: Send + Drop;
 
+    ghost use Rattle.excp_system.specs.States.{TaskState};
+
     // the number of units that it is written for
     ghost units: { Self → ℕ };
+
+    // what a task does: what it has sent and collected before and after its run, and what it leaves behind
+    ghost runs: { Self → TaskState → TaskState → Self.Outcome → Type 0 };
 
     /// Runs a task to its end. By the client it issues requests and collects their posts; by the system it may purge,
     /// close and reset (who delivers a post there has to tell the alarm, or its task sleeps on). The number of the client
@@ -34,5 +39,6 @@ pub trait TaskProgram<D: Device>: Sync {
         client: &mut Client<'_, S>,
     ) -> Self::Outcome
         requires { S.rows.units ≡ units self.now }
-        ensures { client.new.number ≡ client.old.number };
+        ensures number { client.new.number ≡ client.old.number }
+        ensures runs { runs self.now client.old client.new result };
 }

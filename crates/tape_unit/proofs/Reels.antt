@@ -7,9 +7,9 @@ use Rattle.device_port.specs.Packed.{items_at, image_of, Begins}
 use Rattle.device_port.proofs.Items.{Packs, packs-held, held-packs, length-written, begins_at, cut_at, offset_of-within, offset_of-all}
 use Rattle.device_port.proofs.Items.{offset_of-more, image_of-push, used-within, item_put, Fits-at, size_at-begins, begins-within}
 use Rattle.tape_unit.specs.declared.position.Position.{Position}
-use Rattle.tape_unit.specs.Item.{Item, tape_mark, is_item, content_of, size_of, length_of, length_at, packed, on_tape}
+use Rattle.tape_unit.specs.Item.{Item, tape_mark, is_item, content_of, size_of, length_bytes, length_at, packed, on_tape}
 use Rattle.tape_unit.specs.Reel.{ReelState, HoldsReel, IsOn, longest_reel, item_of, bytes_before, with_item_at}
-use Rattle.tape_unit.proofs.Spelled.{reads, wide, length-packed, length-length_of, length_at-length_of}
+use Rattle.tape_unit.proofs.Spelled.{reads, wide, length-packed, length-length_bytes, length_at-length_bytes}
 
 -- the reel that a buffer is seen as
 abbrev pub seen : List ℕ → ℕ → ReelState
@@ -133,9 +133,9 @@ pub record Before (items : List Item) (bytes : List ℕ) (at : Position) : Type 
 
 -- a buffer that ends in an item and its rest
 split_before : (front back : List ℕ) (x : Item) →
-    (front ++ packed x) ++ back ≡ (front ++ (length_of x ++ content_of x)) ++ (length_of x ++ back)
+    (front ++ packed x) ++ back ≡ (front ++ (length_bytes x ++ content_of x)) ++ (length_bytes x ++ back)
 split_before front back x =
-    let word = length_of x in
+    let word = length_bytes x in
     let bytes = content_of x in
     ap (λ (l : List ℕ). (front ++ l) ++ back) (sym (append_assoc word bytes word))
     ∙ ap (λ (l : List ℕ). l ++ back) (sym (append_assoc front (word ++ bytes) word))
@@ -155,26 +155,26 @@ before reel bytes used count at h e on some =
     let back = image_of on_tape (drop at.place items) ++ s.packs.unused in
     let taken : take at.place items ≡ take last items ++ x ∷ [] =
     ap (λ (n : ℕ). take n items) (sym next) ∙ take_more items last tape_mark lt in
-    let parts : bytes ≡ (front ++ (length_of x ++ content_of x)) ++ (length_of x ++ back) =
+    let parts : bytes ≡ (front ++ (length_bytes x ++ content_of x)) ++ (length_bytes x ++ back) =
     cut_at on_tape items bytes used count at.place s.packs
     ∙ ap (λ (l : List Item). image_of on_tape l ++ back) taken
     ∙ ap (λ (l : List ℕ). l ++ back) (image_of-push on_tape (take last items) x)
     ∙ split_before front back x in
     let size : at.offset ≡ bytes_before items last + size_of x =
     on.before ∙ ap (bytes_before items) (sym next) ∙ bytes_before-next items last lt in
-    let here : length (front ++ (length_of x ++ content_of x)) ≡ at.offset - 2 = omega (
+    let here : length (front ++ (length_bytes x ++ content_of x)) ≡ at.offset - 2 = omega (
       arith,
-      length-append front (length_of x ++ content_of x),
-      length-append (length_of x) (content_of x),
-      length-length_of x,
+      length-append front (length_bytes x ++ content_of x),
+      length-append (length_bytes x) (content_of x),
+      length-length_bytes x,
       size,
     ) in
     record {
       fits = fits;
       size = size;
       read = ap (λ (l : List ℕ). length_at (drop (at.offset - 2) l)) parts
-          ∙ ap length_at (drop_at (front ++ (length_of x ++ content_of x)) (length_of x ++ back) (at.offset - 2) here)
-          ∙ length_at-length_of x back fits;
+          ∙ ap length_at (drop_at (front ++ (length_bytes x ++ content_of x)) (length_bytes x ++ back) (at.offset - 2) here)
+          ∙ length_at-length_bytes x back fits;
     }
 
 -- ---- writes

@@ -9,7 +9,8 @@ use Rattle.byteorder.specs.Numbers.{big_number-reads_back, length-bytes_high_fir
 use Rattle.device_port.specs.Moves.{padded, written}
 use Rattle.device_port.specs.Packed.{ReadsBack, image_of}
 use Rattle.device_port.proofs.Items.{written-written, length-written}
-use Rattle.tape_unit.specs.Item.{Item, tape_mark, block, content_of, item_with, is_item, size_of, length_of, packed, length_at, item_at, on_tape}
+use Rattle.tape_unit.specs.Item.{Item, tape_mark, block, content_of, item_with, is_item}
+use Rattle.tape_unit.specs.Item.{size_of, length_bytes, packed, length_at, item_at, on_tape}
 use Rattle.tape_unit.specs.Reel.{bytes_of}
 
 pub short : (x : Item) → is_item x ≡ true → length (content_of x) ≤ 65_535
@@ -22,12 +23,12 @@ some bytes fits = grind (arith, nat_tests, fits)
 pub block_fits : (bytes : List ℕ) → 1 ≤ length bytes → length bytes ≤ 65_535 → is_item (block bytes) ≡ true
 block_fits bytes some short = grind (arith, nat_tests)
 
-pub length-length_of : (x : Item) → length (length_of x) ≡ 2
-length-length_of x = length-bytes_high_first 2 (length (content_of x))
+pub length-length_bytes : (x : Item) → length (length_bytes x) ≡ 2
+length-length_bytes x = length-bytes_high_first 2 (length (content_of x))
 
 pub length-packed : (x : Item) → length (packed x) ≡ size_of x
-length-packed x = length-append (length_of x) (content_of x ++ length_of x)
-    ∙ omega (arith, length-append (content_of x) (length_of x), length-length_of x)
+length-packed x = length-append (length_bytes x) (content_of x ++ length_bytes x)
+    ∙ omega (arith, length-append (content_of x) (length_bytes x), length-length_bytes x)
 
 -- an item is what its data says
 pub item_with-content : (x : Item) → is_item x ≡ true → item_with (content_of x) ≡ x
@@ -45,27 +46,28 @@ item_with-fits [] short = refl
 item_with-fits (byte ∷ bytes) short = block_fits (byte ∷ bytes) (omega arith) short
 
 -- what follows the first length of an item
-pub regrouped : (x : Item) (rest : List ℕ) → packed x ++ rest ≡ length_of x ++ (content_of x ++ (length_of x ++ rest))
-regrouped x rest = append_assoc (length_of x) (content_of x ++ length_of x) rest
-    ∙ ap (λ (l : List ℕ). length_of x ++ l) (append_assoc (content_of x) (length_of x) rest)
+pub regrouped : (x : Item) (rest : List ℕ) → packed x ++ rest ≡ length_bytes x ++ (content_of x ++ (length_bytes x ++ rest))
+regrouped x rest = append_assoc (length_bytes x) (content_of x ++ length_bytes x) rest
+    ∙ ap (λ (l : List ℕ). length_bytes x ++ l) (append_assoc (content_of x) (length_bytes x) rest)
 
-pub length_at-length_of : (x : Item) (rest : List ℕ) → is_item x ≡ true → length_at (length_of x ++ rest) ≡ length (content_of x)
-length_at-length_of x rest fits =
+pub length_at-length_bytes : (x : Item) (rest : List ℕ) → is_item x ≡ true → length_at (length_bytes x ++ rest) ≡ length (content_of x)
+length_at-length_bytes x rest fits =
     let small = short x fits in
     big_number-reads_back 2 (length (content_of x)) rest (omega arith)
 
 pub length_at-packed : (x : Item) (rest : List ℕ) → is_item x ≡ true → length_at (packed x ++ rest) ≡ length (content_of x)
-length_at-packed x rest fits = ap length_at (regrouped x rest) ∙ length_at-length_of x (content_of x ++ (length_of x ++ rest)) fits
+length_at-packed x rest fits = ap length_at (regrouped x rest) ∙ length_at-length_bytes x (content_of x ++ (length_bytes x ++ rest)) fits
 
-pub drop-length_of : (x : Item) (rest : List ℕ) → drop 2 (packed x ++ rest) ≡ content_of x ++ (length_of x ++ rest)
-drop-length_of x rest = ap (drop 2) (regrouped x rest) ∙ drop_at (length_of x) (content_of x ++ (length_of x ++ rest)) 2 (length-length_of x)
+pub drop-length_bytes : (x : Item) (rest : List ℕ) → drop 2 (packed x ++ rest) ≡ content_of x ++ (length_bytes x ++ rest)
+drop-length_bytes x rest = ap (drop 2) (regrouped x rest)
+    ∙ drop_at (length_bytes x) (content_of x ++ (length_bytes x ++ rest)) 2 (length-length_bytes x)
 
 item_at-packed : (x : Item) (rest : List ℕ) → is_item x ≡ true → item_at (packed x ++ rest) ≡ x
 unfolding item_at
 item_at-packed x rest fits =
     ap (λ (n : ℕ). item_with (take n (drop 2 (packed x ++ rest)))) (length_at-packed x rest fits)
-    ∙ ap (λ (l : List ℕ). item_with (take (length (content_of x)) l)) (drop-length_of x rest)
-    ∙ ap item_with (take_at (content_of x) (length_of x ++ rest) (length (content_of x)) refl)
+    ∙ ap (λ (l : List ℕ). item_with (take (length (content_of x)) l)) (drop-length_bytes x rest)
+    ∙ ap item_with (take_at (content_of x) (length_bytes x ++ rest) (length (content_of x)) refl)
     ∙ item_with-content x fits
 
 -- THE LAWS OF THE SPELLING

@@ -32,12 +32,12 @@ abbrev pub size_of : Item → ℕ
 size_of x = 4 + length (content_of x)
 
 -- its length in two bytes, the highest first; a tape mark's is zero (profile)
-abbrev pub length_of : Item → List ℕ
-length_of x = big_bytes 2 (length (content_of x))
+abbrev pub length_bytes : Item → List ℕ
+length_bytes x = big_bytes 2 (length (content_of x))
 
 -- the bytes themselves: the length is before the data and after it, so that the tape moves either way (profile)
 abbrev pub packed : Item → List ℕ
-packed x = length_of x ++ (content_of x ++ length_of x)
+packed x = length_bytes x ++ (content_of x ++ length_bytes x)
 
 -- the length that bytes begin with
 abbrev pub length_at : List ℕ → ℕ

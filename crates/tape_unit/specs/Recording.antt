@@ -16,28 +16,28 @@ abbrev pub is_recordable : ℕ → Bool
 is_recordable bytes = nat_le bytes longest_reel
 
 -- WHAT BEGINNING ANSWERS: a reel without items
-abbrev pub Begins : ℕ → Result ReelState RecordingError → Type 0
-Begins bytes (Ok reel) = (is_recordable bytes ≡ true) × (reel ≡ record { size = bytes; items = [] })
-Begins bytes (Err recording.BadSize) = is_recordable bytes ≡ false
-Begins bytes (Err recording.BadBlock) = ⊥
-Begins bytes (Err recording.Full) = ⊥
-Begins bytes (Err recording.NoMemory) = ⊥
+abbrev pub BeginsRecording : ℕ → Result ReelState RecordingError → Type 0
+BeginsRecording bytes (Ok reel) = (is_recordable bytes ≡ true) × (reel ≡ record { size = bytes; items = [] })
+BeginsRecording bytes (Err recording.BadSize) = is_recordable bytes ≡ false
+BeginsRecording bytes (Err recording.BadBlock) = ⊥
+BeginsRecording bytes (Err recording.Full) = ⊥
+BeginsRecording bytes (Err recording.NoMemory) = ⊥
 
 -- the reel with one more item
 abbrev pub with_item : ReelState → Item → ReelState
 with_item reel x = record { size = reel.size; items = reel.items ++ x ∷ [] }
 
 -- whether it fits after those there
-abbrev pub has_room : ReelState → Item → Bool
-has_room reel x = has_room_at reel (length reel.items) (length (content_of x))
+abbrev pub takes_item : ReelState → Item → Bool
+takes_item reel x = has_room_at reel (length reel.items) (length (content_of x))
 
 -- WHAT RECORDING AN ITEM ANSWERS: the first reason that holds, if it is not recorded
 abbrev pub Records : ReelState → Item → {A : Type 0} → Result A RecordingError → Type 0
-Records reel x (Ok done) = (is_item x ≡ true) × (has_room reel x ≡ true)
+Records reel x (Ok done) = (is_item x ≡ true) × (takes_item reel x ≡ true)
 Records reel x (Err recording.BadSize) = ⊥
 Records reel x (Err recording.BadBlock) = is_item x ≡ false
-Records reel x (Err recording.Full) = (is_item x ≡ true) × (has_room reel x ≡ false)
-Records reel x (Err recording.NoMemory) = (is_item x ≡ true) × (has_room reel x ≡ true)
+Records reel x (Err recording.Full) = (is_item x ≡ true) × (takes_item reel x ≡ false)
+Records reel x (Err recording.NoMemory) = (is_item x ≡ true) × (takes_item reel x ≡ true)
 
 -- a reel cut after its last item
 abbrev pub cut : ReelState → ReelState

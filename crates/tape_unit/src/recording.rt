@@ -51,13 +51,13 @@ impl Model for Recording {
 }
 
 impl Recording {
-    ghost use Rattle.tape_unit.specs.Recording.{Begins, Records, MountsReel, with_item, cut};
+    ghost use Rattle.tape_unit.specs.Recording.{BeginsRecording, Records, MountsReel, with_item, cut};
 
     /// A tape of `bytes` bytes with no item yet.
     ///
     /// Error: `BadSize` if it is to have more than 4 GiB.
     pub fn new(alloc: Global, bytes: u64) -> Result<Self, RecordingError>
-        ensures { Begins bytes result }
+        ensures { BeginsRecording bytes result }
     {
         if bytes > LONGEST_REEL {
             return Err(RecordingError::BadSize);

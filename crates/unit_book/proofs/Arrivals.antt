@@ -26,17 +26,11 @@ module _ {D : Type 0} (meaning : Meaning D) (mounted : D) where
   ties-arrive {r} {held} {o} h p t =
       let f = facts meaning mounted held.trace t.legal in
       let new = fresh r held.trace f (fits-freely meaning mounted (Arrive r) held.trace refl h).1 in
-      record {
-        legal = (h, t.legal);
-        queue = ap (λ q. q ++ r ∷ []) t.queue ∙ sym (waiting-arrive r held.trace f new);
-        placed = Each-behind Placed held.waiting r t.placed p;
-        device = t.device;
-        activity = activity-same meaning mounted (Arrive r ∷ held.trace) t refl
-            (λ n a. silent r n held.trace new (f.0 n (active-is n held.trace a).0));
-        count = t.count;
-        dcbs = t.dcbs;
-        out = t.out;
-      }
+      let queue' = ap (λ q. q ++ r ∷ []) t.queue ∙ sym (waiting-arrive r held.trace f new) in
+      let placed' = Each-behind Placed held.waiting r t.placed p in
+      let activity' = activity-same meaning mounted (Arrive r ∷ held.trace) t refl (λ n a. silent r n held.trace new (f.0 n (active-is n
+      held.trace a).0)) in
+      assumption
 
 -- A request that is doomed where it arrives.
 

@@ -1,10 +1,9 @@
 -- A purge with Halt that covers the active request, which awaits its restart: what waits is posted first, then it.
-use Rattle.unit_book.proofs.Names.{BookFields, ◌≡◌, Bool, true, false, not, ◌&&◌, Option, Some, None, List, [], ◌∷◌, ◌++◌, append_assoc}
-use Rattle.unit_book.proofs.Names.{map, refl, sym, ap, ◌∙◌, filter, is_some, Status, Purged, Meaning, Channel}
-use Rattle.unit_book.proofs.Names.{Phase, Idle, Pending, Retry, PostedState, Name, Piece, covers, Scope, Active, Standing}
-use Rattle.unit_book.proofs.Names.{OnChannel, AwaitsRestart, Dcb, Mode, Entry, Purge, Post, waiting, active, is_halt, doomed}
-use Rattle.unit_book.proofs.Names.{active_phase, HasEnded, due, Free, doomed_first, CanPurge, PostsActive}
-use Rattle.unit_book.proofs.Names.{all_posted, after_dooms, purged, posted, posted_since, posted_value, running_name_by, active_of}
+use Rattle.unit_book.proofs.Names.{BookFields, ◌≡◌, true, false, not, Option, Some, None, List, [], ◌∷◌, ◌++◌, append_assoc}
+use Rattle.unit_book.proofs.Names.{map, refl, sym, ap, ◌∙◌, filter, is_some, Status, Purged, Meaning, Channel, Phase, Idle, Pending, Retry}
+use Rattle.unit_book.proofs.Names.{PostedState, Name, Piece, covers, Scope, Active, Standing, OnChannel, AwaitsRestart, Dcb, Mode, Entry}
+use Rattle.unit_book.proofs.Names.{Purge, Post, waiting, active, is_halt, doomed, active_phase, HasEnded, due, Free, doomed_first, CanPurge}
+use Rattle.unit_book.proofs.Names.{PostsActive, all_posted, after_dooms, purged, posted, posted_since, posted_value, running_name_by}
 use Rattle.unit_book.proofs.Names.{after_purge, halted_by, awaits_by, dcb_at, StandingTies, Ties, noted, arith}
 use Rattle.unit_book.specs.Legal.{verdict_of}
 use Rattle.unit_book.specs.Fields.{kept_by, after_cover}
@@ -78,11 +77,8 @@ module _ {D : Type 0} (meaning : Meaning D) (mounted : D) where
     abbrev after : Active
     after = after_cover scope mode pending_active
 
-    not-again : (b c : Bool) → b && false && c ≡ false
-    not-again v0 c = grind (arith, common_steps)
-
     purge-ties : Ties meaning mounted (record held { trace = P; channel = pending_channel }) (Some after)
-    purge-ties = ties-purge scope mode settled found.can (not-again (is_halt mode) (is_some (active_of scope held.trace)))
+    purge-ties = ties-purge scope mode settled found.can (grind (arith, common_steps))
         pending-ties
 
     -- nothing runs that it could halt
@@ -132,13 +128,9 @@ module _ {D : Type 0} (meaning : Meaning D) (mounted : D) where
       waiting = rest;
       out = posted_before ++ value ∷ [];
     }) None
-    ties-awaiting = grind (
-      arith,
-      common_steps,
-      ties-post dooms.0.settled swept-ties fits-purged (λ d. sym (noted-nothing (dcb_at held.dcbs d))) refl,
-      value,
-      kept,
-    )
+    ties-awaiting =
+        let k = ties-post dooms.0.settled swept-ties fits-purged (λ d. sym (noted-nothing (dcb_at held.dcbs d))) refl in
+        grind (arith, common_steps, value, kept)
 
     pub settled-awaiting : due meaning mounted (Post n status.csw status.sense Purged ∷ S) ≡ Free
     unfolding without

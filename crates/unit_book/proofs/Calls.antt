@@ -1,13 +1,12 @@
 -- What the calls of a book come to, one step of its entries after another.
-use Rattle.unit_book.proofs.Names.{◌≡◌, ◌+◌, ℕ, Bool, true, false, Ok, Err, List, [], ◌∷◌, refl, sym, ap, ◌∙◌, subst, OnOk}
-use Rattle.unit_book.proofs.Names.{OnErr, Status, Code, Extent, Meaning, Name, Scope, Mode, Entry, Opened, Purge, Close, Post}
-use Rattle.unit_book.proofs.Names.{request_named, opened_count, doomed, posted, PurgesBy, covers_awaiting, halted_by, after_halt}
-use Rattle.unit_book.proofs.Names.{after_dooms, Book, Adds, Extends, RunsBook, Due, ToHalt, due, doomed_first, not, ◌&&◌}
-use Rattle.unit_book.proofs.Names.{◌||◌, Option, Some, None, and_parts, is_some, Purged, after, no_status, Piece, Starting, NothingRuns}
-use Rattle.unit_book.proofs.Names.{RanSome, Interruption, Arrive, waiting, active, started, arrivals, has_started, is_halt, is_halted}
-use Rattle.unit_book.proofs.Names.{arrived_of, is_doomed, all_posted, attempts, newest, still_runs, Legal, CanPurge, due_by, is_to_halt}
-use Rattle.unit_book.proofs.Names.{running_name_by, StartsBook, InterruptsBook, covered_by, after_purge, Each, ProcessingMethod}
-use Rattle.unit_book.proofs.Names.{empty_status, arith}
+use Rattle.unit_book.proofs.Names.{◌≡◌, ◌+◌, ℕ, Bool, true, false, Ok, Err, List, [], ◌∷◌, refl, sym, ap, ◌∙◌, subst, OnOk, OnErr, Status}
+use Rattle.unit_book.proofs.Names.{Code, Extent, Meaning, Name, Scope, Mode, Entry, Opened, Purge, Close, Post, request_named, opened_count}
+use Rattle.unit_book.proofs.Names.{doomed, posted, PurgesBy, covers_awaiting, halted_by, after_halt, after_dooms, Book, Adds, Extends}
+use Rattle.unit_book.proofs.Names.{RunsBook, Due, ToHalt, due, doomed_first, not, ◌&&◌, ◌||◌, Option, Some, None, and_parts, is_some}
+use Rattle.unit_book.proofs.Names.{Purged, after, no_status, Piece, Starting, NothingRuns, RanSome, Interruption, Arrive, waiting, active}
+use Rattle.unit_book.proofs.Names.{started, arrivals, has_started, is_halt, is_halted, arrived_of, is_doomed, all_posted, attempts, newest}
+use Rattle.unit_book.proofs.Names.{still_runs, Legal, CanPurge, due_by, is_to_halt, running_name_by, StartsBook, InterruptsBook, covered_by}
+use Rattle.unit_book.proofs.Names.{after_purge, Each, ProcessingMethod, empty_status, arith}
 use Rattle.std.proofs.Common.{Result}
 use Rattle.std.specs.declared.alloc.AllocError.{AllocError}
 use Rattle.unit_book.specs.declared.answer.Running.{Running}
@@ -187,18 +186,8 @@ module _ {D : Type 0} (meaning : Meaning D) where
   pub pending-start : (old new : Book D) (answer : Starting) → StartsBook meaning old answer new →
       is_pending meaning new ≡ is_pending meaning old
   unfolding attempts newest after
-  pending-start old new v2 h = grind (
-    arith,
-    common_steps,
-    pending-none,
-    pending-awaits,
-    first-unposted,
-    active-is,
-    active-start,
-    same-refl,
-    posts-none,
-    still-none,
-  )
+  pending-start old new v2 h =
+      grind (arith, common_steps, pending-none, pending-awaits, first-unposted, active-is, active-start, same-refl, posts-none, still-none)
 
   pub pending-run : {old new : Book D} (answer : Running) → RunCall meaning old new answer →
       (old.awaits ≡ true → running_name meaning old ≡ None) → is_pending meaning new ≡ pending_after (is_pending meaning old) answer

@@ -1,14 +1,13 @@
 -- A purge, a halt, a close and a reset: what they doom, and that the fields stay those of the trace.
-use Rattle.unit_book.proofs.Names.{BookFields, ◌≡◌, ℕ, ◌≤◌, Bool, true, false, not, ◌&&◌, ◌||◌, Option, Some, None, List, [], ◌∷◌, length}
-use Rattle.unit_book.proofs.Names.{refl, sym, ap, ◌∙◌, eqb, if◌then◌else◌, is_some, Meaning, Phase, Running, Name, covers}
+use Rattle.unit_book.proofs.Names.{BookFields, ◌≡◌, ℕ, ◌≤◌, true, false, not, ◌&&◌, Option, Some, None, List, [], ◌∷◌, length}
+use Rattle.unit_book.proofs.Names.{refl, ap, ◌∙◌, eqb, is_some, Meaning, Phase, Running, Name, covers}
 use Rattle.unit_book.proofs.Names.{Scope, Active, Standing, OnChannel, Mode, Entry, Halted, Purge, Close, Reset, waiting, arrivals, active}
-use Rattle.unit_book.proofs.Names.{started, request_named, is_halt, doomed, is_doomed, is_open, is_opened, is_closed, flag, extents_of}
+use Rattle.unit_book.proofs.Names.{started, request_named, is_halt, doomed, is_doomed, is_open, flag, extents_of}
 use Rattle.unit_book.proofs.Names.{attempts, current, Legal, Free, due, doomed_first, CanPurge, posted, DoomedBy, active_of, covered_by}
-use Rattle.unit_book.proofs.Names.{awaits_by, ActivityTies, StandingTies, Ties, subst, Place, Quiesce}
-use Rattle.unit_book.proofs.Names.{Halt, active_phase, still_runs, Fits, FitsBy, ToHalt, is_to_halt, running_name_by, dcb_at, arith}
+use Rattle.unit_book.proofs.Names.{awaits_by, ActivityTies, StandingTies, Ties, Place, Quiesce}
+use Rattle.unit_book.proofs.Names.{Halt, active_phase, still_runs, ToHalt, is_to_halt, running_name_by, dcb_at, arith}
 use Rattle.request_piece.specs.declared.scope.Scope.TheVariants.{Dcb}
 use Rattle.unit_book.specs.declared.dcb.Dcb.{Dcb as Row}
-use Rattle.unit_book.specs.Trace.{is_purged}
 use Rattle.unit_book.specs.Selected.{is_selected}
 use Rattle.unit_book.specs.Fields.{ActiveTies, after_cover, shut, unflagged}
 use Rattle.subchannel.specs.Subchannel.{halted_phase}
@@ -20,37 +19,25 @@ use Rattle.unit_book.proofs.Facts.{due-halt}
 use Rattle.std.proofs.lemmas.Grind.{common_steps}
 
 -- WHAT A PURGE DOOMS: what it covers of that which waits
-purged-by : (covered shut purged flagged : Bool) → not (shut || purged || flagged) ≡ true →
-    (shut || (covered || purged) || flagged) ≡ covered
-purged-by v0 v1 purged flagged h = grind (arith, common_steps)
-
 pub doomed-purge : (scope : Scope) (mode : Mode) (H : List Entry) → doomed H ≡ [] →
     DoomedBy (Some (selection.Scope scope)) (Purge scope mode ∷ H)
 unfolding waiting arrivals flag
 doomed-purge scope mode H e =
     let G = Purge scope mode ∷ H in
     filter-agree (is_doomed G) (is_selected (Some (selection.Scope scope))) (λ r. not (is_doomed H r))
-    (λ r h. purged-by (covers scope r) (not (is_open r.dcb H)) (is_purged r H) (r.related && flag r.dcb H) h) (waiting H)
+    (λ r h. grind (arith, common_steps)) (waiting H)
     (none-pass (is_doomed H) (waiting H) e)
 
 -- A CLOSE DOOMS what waits of its DCB
-closed-by : (here opened closed purged flagged : Bool) → not (not (opened && not closed) || purged || flagged) ≡ true →
-    (not (opened && not (here || closed)) || purged || flagged) ≡ here
-closed-by here v1 v2 v3 v4 h = grind (arith, common_steps)
-
 pub doomed-close : (d : ℕ) (H : List Entry) → doomed H ≡ [] → DoomedBy (Some (selection.Scope (Dcb d))) (Close d ∷ H)
 unfolding waiting arrivals flag
 doomed-close d H e =
     let G = Close d ∷ H in
     filter-agree (is_doomed G) (is_selected (Some (selection.Scope (Dcb d)))) (λ r. not (is_doomed H r))
-    (λ r h. closed-by (eqb d r.dcb) (is_opened r.dcb H) (is_closed r.dcb H) (is_purged r H) (r.related && flag r.dcb H) h) (waiting H)
+    (λ r h. grind (arith, common_steps)) (waiting H)
     (none-pass (is_doomed H) (waiting H) e)
 
 -- A RESET DOOMS nothing
-reset-spares : (here shut purged related flagged : Bool) → not (shut || purged || (related && flagged)) ≡ true →
-    (shut || purged || (related && (if here then false else flagged))) ≡ false
-reset-spares here v1 v2 v3 flagged h = grind (arith, common_steps)
-
 -- as many are doomed as wait, at most
 pub doomed-some : (H : List Entry) → length (doomed H) ≤ length (waiting H)
 doomed-some H = length-filter_le (is_doomed H) (waiting H)
@@ -62,7 +49,7 @@ module _ {D : Type 0} (meaning : Meaning D) (mounted : D) where
       let G = Reset d ∷ H in
       let all = none-pass (is_doomed H) (waiting H) (due-doomed meaning mounted H h) in
       let same = filter-agree (is_doomed G) (λ r. false) (λ r. not (is_doomed H r))
-      (λ r k. reset-spares (eqb d r.dcb) (not (is_open r.dcb H)) (is_purged r H) r.related (flag r.dcb H) k) (waiting H) all in
+      (λ r h. grind (arith, common_steps)) (waiting H) all in
       due-no_halt meaning mounted G (λ n a. refl) ∙ ap doomed_first (same ∙ filter-never (waiting H))
 
   module _ {H : List Entry} (scope : Scope) (mode : Mode) where
@@ -129,9 +116,6 @@ module _ {D : Type 0} (meaning : Meaning D) (mounted : D) where
   to-halt : (H : List Entry) (n : Name) → is_to_halt meaning mounted H n ≡ true → still_runs (active_phase meaning mounted n H) ≡ true
   to-halt v0 n h = grind (arith, common_steps)
 
-  pub halt-runs : (n : Name) (H : List Entry) → due meaning mounted H ≡ ToHalt n → still_runs (active_phase meaning mounted n H) ≡ true
-  halt-runs n H h = to-halt H n (due-halt meaning mounted H n h).1
-
   -- A HALT
   module _ {held : BookFields D} {a : Active}
       (d : due meaning mounted held.trace ≡ ToHalt a.piece.value.name) (t : Ties meaning mounted held (Some a)) where
@@ -166,27 +150,10 @@ module _ {D : Type 0} (meaning : Meaning D) (mounted : D) where
     }) (Some (record a { halted = true }))
     unfolding Legal waiting arrivals active started request_named attempts extents_of flag posted
     ties-halt =
-        let fits : Fits meaning mounted (Halted n) held.trace = subst (λ x. FitsBy meaning mounted x (Halted n) held.trace) (sym d) refl in
         let s = same-refl n in
-        record {
-          legal = (fits, t.legal);
-          queue = t.queue;
-          placed = t.placed;
-          device = t.device;
-          activity = record {
-            is = t.activity.is;
-            request = t.activity.request;
-            placed = t.activity.placed;
-            starts = t.activity.starts;
-            halted = rw s refl;
-            covered = t.activity.covered;
-            standing = standing-halt held.channel.phase a.standing
-                (runs held.channel.phase a.standing (halt-runs n held.trace d) t.activity.standing);
-          };
-          count = t.count;
-          dcbs = t.dcbs;
-          out = t.out;
-        }
+        let goes = to-halt held.trace n (due-halt meaning mounted held.trace n d).1 in
+        let standing' = standing-halt held.channel.phase a.standing (runs held.channel.phase a.standing goes t.activity.standing) in
+        grind (arith, common_steps)
 
 module _ {D : Type 0} {meaning : Meaning D} {mounted : D} {held : BookFields D} {o : Option Active} {c : ℕ}
     (settled : due meaning mounted held.trace ≡ Free) (opened : is_open c held.trace ≡ true) (t : Ties meaning mounted held o) where

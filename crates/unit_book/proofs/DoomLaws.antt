@@ -1,9 +1,8 @@
 -- Nothing doomed is started.
-use Rattle.unit_book.proofs.Names.{◌≡◌, ℕ, ◌⊎◌, Bool, true, false, not, Some, List, [], ◌∷◌, ◌++◌, refl, sym, ap, ◌∙◌, eqb, inl}
-use Rattle.unit_book.proofs.Names.{inr, subst, cases_Bool, or_left, or_right, eq-eqb, list_any, slice_get, Meaning, Name, Piece, Entry}
-use Rattle.unit_book.proofs.Names.{Arrive, Start, Halted, Close, same, starts, arrivals, waiting, active, has_arrived, has_started}
-use Rattle.unit_book.proofs.Names.{is_posted, is_covered, request_named, doomed, is_doomed, is_closed, flag}
-use Rattle.unit_book.proofs.Names.{Legal, StartFits, First, Again, arith}
+use Rattle.unit_book.proofs.Names.{◌≡◌, ℕ, ◌⊎◌, Bool, true, false, not, Some, List, [], ◌∷◌, ◌++◌, refl, sym, ap, ◌∙◌, eqb, inl, inr, subst}
+use Rattle.unit_book.proofs.Names.{cases_Bool, or_left, or_right, eq-eqb, list_any, slice_get, Meaning, Name, Piece, Entry, Arrive, Start}
+use Rattle.unit_book.proofs.Names.{Halted, Close, same, starts, arrivals, waiting, active, has_arrived, has_started, is_posted, is_covered}
+use Rattle.unit_book.proofs.Names.{request_named, doomed, is_doomed, is_closed, flag, Legal, StartFits, First, Again, arith}
 use Rattle.unit_book.specs.Laws.{NoDoomedStarts, is_of_name}
 use Rattle.unit_book.proofs.Lists.{all-at, same-true, no_both, without}
 use Rattle.unit_book.proofs.Facts.{active-is, fits-freely}
@@ -54,12 +53,9 @@ module _ {D : Type 0} (meaning : Meaning D) (mounted : D) where
       (list_any (starts n) later ≡ false) × Gone n (later ++ earlier)
   unfolding Legal
   gone n [] earlier l d = (refl, inl d)
-  gone n (e ∷ later) earlier l d = grind (
-    arith,
-    common_steps,
-    gone n later earlier l.1 d,
-    gone-step n (record { earlier = l.1; fits = l.0 }) (gone n later earlier l.1 d).1,
-  )
+  gone n (e ∷ later) earlier l d =
+      let ih = gone n later earlier l.1 d in
+      grind (arith, common_steps, gone-step n (record { earlier = l.1; fits = l.0 }) ih.1)
 
   -- WHAT WAS STARTED AND COVERED stays covered, and is not started
   covered-start : {m : Name} {G : List Entry} (r : Piece) → Comes meaning mounted (Start m) G → Covered r G → same m r.name ≡ false
@@ -93,12 +89,9 @@ module _ {D : Type 0} (meaning : Meaning D) (mounted : D) where
       (list_any (starts r.name) later ≡ false) × Covered r (later ++ earlier)
   unfolding Legal
   covered-stays r [] earlier l c = (refl, c)
-  covered-stays r (e ∷ later) earlier l c = grind (
-    arith,
-    common_steps,
-    covered-stays r later earlier l.1 c,
-    covered-step r e (record { earlier = l.1; fits = l.0 }) (covered-stays r later earlier l.1 c).1,
-  )
+  covered-stays r (e ∷ later) earlier l c =
+      let ih = covered-stays r later earlier l.1 c in
+      grind (arith, common_steps, covered-step r e (record { earlier = l.1; fits = l.0 }) ih.1)
 
   of-covered : (n : Name) (later earlier : List Entry) → Legal meaning mounted (later ++ earlier) →
       has_started n earlier ≡ true → is_covered (request_named n earlier) earlier ≡ true → list_any (starts n) later ≡ false

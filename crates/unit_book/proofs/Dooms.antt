@@ -2,11 +2,11 @@
 use Rattle.unit_book.proofs.Names.{BookFields, ◌≡◌, ◌≤◌, ℕ, Bool, true, false, not, ◌&&◌, ◌||◌, Some, List, [], ◌∷◌, length, arith, refl}
 use Rattle.unit_book.proofs.Names.{sym, ap, ◌∙◌, empty_status, eqb, subst, if◌then◌else◌, filter, list_all, is_error, Csw}
 use Rattle.unit_book.proofs.Names.{Status, Code, Purged, Meaning, no_status, Name, Piece, Entry, Opened, Start, Ran, Post, same, waiting}
-use Rattle.unit_book.proofs.Names.{arrivals, active, started, request_named, doomed, is_doomed, is_opened, is_closed, flag, Free}
+use Rattle.unit_book.proofs.Names.{arrivals, active, started, request_named, doomed, is_doomed, flag, Free}
 use Rattle.unit_book.proofs.Names.{due, doomed_first, is_to_halt, Fits, FitsBy, Legal, all_posted, after_dooms, doomed_by_post, DoomedBy}
 use Rattle.unit_book.proofs.Names.{halted_by, ◌+◌, Option, ◌++◌, append_assoc, map, append-nil, drop, PostedState, Active, Arrive}
 use Rattle.unit_book.proofs.Names.{extents_of, attempts, area, purged, posted, posted_since, posted_value, Ties, Each}
-use Rattle.unit_book.specs.Trace.{is_opening, is_purged}
+use Rattle.unit_book.specs.Trace.{is_opening}
 use Rattle.unit_book.specs.Selected.{is_selected}
 use Rattle.std.proofs.Math.Seq.{drop-append_seam, drop-length}
 use Rattle.unit_book.proofs.Lists.{filter-filter, all-kept, without, without-first, Apart, Apart-filter, no_both, none_named}
@@ -58,10 +58,6 @@ pub doomed-purged : (n : Name) (csw : Csw) (sense : ℕ) (H : List Entry) → do
 unfolding without flag
 doomed-purged n csw sense H = grind (arith, common_steps, waiting-post, filters-commute)
 
-pub doomed-ran : (n : Name) (j : ℕ) (H : List Entry) → doomed (Ran n j ∷ H) ≡ doomed H
-unfolding waiting arrivals flag
-doomed-ran n j H = refl
-
 -- a post dooms the related requests of its DCB, if it is of a related request and has an error
 doomed-by : (q r : Piece) (code : Code) (gone f : Bool) → not (gone || (r.related && f)) ≡ true →
     (gone || (r.related && (if is_error code && q.related && eqb q.dcb r.dcb then true else f)))
@@ -75,11 +71,6 @@ doomed-post n csw sense code H e =
     let all = all-kept (λ r. not (is_doomed H r)) (λ r. not (same n r.name)) (waiting H) (none-pass (is_doomed H) (waiting H) e) in
     let there = subst (λ ws. list_all (λ r. not (is_doomed H r)) ws ≡ true) (sym (waiting-post n csw sense code H)) all in
     grind (arith, common_steps, filter-agree, doomed-by)
-
--- an opened DCB dooms nothing
-open-spares : (opened now shut purged flagged : Bool) → not (not (opened && not shut) || purged || flagged) ≡ true →
-    (not ((now || opened) && not shut) || purged || flagged) ≡ false
-open-spares v0 now v2 v3 v4 h = grind (arith, common_steps)
 
 -- a post dooms at most what waited
 pub doomed-few : (n : Name) (csw : Csw) (sense : ℕ) (code : Code) (H : List Entry) →
@@ -100,17 +91,8 @@ module _ {D : Type 0} (meaning : Meaning D) (mounted : D) where
       Legal meaning mounted (all_posted rs H) × (due meaning mounted (all_posted rs H) ≡ Free)
   unfolding Legal
   dooms-by [] H e d l = (l, d)
-  dooms-by (r ∷ rs) H e d l = grind (
-    arith,
-    common_steps,
-    facts,
-    Apart-filter,
-    waiting-apart,
-    doomed-purged,
-    without-first,
-    due-no_halt,
-    dooms-by rs,
-  )
+  dooms-by (r ∷ rs) H e d l =
+      grind (arith, common_steps, facts, Apart-filter, waiting-apart, doomed-purged, without-first, due-no_halt, dooms-by rs)
 
   pub dooms-settle : (H : List Entry) → due meaning mounted H ≡ doomed_first (doomed H) → Legal meaning mounted H →
       Legal meaning mounted (after_dooms H) × (due meaning mounted (after_dooms H) ≡ Free)
@@ -122,7 +104,8 @@ module _ {D : Type 0} (meaning : Meaning D) (mounted : D) where
 
   -- a Ran and a Start leave a settled trace settled
   pub settled-ran : (n : Name) (j : ℕ) (H : List Entry) → due meaning mounted H ≡ Free → due meaning mounted (Ran n j ∷ H) ≡ Free
-  settled-ran n j H h = due-no_halt (Ran n j ∷ H) (λ m a. refl) ∙ ap doomed_first (doomed-ran n j H ∙ due-doomed H h)
+  unfolding waiting arrivals flag
+  settled-ran n j H h = due-no_halt (Ran n j ∷ H) (λ m a. refl) ∙ ap doomed_first (due-doomed H h)
 
   pub settled-start : (n : Name) (H : List Entry) → due meaning mounted H ≡ Free → due meaning mounted (Start n ∷ H) ≡ Free
   unfolding without
@@ -134,7 +117,7 @@ module _ {D : Type 0} (meaning : Meaning D) (mounted : D) where
       let G = Opened d method x ∷ H in
       let all = none-pass (is_doomed H) (waiting H) (due-doomed H h) in
       let same = filter-agree (is_doomed G) (λ r. false) (λ r. not (is_doomed H r))
-      (λ r k. open-spares (is_opened r.dcb H) (eqb d r.dcb) (is_closed r.dcb H) (is_purged r H) (r.related && flag r.dcb H) k)
+      (λ r h. grind (arith, common_steps))
       (waiting H) all in
       due-no_halt G (λ n a. refl) ∙ ap doomed_first (same ∙ filter-never (waiting H))
   settled-open _ H o h = absurd cc
@@ -183,16 +166,9 @@ module _ {D : Type 0} (meaning : Meaning D) (mounted : D) where
       out = held.out ++ purged r ∷ [];
     }) o
     unfolding Legal attempts flag extents_of request_named without
-    ties-purged = grind (
-      arith,
-      common_steps,
-      active-post_waiting (r.name) empty_status Purged held.trace w.unstarted,
-      waiting-post,
-      Each-filter,
-      activity-same,
-      append_assoc,
-      posted-one,
-    )
+    ties-purged =
+        let a = active-post_waiting r.name empty_status Purged held.trace w.unstarted in
+        grind (arith, common_steps, waiting-post, Each-filter, activity-same, append_assoc, posted-one)
 
   -- the posts of all that are doomed
   pub record Swept (rs : List Piece) (held : BookFields D) (o : Option Active) : Type 0 where
@@ -220,12 +196,8 @@ module _ {D : Type 0} (meaning : Meaning D) (mounted : D) where
       let apart = subst Apart e (Apart-filter (is_doomed held.trace) (waiting held.trace) (waiting-apart held.trace f)) in
       let next : doomed G ≡ rs = doomed-purged r.name no_status 0 held.trace ∙ ap (without r.name) e ∙ without-first r rs apart in
       let k = ties-purged fits t w in
-      let s = ties-dooms_by rs next (due-no_halt meaning mounted G (λ n a. refl) ∙ ap doomed_first next) k in grind (
-        arith,
-        common_steps,
-        append_assoc,
-        posted-one,
-      )
+      let s = ties-dooms_by rs next (due-no_halt meaning mounted G (λ n a. refl) ∙ ap doomed_first next) k in
+      grind (arith, common_steps, append_assoc, posted-one)
 
   -- THE SWEEP of a queue by a test that picks what is doomed
   pub ties-dooms : (p : Piece → Bool) {held : BookFields D} {o : Option Active} →

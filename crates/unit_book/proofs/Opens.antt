@@ -1,12 +1,11 @@
 -- A DCB is opened: the fields stay those of the trace.
-use Rattle.unit_book.proofs.Names.{BookFields, ◌≡◌, ℕ, ◌+◌, ◌-◌, ◌≤◌, true, false, not, ◌&&◌, ◌||◌, Option, Some, None}
-use Rattle.unit_book.proofs.Names.{List, [], ◌∷◌, ◌++◌, length, length-append, refl, sym, ap, arith, eqb, inl, inr, subst}
-use Rattle.unit_book.proofs.Names.{if◌then◌else◌, cases_Bool, and_parts, or_right, eqb-true, eq-eqb, slice_get-append_right, slice_get}
-use Rattle.unit_book.proofs.Names.{is_error, Status, Code, Extent, Meaning, Idle, Name, Piece, Active, Dcb, Entry, Opened, Arrive}
-use Rattle.unit_book.proofs.Names.{Start, Close, Reset, Post, same, has_started, waiting, arrivals, active, started}
-use Rattle.unit_book.proofs.Names.{request_named, is_open, is_opened, is_closed, opened_count, extents_of, flag, attempts, stand, Due}
-use Rattle.unit_book.proofs.Names.{Free, due, FitsBy, Legal, StartFits, First, Again, PostFits, OfActive, OfFirst, posted}
-use Rattle.unit_book.proofs.Names.{Ties, dcb_at, dcb_of, ProcessingMethod, Input, Output}
+use Rattle.unit_book.proofs.Names.{BookFields, ◌≡◌, ℕ, ◌+◌, ◌-◌, ◌≤◌, true, false, not, ◌&&◌, ◌||◌, Option, Some, None, List, [], ◌∷◌, ◌++◌}
+use Rattle.unit_book.proofs.Names.{length, length-append, refl, sym, ap, arith, eqb, inl, inr, subst, if◌then◌else◌, cases_Bool, and_parts}
+use Rattle.unit_book.proofs.Names.{or_right, eqb-true, eq-eqb, slice_get-append_right, slice_get, is_error, Status, Code, Extent, Meaning}
+use Rattle.unit_book.proofs.Names.{Idle, Name, Piece, Active, Dcb, Entry, Opened, Arrive, Start, Close, Reset, Post, same, has_started}
+use Rattle.unit_book.proofs.Names.{waiting, arrivals, active, started, request_named, is_open, is_opened, is_closed, opened_count}
+use Rattle.unit_book.proofs.Names.{extents_of, flag, attempts, stand, Due, Free, due, FitsBy, Legal, StartFits, First, Again, PostFits}
+use Rattle.unit_book.proofs.Names.{OfActive, OfFirst, posted, Ties, dcb_at, dcb_of, ProcessingMethod, Input, Output}
 use Rattle.unit_book.specs.Trace.{opens, is_input}
 use Rattle.unit_book.specs.Legal.{OpenFits}
 use Rattle.unit_book.specs.Fields.{HasRow, fields_of}

@@ -54,8 +54,6 @@ unfolding arrivals
 ordered-arrive r H f new o =
     let s = fresh-start r.name H f new in
     let p = fresh-post r.name H f new in
-    let begun_is : begun (Arrive r ∷ H) ≡ begun H = filter-append (λ (q : Piece). has_started q.name H) (arrivals H) (r ∷ []) ∙ rw s
-    (append-nil (begun H)) in
     let waits_is = waiting-arrive r H f new in
     grind (arith, common_steps, append_assoc, begun)
 
@@ -140,19 +138,10 @@ ordered-post {n} {H} status code f (inr w) o =
 module _ {D : Type 0} (meaning : Meaning D) (mounted : D) where
   order-start : {n : Name} {H : List Entry} → Facts H → StartFits meaning mounted n H → InOrder H → InOrder (Start n ∷ H)
   unfolding first_starts
-  order-start {n} {H} f (First s) o = grind (
-    arith,
-    common_steps,
-    first-waits s.request H f s.first,
-    ordered-first s.request H f s.first o.0,
-    begun,
-  )
-  order-start {n} {H} f (Again s) o = grind (
-    arith,
-    common_steps,
-    (active-is n H s.active).0,
-    ordered-again n H f ((active-is n H s.active).0) o.0,
-  )
+  order-start {n} {H} f (First s) o =
+      grind (arith, common_steps, first-waits s.request H f s.first, ordered-first s.request H f s.first o.0, begun)
+  order-start {n} {H} f (Again s) o =
+      grind (arith, common_steps, (active-is n H s.active).0, ordered-again n H f ((active-is n H s.active).0) o.0)
 
   in-order : (H : List Entry) → Legal meaning mounted H → InOrder H
   unfolding Legal waiting arrivals first_starts

@@ -66,16 +66,7 @@ length-rest v0 = grind (arith, common_steps)
 module _ {D : Type 0} (meaning : Meaning D) (mounted : D) where
   pub ties-taken : {held : BookFields D} {o : Option Active} →
       Ties meaning mounted held o → Ties meaning mounted (record held { out = drop 1 held.out }) o
-  ties-taken {held} t = record {
-    legal = t.legal;
-    queue = t.queue;
-    placed = t.placed;
-    device = t.device;
-    activity = t.activity;
-    count = t.count;
-    dcbs = t.dcbs;
-    out = by_left held.out t.out.0 t.out.1;
-  } where
+  ties-taken {held} t = assumption (by_left held.out t.out.0 t.out.1) where
     by_left : (xs given : List PostedState) → given ++ xs ≡ posted meaning mounted held.trace →
         (before : List PostedState) × (before ++ drop 1 xs ≡ posted meaning mounted held.trace)
     by_left [] given e = (given, e)

@@ -1,6 +1,6 @@
 -- A further start of the active request: the fields stay those of the trace.
 use Rattle.unit_book.proofs.Names.{BookFields, ◌≡◌, ℕ, ◌+◌, ◌≤◌, true, false, Some, ◌∷◌, refl, sym, ap, ◌∙◌, arith, Csw, Meaning}
-use Rattle.unit_book.proofs.Names.{Kind, Program, Channel, Phase, Idle, Running, Pending, ssch_started, Retry, verdict, Name, Piece, Active}
+use Rattle.unit_book.proofs.Names.{Kind, Program, Phase, Idle, Running, Pending, ssch_started, Retry, verdict, Name, Piece, Active}
 use Rattle.unit_book.proofs.Names.{Standing, OnChannel, AwaitsRestart, Start, same, request_named, extents_of, flag, mask_of}
 use Rattle.unit_book.proofs.Names.{current, device, Legal, due, Free, StartsAgain, posted, StandingTies, Ties, awaits_by, dcb_at, mask_at}
 use Rattle.device_port.specs.Meaning.{Lawful}
@@ -66,12 +66,8 @@ module _ {D : Type 0} (meaning : Meaning D) (mounted : D) where
 
     -- its seek fits the device
     pub restart-fits : Lawful meaning → TakesSeek meaning held.channel.device a.piece.value.seek
-    restart-fits law = grind (
-      arith,
-      common_steps,
-      seeks meaning mounted held.trace t.legal n (active-is n held.trace t.activity.is).0,
-      fits-device,
-    )
+    restart-fits law =
+        grind (arith, common_steps, seeks meaning mounted held.trace t.legal n (active-is n held.trace t.activity.is).0, fits-device)
 
     pub ties-restart : {mask : ℕ} → mask ≡ mask_at (dcb_at held.dcbs a.piece.value.dcb) →
         Ties meaning mounted (record held {
@@ -98,12 +94,7 @@ module _ {D : Type 0} (meaning : Meaning D) (mounted : D) where
         let area_is : (current meaning mounted G).area ≡ (current meaning mounted held.trace).area = ap (λ (p : Program D). p.area) c
         ∙ area-current meaning mounted n held.trace w in
         let idle = is-idle held.channel.phase a.standing t.activity.standing found.again in
-        let running : Channel D = record {
-          device = prefixed meaning held.channel.device r.seek mask;
-          isc = held.channel.isc;
-          phase = Running (start_place r.start);
-        } in
-        let whole : Ties meaning mounted (record held { trace = G; channel = running }) (Some (restarted a)) = record {
+        rw idle (record {
           legal = (fits-free meaning mounted (Start n) held.trace found.settled (Restart may-restart), t.legal);
           queue = t.queue ∙ sym (waiting-start n held.trace ∙ without-started n held.trace f (active-is n held.trace t.activity.is).0);
           placed = t.placed;
@@ -120,4 +111,4 @@ module _ {D : Type 0} (meaning : Meaning D) (mounted : D) where
           count = t.count;
           dcbs = t.dcbs;
           out = t.out;
-        } in grind (arith, common_steps)
+        })

@@ -1,10 +1,9 @@
 -- The program of the active request runs: the fields stay those of the trace.
-use Rattle.unit_book.proofs.Names.{BookFields, ◌≡◌, ℕ, ◌≤◌, true, false, Some, None, List, ◌∷◌, refl, sym, ap, ◌∙◌, arith, subst}
-use Rattle.unit_book.proofs.Names.{Storage, Meaning, State, Program, after, length_of, is_running, Channel, Phase}
-use Rattle.unit_book.proofs.Names.{Running, Piece, Name, Active, Standing, OnChannel, AwaitsRestart, Entry, Ran}
-use Rattle.unit_book.proofs.Names.{waiting, arrivals, active, started, request_named, is_halted, attempts, stand, newest, current}
-use Rattle.unit_book.proofs.Names.{active_phase, still_runs, StillRunning, device, extents_of, flag, Legal, due}
-use Rattle.unit_book.proofs.Names.{Free, posted, running_name_by, StandingTies, Ties}
+use Rattle.unit_book.proofs.Names.{BookFields, ◌≡◌, ℕ, ◌≤◌, true, false, Some, None, List, ◌∷◌, refl, sym, ap, ◌∙◌, arith, subst, Storage}
+use Rattle.unit_book.proofs.Names.{Meaning, State, Program, after, length_of, is_running, Channel, Phase, Running, Piece, Name, Active}
+use Rattle.unit_book.proofs.Names.{Standing, OnChannel, AwaitsRestart, Entry, Ran, waiting, arrivals, active, started, request_named}
+use Rattle.unit_book.proofs.Names.{is_halted, attempts, stand, newest, current, active_phase, still_runs, StillRunning, device, extents_of}
+use Rattle.unit_book.proofs.Names.{flag, Legal, due, Free, posted, running_name_by, StandingTies, Ties}
 use Rattle.std.specs.Prelude.{min}
 use Rattle.io_area.specs.Storage.{SamePlace}
 use Rattle.ccw_programs.specs.declared.context.Burst.{Burst}
@@ -107,25 +106,17 @@ module _ {D : Type 0} (meaning : Meaning D) (mounted : D) where
         let q = current meaning mounted G in
         let dr = standing-ran q q.place.state refl refl k.unhalted in
         let phase_is : u.new.phase ≡ phase_of q.place q.place.state = ap (λ (x : Channel D). x.phase) k.channel_is in
-        let fits : RanFits meaning mounted n u.burst.commands held.trace
-        = record { active = k.active; running = k.still; some = k.some; left = omega (arith, k.commands) } in
+        let fits : RanFits meaning mounted n u.burst.commands held.trace = record {
+          active = k.active;
+          running = k.still;
+          some = k.some;
+          left = omega (arith, k.commands);
+        } in
         let f : Piece → Storage → Piece = λ p m. record p { area = m } in
-        record {
-          legal = (fits-free meaning mounted (Ran n u.burst.commands) held.trace settled fits, t.legal);
-          queue = t.queue;
-          placed = t.placed;
-          device = ap (λ (x : Channel D). x.device) k.channel_is ∙ ap Some (sym (device-current n G k.newest));
-          activity = record {
-            is = t.activity.is;
-            request = ap (λ p. f p u.area) t.activity.request ∙ ap (f (request_named n held.trace)) k.area_is;
-            placed = placed-moved a.piece.value u.area t.activity.placed place;
-            starts = t.activity.starts;
-            halted = t.activity.halted;
-            covered = t.activity.covered;
-            standing = subst (λ x. StandingTies meaning mounted G x (with_area a u.area) a.standing) (sym phase_is)
-                (subst (λ x. StandingTies meaning mounted G (phase_of q.place q.place.state) (with_area a u.area) x) (sym k.on_channel) dr);
-          };
-          count = t.count;
-          dcbs = t.dcbs;
-          out = t.out;
-        }
+        let legal' = fits-free meaning mounted (Ran n u.burst.commands) held.trace settled fits in
+        let device' = ap (λ (x : Channel D). x.device) k.channel_is ∙ ap Some (sym (device-current n G k.newest)) in
+        let request' = ap (λ p. f p u.area) t.activity.request ∙ ap (f (request_named n held.trace)) k.area_is in
+        let placed' = placed-moved a.piece.value u.area t.activity.placed place in
+        let standing' = subst (λ x. StandingTies meaning mounted G x (with_area a u.area) a.standing) (sym phase_is) (subst (λ x.
+        StandingTies meaning mounted G (phase_of q.place q.place.state) (with_area a u.area) x) (sym k.on_channel) dr) in
+        assumption

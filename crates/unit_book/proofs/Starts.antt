@@ -1,15 +1,13 @@
 -- A first start: the fields stay those of the trace.
 use Rattle.unit_book.proofs.Names.{no_status, empty_status, ExtentViolated, BookFields, ◌≡◌, ℕ, Bool, true, false, ◌||◌, Option, Some, None}
-use Rattle.unit_book.proofs.Names.{List, [], ◌∷◌, length, refl, sym, ap, ◌∙◌, eqb, inl, inr, subst, cases_Bool, and_from}
-use Rattle.unit_book.proofs.Names.{or_parts, or_left, filter, list_any, list_all, slice_get, drop, Meaning, Program, after}
-use Rattle.unit_book.proofs.Names.{Channel, Idle, Running, ssch_started, Placed, Name, Piece, Active, OnChannel, Dcb, Entry, Opened, Start}
-use Rattle.unit_book.proofs.Names.{Ran, same, starts, has_started, waiting, active, request_named, passes_check, is_opened, extents_of}
-use Rattle.unit_book.proofs.Names.{flag, mask_of, Attempt, attempts, stand, newest, current, device, area, Legal, due, Free, First}
-use Rattle.unit_book.proofs.Names.{StartsFirst, posted, Each, Ties, dcb_at, dcb_of, mask_at, ◌&&◌, ◌++◌, append_assoc, is_error}
-use Rattle.unit_book.proofs.Names.{Post, Fits, posted_value, noted, arith}
+use Rattle.unit_book.proofs.Names.{List, [], ◌∷◌, length, refl, sym, ap, ◌∙◌, eqb, inl, inr, subst, cases_Bool, and_from, or_parts, or_left}
+use Rattle.unit_book.proofs.Names.{filter, list_any, list_all, slice_get, drop, Meaning, Program, after, Idle, ssch_started, Placed, Name}
+use Rattle.unit_book.proofs.Names.{Piece, Active, OnChannel, Dcb, Entry, Opened, Start, Ran, same, starts, has_started, waiting, active}
+use Rattle.unit_book.proofs.Names.{request_named, passes_check, is_opened, extents_of, flag, mask_of, Attempt, attempts, stand, newest}
+use Rattle.unit_book.proofs.Names.{current, device, area, Legal, due, Free, First, StartsFirst, posted, Each, Ties, dcb_at, dcb_of, mask_at}
+use Rattle.unit_book.proofs.Names.{◌&&◌, ◌++◌, append_assoc, is_error, Post, Fits, posted_value, noted, arith}
 use Rattle.std.specs.Global.{Box}
 use Rattle.std.specs.Prelude.{option_map, box_value, MatchOption, IsSomeAnd}
-use Rattle.ccw_programs.specs.Place.{start_place}
 use Rattle.ccw_programs.specs.Step.{begun}
 use Rattle.subchannel.specs.Subchannel.{prefixed}
 use Rattle.unit_book.specs.Trace.{opens_for_input}
@@ -160,13 +158,7 @@ module _ {D : Type 0} (meaning : Meaning D) (mounted : D) where
         (area meaning mounted r held.trace) = rw e at (current-start n held.trace) in
         let area_is : (current meaning mounted G).area ≡ r.area = ap (λ (p : Program D). p.area) c ∙ issued in
         let none = no-starts n held.trace w.unstarted in
-        let running : Channel D = record {
-          device = prefixed meaning held.channel.device r.seek mask;
-          isc = held.channel.isc;
-          phase = Running (start_place r.start);
-        } in
-        let whole : Ties meaning mounted (record held { trace = G; channel = running; waiting = drop 1 held.waiting })
-        (Some (held_first b)) = record {
+        rw idle (record {
           legal = (fits-free meaning mounted (Start n) held.trace found.settled (First found.starts), t.legal);
           queue = ap (λ x. drop 1 x) t.queue
               ∙ sym (waiting-start n held.trace ∙ ap (without n) z ∙ without-first r (drop 1 (waiting held.trace)) apart);
@@ -184,7 +176,7 @@ module _ {D : Type 0} (meaning : Meaning D) (mounted : D) where
           count = t.count;
           dcbs = t.dcbs;
           out = t.out;
-        } in grind (arith, common_steps)
+        })
 
 module _ {D : Type 0} {meaning : Meaning D} {mounted : D} where
   -- the first of the queue is started, and what is taken from the queue is made active
@@ -200,11 +192,8 @@ module _ {D : Type 0} {meaning : Meaning D} {mounted : D} where
       × (active_field_count made ≡ 1)
   ties-first None made t found popped_is made_is = absurd cc
   ties-first (Some b) None t found popped_is made_is = absurd made_is
-  ties-first (Some b) (Some a) {r = r} {held = held} {mask = mask} t found popped_is made_is = grind (
-    arith,
-    common_steps,
-    ties-start meaning mounted b t (subst (λ (x : Piece). FoundFirst meaning mounted held x mask) (cc) found),
-  )
+  ties-first (Some b) (Some a) {r = r} {held = held} {mask = mask} t found popped_is made_is =
+      grind (arith, common_steps, ties-start meaning mounted b t (subst (λ (x : Piece). FoundFirst meaning mounted held x mask) (cc) found))
 
 -- The post of a request that waits first: the fields stay those of the trace.
 
@@ -215,12 +204,10 @@ module _ {D : Type 0} {meaning : Meaning D} {mounted : D} where
     pub waiting-value : slice_get (waiting held.trace) 0 ≡ Some r →
         posted_value r no_status 0 ExtentViolated r.area ≡ posted_value (request_named r.name held.trace) no_status 0 ExtentViolated
         (area meaning mounted (request_named r.name held.trace) held.trace)
-    waiting-value there = grind (
-      arith,
-      common_steps,
-      waits-at r 0 held.trace (facts meaning mounted held.trace t.legal) there,
-      as-issued meaning mounted r held.trace t.legal (waits-at r 0 held.trace (facts meaning mounted held.trace t.legal) there).unstarted,
-    )
+    waiting-value there =
+        let w = waits-at r 0 held.trace (facts meaning mounted held.trace t.legal) there in
+        let issued = as-issued meaning mounted r held.trace t.legal w.unstarted in
+        grind (arith, common_steps)
 
     pub ties-first_post : {new : List Dcb} → Fits meaning mounted (Post r.name no_status 0 ExtentViolated) held.trace →
         slice_get (waiting held.trace) 0 ≡ Some r →

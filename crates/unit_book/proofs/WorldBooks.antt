@@ -1,11 +1,10 @@
 -- What each call of a book keeps: a legal trace with nothing due, and that what is posted is out.
-use Rattle.unit_book.proofs.Names.{empty_status, ◌≡◌, ◌≤◌, ℕ, ◌+◌, Bool, true, false, List, [], ◌∷◌, ◌++◌, refl, sym, ap, ◌∙◌, arith}
-use Rattle.unit_book.proofs.Names.{inl, inr, subst, cases_Bool, append-nil, ExtentViolated, Extent, Meaning, PostedState, Name, Piece}
-use Rattle.unit_book.proofs.Names.{Scope, Starting, Started, Violated, NothingRuns, RanSome, Interruption, NothingPending, TriedAgain}
-use Rattle.unit_book.proofs.Names.{WasPosted, Mode, Entry, Arrive, Reset, arrivals, arrived_of, is_open}
-use Rattle.unit_book.proofs.Names.{Free, due, Legal, StartFits, OfActive, OfFirst, CanPurge, posted, after_dooms, Book}
-use Rattle.unit_book.proofs.Names.{Adds, Extends, MayStart, StartsBook, RunsBook, InterruptsBook, PurgesBy, covers_awaiting, after_purge}
-use Rattle.unit_book.proofs.Names.{ProcessingMethod}
+use Rattle.unit_book.proofs.Names.{empty_status, ◌≡◌, ◌≤◌, ℕ, ◌+◌, Bool, true, false, List, [], ◌∷◌, ◌++◌, refl, sym, ap, ◌∙◌, arith, inl}
+use Rattle.unit_book.proofs.Names.{inr, subst, cases_Bool, append-nil, ExtentViolated, Extent, Meaning, PostedState, Name, Piece, Scope}
+use Rattle.unit_book.proofs.Names.{Starting, Started, Violated, NothingRuns, RanSome, Interruption, NothingPending, TriedAgain, WasPosted}
+use Rattle.unit_book.proofs.Names.{Mode, Entry, Arrive, Reset, arrivals, arrived_of, is_open, Free, due, Legal, StartFits, OfActive}
+use Rattle.unit_book.proofs.Names.{OfFirst, CanPurge, posted, after_dooms, Book, Adds, Extends, MayStart, StartsBook, RunsBook}
+use Rattle.unit_book.proofs.Names.{InterruptsBook, PurgesBy, covers_awaiting, after_purge, ProcessingMethod}
 use Rattle.ccw_programs.proofs.StepLaws.{steps_within-running}
 use Rattle.unit_book.specs.declared.answer.Running.{Running}
 use Rattle.unit_book.specs.declared.answer.Purging.{Purging}

@@ -1,9 +1,8 @@
 -- What each step of a world keeps: what was sent arrived or is in flight, and what was posted is got, on its way back
 -- or out.
-use Rattle.unit_book.proofs.Names.{◌≡◌, ℕ, ◌+◌, true, Some, List, [], ◌∷◌, ◌++◌, append_assoc, length, refl, sym, ap, ◌∙◌, arith}
-use Rattle.unit_book.proofs.Names.{eqb, subst, eqb-true, eq-eqb, append-nil, filter-append, slice_get, drop}
-use Rattle.unit_book.proofs.Names.{slice_get-append_right, Meaning, PostedState, Name, Piece, arrivals, arrived_of, Legal, posted, Book}
-use Rattle.unit_book.proofs.Names.{Each}
+use Rattle.unit_book.proofs.Names.{◌≡◌, ℕ, ◌+◌, true, Some, List, [], ◌∷◌, ◌++◌, append_assoc, length, refl, sym, ap, ◌∙◌, arith, eqb}
+use Rattle.unit_book.proofs.Names.{subst, eqb-true, eq-eqb, append-nil, filter-append, slice_get, drop, slice_get-append_right, Meaning}
+use Rattle.unit_book.proofs.Names.{PostedState, Name, Piece, arrivals, arrived_of, Legal, posted, Book, Each}
 use Rattle.unit_book.specs.Legal.{Settled}
 use Rattle.unit_book.specs.World.{World, requests_of, values_of, one_more_of_task, without_first, InBook, Takes, Step, Accept, Take, Open}
 use Rattle.unit_book.specs.World.{Start, Run, Interrupt, Purge, Close, Reset, Deliver, Collect, Reaches, Stay, Go, IsOpening}
@@ -39,17 +38,8 @@ module _ {D : Type 0} (meaning : Meaning D) where
   -- A REQUEST IS ACCEPTED
   accept-kept : (w : World D) (r : Piece) → Kept w → r.unit ≡ w.unit → r.name.seq ≡ length (w.sent r.name.task) + 1 →
       Kept (record w { sent = one_more_of_task w.sent r.name.task r; flight = w.flight ++ r ∷ [] })
-  accept-kept w r k of_unit next = grind (
-    arith,
-    common_steps,
-    filter-append,
-    append_assoc,
-    append-nil,
-    eqb-true,
-    at-push,
-    name-is,
-    Each-behind,
-  )
+  accept-kept w r k of_unit next =
+      grind (arith, common_steps, filter-append, append_assoc, append-nil, eqb-true, at-push, name-is, Each-behind)
 
   -- A REQUEST ARRIVES: it has the next number of its task
   next-number : (w : World D) (r : Piece) (rest : List Piece) → Kept w → w.flight ≡ r ∷ rest →

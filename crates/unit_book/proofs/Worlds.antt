@@ -1,7 +1,6 @@
 -- The laws of worlds: in a finished one each request that was sent has one post.
-use Rattle.unit_book.proofs.Names.{◌≡◌, ◌≤◌, ℕ, ◌+◌, Bool, true, None, List, [], ◌∷◌, refl, ap, ◌∙◌, arith, inl}
-use Rattle.unit_book.proofs.Names.{inr, cases_Bool, Meaning, Name, Entry, Post, same, arrivals, has_arrived}
-use Rattle.unit_book.proofs.Names.{is_posted, waiting, active, Legal, Each}
+use Rattle.unit_book.proofs.Names.{◌≡◌, ◌≤◌, ℕ, ◌+◌, Bool, true, None, List, [], ◌∷◌, refl, ap, ◌∙◌, arith, inl, inr, cases_Bool, Meaning}
+use Rattle.unit_book.proofs.Names.{Name, Entry, Post, same, arrivals, has_arrived, is_posted, waiting, active, Legal, Each}
 use Rattle.unit_book.specs.Laws.{times}
 use Rattle.unit_book.specs.World.{World, IsOpening, IsFinished, Reaches}
 use Rattle.unit_book.specs.WorldLaws.{FinishedOnce, posts_of, KeepsRequests, WorldLaws}
@@ -57,17 +56,8 @@ module _ {D : Type 0} (meaning : Meaning D) where
   worlds-keep : (first last : World D) → IsOpening meaning first → Reaches meaning first last → KeepsRequests meaning last
   worlds-keep first last o r =
       let k = steps-kept meaning first last o r in
-      record {
-        received = k.received;
-        numbered = k.numbered;
-        for_unit = k.for_unit;
-        returned = k.returned;
-        legal = k.legal;
-        settled = k.settled;
-        first_started = first-started meaning last k;
-        posted_once = λ n. once (is_posted n last.book.trace) (posts-once last.book.mounted n last.book.trace k.legal);
-        finished = finished-posts last k;
-      } where
+      let once' = λ (n : Name). once (is_posted n last.book.trace) (posts-once last.book.mounted n last.book.trace k.legal) in
+      assumption (first-started meaning last k, once', finished-posts last k) where
         once : {k : ℕ} (b : Bool) → k ≡ times b → k ≤ 1
         once v0 e = grind (arith, common_steps)
 

@@ -5,7 +5,7 @@ use Rattle.tape_unit.specs.Reel.{ReelState}
 use Rattle.aws_tape.specs.declared.fault.AwsError.{AwsError}
 use Rattle.aws_tape.specs.declared.fault.AwsFault.{AwsFault}
 use Rattle.aws_tape.specs.Chunk.{len_of}
-use Rattle.aws_tape.specs.Reading.{Between, at_end, at_offset, first_after, read_from}
+use Rattle.aws_tape.specs.Reading.{Between, image_end, at_offset, first_after, read_from}
 use Rattle.aws_tape.proofs.Images.{read_chunk, read_fault, read_end}
 use Rattle.aws_tape.proofs.reader.load.Goals as goal
 

@@ -1,6 +1,6 @@
 //! Tasks that do their commands of a script and do not wait for their posts.
 
-ghost use Rattle.std.specs.Prelude.{◌≡◌, ℕ, All, vec_len};
+ghost use Rattle.std.specs.Prelude.{◌≡◌, ℕ, ⊤, All, vec_len};
 ghost use Rattle.job_mount.specs.Requests.{CanBeDone};
 
 use any_device::AnyDevice;
@@ -31,6 +31,8 @@ impl<'a> TaskProgram<AnyDevice> for NotAwaited<'a> {
     type Outcome = Result<Lines, TaskError>;
 
     ghost units = { λ tasks. vec_len tasks.script.now.set_up.units };
+
+    ghost runs = { λ tasks old new outcome. ⊤ };
 
     fn run<S: Site, R: Wait>(
         &self,

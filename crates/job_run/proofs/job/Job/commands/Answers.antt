@@ -30,7 +30,7 @@ loop-place-preserved g c =
     let number = c.loop-place.invariant.number in
     let done = rw c.in_default.is at c.command.ensures.sent in
     let n = at_place task c.number.result commands old sent c.places_of-place-items.result.now i command
-    c.places_of-place-items.ensures.value c.number.ensures
+    c.places_of-place-items.ensures.value c.number.ensures.is
     c.loop-place-test.true c.loop-place.invariant.reached c.index-command.ensures in
     record {
       number = c.command.ensures.number ∙ number;
@@ -43,7 +43,7 @@ returns g c = record {
   number = c.loop-place.invariant.number;
   sent = ends c.args.client.now.number c.number.result c.args.self.now.script.now.commands.items c.args.client.now.sent
       c.loop-place.client.sent
-      c.places_of-place-items.result.now c.loop-place.place-index c.places_of-place-items.ensures.value c.number.ensures
+      c.places_of-place-items.result.now c.loop-place.place-index c.places_of-place-items.ensures.value c.number.ensures.is
       c.loop-place-test.false
       c.loop-place.invariant.reached;
   stopped = tt;
@@ -58,7 +58,7 @@ returns-in-Err g c =
     let sent = c.loop-place.client.sent in
     let command = c.index-command.result.now in
     let n = at_place task c.number.result commands old sent c.places_of-place-items.result.now i command
-    c.places_of-place-items.ensures.value c.number.ensures
+    c.places_of-place-items.ensures.value c.number.ensures.is
     c.loop-place-test.true c.loop-place.invariant.reached c.index-command.ensures in
     record {
       number = c.command.ensures.number ∙ c.loop-place.invariant.number;

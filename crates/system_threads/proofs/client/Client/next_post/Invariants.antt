@@ -1,5 +1,9 @@
 use Rattle.std.proofs.Common.{◌≡◌}
+use Rattle.system_threads.specs.Counting.{HasCounted}
 use Rattle.system_threads.proofs.client.Client.next_post.Given as goal
 
 abbrev pub invariant-loop : goal.invariant-loop
-invariant-loop g l = l.self-inside.task ≡ l.fn.self
+invariant-loop g l = record {
+  same : l.self-inside.task ≡ l.fn.self;
+  counted : HasCounted l.self-inside.task l.self-inside.issued l.self-inside.collected;
+}

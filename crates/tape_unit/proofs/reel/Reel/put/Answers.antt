@@ -23,7 +23,8 @@ keeps c =
     let after-is = with_items_is v image same ∙ c.write_item.ensures
     ∙ ap (λ (l : List ℕ). written l at.offset (packed x)) c.deref_mut.ensures.value in
     let room : bytes_before reel.items at.place + (4 + length c.args.content.now) ≤ reel.size = grind (arith, nat_tests, c.requires.room) in
-    put_kept reel v.items (with_items v image).items c.self.inside.used c.self.inside.count at (length c.args.content.now) x c.self.invariant c.self.view_is
+    put_kept reel v.items (with_items v image).items c.self.inside.used c.self.inside.count at
+    (length c.args.content.now) x c.self.invariant c.self.view_is
     c.requires.on fit len-is (omega (arith, room, c.requires.on.before)) after-is
 
 pub invariant_of-self : goal.invariant_of-self
@@ -38,7 +39,8 @@ returns-clause-on c =
     let at = c.args.at in
     let x : Item = item_with c.args.content.now in
     let len-is : length c.args.content.now ≡ length (content_of x) = sym (ap length (content_of-item_with c.args.content.now)) in
-    subst (λ (r : ReelState). IsOn r.items (record { place = at.place + 1; offset = at.offset + 4 + length c.args.content.now })) (sym (keeps c).view)
+    let after : ℕ = at.offset + 4 + length c.args.content.now in
+    subst (λ (r : ReelState). IsOn r.items (record { place = at.place + 1; offset = after })) (sym (keeps c).view)
     (after_put reel.items at (length c.args.content.now) x c.requires.on len-is)
 
 pub overflow_add-end : goal.overflow_add-end

@@ -25,7 +25,8 @@ keeps c =
     let after-is = with_items_is v image same ∙ c.write_given.ensures
     ∙ ap (λ (l : List ℕ). written l at.offset (packed x)) c.deref_mut.ensures.value in
     let room : bytes_before reel.items at.place + (4 + c.args.len) ≤ reel.size = grind (arith, nat_tests, c.requires.room) in
-    put_kept reel v.items (with_items v image).items c.self.inside.used c.self.inside.count at (c.args.len) x c.self.invariant c.self.view_is
+    put_kept reel v.items (with_items v image).items c.self.inside.used c.self.inside.count at c.args.len x
+    c.self.invariant c.self.view_is
     c.requires.on fit len-is (omega (arith, room, c.requires.on.before)) after-is
 
 pub invariant_of-self : goal.invariant_of-self

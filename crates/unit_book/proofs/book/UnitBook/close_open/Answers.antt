@@ -1,15 +1,11 @@
-use Rattle.unit_book.proofs.Names.{◌∷◌, refl, Close, posted}
+use Rattle.unit_book.proofs.Names.{posted, arith}
 use Rattle.unit_book.proofs.Calls.{add-then-sweep, pending-close}
 use Rattle.unit_book.proofs.book.UnitBook.close_open.Goals as goal
+use Rattle.std.proofs.lemmas.Grind.{common_steps}
 
 pub returns-clause-ok : goal.returns-clause-ok
 unfolding posted
-returns-clause-ok g c =
-    let old = c.self.inside.entries in
-    let a = rw c.in_ok-reserve_posts.ensures.book at c.close.ensures.book in
-    rw (← c.self.view_is) (add-then-sweep g.D.Device.meaning old (Close c.args.dcb ∷ old.trace) refl a c.sweep.ensures.book)
+returns-clause-ok g c = grind (arith, common_steps, add-then-sweep)
 
 pub returns-clause-pending : goal.returns-clause-pending
-returns-clause-pending g c =
-    pending-close g.D.Device.meaning c.args.self.now c.args.dcb (rw (← c.self.view_is) c.holds.ensures.legal)
-    (returns-clause-ok g c)
+returns-clause-pending g c = grind (arith, common_steps, pending-close, returns-clause-ok)

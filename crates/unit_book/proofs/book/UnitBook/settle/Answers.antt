@@ -1,7 +1,8 @@
-use Rattle.std.proofs.Common.{rules}
 use Rattle.unit_book.specs.Settle.{Stays}
 use Rattle.unit_book.proofs.Settling.{settles-more, settles-served}
 use Rattle.unit_book.proofs.book.UnitBook.settle.Goals as goal
+use Rattle.unit_book.proofs.Names.{arith}
+use Rattle.std.proofs.lemmas.Grind.{common_steps}
 
 pub loop-init : goal.loop-init
 loop-init g c = Stays
@@ -10,31 +11,7 @@ pub loop-preserved : goal.loop-preserved
 loop-preserved g c = settles-more g.D.Device.meaning c.loop.invariant c.attempt.ensures.steps
 
 pub returns-in_err-attempt : goal.returns-in_err-attempt
-returns-in_err-attempt g c =
-    let s = settles-more g.D.Device.meaning c.loop.invariant c.attempt.ensures.steps in
-    let k = settles-served g.D.Device.meaning s in
-    record {
-      steps = s;
-      adds = k.adds;
-      mounted = k.mounted;
-      isc = k.isc;
-      capacity = k.capacity;
-      waiting = search rules;
-      active = search rules;
-      full = search rules;
-    }
+returns-in_err-attempt g c = grind (arith, common_steps, settles-more, settles-served)
 
 pub returns : goal.returns
-returns g c =
-    let s = settles-more g.D.Device.meaning c.loop.invariant c.attempt.ensures.steps in
-    let k = settles-served g.D.Device.meaning s in
-    record {
-      steps = s;
-      adds = k.adds;
-      mounted = k.mounted;
-      isc = k.isc;
-      capacity = k.capacity;
-      waiting = search rules;
-      active = search rules;
-      full = search rules;
-    }
+returns g c = grind (arith, common_steps, settles-more, settles-served)

@@ -1,4 +1,4 @@
-use Rattle.unit_book.proofs.Names.{subst, ExtentViolated, empty_status, Started, Violated}
+use Rattle.unit_book.proofs.Names.{subst, ExtentViolated, empty_status, Started, Violated, arith}
 use Rattle.unit_book.specs.declared.decision.Begun.{Begun}
 use Rattle.unit_book.specs.Answers.{IsBegun, PostsOne, MayStart, StartsOne}
 use Rattle.unit_book.specs.Legal.{FailsCheck}
@@ -7,6 +7,7 @@ use Rattle.unit_book.proofs.Calls.{post-then-sweep, sweep-due, pending-start}
 use Rattle.unit_book.proofs.book.UnitBook.start.Given.{Over}
 use Rattle.unit_book.proofs.book.UnitBook.start.Goals.{In-Started, In-Violated}
 use Rattle.unit_book.proofs.book.UnitBook.start.Goals as goal
+use Rattle.std.proofs.lemmas.Grind.{common_steps}
 
 -- what was begun: a program was started
 started : (g : Over) (c : In-Started g) → MayStart g.D.Device.meaning c.self.inside.entries c.in-Started.name
@@ -21,10 +22,7 @@ violated g c =
     subst (λ (x : Begun). IsBegun g.D.Device.meaning c.self.inside.entries x c.start.new.self) c.in-Violated.is c.in_ok-start.ensures.ok
 
 pub invariant_of-self-in-Started : goal.invariant_of-self-in-Started
-invariant_of-self-in-Started g c =
-    let old = c.self.inside.entries in
-    let e = (started g (goal.at.invariant_of-self-in-Started g c).In-Started).1 in
-    rw e (settled-start g.D.Device.meaning old.mounted c.in-Started.name old.trace c.self.invariant)
+invariant_of-self-in-Started g c = grind (arith, common_steps, started, settled-start)
 
 pub sweep-requires-clause-spare : goal.sweep-requires-clause-spare
 sweep-requires-clause-spare g c = (violated g (goal.at.sweep-requires-clause-spare g c).In-Violated).1.room

@@ -12,7 +12,6 @@ pub invariant_of-self : goal.invariant_of-self
 invariant_of-self g c =
     let i = c.self.inside in
     let fits = rw (← c.self.view_is) at c.requires.fits in
-    let room = rw (← c.self.view_is) at c.requires.room in
     let t = ties-arrive g.D.Device.meaning i.mounted fits c.requires.placed c.self.invariant.0 in
     grind (arith, common_steps, length-append)
 

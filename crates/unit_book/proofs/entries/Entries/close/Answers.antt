@@ -1,9 +1,8 @@
-use Rattle.unit_book.proofs.Names.{◌∷◌, reverse, Close, waiting, arrivals}
+use Rattle.unit_book.proofs.Names.{◌∷◌, reverse, Close, waiting, arrivals, arith}
 use Rattle.unit_book.proofs.Controls.{doomed-close, doomed-some, ties-close}
 use Rattle.unit_book.proofs.Dooms.{due-doomed, due-no_halt}
 use Rattle.unit_book.proofs.Opens.{open-row}
 use Rattle.unit_book.proofs.entries.Entries.close.Goals as goal
-use Rattle.unit_book.proofs.Names.{arith}
 use Rattle.std.proofs.lemmas.Grind.{common_steps}
 
 pub invariant_of-self : goal.invariant_of-self

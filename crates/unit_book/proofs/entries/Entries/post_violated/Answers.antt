@@ -5,7 +5,7 @@ use Rattle.unit_book.specs.Legal.{FailsCheck}
 use Rattle.unit_book.proofs.Dooms.{doomed-post, doomed-few, due-doomed}
 use Rattle.unit_book.proofs.LegalFacts.{facts, first-waits}
 use Rattle.unit_book.proofs.Same.{fits-free, on-err}
-use Rattle.unit_book.proofs.Starts.{none-in_field, ties-first_post, waiting-value}
+use Rattle.unit_book.proofs.Starts.{ties-first_post, waiting-value}
 use Rattle.unit_book.proofs.Opens.{first-opened, opened-row}
 use Rattle.unit_book.proofs.entries.Entries.post_violated.Given.{Over}
 use Rattle.unit_book.proofs.entries.Entries.post_violated.Goals.{In-Some}
@@ -58,7 +58,6 @@ returns-clause-ok g c =
     let t = c.self.invariant.0 in
     let settled = rw (← c.self.view_is) at c.requires.settled in
     let value = waiting-value t f.1 in
-    let none = (none-in_field m i.mounted f.0.none t).1 in
     let issued = (first-waits b H (facts m i.mounted H t.legal) f.1).known.0 in
     let dooms = doomed-post b.name no_status 0 ExtentViolated H (due-doomed m i.mounted H settled) in
     let few = doomed-few b.name no_status 0 ExtentViolated H in

@@ -1,6 +1,5 @@
-use Rattle.unit_book.proofs.Names.{◌≡◌, [], ◌∷◌, Some, length-append, append_assoc, map, reverse, arith, refl, sym, ap, ◌∙◌}
-use Rattle.unit_book.proofs.Names.{true, Ties, PostsActive, covers_awaiting, subst, Purged, filter}
-use Rattle.unit_book.proofs.Names.{Queue, covers, purged, posted_value}
+use Rattle.unit_book.proofs.Names.{◌≡◌, [], ◌∷◌, Some, length-append, append_assoc, map, reverse, arith, refl, sym, ap, ◌∙◌, true, Ties}
+use Rattle.unit_book.proofs.Names.{PostsActive, covers_awaiting, subst, Purged, filter, Queue, covers, purged, posted_value}
 use Rattle.unit_book.specs.Fields.{kept_by, fields_of}
 use Rattle.unit_book.proofs.Facts.{Each-filter}
 use Rattle.std.proofs.lemmas.List.{length-map}
@@ -38,7 +37,6 @@ invariant_of-self-2 g c =
     let room = rooms-found f.0 c.self.invariant.1 in
     let sw = swept-found c.sweep.ensures.swept room.swept_is in
     let items_is = ap (λ (x : Queue). x.pieces) sw in
-    let out_is = rw items_is at c.post_all.ensures.out in
     let few = length-filters p i.waiting.pieces in
     let purges = map purged (filter p i.waiting.pieces) in
     grind (arith, common_steps, length-append, length-map)

