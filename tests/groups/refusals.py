@@ -89,6 +89,13 @@ def is_test(ran, text):
     return "out of memory" if ran.status == 101 and is_reported else None
 
 
+def is_purge_test(ran, text):
+    """As `is_test`; a test that passed says if the purge was answered `Active` by unit 0 and refused by unit 1."""
+    way = is_test(ran, text)
+    is_refused = way == "passed" and re.search(r"^unit 1 has no memory for the purge$", ran.out, re.M)
+    return "passed, with unit 1 refusing the purge" if is_refused else way
+
+
 def is_mounted_test(ran, text):
     """A test passed, or it ended in a plain error of memory before its disk was mounted."""
     way = is_test(ran, text)
@@ -226,6 +233,8 @@ def programs(setup):
 # The tests: the crate, the names, and what is required of the runs.
 MUST_PASS = {"passes": True}
 RESUMES = {"judge": is_resumed_test, "passes": True, "pairs": True}
+# It passes, passes with unit 1 refusing, and ends with an error of memory.
+REFUSES = {"judge": is_purge_test, "passes": True, "least": 3}
 RUNS_WITHOUT = {"judge": is_mounted_test, "kind": "lasting"}
 TESTS = [
     (
@@ -244,11 +253,12 @@ TESTS = [
     (
         "system_tests",
         [
-            *(f"{it}_without_memory" for it in ("arrive", "purge_of_a_task", "reserve", "system")),
+            *(f"{it}_without_memory" for it in ("arrive", "reserve", "system")),
             "gate_is_told_of_want_of_memory",
         ],
         MUST_PASS,
     ),
+    ("system_tests", ["purge_of_a_task_without_memory"], REFUSES),
     ("system_tests", ["finish_without_memory", "finish_after_excp_without_memory"], RESUMES),
 ]
 

@@ -433,6 +433,8 @@ fn want_of_memory_ends_the_tasks(rt: HostRuntime) -> Result<(), Fail> {
     let parts = [AREAS, EXCPS];
     for way in [
         Way::Late(Point::Take),
+        Way::Late(Point::Start),
+        Way::Late(Point::Run),
         Way::Late(Point::Deliver),
         Way::Raised,
         Way::Alone,
