@@ -19,7 +19,7 @@ const IMAGE: [u8; 36] = [
 /// The items of the image.
 const ITEMS: [&[u8]; 4] = [&[0xC1, 0xC2, 0xC3], &[], &[1, 2, 3], &[]];
 
-/// Loads an image to a tape of so many bytes.
+/// Loads an image to a tape of `bytes` bytes.
 fn loaded(alloc: Global, bytes: u64, image: &[u8]) -> Result<Recording, AwsError> {
     match Recording::new(alloc, bytes) {
         Ok(tape) => load(alloc, tape, image),

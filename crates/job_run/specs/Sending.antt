@@ -1,9 +1,11 @@
 -- WHAT A TASK SENDS by the commands of a script, and why a command fails (profile).
 use Rattle.std.specs.Prelude.{◌≡◌, ◌≤◌, ◌+◌, ◌-◌, ◌^◌, ◌==◌, ℕ, List, [], ◌∷◌, ◌++◌, length, slice_index_or, slice_set, if◌then◌else◌}
+use Rattle.std.specs.Prelude.{Result, Ok, Err}
 use Rattle.std.specs.Arc.{arc_value}
 use Rattle.request_piece.specs.Requests.{request_of}
 use Rattle.request_piece.specs.declared.piece.Name.{Name}
 use Rattle.request_piece.specs.declared.piece.Piece.{Piece}
+use Rattle.excp_system.specs.States.{TaskState, awaited_count}
 use Rattle.job_script.specs.declared.command.Action.{Action}
 use Rattle.job_script.specs.declared.command.Action.TheVariants.{Excp, Purge, PurgeTask, Close, Reset, Wait}
 use Rattle.job_script.specs.declared.command.Command.{Command}
@@ -81,3 +83,8 @@ pub record SendsFirst (task : ℕ) (commands : List Command) (old new : List (Li
 abbrev pub EndsEarly : ℕ → List Command → List (List Piece) → List (List Piece) → TaskError → Type 0
 EndsEarly task commands old new (errors.Line line name) = StopsAt task commands old new (errors.Line line name)
 EndsEarly task commands old new errors.NoMemory = SendsFirst task commands old new
+
+-- a task does its commands of a script to their end, and collects as many posts as it sent requests; or it ends early
+abbrev pub DoesScript : {L : Type 0} → List Command → TaskState → TaskState → Result L TaskError → Type 0
+DoesScript commands old new (Ok lines) = (new.sent ≡ sends_all old.number commands old.sent) × (awaited_count new ≡ 0)
+DoesScript commands old new (Err fault) = EndsEarly old.number commands old.sent new.sent fault

@@ -1,6 +1,7 @@
 //! What one task does of a script.
 
 ghost use Rattle.std.specs.Prelude.{◌≡◌, ◌<◌, All, IfErr, OnErr, OnOk, vec_len};
+ghost use Rattle.excp_system.specs.States.{awaited_count};
 ghost use Rattle.job_mount.specs.Requests.{CanBeDone, CanIssue};
 ghost use Rattle.job_script.specs.Commands.{NamesUnits};
 ghost use Rattle.job_run.specs.Sending.{EndsEarly, ExcpFails, Fails, StopsAt, sends, sends_all, sends_excp};
@@ -61,6 +62,7 @@ impl<'a, 'r, S: Site> Job<'a, 'r, S> {
     ) -> Result<Lines, TaskError>
         ensures number { client.new.number ≡ client.old.number }
         ensures sent { OnOk result (client.new.sent ≡ sends_all client.old.number self.now.script.now.commands.items client.old.sent) }
+        ensures awaits_none { OnOk result (awaited_count client.new ≡ 0) }
         ensures stopped { IfErr result (EndsEarly client.old.number self.now.script.now.commands.items client.old.sent client.new.sent) }
     {
         let mut lines = Lines::of_task(alloc, self.script, client.number())?;
@@ -159,7 +161,7 @@ impl<'a, 'r, S: Site> Job<'a, 'r, S> {
         unreachable!()
     }
 
-    /// Collects the posts of all requests that a task has issued.
+    /// Collects posts until their count is that of the requests that the task has issued.
     pub fn collect<R: Wait>(
         &self,
         rt: &R,
@@ -168,6 +170,7 @@ impl<'a, 'r, S: Site> Job<'a, 'r, S> {
     ) -> Result<(), AllocError>
         ensures number { client.new.number ≡ client.old.number }
         ensures sent { client.new.sent ≡ client.old.sent }
+        ensures awaits_none { OnOk result (awaited_count client.new ≡ 0) }
     {
         for _ in rt.forever() {
             match client.next_post(rt, self.alarm)? {

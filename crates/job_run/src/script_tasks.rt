@@ -1,7 +1,8 @@
 //! The tasks of a script.
 
-ghost use Rattle.std.specs.Prelude.{◌≡◌, ℕ, ⊤, All, vec_len};
+ghost use Rattle.std.specs.Prelude.{◌≡◌, ℕ, All, vec_len};
 ghost use Rattle.job_mount.specs.Requests.{CanBeDone};
+ghost use Rattle.job_run.specs.Sending.{DoesScript};
 
 use crate::job::Job;
 use crate::lines::Lines;
@@ -36,7 +37,7 @@ impl<'a> TaskProgram<AnyDevice> for ScriptTasks<'a> {
 
     ghost units = { λ tasks. vec_len tasks.script.now.set_up.units };
 
-    ghost runs = { λ tasks old new outcome. ⊤ };
+    ghost runs = { λ tasks old new outcome. DoesScript tasks.script.now.commands.items old new outcome };
 
     fn run<S: Site, R: Wait>(
         &self,
