@@ -4,7 +4,6 @@ use crate::devices::late_fault;
 use crate::memory::TWICE;
 use crate::tapes::expect_items;
 use aws_tape::{AwsError, AwsFault, load, save};
-use device_port::MountError;
 use std::alloc::{AllocError, Global};
 use std::process::Abort;
 use std::test::Fail;
@@ -44,10 +43,8 @@ fn load_without_memory(rt: HostRuntime) -> Result<(), Fail> {
     assert_eq!(rt; tape.used(), 22);
     let mut tape = tape;
     tape.cut();
-    match tape.mount(rt.alloc(), &[late_fault()]) {
-        Ok(tape) => expect_items(&rt, &tape, &ITEMS),
-        Err(error) => assert!(rt; matches!(error, MountError::NoMemory)),
-    }
+    let tape = tape.mount(rt.alloc(), &[late_fault()])?;
+    expect_items(&rt, &tape, &ITEMS);
     Ok(())
 }
 
@@ -104,12 +101,10 @@ const CANONICAL: [u8; 30] = [
 #[test]
 fn save_without_memory(rt: HostRuntime) -> Result<(), Fail> {
     let Ok(mut tape) = loaded(rt.alloc(), 64, &IMAGE) else {
-        return Ok(());
+        return Err(Fail::from(AllocError));
     };
     tape.cut();
-    let Ok(tape) = tape.mount(rt.alloc(), &[]) else {
-        return Ok(());
-    };
+    let tape = tape.mount(rt.alloc(), &[])?;
     let image = match save(rt.alloc(), tape.items()) {
         Ok(image) => image,
         Err(AllocError) => save(rt.alloc(), tape.items()).or(Err(TWICE))?,

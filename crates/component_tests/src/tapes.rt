@@ -94,9 +94,7 @@ fn record_without_memory(rt: HostRuntime) -> Result<(), Fail> {
     assert!(rt; matches!(tape.write_block(&[]), Err(RecordingError::BadBlock)));
     assert!(rt; matches!(tape.write_tape_mark(), Err(RecordingError::Full)));
     assert_eq!(rt; tape.used(), 9);
-    match tape.mount(rt.alloc(), &[late_fault()]) {
-        Ok(tape) => expect_items(&rt, &tape, &TWO_ITEMS),
-        Err(error) => assert!(rt; matches!(error, MountError::NoMemory)),
-    }
+    let tape = tape.mount(rt.alloc(), &[late_fault()])?;
+    expect_items(&rt, &tape, &TWO_ITEMS);
     Ok(())
 }

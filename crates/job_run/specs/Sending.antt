@@ -84,7 +84,7 @@ abbrev pub EndsEarly : ℕ → List Command → List (List Piece) → List (List
 EndsEarly task commands old new (errors.Line line name) = StopsAt task commands old new (errors.Line line name)
 EndsEarly task commands old new errors.NoMemory = SendsFirst task commands old new
 
--- a task does its commands of a script to their end, and collects as many posts as it sent requests; or it ends early
+-- a task does its commands of a script to their end, and collects at least as many posts as it sent requests; or it ends early
 abbrev pub DoesScript : {L : Type 0} → List Command → TaskState → TaskState → Result L TaskError → Type 0
 DoesScript commands old new (Ok lines) = (new.sent ≡ sends_all old.number commands old.sent) × (awaited_count new ≡ 0)
 DoesScript commands old new (Err fault) = EndsEarly old.number commands old.sent new.sent fault

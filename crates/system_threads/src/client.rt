@@ -181,7 +181,7 @@ impl<'r, S: Site> Client<'r, S> {
     ///
     /// If a call of a worker ran out of memory in [`LASTING_TURNS`](crate::LASTING_TURNS) turns in a row, a post may
     /// never come. So if there was none at one moment of the call, it then returns an error, whether a post is awaited
-    /// or not. Else it returns none only if it has collected as many posts as it sent requests.
+    /// or not. Else it returns none only if it has collected at least as many posts as it sent requests.
     pub fn next_post<R: Wait>(
         &mut self,
         rt: &R,
