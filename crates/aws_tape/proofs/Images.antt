@@ -1,17 +1,19 @@
 -- An image is read chunk by chunk.
-use Rattle.std.proofs.Common.{◌≡◌, ℕ, zero, suc, ◌+◌, ◌<◌, ◌≤◌, Bool, false, cond}
-use Rattle.std.proofs.Common.{nat_lt, List, [], ◌∷◌, length, take, drop, Ok, Err, Result}
+use Rattle.std.proofs.Common.{◌≡◌, ℕ, zero, suc, ◌+◌, ◌%◌, ◌<◌, ◌≤◌, Bool, true, false, not, cond}
+use Rattle.std.proofs.Common.{nat_eq, nat_lt, List, [], ◌∷◌, length, take, drop, slice_index, Ok, Err, Result, Option, Some, None, is_some}
 use Rattle.std.proofs.Common.{refl, sym, ap, ◌∙◌, arith}
 use Rattle.std.proofs.lemmas.Bool.Decides.{nat_tests}
 use Rattle.std.proofs.lemmas.List.{length-drop}
-use Rattle.tape_unit.specs.Reel.{ReelState}
-use Rattle.aws_tape.specs.declared.fault.AwsError.{AwsError}
+use Rattle.std.specs.List.{list_all}
+use Rattle.byteorder.specs.Numbers.{little_from-take}
 use Rattle.aws_tape.specs.declared.chunk.Header.{Header}
+use Rattle.aws_tape.specs.declared.chunk.Kind.{Kind}
+use Rattle.aws_tape.specs.declared.chunk.Kind.TheVariants.{Mark, Whole, First, Middle, Last}
 use Rattle.aws_tape.specs.declared.fault.AwsFault.{AwsFault}
 use Rattle.aws_tape.specs.declared.fault.AwsFault.TheVariants as fault
-use Rattle.aws_tape.specs.Chunk.{len_of}
+use Rattle.aws_tape.specs.Chunk.{len_of, previous_of, chunk_kind, is_digit}
 use Rattle.aws_tape.specs.Steps.{◌>>=◌}
-use Rattle.aws_tape.specs.Reading.{Between, at_offset, image_end, header_after, data_after, first_after, read_from}
+use Rattle.aws_tape.specs.Reading.{Between, at_offset, image_end, of_kind, header_after, data_after, first_after, read_from}
 
 -- steps that agree
 same_step : {A B E : Type 0} (r : Result A E) (f g : A → Result B E) → ((x : A) → f x ≡ g x) → (r >>= f) ≡ (r >>= g)
@@ -68,9 +70,55 @@ read_end offset at (byte ∷ rest) none = absurd (omega arith)
 
 -- a chunk whose header breaks no rule goes by its data
 pub first_with : (at : Between) (rest : List ℕ) (header : Header) → 6 ≤ length rest → header_after at (take 6 rest) ≡ Ok header →
-    first_after at rest ≡ data_after at (len_of rest) (drop 6 rest) header
+    first_after at rest ≡ data_after at (drop 6 rest) header
 first_with at rest header le is =
     let long : nat_lt (length rest) 6 ≡ false = grind (arith, nat_tests) in
-    let whole = header_after at (take 6 rest) >>= data_after at (len_of rest) (drop 6 rest) in
+    let whole = header_after at (take 6 rest) >>= data_after at (drop 6 rest) in
     ap (λ (b : Bool). cond b (Err fault.HeaderCutShort) whole) long
-    ∙ ap (λ (r : Result Header AwsFault). r >>= data_after at (len_of rest) (drop 6 rest)) is
+    ∙ ap (λ (r : Result Header AwsFault). r >>= data_after at (drop 6 rest)) is
+
+-- ---- a header that breaks no rule says the length in its bytes
+
+abbrev len_or : ℕ → Result Header AwsFault → ℕ
+len_or len (Ok header) = header.len
+len_or len (Err e) = len
+
+next_rule : (len : ℕ) (b : Bool) (e : AwsFault) (r : Result Header AwsFault) → len_or len r ≡ len → len_or len (cond b (Err e) r) ≡ len
+next_rule len true e r same = refl
+next_rule len false e r same = same
+
+mark_len : (len : ℕ) (b : Bool) → len_or len (cond b (Ok (record { kind = Mark; len = len })) (Err fault.MarkWithData)) ≡ len
+mark_len len true = refl
+mark_len len false = refl
+
+kind_len : (kind : Option Kind) (len : ℕ) (is_open : Bool) → len_or len (of_kind kind len is_open) ≡ len
+kind_len None len is_open = refl
+kind_len (Some Mark) len true = refl
+kind_len (Some Mark) len false = mark_len len (nat_eq len 0)
+kind_len (Some Whole) len true = refl
+kind_len (Some Whole) len false = refl
+kind_len (Some First) len true = refl
+kind_len (Some First) len false = refl
+kind_len (Some Middle) len true = refl
+kind_len (Some Middle) len false = refl
+kind_len (Some Last) len true = refl
+kind_len (Some Last) len false = refl
+
+header_len : (at : Between) (bytes : List ℕ) (header : Header) → header_after at bytes ≡ Ok header → header.len ≡ len_of bytes
+header_len at bytes header is =
+    let len = len_of bytes in
+    let flags = slice_index bytes 4 in
+    let compressed = not (nat_eq (flags % 4) 0) in
+    let spare = not (nat_eq (slice_index bytes 5) 0) in
+    let other = not (nat_eq (previous_of bytes) at.previous) in
+    let r1 = of_kind (chunk_kind flags) len (is_some at.block) in
+    let r2 = cond other (Err fault.BadPrevious) r1 in
+    let r3 = cond spare (Err fault.BadSpare) r2 in
+    let r4 = cond compressed (Err fault.Compressed) r3 in
+    sym (ap (len_or len) is)
+    ∙ next_rule len (list_all is_digit bytes) fault.FakeTape r4 (next_rule len compressed fault.Compressed r3
+    (next_rule len spare fault.BadSpare r2 (next_rule len other fault.BadPrevious r1
+    (kind_len (chunk_kind flags) len (is_some at.block)))))
+
+pub first_len : (at : Between) (rest : List ℕ) (header : Header) → header_after at (take 6 rest) ≡ Ok header → header.len ≡ len_of rest
+first_len at rest header is = header_len at (take 6 rest) header is ∙ little_from-take 0 2 6 rest (omega arith)

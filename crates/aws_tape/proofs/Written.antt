@@ -1,17 +1,18 @@
 -- The canonical image of items is read back.
-use Rattle.std.proofs.Common.{◌≡◌, ℕ, ◌+◌, ◌*◌, ◌<◌, ◌≤◌, ◌^◌, Bool, true, false, cond}
+use Rattle.std.proofs.Common.{◌≡◌, ℕ, ◌+◌, ◌<◌, ◌≤◌, Bool, true, false, cond}
 use Rattle.std.proofs.Common.{◌&&◌, not, nat_eq, nat_lt, List, [], ◌∷◌, ◌++◌, length, take, drop}
-use Rattle.std.proofs.Common.{Ok, Err, Result, Some, None, refl, sym, ap, subst, ◌∙◌, append_assoc, arith}
+use Rattle.std.proofs.Common.{Ok, Err, Result, Some, None, refl, sym, ap, ◌∙◌, append_assoc, arith}
 use Rattle.std.specs.List.{list_all}
 use Rattle.std.proofs.lemmas.Bool.Decides.{nat_tests}
 use Rattle.std.proofs.lemmas.List.{length-append, take_at, drop_at, drop-drop, append-nil}
+use Rattle.std.proofs.Math.Bool.{and-false}
 use Rattle.std.proofs.lemmas.List.Concat.{flat_map-cons, flat_map-append}
-use Rattle.byteorder.specs.Endian.{little_bytes, little_number}
+use Rattle.byteorder.specs.Endian.{little_bytes}
 use Rattle.byteorder.specs.Numbers.{little_number-reads_back}
 use Rattle.device_port.specs.Packed.{image_of, offset_of}
 use Rattle.device_port.proofs.Items.{offset_of-all}
-use Rattle.tape_unit.specs.Item.{Item, tape_mark, block, content_of, is_item, size_of, packed, on_tape}
-use Rattle.tape_unit.specs.Reel.{ReelState, bytes_of, has_room_at}
+use Rattle.tape_unit.specs.Item.{Item, tape_mark, block, content_of, is_item, packed, on_tape}
+use Rattle.tape_unit.specs.Reel.{ReelState, bytes_of}
 use Rattle.tape_unit.specs.Recording.{with_item, takes_item}
 use Rattle.tape_unit.proofs.Spelled.{length-packed, short, some}
 use Rattle.aws_tape.specs.declared.chunk.Header.{Header}
@@ -21,27 +22,18 @@ use Rattle.aws_tape.specs.declared.fault.AwsError.{AwsError}
 use Rattle.aws_tape.specs.declared.fault.AwsFault.{AwsFault}
 use Rattle.aws_tape.specs.declared.fault.AwsFault.TheVariants as fault
 use Rattle.aws_tape.specs.Chunk.{is_digit, chunk_kind, len_of, previous_of}
-use Rattle.aws_tape.specs.Reading.{Between, nothing_read, of_kind, header_after}
-use Rattle.aws_tape.specs.Reading.{between_blocks, chunk_after, first_after, data_after, read_from}
+use Rattle.aws_tape.specs.Reading.{Between, of_kind, header_after}
+use Rattle.aws_tape.specs.Reading.{between_blocks, chunk_after, first_after, read_from}
 use Rattle.aws_tape.specs.Writing.{flags_of, header_of, chunk_of, chunks_of, image_of_items, IsReadBack}
 use Rattle.aws_tape.proofs.Images.{first_with, read_chunk, read_end}
-
-and-false : (b : Bool) → (b && false) ≡ false
-and-false true = refl
-and-false false = refl
 
 -- a header ends in 0, which is no digit, so it begins no FakeTape file
 ends_in_zero : (bytes : List ℕ) → list_all is_digit (bytes ++ 0 ∷ []) ≡ false
 ends_in_zero [] = refl
 ends_in_zero (byte ∷ bytes) = ap (λ (b : Bool). is_digit byte && b) (ends_in_zero bytes) ∙ and-false (is_digit byte)
 
-no_fake : (at : Between) (previous : ℕ) (x : Item) → (nothing_read at && list_all is_digit (header_of previous x)) ≡ false
-no_fake at previous tape_mark =
-    let front = little_bytes 2 0 ++ (little_bytes 2 previous ++ 0x40 ∷ []) in
-    ap (λ (b : Bool). nothing_read at && b) (ends_in_zero front) ∙ and-false (nothing_read at)
-no_fake at previous (block bytes) =
-    let front = little_bytes 2 (length bytes) ++ (little_bytes 2 previous ++ 0xA0 ∷ []) in
-    ap (λ (b : Bool). nothing_read at && b) (ends_in_zero front) ∙ and-false (nothing_read at)
+no_fake : (previous : ℕ) (x : Item) → list_all is_digit (header_of previous x) ≡ false
+no_fake previous x = ends_in_zero (little_bytes 2 (length (content_of x)) ++ (little_bytes 2 previous ++ flags_of x ∷ []))
 
 same-true : (n : ℕ) → nat_eq n n ≡ true
 same-true n = grind (arith, nat_tests)
@@ -66,10 +58,10 @@ abbrev said : Item → Header
 said x = record { kind = kind_of_item x; len = length (content_of x) }
 
 -- the last two rules of a header
-header_after_previous : (reel : ReelState) (previous : ℕ) (x : Item) → is_item x ≡ true →
+header_after_previous : (previous : ℕ) (x : Item) → is_item x ≡ true →
     of_kind (chunk_kind (flags_of x)) (len_of (header_of previous x)) false ≡ Ok (said x)
-header_after_previous reel previous tape_mark fits = refl
-header_after_previous reel previous (block bytes) fits =
+header_after_previous previous tape_mark fits = refl
+header_after_previous previous (block bytes) fits =
     ap (λ (n : ℕ). of_kind (Some Whole) n false) (len_of-chunk previous (block bytes) [] fits)
 
 header_read : (reel : ReelState) (previous : ℕ) (x : Item) → is_item x ≡ true → previous < 65_536 →
@@ -80,18 +72,18 @@ header_read reel previous tape_mark fits small =
     let same : nat_eq (previous_of h) previous ≡ true =
     ap (λ (n : ℕ). nat_eq n previous) (previous_of-header previous tape_mark small) ∙ same-true previous in
     ap (λ (b : Bool). cond b (Err fault.FakeTape) (cond (not (nat_eq (previous_of h) previous)) (Err fault.BadPrevious) last))
-    (no_fake (between reel previous) previous tape_mark)
+    (no_fake previous tape_mark)
     ∙ ap (λ (b : Bool). cond (not b) (Err fault.BadPrevious) last) same
-    ∙ header_after_previous reel previous tape_mark fits
+    ∙ header_after_previous previous tape_mark fits
 header_read reel previous (block bytes) fits small =
     let h = header_of previous (block bytes) in
     let last = of_kind (Some Whole) (len_of h) false in
     let same : nat_eq (previous_of h) previous ≡ true =
     ap (λ (n : ℕ). nat_eq n previous) (previous_of-header previous (block bytes) small) ∙ same-true previous in
     ap (λ (b : Bool). cond b (Err fault.FakeTape) (cond (not (nat_eq (previous_of h) previous)) (Err fault.BadPrevious) last))
-    (no_fake (between reel previous) previous (block bytes))
+    (no_fake previous (block bytes))
     ∙ ap (λ (b : Bool). cond (not b) (Err fault.BadPrevious) last) same
-    ∙ header_after_previous reel previous (block bytes) fits
+    ∙ header_after_previous previous (block bytes) fits
 
 -- what the data of an item leaves
 data_read : (reel : ReelState) (previous : ℕ) (x : Item) → is_item x ≡ true → takes_item reel x ≡ true →
@@ -125,7 +117,6 @@ item_read reel previous x rest fits small room =
     let long : nat_lt (length behind) (length bytes) ≡ false = grind (arith, nat_tests, length-append bytes rest) in
     let short-data : Result Between AwsFault = Err fault.DataCutShort in
     first_with at image (said x) (omega arith) (header_read reel previous x fits small)
-    ∙ ap (λ (n : ℕ). data_after at n behind (said x)) (len_of-chunk previous x behind fits)
     ∙ ap (λ (b : Bool). cond b short-data (chunk_after at (kind_of_item x) (take (length bytes) behind))) long
     ∙ ap (λ (l : List ℕ). chunk_after at (kind_of_item x) l) (take_at bytes rest (length bytes) refl)
     ∙ data_read reel previous x fits room

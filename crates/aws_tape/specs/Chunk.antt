@@ -1,5 +1,5 @@
 -- The chunks of an image of a tape (AWSTAPE): each is a header of six bytes, and its data.
-use Rattle.std.specs.Prelude.{ℕ, Bool, nat_le, ◌&&◌, ◌||◌, ◌==◌, Option, Some, None, List, drop, slice_index, if◌then◌else◌}
+use Rattle.std.specs.Prelude.{ℕ, Bool, nat_le, ◌&&◌, ◌||◌, ◌==◌, Option, Some, None, List, drop, if◌then◌else◌}
 use Rattle.byteorder.specs.Endian.{little_number}
 use Rattle.aws_tape.specs.declared.chunk.Kind.{Kind}
 use Rattle.aws_tape.specs.declared.chunk.Kind.TheVariants.{Mark, Whole, First, Middle, Last}

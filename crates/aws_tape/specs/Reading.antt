@@ -1,11 +1,11 @@
 -- What the bytes of an image of a tape say: the items of the tape, or the first rule that they break.
-use Rattle.std.specs.Prelude.{◌≡◌, ℕ, zero, suc, ◌+◌, ◌%◌, Bool, true, false, not, nat_lt, ◌&&◌, ◌==◌}
+use Rattle.std.specs.Prelude.{◌≡◌, ℕ, zero, suc, ◌+◌, ◌%◌, Bool, true, false, not, nat_lt, ◌==◌}
 use Rattle.std.specs.Prelude.{List, [], ◌∷◌, ◌++◌, length, take, drop, slice_index}
 use Rattle.std.specs.Prelude.{Option, Some, None, is_some, Result, Ok, Err, if◌then◌else◌}
 use Rattle.std.specs.Global.{Vec}
 use Rattle.std.specs.List.{list_all}
 use Rattle.tape_unit.specs.Item.{tape_mark, block}
-use Rattle.tape_unit.specs.Reel.{ReelState, bytes_of}
+use Rattle.tape_unit.specs.Reel.{ReelState}
 use Rattle.tape_unit.specs.Recording.{with_item, takes_item}
 use Rattle.aws_tape.specs.declared.chunk.Header.{Header}
 use Rattle.aws_tape.specs.declared.chunk.Kind.{Kind}
@@ -41,18 +41,10 @@ abbrev pub of_kind : Option Kind → ℕ → Bool → Result Header AwsFault
 of_kind None len is_open = Err fault.BadFlags
 of_kind (Some kind) len is_open = in_place kind len is_open
 
--- whether nothing was read yet
-abbrev pub nothing_read : Between → Bool
-nothing_read at = (bytes_of at.reel.items == 0) && not (is_some at.block)
-
--- whether the image begins as a FakeTape file does
-abbrev pub is_fake : Between → List ℕ → Bool
-is_fake at header = nothing_read at && list_all is_digit header
-
--- what a header of six bytes says, or the first rule that it breaks
+-- what a header of six bytes says, or the first rule that it breaks. A FakeTape file begins with twelve digits
 abbrev pub header_after : Between → List ℕ → Result Header AwsFault
 header_after at header =
-    if is_fake at header then Err fault.FakeTape
+    if list_all is_digit header then Err fault.FakeTape
     else if not (slice_index header 4 % 4 == 0) then Err fault.Compressed
     else if not (slice_index header 5 == 0) then Err fault.BadSpare
     else if not (previous_of header == at.previous) then Err fault.BadPrevious
@@ -115,16 +107,16 @@ start reel = record { reel = reel; block = None; previous = 0 }
 abbrev pub image_end : Between → Result ReelState AwsFault
 image_end at = if is_some at.block then Err fault.BlockWithoutEnd else Ok at.reel
 
--- the data that follows a header, of `len` bytes
-abbrev pub data_after : Between → ℕ → List ℕ → Header → Result Between AwsFault
-data_after at len rest header =
-    if nat_lt (length rest) len then Err fault.DataCutShort else chunk_after at header.kind (take len rest)
+-- the data that follows a header
+abbrev pub data_after : Between → List ℕ → Header → Result Between AwsFault
+data_after at rest header =
+    if nat_lt (length rest) header.len then Err fault.DataCutShort else chunk_after at header.kind (take header.len rest)
 
 -- the first chunk of the bytes that are left
 abbrev pub first_after : Between → List ℕ → Result Between AwsFault
 first_after at rest =
     if nat_lt (length rest) 6 then Err fault.HeaderCutShort
-    else header_after at (take 6 rest) >>= data_after at (len_of rest) (drop 6 rest)
+    else header_after at (take 6 rest) >>= data_after at (drop 6 rest)
 
 -- a fault of the chunk at an offset
 abbrev pub at_offset : {A : Type 0} → ℕ → Result A AwsFault → Result A AwsError
@@ -139,7 +131,8 @@ read_from (suc n) offset at (byte ∷ rest) =
     at_offset offset (first_after at (byte ∷ rest))
     >>= λ next. read_from n (offset + (6 + len_of (byte ∷ rest))) next (drop (6 + len_of (byte ∷ rest)) (byte ∷ rest))
 
--- WHAT AN IMAGE SAYS: the reel with its items after those there, or its first fault. Each chunk has a byte at least
+-- WHAT AN IMAGE SAYS: the reel with its items after those there, or its first fault.
+-- A chunk has bytes, so `length image` steps are enough
 abbrev pub read_image : ReelState → List ℕ → Result ReelState AwsError
 read_image reel image = read_from (length image) 0 (start reel) image
 

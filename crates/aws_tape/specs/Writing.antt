@@ -1,5 +1,5 @@
 -- The bytes of an image of a tape in its canonical form, which has one chunk for each item (AWSTAPE).
-use Rattle.std.specs.Prelude.{◌≡◌, ℕ, ◌≤◌, Bool, true, List, [], ◌∷◌, ◌++◌, length, Ok}
+use Rattle.std.specs.Prelude.{◌≡◌, ℕ, ◌≤◌, List, [], ◌∷◌, ◌++◌, length, Ok}
 use Rattle.byteorder.specs.Endian.{little_bytes}
 use Rattle.tape_unit.specs.Item.{Item, tape_mark, block, content_of}
 use Rattle.tape_unit.specs.Reel.{bytes_of}

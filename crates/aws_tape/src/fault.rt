@@ -26,7 +26,7 @@ pub enum AwsFault {
     BadFlags,
     #[error("byte 5 of a header is 00")]
     BadSpare,
-    #[error("the length of the chunk before is wrong")]
+    #[error("bytes 2 and 3 of a header are the length of the chunk before it")]
     BadPrevious,
     #[error("a tape mark has no data")]
     MarkWithData,

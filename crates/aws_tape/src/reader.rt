@@ -52,7 +52,7 @@ fn placed(kind: Option<Kind>, len: u16, is_open: bool) -> Result<Header, AwsFaul
 }
 
 impl Reader {
-    ghost use Rattle.aws_tape.specs.Reading.{Answers, start, nothing_read, is_fake, header_after, chunk_after, data_after, first_after, image_end};
+    ghost use Rattle.aws_tape.specs.Reading.{Answers, start, header_after, chunk_after, data_after, first_after, image_end};
 
     /// Reads an image to a tape, after the items there.
     pub fn new(alloc: Global, tape: Recording) -> Self
@@ -66,20 +66,6 @@ impl Reader {
         }
     }
 
-    /// Whether nothing was read yet.
-    fn is_at_start(&self) -> bool
-        ensures { result ≡ nothing_read self.now }
-    {
-        self.tape.used() == 0 && self.block.is_none()
-    }
-
-    /// Whether the image begins as a FakeTape file does.
-    fn is_fake(&self, header: &[u8]) -> bool
-        ensures { result ≡ is_fake self.now header.now }
-    {
-        self.is_at_start() && are_digits(header)
-    }
-
     /// Reads the six bytes of a header.
     ///
     /// Errors: the first rule that the header breaks.
@@ -87,7 +73,7 @@ impl Reader {
         requires { length header.now ≡ 6 }
         ensures { result ≡ header_after self.now header.now }
     {
-        if self.is_fake(header) {
+        if are_digits(header) {
             return Err(AwsFault::FakeTape);
         }
         let flags = header[4];
@@ -103,12 +89,12 @@ impl Reader {
         placed(Kind::decode(flags), number(header), self.block.is_some())
     }
 
-    /// Reads the data of a chunk of this kind.
+    /// Reads the data of the chunk with this header.
     ///
     /// Errors: the first rule that the data breaks, or `NoMemory`.
-    pub fn chunk(self, kind: Kind, data: &[u8]) -> Result<Self, AwsFault>
-        requires { length data.now ≤ 65_535 }
-        ensures { Answers (chunk_after self kind data.now) result }
+    pub fn chunk(self, header: Header, data: &[u8]) -> Result<Self, AwsFault>
+        requires { length data.now ≡ header.len }
+        ensures { Answers (chunk_after self header.kind data.now) result }
     {
         let Reader {
             alloc,
@@ -116,8 +102,7 @@ impl Reader {
             block,
             previous: _,
         } = self;
-        let previous = data.len() as u16;
-        let (tape, block) = match kind {
+        let (tape, block) = match header.kind {
             Kind::Mark => (recorded_mark(tape)?, None),
             Kind::Whole => (recorded(tape, data)?, None),
             Kind::First => (tape, Some(joined(Vec::new(alloc), data)?)),
@@ -131,25 +116,25 @@ impl Reader {
             alloc,
             tape,
             block,
-            previous,
+            previous: header.len,
         })
     }
 
-    /// Reads the data of a chunk, of `len` bytes, from the bytes that are left, and returns those after it.
+    /// Reads the data of the chunk with this header from the bytes that are left, and returns those after it.
     ///
     /// Errors: the first rule that the data breaks, or `NoMemory`.
-    fn data(self, header: Header, len: usize, rest: &[u8]) -> Result<(Self, &[u8]), AwsFault>
-        requires { len ≤ 65_535 }
-        ensures read { IfOk result (λ x. data_after self len rest.now header ≡ Ok x.0) }
-        ensures behind { IfOk result (λ x. x.1.now ≡ drop len rest.now) }
-        ensures within { OnOk result (len ≤ length rest.now) }
-        ensures fault { IfErr result (λ e. (e ≡ NoMemory → ⊥) → data_after self len rest.now header ≡ Err e) }
+    fn data(self, header: Header, rest: &[u8]) -> Result<(Self, &[u8]), AwsFault>
+        ensures read { IfOk result (λ x. data_after self rest.now header ≡ Ok x.0) }
+        ensures behind { IfOk result (λ x. x.1.now ≡ drop header.len rest.now) }
+        ensures within { OnOk result (header.len ≤ length rest.now) }
+        ensures fault { IfErr result (λ e. (e ≡ NoMemory → ⊥) → data_after self rest.now header ≡ Err e) }
     {
+        let len = header.len as usize;
         if rest.len() < len {
             return Err(AwsFault::DataCutShort);
         }
         let (data, behind) = rest.split_at(len);
-        match self.chunk(header.kind, data) {
+        match self.chunk(header, data) {
             Ok(next) => Ok((next, behind)),
             Err(fault) => Err(fault),
         }
@@ -169,7 +154,7 @@ impl Reader {
         }
         let (header, behind) = rest.split_at(HEADER);
         match self.header(header) {
-            Ok(header) => self.data(header, number(rest) as usize, behind),
+            Ok(header) => self.data(header, behind),
             Err(fault) => Err(fault),
         }
     }

@@ -5,6 +5,7 @@ ghost use Rattle.tape_unit.specs.Item.{is_item, content_of};
 ghost use Rattle.aws_tape.specs.Writing.{header_of, image_of_items, IsReadBack};
 
 use std::alloc::{AllocError, Global};
+use std::marker::Model;
 use tape_unit::{Items, Stored};
 
 /// Writes an image of a tape item by item. A caller writes the header of each item, and then its data.
@@ -13,18 +14,28 @@ pub struct Writer {
     previous: u16,
 }
 
+impl Model for Writer {
+    ghost use Rattle.std.specs.Prelude.{ℕ};
+
+    ghost Value = { ℕ };
+
+    ghost view = { λ w. w.previous };
+
+    ghost inverse = { λ n. record { previous = n } };
+}
+
 impl Writer {
     /// A writer at the start of an image.
     pub fn new() -> Self
-        ensures { result.previous ≡ 0 }
+        ensures { result ≡ 0 }
     {
         Writer { previous: 0 }
     }
 
     /// The header of an item. Its data follows.
     pub fn header(&mut self, item: &Stored<'_>) -> [u8; 6]
-        ensures header { result ≡ header_of self.old.previous item.now }
-        ensures previous { self.new.previous ≡ length (content_of item.now) }
+        ensures header { result ≡ header_of self.old item.now }
+        ensures previous { self.new ≡ length (content_of item.now) }
         ensures item { is_item item.now ≡ true }
     {
         let len = item.len();

@@ -1,11 +1,10 @@
-use Rattle.std.proofs.Common.{◌≡◌, ◌+◌, ◌-◌, ◌<◌, ◌≤◌, ℕ, List, drop, length, Ok, Err, Result, sym, ap, ◌∙◌, arith}
+use Rattle.std.proofs.Common.{◌≡◌, ◌+◌, ◌-◌, ◌<◌, ◌≤◌, ℕ, List, drop, length, Err, Result, sym, ap, ◌∙◌, arith}
 use Rattle.std.proofs.lemmas.Bool.Decides.{nat_tests}
 use Rattle.std.proofs.lemmas.List.{length-drop}
 use Rattle.tape_unit.specs.Reel.{ReelState}
 use Rattle.aws_tape.specs.declared.fault.AwsError.{AwsError}
-use Rattle.aws_tape.specs.declared.fault.AwsFault.{AwsFault}
 use Rattle.aws_tape.specs.Chunk.{len_of}
-use Rattle.aws_tape.specs.Reading.{Between, image_end, at_offset, first_after, read_from}
+use Rattle.aws_tape.specs.Reading.{at_offset, read_from}
 use Rattle.aws_tape.proofs.Images.{read_chunk, read_fault, read_end}
 use Rattle.aws_tape.proofs.reader.load.Goals as goal
 
