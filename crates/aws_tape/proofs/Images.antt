@@ -1,5 +1,5 @@
 -- An image is read chunk by chunk.
-use Rattle.std.proofs.Common.{◌≡◌, ℕ, zero, suc, ◌+◌, ◌%◌, ◌<◌, ◌≤◌, Bool, true, false, not, cond}
+use Rattle.std.proofs.Common.{◌≡◌, ℕ, zero, suc, ◌+◌, ◌<◌, ◌≤◌, Bool, true, false, not, cond}
 use Rattle.std.proofs.Common.{nat_eq, nat_lt, List, [], ◌∷◌, length, take, drop, slice_index, Ok, Err, Result, Option, Some, None, is_some}
 use Rattle.std.proofs.Common.{refl, sym, ap, ◌∙◌, arith}
 use Rattle.std.proofs.lemmas.Bool.Decides.{nat_tests}
@@ -7,11 +7,11 @@ use Rattle.std.proofs.lemmas.List.{length-drop}
 use Rattle.std.specs.List.{list_all}
 use Rattle.byteorder.specs.Numbers.{little_from-take}
 use Rattle.aws_tape.specs.declared.chunk.Header.{Header}
-use Rattle.aws_tape.specs.declared.chunk.Kind.{Kind}
-use Rattle.aws_tape.specs.declared.chunk.Kind.TheVariants.{Mark, Whole, First, Middle, Last}
+use Rattle.aws_tape.specs.declared.chunk.ChunkKind.{ChunkKind}
+use Rattle.aws_tape.specs.declared.chunk.ChunkKind.TheVariants.{Mark, Whole, First, Middle, Last}
 use Rattle.aws_tape.specs.declared.fault.AwsFault.{AwsFault}
 use Rattle.aws_tape.specs.declared.fault.AwsFault.TheVariants as fault
-use Rattle.aws_tape.specs.Chunk.{len_of, previous_of, chunk_kind, is_digit}
+use Rattle.aws_tape.specs.Chunk.{len_of, previous_of, is_compressed, chunk_kind, is_digit}
 use Rattle.aws_tape.specs.Steps.{◌>>=◌}
 use Rattle.aws_tape.specs.Reading.{Between, at_offset, image_end, of_kind, header_after, data_after, first_after, read_from}
 
@@ -77,6 +77,11 @@ first_with at rest header le is =
     ap (λ (b : Bool). cond b (Err fault.HeaderCutShort) whole) long
     ∙ ap (λ (r : Result Header AwsFault). r >>= data_after at (drop 6 rest)) is
 
+-- a header that was taken from the bytes that are left
+pub header_taken : {front : List ℕ} {r : Result Header AwsFault} (at : Between) (rest : List ℕ) (header : Header) →
+    front ≡ take 6 rest → r ≡ header_after at front → r ≡ Ok header → header_after at (take 6 rest) ≡ Ok header
+header_taken at rest header taken read is = sym (ap (header_after at) taken) ∙ sym read ∙ is
+
 -- ---- a header that breaks no rule says the length in its bytes
 
 abbrev len_or : ℕ → Result Header AwsFault → ℕ
@@ -91,7 +96,7 @@ mark_len : (len : ℕ) (b : Bool) → len_or len (cond b (Ok (record { kind = Ma
 mark_len len true = refl
 mark_len len false = refl
 
-kind_len : (kind : Option Kind) (len : ℕ) (is_open : Bool) → len_or len (of_kind kind len is_open) ≡ len
+kind_len : (kind : Option ChunkKind) (len : ℕ) (is_open : Bool) → len_or len (of_kind kind len is_open) ≡ len
 kind_len None len is_open = refl
 kind_len (Some Mark) len true = refl
 kind_len (Some Mark) len false = mark_len len (nat_eq len 0)
@@ -108,7 +113,7 @@ header_len : (at : Between) (bytes : List ℕ) (header : Header) → header_afte
 header_len at bytes header is =
     let len = len_of bytes in
     let flags = slice_index bytes 4 in
-    let compressed = not (nat_eq (flags % 4) 0) in
+    let compressed = is_compressed flags in
     let spare = not (nat_eq (slice_index bytes 5) 0) in
     let other = not (nat_eq (previous_of bytes) at.previous) in
     let r1 = of_kind (chunk_kind flags) len (is_some at.block) in

@@ -16,12 +16,12 @@ use Rattle.tape_unit.specs.Reel.{ReelState, bytes_of}
 use Rattle.tape_unit.specs.Recording.{with_item, takes_item}
 use Rattle.tape_unit.proofs.Spelled.{length-packed, short, some}
 use Rattle.aws_tape.specs.declared.chunk.Header.{Header}
-use Rattle.aws_tape.specs.declared.chunk.Kind.{Kind}
-use Rattle.aws_tape.specs.declared.chunk.Kind.TheVariants.{Mark, Whole}
+use Rattle.aws_tape.specs.declared.chunk.ChunkKind.{ChunkKind}
+use Rattle.aws_tape.specs.declared.chunk.ChunkKind.TheVariants.{Mark, Whole}
 use Rattle.aws_tape.specs.declared.fault.AwsError.{AwsError}
 use Rattle.aws_tape.specs.declared.fault.AwsFault.{AwsFault}
 use Rattle.aws_tape.specs.declared.fault.AwsFault.TheVariants as fault
-use Rattle.aws_tape.specs.Chunk.{is_digit, chunk_kind, len_of, previous_of}
+use Rattle.aws_tape.specs.Chunk.{is_digit, is_compressed, chunk_kind, len_of, previous_of}
 use Rattle.aws_tape.specs.Reading.{Between, of_kind, header_after}
 use Rattle.aws_tape.specs.Reading.{between_blocks, chunk_after, first_after, read_from}
 use Rattle.aws_tape.specs.Writing.{flags_of, header_of, chunk_of, chunks_of, image_of_items, IsReadBack}
@@ -50,7 +50,7 @@ previous_of-header previous x small = little_number-reads_back 2 previous (flags
 abbrev between : ReelState → ℕ → Between
 between reel previous = record { reel = reel; block = None; previous = previous }
 
-abbrev kind_of_item : Item → Kind
+abbrev kind_of_item : Item → ChunkKind
 kind_of_item tape_mark = Mark
 kind_of_item (block bytes) = Whole
 
@@ -64,26 +64,24 @@ header_after_previous previous tape_mark fits = refl
 header_after_previous previous (block bytes) fits =
     ap (λ (n : ℕ). of_kind (Some Whole) n false) (len_of-chunk previous (block bytes) [] fits)
 
+-- no item is compressed
+plain_flags : (x : Item) → is_compressed (flags_of x) ≡ false
+plain_flags tape_mark = refl
+plain_flags (block bytes) = refl
+
 header_read : (reel : ReelState) (previous : ℕ) (x : Item) → is_item x ≡ true → previous < 65_536 →
     header_after (between reel previous) (header_of previous x) ≡ Ok (said x)
-header_read reel previous tape_mark fits small =
-    let h = header_of previous tape_mark in
-    let last = of_kind (Some Mark) (len_of h) false in
-    let same : nat_eq (previous_of h) previous ≡ true =
-    ap (λ (n : ℕ). nat_eq n previous) (previous_of-header previous tape_mark small) ∙ same-true previous in
-    ap (λ (b : Bool). cond b (Err fault.FakeTape) (cond (not (nat_eq (previous_of h) previous)) (Err fault.BadPrevious) last))
-    (no_fake previous tape_mark)
-    ∙ ap (λ (b : Bool). cond (not b) (Err fault.BadPrevious) last) same
-    ∙ header_after_previous previous tape_mark fits
-header_read reel previous (block bytes) fits small =
-    let h = header_of previous (block bytes) in
-    let last = of_kind (Some Whole) (len_of h) false in
-    let same : nat_eq (previous_of h) previous ≡ true =
-    ap (λ (n : ℕ). nat_eq n previous) (previous_of-header previous (block bytes) small) ∙ same-true previous in
-    ap (λ (b : Bool). cond b (Err fault.FakeTape) (cond (not (nat_eq (previous_of h) previous)) (Err fault.BadPrevious) last))
-    (no_fake previous (block bytes))
-    ∙ ap (λ (b : Bool). cond (not b) (Err fault.BadPrevious) last) same
-    ∙ header_after_previous previous (block bytes) fits
+header_read reel previous x fits small =
+    let h = header_of previous x in
+    let last = of_kind (chunk_kind (flags_of x)) (len_of h) false in
+    let known : nat_eq (previous_of h) previous ≡ true =
+    ap (λ (n : ℕ). nat_eq n previous) (previous_of-header previous x small) ∙ same-true previous in
+    let next = cond (not (nat_eq (previous_of h) previous)) (Err fault.BadPrevious) last in
+    let plain = cond (is_compressed (flags_of x)) (Err fault.Compressed) next in
+    ap (λ (b : Bool). cond b (Err fault.FakeTape) plain) (no_fake previous x)
+    ∙ ap (λ (b : Bool). cond b (Err fault.Compressed) next) (plain_flags x)
+    ∙ ap (λ (b : Bool). cond (not b) (Err fault.BadPrevious) last) known
+    ∙ header_after_previous previous x fits
 
 -- what the data of an item leaves
 data_read : (reel : ReelState) (previous : ℕ) (x : Item) → is_item x ≡ true → takes_item reel x ≡ true →

@@ -1,8 +1,8 @@
 -- The chunks of an image of a tape (AWSTAPE): each is a header of six bytes, and its data.
-use Rattle.std.specs.Prelude.{ℕ, Bool, nat_le, ◌&&◌, ◌||◌, ◌==◌, Option, Some, None, List, drop, if◌then◌else◌}
+use Rattle.std.specs.Prelude.{ℕ, ◌%◌, Bool, not, nat_le, ◌&&◌, ◌||◌, ◌==◌, Option, Some, None, List, drop, if◌then◌else◌}
 use Rattle.byteorder.specs.Endian.{little_number}
-use Rattle.aws_tape.specs.declared.chunk.Kind.{Kind}
-use Rattle.aws_tape.specs.declared.chunk.Kind.TheVariants.{Mark, Whole, First, Middle, Last}
+use Rattle.aws_tape.specs.declared.chunk.ChunkKind.{ChunkKind}
+use Rattle.aws_tape.specs.declared.chunk.ChunkKind.TheVariants.{Mark, Whole, First, Middle, Last}
 
 -- ---- A HEADER
 
@@ -14,8 +14,12 @@ len_of header = little_number 2 header
 abbrev pub previous_of : List ℕ → ℕ
 previous_of header = little_number 2 (drop 2 header)
 
+-- byte 4: whether the chunk is compressed, as a chunk of a HET file may be
+abbrev pub is_compressed : ℕ → Bool
+is_compressed flags = not (flags % 4 == 0)
+
 -- byte 4: what the chunk is
-abbrev pub chunk_kind : ℕ → Option Kind
+abbrev pub chunk_kind : ℕ → Option ChunkKind
 chunk_kind flags =
     if flags == 0x40 then Some Mark
     else if flags == 0xA0 then Some Whole

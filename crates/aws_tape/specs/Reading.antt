@@ -1,5 +1,5 @@
 -- What the bytes of an image of a tape say: the items of the tape, or the first rule that they break.
-use Rattle.std.specs.Prelude.{◌≡◌, ℕ, zero, suc, ◌+◌, ◌%◌, Bool, true, false, not, nat_lt, ◌==◌}
+use Rattle.std.specs.Prelude.{◌≡◌, ℕ, zero, suc, ◌+◌, Bool, true, false, not, nat_lt, ◌==◌}
 use Rattle.std.specs.Prelude.{List, [], ◌∷◌, ◌++◌, length, take, drop, slice_index}
 use Rattle.std.specs.Prelude.{Option, Some, None, is_some, Result, Ok, Err, if◌then◌else◌}
 use Rattle.std.specs.Global.{Vec}
@@ -8,12 +8,12 @@ use Rattle.tape_unit.specs.Item.{tape_mark, block}
 use Rattle.tape_unit.specs.Reel.{ReelState}
 use Rattle.tape_unit.specs.Recording.{with_item, takes_item}
 use Rattle.aws_tape.specs.declared.chunk.Header.{Header}
-use Rattle.aws_tape.specs.declared.chunk.Kind.{Kind}
-use Rattle.aws_tape.specs.declared.chunk.Kind.TheVariants.{Mark, Whole, First, Middle, Last}
+use Rattle.aws_tape.specs.declared.chunk.ChunkKind.{ChunkKind}
+use Rattle.aws_tape.specs.declared.chunk.ChunkKind.TheVariants.{Mark, Whole, First, Middle, Last}
 use Rattle.aws_tape.specs.declared.fault.AwsError.{AwsError}
 use Rattle.aws_tape.specs.declared.fault.AwsFault.{AwsFault}
 use Rattle.aws_tape.specs.declared.fault.AwsFault.TheVariants as fault
-use Rattle.aws_tape.specs.Chunk.{len_of, previous_of, chunk_kind, is_digit}
+use Rattle.aws_tape.specs.Chunk.{len_of, previous_of, is_compressed, chunk_kind, is_digit}
 use Rattle.aws_tape.specs.Steps.{◌>>=◌}
 
 -- BETWEEN TWO CHUNKS: the items so far, the bytes so far of a block that is open, and the length of the chunk before
@@ -25,7 +25,7 @@ pub record Between : Type 0 where
 -- ---- the rules of a header, the first that it breaks
 
 -- where a chunk may be: parts of a block are in their order, and a mark is between blocks and has no data
-abbrev pub in_place : Kind → ℕ → Bool → Result Header AwsFault
+abbrev pub in_place : ChunkKind → ℕ → Bool → Result Header AwsFault
 in_place Mark len true = Err fault.MarkInBlock
 in_place Mark len false = if len == 0 then Ok (record { kind = Mark; len = len }) else Err fault.MarkWithData
 in_place Whole len true = Err fault.BlockInBlock
@@ -37,7 +37,7 @@ in_place Middle len false = Err fault.NoBlockOpen
 in_place Last len true = Ok (record { kind = Last; len = len })
 in_place Last len false = Err fault.NoBlockOpen
 
-abbrev pub of_kind : Option Kind → ℕ → Bool → Result Header AwsFault
+abbrev pub of_kind : Option ChunkKind → ℕ → Bool → Result Header AwsFault
 of_kind None len is_open = Err fault.BadFlags
 of_kind (Some kind) len is_open = in_place kind len is_open
 
@@ -45,7 +45,7 @@ of_kind (Some kind) len is_open = in_place kind len is_open
 abbrev pub header_after : Between → List ℕ → Result Header AwsFault
 header_after at header =
     if list_all is_digit header then Err fault.FakeTape
-    else if not (slice_index header 4 % 4 == 0) then Err fault.Compressed
+    else if is_compressed (slice_index header 4) then Err fault.Compressed
     else if not (slice_index header 5 == 0) then Err fault.BadSpare
     else if not (previous_of header == at.previous) then Err fault.BadPrevious
     else of_kind (chunk_kind (slice_index header 4)) (len_of header) (is_some at.block)
@@ -80,7 +80,7 @@ abbrev pub inside_block : ℕ → ReelState → Result (List ℕ) AwsFault → R
 inside_block len reel bytes = bytes >>= λ b. Ok (record { reel = reel; block = Some b; previous = len })
 
 -- WHAT THE DATA OF A CHUNK LEAVES, or the first rule that it breaks
-abbrev pub chunk_after : Between → Kind → List ℕ → Result Between AwsFault
+abbrev pub chunk_after : Between → ChunkKind → List ℕ → Result Between AwsFault
 chunk_after at Mark bytes = between_blocks (length bytes) (marked at.reel)
 chunk_after at Whole bytes = between_blocks (length bytes) (recorded at.reel bytes)
 chunk_after at First bytes = inside_block (length bytes) at.reel (going_on bytes)

@@ -11,7 +11,7 @@ pub const HEADER: usize = 6;
 
 /// What a chunk is.
 #[derive(Clone, Copy, Debug, PartialEq, Eq)]
-pub enum Kind {
+pub enum ChunkKind {
     /// A tape mark.
     Mark,
     /// A block.
@@ -27,22 +27,22 @@ pub enum Kind {
 /// What a header says of its chunk.
 #[derive(Clone, Copy, Debug, PartialEq, Eq)]
 pub struct Header {
-    pub kind: Kind,
+    pub kind: ChunkKind,
     /// How many bytes of data follow the header.
     pub len: u16,
 }
 
-impl Kind {
+impl ChunkKind {
     /// What a chunk is by byte 4 of its header.
     pub fn decode(flags: u8) -> Option<Self>
         ensures { result ≡ chunk_kind flags }
     {
         let kind = match flags {
-            0x40 => Kind::Mark,
-            0xA0 => Kind::Whole,
-            0x80 => Kind::First,
-            0x00 => Kind::Middle,
-            0x20 => Kind::Last,
+            0x40 => ChunkKind::Mark,
+            0xA0 => ChunkKind::Whole,
+            0x80 => ChunkKind::First,
+            0x00 => ChunkKind::Middle,
+            0x20 => ChunkKind::Last,
             _ => return None,
         };
         Some(kind)

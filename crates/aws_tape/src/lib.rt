@@ -12,7 +12,7 @@ mod fault;
 mod reader;
 mod writer;
 
-pub use chunk::{Header, Kind};
+pub use chunk::{ChunkKind, Header};
 pub use fault::{AwsError, AwsFault};
 pub use reader::{Reader, load};
 pub use writer::{Writer, save};

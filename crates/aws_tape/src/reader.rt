@@ -7,7 +7,7 @@ ghost use Rattle.aws_tape.specs.declared.fault.AwsFault.TheVariants.{NoMemory};
 ghost use Rattle.aws_tape.specs.Chunk.{len_of, is_digit};
 ghost use Rattle.aws_tape.specs.Reading.{Answers, Joins, Loads, of_kind, marked, recorded, block_so_far};
 
-use crate::chunk::{HEADER, Header, Kind, is_digit, number};
+use crate::chunk::{ChunkKind, HEADER, Header, is_digit, number};
 use crate::fault::{AwsError, AwsFault};
 use std::alloc::Global;
 use std::marker::Model;
@@ -36,17 +36,17 @@ impl Model for Reader {
 }
 
 /// Where a chunk of this kind may be, and what its header says.
-fn placed(kind: Option<Kind>, len: u16, is_open: bool) -> Result<Header, AwsFault>
+fn placed(kind: Option<ChunkKind>, len: u16, is_open: bool) -> Result<Header, AwsFault>
     ensures { result ≡ of_kind kind len is_open }
 {
     let Some(kind) = kind else {
         return Err(AwsFault::BadFlags);
     };
     match (kind, is_open) {
-        (Kind::Mark, true) => Err(AwsFault::MarkInBlock),
-        (Kind::Mark, false) if len != 0 => Err(AwsFault::MarkWithData),
-        (Kind::Whole | Kind::First, true) => Err(AwsFault::BlockInBlock),
-        (Kind::Middle | Kind::Last, false) => Err(AwsFault::NoBlockOpen),
+        (ChunkKind::Mark, true) => Err(AwsFault::MarkInBlock),
+        (ChunkKind::Mark, false) if len != 0 => Err(AwsFault::MarkWithData),
+        (ChunkKind::Whole | ChunkKind::First, true) => Err(AwsFault::BlockInBlock),
+        (ChunkKind::Middle | ChunkKind::Last, false) => Err(AwsFault::NoBlockOpen),
         _ => Ok(Header { kind, len }),
     }
 }
@@ -86,7 +86,11 @@ impl Reader {
         if number(&header[2..]) != self.previous {
             return Err(AwsFault::BadPrevious);
         }
-        placed(Kind::decode(flags), number(header), self.block.is_some())
+        placed(
+            ChunkKind::decode(flags),
+            number(header),
+            self.block.is_some(),
+        )
     }
 
     /// Reads the data of the chunk with this header.
@@ -103,11 +107,11 @@ impl Reader {
             previous: _,
         } = self;
         let (tape, block) = match header.kind {
-            Kind::Mark => (recorded_mark(tape)?, None),
-            Kind::Whole => (recorded(tape, data)?, None),
-            Kind::First => (tape, Some(joined(Vec::new(alloc), data)?)),
-            Kind::Middle => (tape, Some(joined(block_so_far(alloc, block), data)?)),
-            Kind::Last => {
+            ChunkKind::Mark => (recorded_mark(tape)?, None),
+            ChunkKind::Whole => (recorded(tape, data)?, None),
+            ChunkKind::First => (tape, Some(joined(Vec::new(alloc), data)?)),
+            ChunkKind::Middle => (tape, Some(joined(block_so_far(alloc, block), data)?)),
+            ChunkKind::Last => {
                 let whole = joined(block_so_far(alloc, block), data)?;
                 (recorded(tape, &whole)?, None)
             }
