@@ -17,7 +17,7 @@ COMMAND = re.compile(r"(?:\$ )?(?:\./|tests/|tools/|cd |rt )")
 # ./excp of a folder in which commands run: it runs the program that is tested, on a file or with a subcommand.
 EXCP = """#!/usr/bin/env bash
 case "$1" in
-    run | report | check | assemble | step) exec {program} "$@" ;;
+    run | report | check | assemble | step | describe | convert) exec {program} "$@" ;;
     -) exec {program} run ;;
     *) exec {program} run < "$1" ;;
 esac
@@ -111,6 +111,7 @@ RUN = {
 NOT_RUN = {
     ("README.md", "./excp --build"): "it proves every crate, which takes half an hour and more",
     ("docs/CLIENT.md", "cd crates/print_tape && rt run"): "`rt ci` proves the program and runs it",
+    ("docs/MANUAL.md", "./excp describe tape.aws disk.ckd"): "it needs images; the group images runs such commands",
     ("docs/SPEED.md", "cd crates/excp_speed && rt run -- 2000"): "it proves the program and takes minutes",
 }
 

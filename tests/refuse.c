@@ -1,7 +1,7 @@
 /* Refuses calls of a program: preloaded into it, those calls of one kind fail whose numbers REFUSE has (one or two, from
  * 1; 0 for none). REFUSE_KIND is `growth` for malloc and realloc, which then answer that there is no memory, `lasting` for
- * the same from the first such number on, `write` for what is written to standard output, and `thread` for threads, which
- * then cannot be made. How many such calls there were
+ * the same from the first such number on, `write` for what is written to standard output, `thread` for threads, which
+ * then cannot be made, and `file` for what is written to other files, synced and renamed. How many such calls there were
  * stands, as eight bytes, in the file that CALLS names. */
 #define _GNU_SOURCE
 #include <dlfcn.h>
@@ -18,7 +18,7 @@
 extern void *__libc_malloc(size_t);
 extern void *__libc_realloc(void *, size_t);
 
-enum kind { GROWTH, WRITE, THREAD };
+enum kind { GROWTH, WRITE, THREAD, FILES };
 
 typedef int create(pthread_t *, const pthread_attr_t *, void *(*)(void *), void *);
 
@@ -45,6 +45,8 @@ __attribute__((constructor)) static void begin(void)
         kind = WRITE;
     if (name && strcmp(name, "thread") == 0)
         kind = THREAD;
+    if (name && strcmp(name, "file") == 0)
+        kind = FILES;
     if (numbers) {
         char *behind;
         refused[0] = strtol(numbers, &behind, 10);
@@ -82,11 +84,29 @@ void *realloc(void *block, size_t size)
 
 ssize_t write(int to, const void *bytes, size_t count)
 {
-    if (to == STDOUT_FILENO && is_refused(WRITE)) {
+    if ((to == STDOUT_FILENO && is_refused(WRITE)) || (to > STDERR_FILENO && is_refused(FILES))) {
         errno = EIO;
         return -1;
     }
     return syscall(SYS_write, to, bytes, count);
+}
+
+int fsync(int file)
+{
+    if (is_refused(FILES)) {
+        errno = EIO;
+        return -1;
+    }
+    return syscall(SYS_fsync, file);
+}
+
+int rename(const char *from, const char *to)
+{
+    if (is_refused(FILES)) {
+        errno = EIO;
+        return -1;
+    }
+    return syscall(SYS_rename, from, to);
 }
 
 int pthread_create(pthread_t *thread, const pthread_attr_t *how, void *(*run)(void *), void *with)

@@ -55,6 +55,18 @@ REJECTED = [
         "error: invalid value '0' for '--most-steps <N>': 0 is not in 1..18446744073709551615",
     ),
     (["run", "--steps"], "error: unexpected argument '--steps' found"),
+    (["run", "--load", "0=x"], "error: unexpected argument '--load' found"),
+    (["check", "--save", "0=x"], "error: unexpected argument '--save' found"),
+    (["report", "--posts", "--steps"], "error: the argument '--posts' cannot be used with '--steps'"),
+    *(
+        ([word, "--load", it], "error: --load and --save take U=FILE: a unit from 0 to 63, and the name of a file")
+        for word, it in (("report", "x"), ("step", "64=x"), ("check", "0="), ("report", "=x"), ("report", "+1=x"))
+    ),
+    (["report", "--save", "7=x", "--save", "7=y"], "error: --load and --save name each unit once"),
+    (["convert", "--to", "aws", "x"], "error: the following required arguments were not provided:"),
+    (["convert", "--output", "y", "x"], "error: the following required arguments were not provided:"),
+    (["convert", "--to", "het", "--output", "y", "x"], "error: invalid value 'het' for '--to <FORMAT>'"),
+    (["describe"], "error: the following required arguments were not provided:"),
     (["report", "--steps=1"], "error: unexpected value '1' for '--steps' found; no more were expected"),
     (["report", "--channels", "17"], "error: invalid value '17' for '--channels <N>': 17 is not in 1..=16"),
     (["report", "--handlers", "9"], "error: invalid value '9' for '--handlers <N>': 9 is not in 1..=8"),
@@ -307,6 +319,8 @@ def cases(setup):
     plain = "".join(f"{it.rstrip(' ')}\n" for it in read(STORED).splitlines())
     yield case("assemble a plain script", accepts, setup, ["assemble"], plain)
     none = f"{tempfile.gettempdir()}/no-such-folder/none"
+    for word in ("step", "describe", "convert"):
+        yield case(f"the stored help of {word}", as_stored, setup, word)
     for word in ("report", "check", "assemble"):
         yield case(f"{word} a file that is missing", of_unusable, setup, word, f"{none}.script", "there is no such file")
         yield case(f"{word} a file below a file", of_unusable, setup, word, f"{STORED}/none", "there is no such file")

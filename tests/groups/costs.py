@@ -5,12 +5,13 @@ times as long if each cost time in those before it.
 """
 
 import os
+import shutil
 import subprocess
 import sys
 import tempfile
 import time
 
-from harness import SAMPLES, SECONDS, Case, Failed, require
+from harness import SAMPLES, SECONDS, TOP, Case, Failed, Skipped, require
 
 # The cases run one after another, so that none slows down another.
 RUNS_ALONE = True
@@ -58,6 +59,10 @@ AWAKE = [("pair", 12_000, 1.7)]
 CROWDS = [("units", 16_384, 8)]
 CROWD = ("--channels", "16", "--handlers", "8")
 
+
+# How many times as long as tests/copy.c the load and the save of a 3390-1 may take, and how much memory: for each MiB of
+# the image, and beside that. Most of the time is the disk's, so the bound on time is wider than the aim of 1.6.
+COPIES, SIZES, SPARE = 2, 2.2, 16
 
 # A small process that runs a program, and prints its status, processor seconds and most memory on standard error. The memory
 # of a process counts that of the one that starts it, so that is not this one, with its 20 MiB.
@@ -151,7 +156,41 @@ def gives_way(setup, kind, count, most):
     return text
 
 
+def timed(words):
+    """The seconds that pass, and the most memory in MiB, of a program that ends well."""
+    begun = time.monotonic()
+    started = [sys.executable, "-S", "-E", "-c", STARTER, *words]
+    ran = subprocess.run(started, stdin=subprocess.DEVNULL, capture_output=True, timeout=10 * SECONDS, check=False)
+    passed = time.monotonic() - begun
+    status, _, memory = ran.stderr.split()[-3:]
+    require(status == b"0", f"{words[0]} ended with status {status}: {ran.stderr[:300]}")
+    return passed, int(memory) / 1024
+
+
+def copies(setup):
+    """A 3390-1 is loaded and saved in the time and memory of a plain copy, times a bound."""
+    setup.skip_unproved()
+    compiler = shutil.which("cc") or shutil.which("gcc")
+    if not compiler or not shutil.which("dasdinit"):
+        raise Skipped("no C compiler, or no dasdinit of Hercules' tools")
+    with tempfile.TemporaryDirectory(prefix="images-") as folder:
+        if shutil.disk_usage(folder).free < 4 << 30:
+            raise Skipped("less than 4 GiB of disk")
+        subprocess.run([compiler, "-O2", "-o", f"{folder}/copy", f"{TOP}/tests/copy.c"], check=True)
+        subprocess.run(["dasdinit", f"{folder}/image", "3390-1", "VOL001"], check=True, capture_output=True)
+        with open(f"{folder}/job", "w", encoding="ascii") as job:
+            job.write("tasks 1\ndisk 0 0 -\nwait 0\n")
+        size = os.path.getsize(f"{folder}/image") / 2**20
+        words = ["report", "--posts", "--load", f"0={folder}/image", "--save", f"0={folder}/saved", f"{folder}/job"]
+        plain, _ = timed([f"{folder}/copy", f"{folder}/image", f"{folder}/other"])
+        longer, memory = timed([setup.program, *words])
+    text = f"{plain:.2f} s by tests/copy.c, {longer:.2f} s, {longer / plain:.1f} times; {memory:.0f} MiB for {size:.0f} MiB"
+    require(longer <= COPIES * plain and memory <= SIZES * size + SPARE, text)
+    return f"load and save of a 3390-1: {text}"
+
+
 def cases(setup):
+    yield Case("load and save of a 3390-1", lambda: copies(setup), "tests/copy.c, and the memory of two media")
     for name, judge, rows in (
         ("memory", fits, MEMORY),
         ("processor time", grows, TIMES),

@@ -1,4 +1,5 @@
-"""Calls made to fail in turn: each allocation, each write to standard output, and each thread, in programs and in tests.
+"""Calls made to fail in turn: each allocation, each write, each sync and rename of a file, and each thread, in programs and
+in tests.
 
 `tests/refuse.c`, preloaded, makes calls of one kind fail by their numbers. A case runs a proved program, or a test as `rt
 ci` or `rt test` leaves it in crates/*/out, with the first call failing, then with the second, and so on, until there is no
@@ -13,6 +14,7 @@ import subprocess
 import tempfile
 from dataclasses import dataclass, field, replace
 
+from groups.images import small_tape, small_volume
 from harness import CASES, SAMPLES, TOP, Case, Failed, Skipped, read, require, run, side_by_side
 
 LIBRARY = f"{TOP}/out/refuse.so"
@@ -22,6 +24,10 @@ NO_MEMORY = "excp_job: out of memory\n"
 
 # What `report` says if it cannot make a worker's thread; `run` has one text for both.
 NO_THREAD = "excp_job: no thread can be made for a worker, or out of memory\n"
+
+# The images that a run loads, and the names under which it saves them.
+IMAGES = {"tape": small_tape(), "disk": small_volume()}
+SAVED = {"tape": "saved_tape", "disk": "saved_disk"}
 
 # How many small requests have posts that are written in several parts.
 REQUESTS = 2000
@@ -71,6 +77,32 @@ def rejects_its_output(ran, text):
     """It reported that its output cannot be written, after a part of it."""
     is_reported = (ran.status, ran.err) == (1, "excp_job: output not written\n")
     return "output not written" if is_reported and text.startswith(ran.out) else None
+
+
+def saves_all_or_nothing(ran, text):
+    """It printed all and saved the images; or it could not write a file or ran out of memory, and all files are as before; or
+    it had no memory to print its posts, and saved all."""
+    before = {name: data for name, data in ran.files.items() if name in IMAGES}
+    saved = {SAVED[name]: data for name, data in IMAGES.items()}
+    if before != IMAGES:
+        return None
+    if (ran.status, ran.out, ran.files) == (0, text, {**IMAGES, **saved}):
+        return "saved all"
+    if lacked(ran) and ran.files == IMAGES:
+        return "out of memory"
+    if lacked(ran) and not ran.out and ran.files == {**IMAGES, **saved}:
+        return "out of memory for the posts, saved all"
+    is_reported = ran.status == 1 and re.fullmatch(r"excp_job: .*saved_(tape|disk): the file cannot be written\n", ran.err)
+    return "not written" if is_reported and ran.files == IMAGES else None
+
+
+def saves_one_or_all(ran, text):
+    """As `saves_all_or_nothing`, but a file whose rename fails stays as before, and the other one is saved."""
+    rest = {name: data for name, data in ran.files.items() if name not in IMAGES}
+    right = {SAVED[name]: data for name, data in IMAGES.items()}
+    if ran.status == 1 and len(rest) == 1 and rest.items() <= right.items() and "the file cannot be written" in ran.err:
+        return "one saved"
+    return saves_all_or_nothing(ran, text)
 
 
 def is_program(ran, text):
@@ -130,16 +162,25 @@ class Plan:
     step: int = 1
     calls: int = 0
     least: int = 1
+    files: dict = field(default_factory=dict)
     ways: dict = field(default_factory=dict)
 
     def run(self, *numbers):
-        """A run with the calls of these numbers failing, and how many such calls there were."""
-        with tempfile.NamedTemporaryFile() as calls, open(self.input, "rb") as script:
+        """A run with the calls of these numbers failing, and how many such calls there were. It runs in a folder with the
+        plan's files alone."""
+        with tempfile.NamedTemporaryFile() as calls, open(self.input, "rb") as script, tempfile.TemporaryDirectory() as folder:
+            for name, data in self.files.items():
+                with open(f"{folder}/{name}", "wb") as it:
+                    it.write(data)
             failing = " ".join(map(str, numbers))
             environment = {"LD_PRELOAD": LIBRARY, "REFUSE_KIND": self.kind, "REFUSE": failing, "CALLS": calls.name}
             file = "" if self.input == "/dev/null" else os.path.relpath(self.input, TOP)
-            ran = run(self.words, file=file, stdin=script, env={**os.environ, **environment})
+            ran = run(self.words, file=file, stdin=script, env={**os.environ, **environment}, cwd=folder)
             ran.failing = len(numbers)
+            ran.files = {}
+            for name in os.listdir(folder):
+                with open(f"{folder}/{name}", "rb") as it:
+                    ran.files[name] = it.read()
             data = calls.read(8)
         shown = [f"{key}={environment[key]}" for key in ("LD_PRELOAD", "REFUSE_KIND", "REFUSE")]
         ran.words = ["env", *shown, *ran.words]
@@ -226,6 +267,11 @@ def programs(setup):
     folder = f"{CASES}/refusals"
     yield plan("check", finds_all_or_nothing, f"{folder}/check.script", f"{folder}/check.findings", status=1)
     yield plan("assemble", finds_all_or_nothing, f"{folder}/assemble.symbolic", f"{folder}/assemble.findings", status=1)
+    loads = ["--load", "0=tape", "--load", "1=disk", "--save", "0=saved_tape", "--save", "1=saved_disk"]
+    script, text = f"{folder}/images.script", f"{folder}/images.posts"
+    yield plan("report", saves_all_or_nothing, script, text, "--posts", *loads, files=IMAGES, least=2)
+    name, it = plan("report", saves_one_or_all, script, text, "--posts", *loads, files=IMAGES, kind="file", least=2)
+    yield f"{name}: files", it
     client = f"{TOP}/crates/print_tape"
     yield "print_tape", Plan([f"{client}/out/print_tape"], is_program, text=read(f"{client}/stdout"))
 
@@ -241,7 +287,7 @@ TESTS = [
         "component_tests",
         [
             *(f"{it}_without_memory" for it in ("areas::areas", "disks::mount", "tapes::mount")),
-            *(f"{it}_without_memory" for it in ("tapes::record", "tape_images::load", "tape_images::save")),
+            *(f"{it}_without_memory" for it in ("tapes::record", "tape_images::load", "disk_images::images")),
             "printers::mount_without_memory",
             *(f"{it}_without_memory" for it in ("queues::queues", "requests::requests", "rows::rows")),
         ],

@@ -1,19 +1,19 @@
 -- An image is read chunk by chunk.
 use Rattle.std.proofs.Common.{◌≡◌, ℕ, zero, suc, ◌+◌, ◌<◌, ◌≤◌, Bool, true, false, not, cond}
-use Rattle.std.proofs.Common.{nat_eq, nat_lt, List, [], ◌∷◌, length, take, drop, slice_index, Ok, Err, Result, Option, Some, None, is_some}
+use Rattle.std.proofs.Common.{nat_eq, nat_lt, List, [], ◌∷◌, length, take, drop, slice_index, Ok, Err, Result, Option, Some, None}
 use Rattle.std.proofs.Common.{refl, sym, ap, ◌∙◌, arith}
 use Rattle.std.proofs.lemmas.Bool.Decides.{nat_tests}
 use Rattle.std.proofs.lemmas.List.{length-drop}
-use Rattle.std.specs.List.{list_all}
 use Rattle.byteorder.specs.Numbers.{little_from-take}
 use Rattle.aws_tape.specs.declared.chunk.Header.{Header}
 use Rattle.aws_tape.specs.declared.chunk.ChunkKind.{ChunkKind}
 use Rattle.aws_tape.specs.declared.chunk.ChunkKind.TheVariants.{Mark, Whole, First, Middle, Last}
 use Rattle.aws_tape.specs.declared.fault.AwsFault.{AwsFault}
 use Rattle.aws_tape.specs.declared.fault.AwsFault.TheVariants as fault
-use Rattle.aws_tape.specs.Chunk.{len_of, previous_of, is_compressed, chunk_kind, is_digit}
+use Rattle.aws_tape.specs.Chunk.{len_of, previous_of, is_compressed, chunk_kind}
 use Rattle.aws_tape.specs.Steps.{◌>>=◌}
-use Rattle.aws_tape.specs.Reading.{Between, at_offset, image_end, of_kind, header_after, data_after, first_after, read_from}
+use Rattle.aws_tape.specs.Between.{Between}
+use Rattle.aws_tape.specs.Reading.{at_offset, image_end, joins, of_kind, header_after, data_after, first_after, read_from}
 
 -- steps that agree
 same_step : {A B E : Type 0} (r : Result A E) (f g : A → Result B E) → ((x : A) → f x ≡ g x) → (r >>= f) ≡ (r >>= g)
@@ -77,11 +77,6 @@ first_with at rest header le is =
     ap (λ (b : Bool). cond b (Err fault.HeaderCutShort) whole) long
     ∙ ap (λ (r : Result Header AwsFault). r >>= data_after at (drop 6 rest)) is
 
--- a header that was taken from the bytes that are left
-pub header_taken : {front : List ℕ} {r : Result Header AwsFault} (at : Between) (rest : List ℕ) (header : Header) →
-    front ≡ take 6 rest → r ≡ header_after at front → r ≡ Ok header → header_after at (take 6 rest) ≡ Ok header
-header_taken at rest header taken read is = sym (ap (header_after at) taken) ∙ sym read ∙ is
-
 -- ---- a header that breaks no rule says the length in its bytes
 
 abbrev len_or : ℕ → Result Header AwsFault → ℕ
@@ -92,22 +87,25 @@ next_rule : (len : ℕ) (b : Bool) (e : AwsFault) (r : Result Header AwsFault) �
 next_rule len true e r same = refl
 next_rule len false e r same = same
 
-mark_len : (len : ℕ) (b : Bool) → len_or len (cond b (Ok (record { kind = Mark; len = len })) (Err fault.MarkWithData)) ≡ len
-mark_len len true = refl
-mark_len len false = refl
+joins_len : (kind : ChunkKind) (len so_far : ℕ) → len_or len (joins kind len so_far) ≡ len
+joins_len kind len so_far = next_rule len (nat_lt 65_535 (so_far + len)) fault.LongBlock (Ok (record { kind = kind; len = len })) refl
 
-kind_len : (kind : Option ChunkKind) (len : ℕ) (is_open : Bool) → len_or len (of_kind kind len is_open) ≡ len
-kind_len None len is_open = refl
-kind_len (Some Mark) len true = refl
-kind_len (Some Mark) len false = mark_len len (nat_eq len 0)
-kind_len (Some Whole) len true = refl
-kind_len (Some Whole) len false = refl
-kind_len (Some First) len true = refl
-kind_len (Some First) len false = refl
-kind_len (Some Middle) len true = refl
-kind_len (Some Middle) len false = refl
-kind_len (Some Last) len true = refl
-kind_len (Some Last) len false = refl
+mark_len : (len so_far : ℕ) (b : Bool) → len_or len (cond b (joins Mark len so_far) (Err fault.MarkWithData)) ≡ len
+mark_len len so_far true = joins_len Mark len so_far
+mark_len len so_far false = refl
+
+kind_len : (kind : Option ChunkKind) (len so_far : ℕ) (is_open : Bool) → len_or len (of_kind kind len so_far is_open) ≡ len
+kind_len None len so_far is_open = refl
+kind_len (Some Mark) len so_far true = refl
+kind_len (Some Mark) len so_far false = mark_len len so_far (nat_eq len 0)
+kind_len (Some Whole) len so_far true = refl
+kind_len (Some Whole) len so_far false = joins_len Whole len so_far
+kind_len (Some First) len so_far true = refl
+kind_len (Some First) len so_far false = joins_len First len so_far
+kind_len (Some Middle) len so_far true = joins_len Middle len so_far
+kind_len (Some Middle) len so_far false = refl
+kind_len (Some Last) len so_far true = joins_len Last len so_far
+kind_len (Some Last) len so_far false = refl
 
 header_len : (at : Between) (bytes : List ℕ) (header : Header) → header_after at bytes ≡ Ok header → header.len ≡ len_of bytes
 header_len at bytes header is =
@@ -116,14 +114,13 @@ header_len at bytes header is =
     let compressed = is_compressed flags in
     let spare = not (nat_eq (slice_index bytes 5) 0) in
     let other = not (nat_eq (previous_of bytes) at.previous) in
-    let r1 = of_kind (chunk_kind flags) len (is_some at.block) in
+    let r1 = of_kind (chunk_kind flags) len (length at.block) at.is_open in
     let r2 = cond other (Err fault.BadPrevious) r1 in
     let r3 = cond spare (Err fault.BadSpare) r2 in
-    let r4 = cond compressed (Err fault.Compressed) r3 in
     sym (ap (len_or len) is)
-    ∙ next_rule len (list_all is_digit bytes) fault.FakeTape r4 (next_rule len compressed fault.Compressed r3
+    ∙ next_rule len compressed fault.Compressed r3
     (next_rule len spare fault.BadSpare r2 (next_rule len other fault.BadPrevious r1
-    (kind_len (chunk_kind flags) len (is_some at.block)))))
+    (kind_len (chunk_kind flags) len (length at.block) at.is_open)))
 
 pub first_len : (at : Between) (rest : List ℕ) (header : Header) → header_after at (take 6 rest) ≡ Ok header → header.len ≡ len_of rest
 first_len at rest header is = header_len at (take 6 rest) header is ∙ little_from-take 0 2 6 rest (omega arith)

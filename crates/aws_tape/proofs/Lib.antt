@@ -1,3 +1,6 @@
 -- The lemmas of aws_tape.
+pub mod Sources
 pub mod Images
+pub mod Chunks
 pub mod Written
+pub mod ReadBack

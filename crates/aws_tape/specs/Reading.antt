@@ -1,12 +1,13 @@
--- What the bytes of an image of a tape say: the items of the tape, or the first rule that they break.
-use Rattle.std.specs.Prelude.{◌≡◌, ℕ, zero, suc, ◌+◌, Bool, true, false, not, nat_lt, ◌==◌}
+-- What the bytes of an image of a tape say: the tape and its layout, or the first rule that they break.
+use Rattle.std.specs.Prelude.{◌≡◌, ℕ, zero, suc, ◌+◌, Bool, true, false, not, nat_lt, nat_le, ◌&&◌, ◌==◌}
 use Rattle.std.specs.Prelude.{List, [], ◌∷◌, ◌++◌, length, take, drop, slice_index}
-use Rattle.std.specs.Prelude.{Option, Some, None, is_some, Result, Ok, Err, if◌then◌else◌}
-use Rattle.std.specs.Global.{Vec}
+use Rattle.std.specs.Prelude.{Option, Some, None, Result, Ok, Err, if◌then◌else◌}
 use Rattle.std.specs.List.{list_all}
-use Rattle.tape_unit.specs.Item.{tape_mark, block}
+use Rattle.tape_unit.specs.Item.{Item, tape_mark, block}
 use Rattle.tape_unit.specs.Reel.{ReelState}
 use Rattle.tape_unit.specs.Recording.{with_item, takes_item}
+use Rattle.aws_tape.specs.declared.layout.Part.{Part}
+use Rattle.aws_tape.specs.declared.image.Image.{Image}
 use Rattle.aws_tape.specs.declared.chunk.Header.{Header}
 use Rattle.aws_tape.specs.declared.chunk.ChunkKind.{ChunkKind}
 use Rattle.aws_tape.specs.declared.chunk.ChunkKind.TheVariants.{Mark, Whole, First, Middle, Last}
@@ -14,98 +15,97 @@ use Rattle.aws_tape.specs.declared.fault.AwsError.{AwsError}
 use Rattle.aws_tape.specs.declared.fault.AwsFault.{AwsFault}
 use Rattle.aws_tape.specs.declared.fault.AwsFault.TheVariants as fault
 use Rattle.aws_tape.specs.Chunk.{len_of, previous_of, is_compressed, chunk_kind, is_digit}
+use Rattle.aws_tape.specs.Between.{Between}
 use Rattle.aws_tape.specs.Steps.{◌>>=◌}
-
--- BETWEEN TWO CHUNKS: the items so far, the bytes so far of a block that is open, and the length of the chunk before
-pub record Between : Type 0 where
-  pub reel : ReelState
-  pub block : Option (List ℕ)
-  pub previous : ℕ
 
 -- ---- the rules of a header, the first that it breaks
 
+-- a block has at most 65,535 bytes: those so far and those of this chunk
+abbrev pub joins : ChunkKind → ℕ → ℕ → Result Header AwsFault
+joins kind len so_far = if nat_lt 65_535 (so_far + len) then Err fault.LongBlock else Ok (record { kind = kind; len = len })
+
 -- where a chunk may be: parts of a block are in their order, and a mark is between blocks and has no data
-abbrev pub in_place : ChunkKind → ℕ → Bool → Result Header AwsFault
-in_place Mark len true = Err fault.MarkInBlock
-in_place Mark len false = if len == 0 then Ok (record { kind = Mark; len = len }) else Err fault.MarkWithData
-in_place Whole len true = Err fault.BlockInBlock
-in_place Whole len false = Ok (record { kind = Whole; len = len })
-in_place First len true = Err fault.BlockInBlock
-in_place First len false = Ok (record { kind = First; len = len })
-in_place Middle len true = Ok (record { kind = Middle; len = len })
-in_place Middle len false = Err fault.NoBlockOpen
-in_place Last len true = Ok (record { kind = Last; len = len })
-in_place Last len false = Err fault.NoBlockOpen
+abbrev pub in_place : ChunkKind → ℕ → ℕ → Bool → Result Header AwsFault
+in_place Mark len so_far true = Err fault.MarkInBlock
+in_place Mark len so_far false = if len == 0 then joins Mark len so_far else Err fault.MarkWithData
+in_place Whole len so_far true = Err fault.BlockInBlock
+in_place Whole len so_far false = joins Whole len so_far
+in_place First len so_far true = Err fault.BlockInBlock
+in_place First len so_far false = joins First len so_far
+in_place Middle len so_far true = joins Middle len so_far
+in_place Middle len so_far false = Err fault.NoBlockOpen
+in_place Last len so_far true = joins Last len so_far
+in_place Last len so_far false = Err fault.NoBlockOpen
 
-abbrev pub of_kind : Option ChunkKind → ℕ → Bool → Result Header AwsFault
-of_kind None len is_open = Err fault.BadFlags
-of_kind (Some kind) len is_open = in_place kind len is_open
+abbrev pub of_kind : Option ChunkKind → ℕ → ℕ → Bool → Result Header AwsFault
+of_kind None len so_far is_open = Err fault.BadFlags
+of_kind (Some kind) len so_far is_open = in_place kind len so_far is_open
 
--- what a header of six bytes says, or the first rule that it breaks. A FakeTape file begins with twelve digits
+-- what a header of six bytes says, or the first rule that it breaks
 abbrev pub header_after : Between → List ℕ → Result Header AwsFault
 header_after at header =
-    if list_all is_digit header then Err fault.FakeTape
-    else if is_compressed (slice_index header 4) then Err fault.Compressed
+    if is_compressed (slice_index header 4) then Err fault.Compressed
     else if not (slice_index header 5 == 0) then Err fault.BadSpare
     else if not (previous_of header == at.previous) then Err fault.BadPrevious
-    else of_kind (chunk_kind (slice_index header 4)) (len_of header) (is_some at.block)
+    else of_kind (chunk_kind (slice_index header 4)) (len_of header) (length at.block) at.is_open
 
--- ---- the rules of the data
+-- ---- what the data of a chunk leaves, or the first rule that it breaks
 
--- the bytes so far of a block
-abbrev pub block_so_far : Option (List ℕ) → List ℕ
-block_so_far None = []
-block_so_far (Some bytes) = bytes
+-- data joins the block that is open, or begins one
+abbrev pub with_data : Between → List ℕ → Between
+with_data at bytes = record {
+  reel = at.reel;
+  is_open = at.is_open;
+  block = at.block ++ bytes;
+  layout = at.layout;
+  previous = length bytes;
+}
 
--- a block that goes on has at most 65,535 bytes
-abbrev pub going_on : List ℕ → Result (List ℕ) AwsFault
-going_on bytes = if nat_lt 65_535 (length bytes) then Err fault.LongBlock else Ok bytes
+-- the layout has the chunk that was read last, which is a part of the block that is open
+abbrev pub with_chunk_part : Between → Between
+with_chunk_part at = record {
+  reel = at.reel;
+  is_open = true;
+  block = at.block;
+  layout = at.layout ++ record { item = length at.reel.items; len = at.previous } ∷ [];
+  previous = at.previous;
+}
 
--- a block that ends has at least one, and the tape has room for it
-abbrev pub recorded : ReelState → List ℕ → Result ReelState AwsFault
-recorded reel bytes =
-    if length bytes == 0 then Err fault.EmptyBlock
-    else if nat_lt 65_535 (length bytes) then Err fault.LongBlock
-    else if not (takes_item reel (block bytes)) then Err fault.TapeFull
-    else Ok (with_item reel (block bytes))
+-- the tape has room for an item that ends
+abbrev pub recorded : Between → Item → Result Between AwsFault
+recorded at x = if not (takes_item at.reel x) then Err fault.TapeFull else Ok (record {
+  reel = with_item at.reel x;
+  is_open = false;
+  block = [];
+  layout = at.layout;
+  previous = at.previous;
+})
 
--- the tape has room for a mark
-abbrev pub marked : ReelState → Result ReelState AwsFault
-marked reel = if not (takes_item reel tape_mark) then Err fault.TapeFull else Ok (with_item reel tape_mark)
+-- a block has a byte at least
+abbrev pub block_ended : Between → Result Between AwsFault
+block_ended at = if length at.block == 0 then Err fault.EmptyBlock else recorded at (block at.block)
 
-abbrev pub between_blocks : ℕ → Result ReelState AwsFault → Result Between AwsFault
-between_blocks len reel = reel >>= λ r. Ok (record { reel = r; block = None; previous = len })
+-- what a chunk leaves whose data is there
+abbrev pub after_data : Between → ChunkKind → Result Between AwsFault
+after_data at Mark = recorded at tape_mark
+after_data at Whole = block_ended at
+after_data at First = Ok (with_chunk_part at)
+after_data at Middle = Ok (with_chunk_part at)
+after_data at Last = block_ended (with_chunk_part at)
 
-abbrev pub inside_block : ℕ → ReelState → Result (List ℕ) AwsFault → Result Between AwsFault
-inside_block len reel bytes = bytes >>= λ b. Ok (record { reel = reel; block = Some b; previous = len })
-
--- WHAT THE DATA OF A CHUNK LEAVES, or the first rule that it breaks
+-- WHAT THE DATA OF A CHUNK LEAVES
 abbrev pub chunk_after : Between → ChunkKind → List ℕ → Result Between AwsFault
-chunk_after at Mark bytes = between_blocks (length bytes) (marked at.reel)
-chunk_after at Whole bytes = between_blocks (length bytes) (recorded at.reel bytes)
-chunk_after at First bytes = inside_block (length bytes) at.reel (going_on bytes)
-chunk_after at Middle bytes = inside_block (length bytes) at.reel (going_on (block_so_far at.block ++ bytes))
-chunk_after at Last bytes = between_blocks (length bytes) (recorded at.reel (block_so_far at.block ++ bytes))
-
--- what a call answers: what the definition gives, out of memory apart
-abbrev pub Answers : {A : Type 0} → Result A AwsFault → Result A AwsFault → Type 0
-Answers given (Ok x) = given ≡ Ok x
-Answers given (Err e) = (e ≡ fault.NoMemory → ⊥) → given ≡ Err e
-
--- what adding data to a block answers
-abbrev pub Joins : List ℕ → Result (Vec ℕ) AwsFault → Type 0
-Joins bytes (Ok v) = going_on bytes ≡ Ok v.items
-Joins bytes (Err e) = (e ≡ fault.NoMemory → ⊥) → going_on bytes ≡ Err e
+chunk_after at kind bytes = after_data (with_data at bytes) kind
 
 -- ---- THE WHOLE IMAGE
 
 -- before its first chunk
 abbrev pub start : ReelState → Between
-start reel = record { reel = reel; block = None; previous = 0 }
+start reel = record { reel = reel; is_open = false; block = []; layout = []; previous = 0 }
 
 -- after its last chunk no block is open
-abbrev pub image_end : Between → Result ReelState AwsFault
-image_end at = if is_some at.block then Err fault.BlockWithoutEnd else Ok at.reel
+abbrev pub image_end : Between → Result Image AwsFault
+image_end at = if at.is_open then Err fault.BlockWithoutEnd else Ok (record { tape = at.reel; layout = at.layout })
 
 -- the data that follows a header
 abbrev pub data_after : Between → List ℕ → Header → Result Between AwsFault
@@ -124,19 +124,37 @@ at_offset offset (Ok x) = Ok x
 at_offset offset (Err e) = Err (record { fault = e; offset = offset })
 
 -- the chunks that are left, at most n of them, one after the other; `rest` begins at `offset`
-unfoldable pub read_from : ℕ → ℕ → Between → List ℕ → Result ReelState AwsError
+unfoldable pub read_from : ℕ → ℕ → Between → List ℕ → Result Image AwsError
 read_from zero offset at rest = at_offset offset (image_end at)
 read_from (suc n) offset at [] = at_offset offset (image_end at)
 read_from (suc n) offset at (byte ∷ rest) =
     at_offset offset (first_after at (byte ∷ rest))
     >>= λ next. read_from n (offset + (6 + len_of (byte ∷ rest))) next (drop (6 + len_of (byte ∷ rest)) (byte ∷ rest))
 
--- WHAT AN IMAGE SAYS: the reel with its items after those there, or its first fault.
--- A chunk has bytes, so `length image` steps are enough
-abbrev pub read_image : ReelState → List ℕ → Result ReelState AwsError
-read_image reel image = read_from (length image) 0 (start reel) image
+-- a FakeTape file begins with twelve digits
+abbrev pub is_fake_tape : List ℕ → Bool
+is_fake_tape image = nat_le 12 (length image) && list_all is_digit (take 12 image)
 
--- WHAT LOADING ANSWERS, out of memory apart
-abbrev pub Loads : ReelState → List ℕ → Result ReelState AwsError → Type 0
-Loads reel image (Ok loaded) = read_image reel image ≡ Ok loaded
-Loads reel image (Err e) = (e.fault ≡ fault.NoMemory → ⊥) → read_image reel image ≡ Err e
+-- WHAT AN IMAGE SAYS, read to a tape of this size: the tape with its items and the layout, or its first fault.
+-- A chunk has bytes, so `length image` steps are enough
+abbrev pub read_image : ℕ → List ℕ → Result Image AwsError
+read_image bytes image =
+    if is_fake_tape image then Err (record { fault = fault.FakeTape; offset = 0 })
+    else read_from (length image) 0 (start (record { size = bytes; items = [] })) image
+
+-- ---- what calls answer
+
+-- a fault of the image, and not of the reader or of the memory
+abbrev pub IsOfImage : AwsFault → Type 0
+IsOfImage e = (e ≡ fault.NoMemory → ⊥) × (e ≡ fault.Unreadable → ⊥)
+
+-- what the definition gives, if memory does not run out and no read fails
+abbrev pub Answers : {A : Type 0} → Result A AwsFault → Result A AwsFault → Type 0
+Answers given (Ok x) = given ≡ Ok x
+Answers given (Err e) = IsOfImage e → given ≡ Err e
+
+-- WHAT LOADING ANSWERS if it is known what bytes the reader has
+abbrev pub Loads : ℕ → Option (List ℕ) → Result Image AwsError → Type 0
+Loads bytes None result = Unit {0}
+Loads bytes (Some image) (Ok loaded) = read_image bytes image ≡ Ok loaded
+Loads bytes (Some image) (Err e) = IsOfImage e.fault → read_image bytes image ≡ Err e

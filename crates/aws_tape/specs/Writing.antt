@@ -1,34 +1,67 @@
--- The bytes of an image of a tape in its canonical form, which has one chunk for each item (AWSTAPE).
-use Rattle.std.specs.Prelude.{◌≡◌, ℕ, ◌≤◌, List, [], ◌∷◌, ◌++◌, length, Ok}
+-- The bytes of an image of a tape (AWSTAPE).
+use Rattle.std.specs.Prelude.{◌≡◌, ℕ, ◌+◌, ◌≤◌, ◌==◌, Ok, nat_lt, Bool, ◌&&◌, List, [], ◌∷◌, ◌++◌, length, take, drop, if◌then◌else◌}
+use Rattle.std.specs.Str.{bytes_eq}
 use Rattle.byteorder.specs.Endian.{little_bytes}
 use Rattle.tape_unit.specs.Item.{Item, tape_mark, block, content_of}
 use Rattle.tape_unit.specs.Reel.{bytes_of}
+use Rattle.aws_tape.specs.declared.layout.Part.{Part}
 use Rattle.aws_tape.specs.Reading.{read_image}
+use Rattle.aws_tape.specs.Layout.{count_before, own_count, bytes_in}
 
--- byte 4 of the header of an item
-abbrev pub flags_of : Item → ℕ
-flags_of tape_mark = 0x40
-flags_of (block bytes) = 0xA0
+-- A HEADER: the length of its chunk and that of the chunk before, the lowest byte first, what the chunk is, and 0
+abbrev pub header_of : ℕ → ℕ → ℕ → List ℕ
+header_of len previous flags = little_bytes 2 len ++ (little_bytes 2 previous ++ flags ∷ 0 ∷ [])
 
--- THE HEADER of an item after a chunk of `previous` bytes: both lengths, the lowest byte first, what it is, and 0
-abbrev pub header_of : ℕ → Item → List ℕ
-header_of previous x = little_bytes 2 (length (content_of x)) ++ (little_bytes 2 previous ++ flags_of x ∷ 0 ∷ [])
+-- byte 4 of a chunk of a block: X'80' if it is the first, and X'20' if it is the last, with none after it
+abbrev pub flags_of : ℕ → List Part → ℕ
+flags_of first after = first + (if length after == 0 then 0x20 else 0)
 
--- the chunk of an item
-abbrev pub chunk_of : ℕ → Item → List ℕ
-chunk_of previous x = header_of previous x ++ content_of x
+-- the chunks of a block; `first` is X'80' before its first one, and 0 after it
+unfoldable pub chunks_of : ℕ → ℕ → List Part → List ℕ → List ℕ
+chunks_of previous first [] bytes = []
+chunks_of previous first (part ∷ parts) bytes =
+    (header_of part.len previous (flags_of first parts) ++ take part.len bytes)
+    ++ chunks_of part.len 0 parts (drop part.len bytes)
 
--- the chunks of items, the first of which comes after a chunk of `previous` bytes
-unfoldable pub chunks_of : ℕ → List Item → List ℕ
-chunks_of previous [] = []
-chunks_of previous (x ∷ items) = chunk_of previous x ++ chunks_of (length (content_of x)) items
+-- whether a block is written in these chunks: they are several, and have its bytes
+abbrev pub is_split : List Part → List ℕ → Bool
+is_split parts bytes = nat_lt 1 (length parts) && (bytes_in parts == length bytes)
 
--- THE IMAGE of a tape with these items
-abbrev pub image_of_items : List Item → List ℕ
-image_of_items items = chunks_of 0 items
+-- THE CHUNKS OF AN ITEM
+abbrev pub item_image : ℕ → List Part → Item → List ℕ
+item_image previous parts tape_mark = header_of 0 previous 0x40
+item_image previous parts (block bytes) =
+    if is_split parts bytes then chunks_of previous 0x80 parts bytes else header_of (length bytes) previous 0xA0 ++ bytes
 
--- WHAT WAS WRITTEN IS READ BACK: each tape that has room for the items loads them from the image
+-- the length of the last one; `len` is that of the one before
+unfoldable pub last_length : ℕ → List Part → ℕ
+last_length len [] = len
+last_length len (part ∷ parts) = last_length part.len parts
+
+abbrev pub last_len : ℕ → List Part → Item → ℕ
+last_len previous parts tape_mark = 0
+last_len previous parts (block bytes) = if is_split parts bytes then last_length previous parts else length bytes
+
+-- the chunks of the items from a place on; `parts` are the chunks of blocks from there on that have several
+unfoldable pub items_image : List Part → ℕ → ℕ → List Item → List ℕ
+items_image parts place previous [] = []
+items_image parts place previous (x ∷ items) =
+    let own = take (own_count place parts) parts in
+    item_image previous own x ++ items_image (drop (own_count place parts) parts) (place + 1) (last_len previous own x) items
+
+-- how many items two tapes have in common from their load points on
+unfoldable pub common : List Item → List Item → ℕ
+common [] ys = 0
+common (x ∷ xs) [] = 0
+common (x ∷ xs) (y ∷ ys) = if bytes_eq (content_of x) (content_of y) then 1 + common xs ys else 0
+
+-- THE IMAGE of a tape: what it has in common with the tape that was mounted is in the chunks of the layout, and the rest
+-- in one chunk for each block
+abbrev pub saved : List Part → List Item → List Item → List ℕ
+saved layout mounted now = items_image (take (count_before (common mounted now) layout) layout) 0 0 now
+
+-- WHAT IS WRITTEN IS READ BACK: each tape that has room for the items loads them from the image, with some layout
 abbrev pub IsReadBack : List Item → List ℕ → Type 0
 IsReadBack items image =
     (size : ℕ) → bytes_of items ≤ size
-    → read_image (record { size = size; items = [] }) image ≡ Ok (record { size = size; items = items })
+    → (layout : List Part) × (read_image size image ≡ Ok (record { tape = record { size = size; items = items }; layout = layout }))

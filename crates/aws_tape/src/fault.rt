@@ -7,8 +7,9 @@ use thiserror::Error;
 #[error("byte {offset}: {fault}")]
 pub struct AwsError {
     pub fault: AwsFault,
-    /// Where the header of the chunk begins that breaks the rule; the size of the image if its last block has no end.
-    pub offset: usize,
+    /// Where the header of the chunk begins that breaks the rule, or could not be read; the size of the image if its last
+    /// block has no end.
+    pub offset: u64,
 }
 
 /// A rule that an image breaks.
@@ -44,6 +45,8 @@ pub enum AwsFault {
     TapeFull,
     #[error("the image ends inside a block")]
     BlockWithoutEnd,
+    #[error("the image cannot be read")]
+    Unreadable,
     #[error("out of memory")]
     NoMemory,
 }

@@ -1,18 +1,24 @@
 //! Images of tapes in the AWSTAPE format, read and written.
 //!
-//! An image is a list of chunks: a tape mark, or a part of a block. `load` reads an image to a recording of the tape,
-//! or returns the first fault of the image. `save` writes an image in its canonical form, which has one chunk for each
-//! block. `Reader` and `Writer` do so in parts, for files that are not held in memory.
+//! An image is a list of chunks: a tape mark, or a part of a block. `load` reads an image to a recording of the tape and
+//! a layout, or returns the first fault of the image. The layout says in which chunks the blocks are that have several.
+//! `save` writes the image of a tape: what was not written since it was mounted in the chunks of its layout, and the
+//! rest in one chunk for each block. Both go over the image in a stream, and keep one block beside the tape.
 //!
 //! Tests: component_tests (`tape_images`).
 #![tactic(auto)]
 
 mod chunk;
 mod fault;
+mod image;
+mod layout;
+mod loading;
 mod reader;
+mod source;
 mod writer;
 
-pub use chunk::{ChunkKind, Header};
 pub use fault::{AwsError, AwsFault};
-pub use reader::{Reader, load};
-pub use writer::{Writer, save};
+pub use image::Image;
+pub use layout::{Layout, Part};
+pub use loading::load;
+pub use writer::save;

@@ -1,43 +1,50 @@
 //! Images of tapes, read chunk by chunk.
 
-ghost use Rattle.std.specs.Prelude.{◌≡◌, ◌+◌, ◌≤◌, ◌++◌, Ok, Err, IfOk, IfErr, OnOk, length, drop};
-ghost use Rattle.std.specs.List.{list_all};
-ghost use Rattle.std.specs.Option.{option_map};
-ghost use Rattle.aws_tape.specs.declared.fault.AwsFault.TheVariants.{NoMemory};
-ghost use Rattle.aws_tape.specs.Chunk.{len_of, is_digit};
-ghost use Rattle.aws_tape.specs.Reading.{Answers, Joins, Loads, of_kind, marked, recorded, block_so_far};
+ghost use Rattle.std.specs.Prelude.{◌≡◌, ◌+◌, ◌≤◌, IfErr, IfOk, IfSome, length};
+ghost use Rattle.tape_unit.specs.Item.{tape_mark, block};
+ghost use Rattle.aws_tape.specs.Reading.{of_kind};
 
-use crate::chunk::{ChunkKind, HEADER, Header, is_digit, number};
-use crate::fault::{AwsError, AwsFault};
+use crate::chunk::{ChunkKind, HEADER, Header, number};
+use crate::fault::AwsFault;
+use crate::image::Image;
+use crate::layout::{Layout, Part};
+use crate::source::fill;
 use std::alloc::Global;
+use std::io::Read;
 use std::marker::Model;
-use tape_unit::{Recording, RecordingError};
+use tape_unit::{LONGEST_BLOCK, Recording, RecordingError};
 
-/// The most bytes that a block has.
-const LONGEST_BLOCK: usize = 65_535;
-
-/// Reads an image of a tape, and records its items. A caller hands it each header, and then the data of its chunk.
-/// So it keeps one block beside the tape.
+/// What is known of an image between two chunks. It keeps one block beside the tape.
 #[derive(Drop)]
 pub struct Reader {
-    alloc: Global,
     tape: Recording,
-    block: Option<Vec<u8>>,
+    is_open: bool,
+    block: Vec<u8>,
+    layout: Layout,
     previous: u16,
 }
 
 impl Model for Reader {
-    ghost use Rattle.std.specs.Option.{option_map};
-    ghost use Rattle.aws_tape.specs.Reading.{Between};
+    ghost use Rattle.std.specs.Prelude.{◌≤◌, length};
+    ghost use Rattle.aws_tape.specs.Between.{Between};
 
     ghost Value = { Between };
 
-    ghost view = { λ r. record { reel = r.tape; block = option_map (λ v. v.items) r.block; previous = r.previous } };
+    ghost view = { λ r. record { reel = r.tape; is_open = r.is_open; block = r.block.items; layout = r.layout; previous = r.previous } };
+
+    ghost invariant = { λ r. length r.block.items ≤ 65_535 };
 }
 
-/// Where a chunk of this kind may be, and what its header says.
-fn placed(kind: Option<ChunkKind>, len: u16, is_open: bool) -> Result<Header, AwsFault>
-    ensures { result ≡ of_kind kind len is_open }
+/// Where a chunk of this kind may be, and what its header says, if the block has this many bytes so far.
+fn placed(
+    kind: Option<ChunkKind>,
+    len: u16,
+    so_far: usize,
+    is_open: bool,
+) -> Result<Header, AwsFault>
+    requires { so_far ≤ 65_535 }
+    ensures header { result ≡ of_kind kind len so_far is_open }
+    ensures short { IfOk result (λ header. so_far + header.len ≤ 65_535) }
 {
     let Some(kind) = kind else {
         return Err(AwsFault::BadFlags);
@@ -47,21 +54,25 @@ fn placed(kind: Option<ChunkKind>, len: u16, is_open: bool) -> Result<Header, Aw
         (ChunkKind::Mark, false) if len != 0 => Err(AwsFault::MarkWithData),
         (ChunkKind::Whole | ChunkKind::First, true) => Err(AwsFault::BlockInBlock),
         (ChunkKind::Middle | ChunkKind::Last, false) => Err(AwsFault::NoBlockOpen),
+        _ if so_far + len as usize > LONGEST_BLOCK => Err(AwsFault::LongBlock),
         _ => Ok(Header { kind, len }),
     }
 }
 
 impl Reader {
-    ghost use Rattle.aws_tape.specs.Reading.{Answers, start, header_after, chunk_after, data_after, first_after, image_end};
+    ghost use Rattle.std.specs.Prelude.{Ok, IfErr, OnOk};
+    ghost use Rattle.aws_tape.specs.Reading.{IsOfImage, Answers, start, header_after, after_data, block_ended, recorded, with_chunk_part, image_end};
+    ghost use Rattle.aws_tape.specs.Stepping.{FetchesChunk, ReadsData, ReadsChunk};
 
-    /// Reads an image to a tape, after the items there.
+    /// Begins an image. Its items go to the tape.
     pub fn new(alloc: Global, tape: Recording) -> Self
         ensures { result ≡ start tape }
     {
         Reader {
-            alloc,
             tape,
-            block: None,
+            is_open: false,
+            block: Vec::new(alloc),
+            layout: Layout::canonical(alloc),
             previous: 0,
         }
     }
@@ -69,13 +80,11 @@ impl Reader {
     /// Reads the six bytes of a header.
     ///
     /// Errors: the first rule that the header breaks.
-    pub fn header(&self, header: &[u8]) -> Result<Header, AwsFault>
+    fn header(&self, header: &[u8]) -> Result<Header, AwsFault>
         requires { length header.now ≡ 6 }
-        ensures { result ≡ header_after self.now header.now }
+        ensures header { result ≡ header_after self.now header.now }
+        ensures short { IfOk result (λ h. length self.now.block + h.len ≤ 65_535) }
     {
-        if are_digits(header) {
-            return Err(AwsFault::FakeTape);
-        }
         let flags = header[4];
         if flags % 4 != 0 {
             return Err(AwsFault::Compressed);
@@ -89,177 +98,154 @@ impl Reader {
         placed(
             ChunkKind::decode(flags),
             number(header),
-            self.block.is_some(),
+            self.block.len(),
+            self.is_open,
         )
+    }
+
+    /// Reads the data of a chunk to the end of the block.
+    ///
+    /// Errors: `DataCutShort`, `Unreadable`, `NoMemory`.
+    fn fetch<R: Read>(&mut self, len: u16, source: &mut R) -> Result<(), AwsFault>
+        requires { length self.old.block + len ≤ 65_535 }
+        ensures { FetchesChunk self.old self.new len (R.remaining source.old) (R.remaining source.new) result }
+    {
+        let start = self.block.len();
+        let Ok(()) = self.block.resize(start + len as usize, 0) else {
+            return Err(AwsFault::NoMemory);
+        };
+        let count = fill(source, &mut self.block[start..])?;
+        if count < len as usize {
+            return Err(AwsFault::DataCutShort);
+        }
+        self.previous = len;
+        Ok(())
+    }
+
+    /// Notes that the chunk that was read last is a part of the block that is open.
+    ///
+    /// Error: `NoMemory`.
+    fn note_part(&mut self) -> Result<(), AwsFault>
+        ensures noted { OnOk result (self.new ≡ with_chunk_part self.old) }
+        ensures fault { IfErr result (λ e. e ≡ AwsFault.NoMemory) }
+    {
+        let part = Part {
+            item: self.tape.len() as u32,
+            len: self.previous,
+        };
+        self.is_open = true;
+        match self.layout.push(part) {
+            Ok(()) => Ok(()),
+            Err(_) => Err(AwsFault::NoMemory),
+        }
+    }
+
+    /// Records the block that ends.
+    ///
+    /// Errors, in this order: `EmptyBlock`, `TapeFull`, `NoMemory`.
+    fn end_block(&mut self) -> Result<(), AwsFault>
+        ensures ended { OnOk result (block_ended self.old ≡ Ok self.new) }
+        ensures fault { IfErr result (λ e. IsOfImage e → block_ended self.old ≡ Err e) }
+    {
+        match self.tape.write_block(&self.block) {
+            Ok(()) => {
+                self.is_open = false;
+                self.block.clear();
+                Ok(())
+            }
+            Err(RecordingError::BadBlock) => Err(AwsFault::EmptyBlock),
+            Err(RecordingError::Full) => Err(AwsFault::TapeFull),
+            Err(_) => Err(AwsFault::NoMemory),
+        }
+    }
+
+    /// Records a tape mark.
+    ///
+    /// Errors, in this order: `TapeFull`, `NoMemory`.
+    fn record_mark(&mut self) -> Result<(), AwsFault>
+        ensures ended { OnOk result (recorded self.old tape_mark ≡ Ok self.new) }
+        ensures fault { IfErr result (λ e. IsOfImage e → recorded self.old tape_mark ≡ Err e) }
+    {
+        match self.tape.write_tape_mark() {
+            Ok(()) => {
+                self.is_open = false;
+                self.block.clear();
+                Ok(())
+            }
+            Err(RecordingError::Full) => Err(AwsFault::TapeFull),
+            Err(_) => Err(AwsFault::NoMemory),
+        }
+    }
+
+    /// Ends a chunk whose data is there.
+    ///
+    /// Errors: the first rule that the chunk breaks, or `NoMemory`.
+    fn end_chunk(&mut self, kind: ChunkKind) -> Result<(), AwsFault>
+        ensures ended { OnOk result (after_data self.old kind ≡ Ok self.new) }
+        ensures fault { IfErr result (λ e. IsOfImage e → after_data self.old kind ≡ Err e) }
+    {
+        match kind {
+            ChunkKind::Mark => self.record_mark(),
+            ChunkKind::Whole => self.end_block(),
+            ChunkKind::First | ChunkKind::Middle => self.note_part(),
+            ChunkKind::Last => {
+                self.note_part()?;
+                self.end_block()
+            }
+        }
     }
 
     /// Reads the data of the chunk with this header.
     ///
-    /// Errors: the first rule that the data breaks, or `NoMemory`.
-    pub fn chunk(self, header: Header, data: &[u8]) -> Result<Self, AwsFault>
-        requires { length data.now ≡ header.len }
-        ensures { Answers (chunk_after self header.kind data.now) result }
+    /// Errors: the first rule that the chunk breaks, `Unreadable`, or `NoMemory`.
+    fn data<R: Read>(&mut self, header: Header, source: &mut R) -> Result<(), AwsFault>
+        requires { length self.old.block + header.len ≤ 65_535 }
+        ensures { ReadsData self.old self.new header (R.remaining source.old) (R.remaining source.new) result }
     {
-        let Reader {
-            alloc,
-            tape,
-            block,
-            previous: _,
-        } = self;
-        let (tape, block) = match header.kind {
-            ChunkKind::Mark => (recorded_mark(tape)?, None),
-            ChunkKind::Whole => (recorded(tape, data)?, None),
-            ChunkKind::First => (tape, Some(joined(Vec::new(alloc), data)?)),
-            ChunkKind::Middle => (tape, Some(joined(block_so_far(alloc, block), data)?)),
-            ChunkKind::Last => {
-                let whole = joined(block_so_far(alloc, block), data)?;
-                (recorded(tape, &whole)?, None)
-            }
+        self.fetch(header.len, source)?;
+        self.end_chunk(header.kind)
+    }
+
+    /// Reads the next chunk, and returns how many bytes of data it has; nothing at the end of the image.
+    ///
+    /// Errors: the first rule that the chunk breaks, `Unreadable`, or `NoMemory`.
+    pub fn chunk<R: Read>(&mut self, source: &mut R) -> Result<Option<u16>, AwsFault>
+        ensures read { ReadsChunk self.old self.new (R.remaining source.old) (R.remaining source.new) result }
+        ensures short { IfOk result (λ found. IfSome found (λ len. len ≤ 65_535)) }
+    {
+        let mut bytes = [0; HEADER];
+        let count = match fill(source, &mut bytes) {
+            Ok(count) => count,
+            Err(fault) => return Err(fault),
         };
-        Ok(Reader {
-            alloc,
-            tape,
-            block,
-            previous: header.len,
-        })
-    }
-
-    /// Reads the data of the chunk with this header from the bytes that are left, and returns those after it.
-    ///
-    /// Errors: the first rule that the data breaks, or `NoMemory`.
-    fn data(self, header: Header, rest: &[u8]) -> Result<(Self, &[u8]), AwsFault>
-        ensures read { IfOk result (λ x. data_after self rest.now header ≡ Ok x.0) }
-        ensures behind { IfOk result (λ x. x.1.now ≡ drop header.len rest.now) }
-        ensures within { OnOk result (header.len ≤ length rest.now) }
-        ensures fault { IfErr result (λ e. (e ≡ NoMemory → ⊥) → data_after self rest.now header ≡ Err e) }
-    {
-        let len = header.len as usize;
-        if rest.len() < len {
-            return Err(AwsFault::DataCutShort);
+        if count == 0 {
+            return Ok(None);
         }
-        let (data, behind) = rest.split_at(len);
-        match self.chunk(header, data) {
-            Ok(next) => Ok((next, behind)),
-            Err(fault) => Err(fault),
-        }
-    }
-
-    /// Reads the first chunk of the bytes that are left, and returns those after it.
-    ///
-    /// Errors: the first rule that the chunk breaks, or `NoMemory`.
-    fn first(self, rest: &[u8]) -> Result<(Self, &[u8]), AwsFault>
-        ensures read { IfOk result (λ x. first_after self rest.now ≡ Ok x.0) }
-        ensures behind { IfOk result (λ x. x.1.now ≡ drop (6 + len_of rest.now) rest.now) }
-        ensures within { OnOk result (6 + len_of rest.now ≤ length rest.now) }
-        ensures fault { IfErr result (λ e. (e ≡ NoMemory → ⊥) → first_after self rest.now ≡ Err e) }
-    {
-        if rest.len() < HEADER {
+        if count < HEADER {
             return Err(AwsFault::HeaderCutShort);
         }
-        let (header, behind) = rest.split_at(HEADER);
-        match self.header(header) {
-            Ok(header) => self.data(header, behind),
+        let header = match self.header(&bytes) {
+            Ok(header) => header,
+            Err(fault) => return Err(fault),
+        };
+        match self.data(header, source) {
+            Ok(()) => Ok(Some(header.len)),
             Err(fault) => Err(fault),
         }
     }
 
-    /// The tape with the items of the image.
+    /// The tape and the layout after the last chunk.
     ///
     /// Error: `BlockWithoutEnd`.
-    pub fn end(self) -> Result<Recording, AwsFault>
+    pub fn end(self) -> Result<Image, AwsFault>
         ensures { result ≡ image_end self }
     {
-        if self.block.is_some() {
+        if self.is_open {
             return Err(AwsFault::BlockWithoutEnd);
         }
-        Ok(self.tape)
-    }
-}
-
-/// Reads a whole image to a tape, after the items there.
-///
-/// Errors: the first rule that the image breaks, with the offset of its chunk; or `NoMemory`.
-pub fn load(alloc: Global, tape: Recording, image: &[u8]) -> Result<Recording, AwsError>
-    ensures { Loads tape image.now result }
-{
-    let mut reader = Reader::new(alloc, tape);
-    let mut rest = image;
-    while !rest.is_empty() {
-        match reader.first(rest) {
-            Ok((next, behind)) => {
-                reader = next;
-                rest = behind;
-            }
-            Err(fault) => {
-                let offset = image.len() - rest.len();
-                return Err(AwsError { fault, offset });
-            }
-        }
-    }
-    match reader.end() {
-        Ok(tape) => Ok(tape),
-        Err(fault) => {
-            let offset = image.len();
-            Err(AwsError { fault, offset })
-        }
-    }
-}
-
-/// Whether all bytes are upper hexadecimal digits in ASCII.
-fn are_digits(bytes: &[u8]) -> bool
-    ensures { result ≡ list_all is_digit bytes.now }
-{
-    bytes.iter().all(|byte| is_digit(*byte))
-}
-
-/// The tape with one more tape mark.
-fn recorded_mark(mut tape: Recording) -> Result<Recording, AwsFault>
-    ensures { Answers (marked tape) result }
-{
-    match tape.write_tape_mark() {
-        Ok(()) => Ok(tape),
-        Err(RecordingError::Full) => Err(AwsFault::TapeFull),
-        Err(_) => Err(AwsFault::NoMemory),
-    }
-}
-
-/// The tape with one more block.
-fn recorded(mut tape: Recording, bytes: &[u8]) -> Result<Recording, AwsFault>
-    ensures { Answers (recorded tape bytes.now) result }
-{
-    if bytes.is_empty() {
-        return Err(AwsFault::EmptyBlock);
-    }
-    if bytes.len() > LONGEST_BLOCK {
-        return Err(AwsFault::LongBlock);
-    }
-    match tape.write_block(bytes) {
-        Ok(()) => Ok(tape),
-        Err(RecordingError::Full) => Err(AwsFault::TapeFull),
-        Err(_) => Err(AwsFault::NoMemory),
-    }
-}
-
-/// The bytes so far of a block.
-fn block_so_far(alloc: Global, block: Option<Vec<u8>>) -> Vec<u8>
-    ensures { result.items ≡ block_so_far (option_map (λ v. v.items) block) }
-{
-    match block {
-        Some(bytes) => bytes,
-        None => Vec::new(alloc),
-    }
-}
-
-/// The bytes of a block with more data.
-fn joined(mut block: Vec<u8>, data: &[u8]) -> Result<Vec<u8>, AwsFault>
-    requires { length data.now ≤ 65_535 }
-    ensures { Joins (block.items ++ data.now) result }
-{
-    if block.len() + data.len() > LONGEST_BLOCK {
-        return Err(AwsFault::LongBlock);
-    }
-    match block.extend_from_slice(data) {
-        Ok(()) => Ok(block),
-        Err(_) => Err(AwsFault::NoMemory),
+        Ok(Image {
+            tape: self.tape,
+            layout: self.layout,
+        })
     }
 }

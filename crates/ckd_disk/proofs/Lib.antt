@@ -2,4 +2,5 @@
 pub mod Packing
 pub mod Tracks
 pub mod Opening
+pub mod Volumes
 mod Worked

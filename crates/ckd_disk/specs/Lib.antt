@@ -11,3 +11,5 @@ pub mod DiskLaws
 pub mod Mount
 pub mod MountFacts
 pub mod Refusals
+pub mod Volume
+pub mod VolumeFacts

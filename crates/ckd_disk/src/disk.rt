@@ -1,7 +1,10 @@
 //! The disk as a device: its mounting, its commands, and its reader.
 
 ghost use Rattle.std.specs.Prelude.{◌≡◌, ◌+◌, ◌*◌, ◌<◌, ◌≤◌, ℕ, length, IfOk, [], true};
-ghost use Rattle.ckd_disk.specs.Disk.{disk, seek_given};
+ghost use Rattle.std.specs.List.{AllByRecursion};
+ghost use Rattle.device_port.specs.Packed.{image_of};
+ghost use Rattle.ckd_disk.specs.Record.{FitsCountArea, ckd};
+ghost use Rattle.ckd_disk.specs.Disk.{disk, seek_given, track_of, at_start};
 ghost use Rattle.ckd_disk.specs.DiskLaws.{disk_lawful};
 
 use crate::access::{Access, Armed};
@@ -109,6 +112,50 @@ impl Disk {
         }
         let number = usize::from(cylinder) * usize::from(self.heads) + usize::from(head);
         self.tracks[number].records()
+    }
+
+    /// A disk with these tracks, its heads at the index point of track 0.
+    pub(crate) fn of(cylinders: u16, heads: u16, tracks: Vec<Track>, faults: FaultScript) -> Self
+        requires all { length tracks.items ≡ cylinders * heads }
+        requires some { 0 < length tracks.items }
+        requires filled { AllByRecursion (λ t. 0 < length t.records) tracks.items }
+        ensures { result ≡ record { cylinders = cylinders; heads = heads; tracks = tracks.items; track = 0; access = at_start 0; ordinals = faults } }
+    {
+        Disk {
+            cylinders,
+            heads,
+            tracks,
+            track: 0,
+            access: Access::start(FileMask(0)),
+            faults,
+        }
+    }
+
+    /// How many tracks the disk has.
+    pub fn tracks(&self) -> usize
+        ensures tracks { result ≡ length self.now.tracks }
+        ensures some { 1 ≤ result }
+    {
+        self.tracks.len()
+    }
+
+    /// How many bytes a track has, by its number.
+    pub fn track_bytes(&self, number: usize) -> usize
+        requires { number < length self.now.tracks }
+        ensures { result ≡ (track_of self.now.tracks number).size }
+    {
+        self.tracks[number].size()
+    }
+
+    /// The bytes of the records of a track, packed one after the other from the index point on, by the track's number.
+    pub fn track_image(&self, number: usize) -> &[u8]
+        requires { number < length self.now.tracks }
+        ensures image { result.now ≡ image_of ckd (track_of self.now.tracks number).records }
+        ensures within { length result.now ≤ (track_of self.now.tracks number).size }
+        ensures fits { AllByRecursion FitsCountArea (track_of self.now.tracks number).records }
+        ensures some { 0 < length (track_of self.now.tracks number).records }
+    {
+        self.tracks[number].image()
     }
 
     /// Does a command that may meet a fault.

@@ -4,7 +4,9 @@
 //! the records packed in order, so no command takes memory. A place on a track is kept beside its offset, so a
 //! command costs time in the bytes that it moves.
 //!
-//! Tests: component_tests (`disks`), tests/cases/scripts.
+//! A volume is a disk that is recorded track by track, as from an image.
+//!
+//! Tests: component_tests (`disks`, `disk_images`), tests/cases/scripts.
 #![tactic(auto)]
 
 mod access;
@@ -13,6 +15,7 @@ mod commands;
 mod disk;
 mod mount;
 mod track;
+mod volume;
 mod walk;
 
 pub use disk::Disk;
@@ -20,3 +23,4 @@ pub use mount::{
     Geometry, GeometryRefusal, InitialRecord, Overfull, RecordRefusal, first_overfull,
 };
 pub use track::{Records, Stored};
+pub use volume::{END_MARK, Unmounted, Volume, VolumeError};

@@ -5,7 +5,8 @@ mod spot;
 mod stored;
 
 ghost use Rattle.std.specs.Prelude.{◌≡◌, ℕ, ◌+◌, ◌*◌, ◌<◌, ◌≤◌, ◌^◌, ◌↔◌, IsTrue, IfOk, MatchOption, [], ◌++◌, length};
-ghost use Rattle.device_port.specs.Packed.{Begins};
+ghost use Rattle.std.specs.List.{AllByRecursion};
+ghost use Rattle.device_port.specs.Packed.{Begins, HoldsItems, items_at, image_of};
 ghost use Rattle.ckd_disk.specs.Record.{FitsCountArea, record_with, ckd, count_area, packed, size_of, record_at, size_at, IsRecord, record_written};
 ghost use Rattle.ckd_disk.specs.Track.{record_of, bytes_of, bytes_before, IsSpot, IsBehind, with_content, with_key_and_content, with_record_behind, with_last};
 
@@ -14,11 +15,8 @@ pub use records::{Records, Stored};
 pub use spot::Spot;
 use std::alloc::{AllocError, Global};
 use std::marker::Model;
-pub use stored::size_given;
-use stored::{
-    COUNT_AREA, content_of, count_area_of, first, id_of, key_of, parts_of, put_record,
-    size_of_first,
-};
+pub use stored::{COUNT_AREA, size_given, size_of_first};
+use stored::{content_of, count_area_of, first, id_of, key_of, parts_of, put_record};
 
 /// A track as one image of its size: its records packed in order, and a rest that means nothing.
 #[derive(Debug, Drop)]
@@ -50,6 +48,27 @@ impl Track {
             bytes: vec![in alloc; 0; size]?,
             used: 0,
             count: 0,
+        })
+    }
+
+    /// A track with the records that are packed in `records`.
+    pub fn recorded(
+        alloc: Global,
+        size: usize,
+        records: &[u8],
+        count: usize,
+    ) -> Result<Self, AllocError>
+        requires held { HoldsItems ckd records.now (length records.now) count }
+        requires room { length records.now ≤ size }
+        ensures { IfOk result (λ t. t ≡ record { size = size; records = items_at ckd count records.now }) }
+    {
+        let mut bytes = Vec::with_capacity(alloc, size)?;
+        bytes.extend_from_slice(records)?;
+        bytes.resize(size, 0)?;
+        Ok(Track {
+            bytes,
+            used: records.len(),
+            count,
         })
     }
 
@@ -88,6 +107,22 @@ impl Track {
         ensures { result ≡ length self.now.records }
     {
         self.count
+    }
+
+    /// How many bytes the track has.
+    pub fn size(&self) -> usize
+        ensures { result ≡ self.now.size }
+    {
+        self.bytes.len()
+    }
+
+    /// The bytes of the records, packed one after the other from the index point on.
+    pub fn image(&self) -> &[u8]
+        ensures image { result.now ≡ image_of ckd self.now.records }
+        ensures within { length result.now ≤ self.now.size }
+        ensures fits { AllByRecursion FitsCountArea self.now.records }
+    {
+        &self.bytes.as_slice()[..self.used]
     }
 
     /// The records, from the index point on.

@@ -9,6 +9,8 @@ mod areas;
 #[cfg(test)]
 mod devices;
 #[cfg(test)]
+mod disk_images;
+#[cfg(test)]
 mod disks;
 #[cfg(test)]
 mod images;

@@ -3,11 +3,13 @@
 use crate::devices::late_fault;
 use crate::memory::TWICE;
 use crate::tapes::expect_items;
-use aws_tape::{AwsError, AwsFault, load, save};
-use std::alloc::{AllocError, Global};
+use aws_tape::{AwsError, AwsFault, Image, load};
+use std::alloc::Global;
+use std::io;
+use std::io::Read;
 use std::process::Abort;
 use std::test::Fail;
-use tape_unit::Recording;
+use tape_unit::LONGEST_REEL;
 
 /// A block, a tape mark, a block in two chunks, and a tape mark.
 const IMAGE: [u8; 36] = [
@@ -18,30 +20,39 @@ const IMAGE: [u8; 36] = [
 /// The items of the image.
 const ITEMS: [&[u8]; 4] = [&[0xC1, 0xC2, 0xC3], &[], &[1, 2, 3], &[]];
 
-/// Loads an image to a tape of `bytes` bytes.
-fn loaded(alloc: Global, bytes: u64, image: &[u8]) -> Result<Recording, AwsError> {
-    match Recording::new(alloc, bytes) {
-        Ok(tape) => load(alloc, tape, image),
-        Err(_) => Err(AwsError {
-            fault: AwsFault::TapeFull,
-            offset: 0,
-        }),
+/// A reader that fails after its bytes.
+#[derive(Drop)]
+struct Broken<'a> {
+    bytes: &'a [u8],
+}
+
+impl Read for Broken<'_> {
+    fn read(&mut self, buf: &mut [u8]) -> io::Result<usize> {
+        if self.bytes.is_empty() {
+            return Err(io::Error::from(io::ErrorKind::Other));
+        }
+        self.bytes.read(buf)
     }
+}
+
+/// Loads an image to a tape of 4 GiB.
+fn loaded(alloc: Global, image: &[u8]) -> Result<Image, AwsError> {
+    let mut source = image;
+    load(alloc, &mut source, LONGEST_REEL)
 }
 
 /// If memory runs out for a load, it returns no other error, and the next load succeeds. Run it with each allocation made
 /// to fail in turn.
 #[test]
 fn load_without_memory(rt: HostRuntime) -> Result<(), Fail> {
-    let tape = match loaded(rt.alloc(), 4_294_967_296, &IMAGE) {
-        Ok(tape) => tape,
+    let Image { mut tape, .. } = match loaded(rt.alloc(), &IMAGE) {
+        Ok(image) => image,
         Err(error) => {
             assert_eq!(rt; error.fault, AwsFault::NoMemory);
-            loaded(rt.alloc(), 4_294_967_296, &IMAGE).or(Err(TWICE))?
+            loaded(rt.alloc(), &IMAGE).or(Err(TWICE))?
         }
     };
     assert_eq!(rt; tape.used(), 22);
-    let mut tape = tape;
     tape.cut();
     let tape = tape.mount(rt.alloc(), &[late_fault()])?;
     expect_items(&rt, &tape, &ITEMS);
@@ -49,8 +60,9 @@ fn load_without_memory(rt: HostRuntime) -> Result<(), Fail> {
 }
 
 /// Asserts that an image has this fault, in the chunk at this offset.
-fn expect_fault(rt: &impl Abort, alloc: Global, image: &[u8], fault: AwsFault, offset: usize) {
-    match loaded(alloc, 64, image) {
+fn expect_fault(rt: &impl Abort, alloc: Global, image: &[u8], fault: AwsFault, offset: u64) {
+    let mut source = image;
+    match load(alloc, &mut source, 21) {
         Ok(_) => assert!(rt; false, "no fault at {offset}"),
         Err(found) => {
             assert_eq!(rt; found.fault, fault);
@@ -59,7 +71,7 @@ fn expect_fault(rt: &impl Abort, alloc: Global, image: &[u8], fault: AwsFault, o
     }
 }
 
-/// Each rule that an image breaks is named, with the offset of its chunk.
+/// Each rule that an image breaks is named, with the offset of its chunk. The tape is a byte too short for the items.
 #[test]
 fn faults_of_images(rt: HostRuntime) -> Result<(), Fail> {
     let alloc = rt.alloc();
@@ -75,6 +87,7 @@ fn faults_of_images(rt: HostRuntime) -> Result<(), Fail> {
         (27, 0x00, AwsFault::MarkInBlock, 30),
         (23, 2, AwsFault::HeaderCutShort, 31),
         (0, 40, AwsFault::DataCutShort, 0),
+        (8, 0xC3, AwsFault::TapeFull, 30),
     ];
     for (at, byte, fault, offset) in cases {
         let mut image = IMAGE;
@@ -83,32 +96,53 @@ fn faults_of_images(rt: HostRuntime) -> Result<(), Fail> {
         }
         expect_fault(&rt, alloc, &image, fault, offset);
     }
-    expect_fault(&rt, alloc, &IMAGE[..5], AwsFault::HeaderCutShort, 0);
-    expect_fault(&rt, alloc, &IMAGE[..8], AwsFault::DataCutShort, 0);
-    expect_fault(&rt, alloc, &IMAGE[..23], AwsFault::BlockWithoutEnd, 23);
-    expect_fault(&rt, alloc, &[0, 0, 0, 0, 0xA0, 0], AwsFault::EmptyBlock, 0);
-    expect_fault(&rt, alloc, b"00000005000500", AwsFault::FakeTape, 0);
+    let short: [(&[u8], AwsFault, u64); 9] = [
+        (&IMAGE[..5], AwsFault::HeaderCutShort, 0),
+        (&IMAGE[..8], AwsFault::DataCutShort, 0),
+        (&IMAGE[..23], AwsFault::BlockWithoutEnd, 23),
+        (&[0, 0, 0, 0, 0xA0, 0], AwsFault::EmptyBlock, 0),
+        (
+            &[0, 0, 0, 0, 0x80, 0, 0, 0, 0, 0, 0x20, 0],
+            AwsFault::EmptyBlock,
+            6,
+        ),
+        (b"00000050005000", AwsFault::FakeTape, 0),
+        (b"00000050005", AwsFault::BadSpare, 0),
+        (b"00000050005g00", AwsFault::BadSpare, 0),
+        (b"\0\0\0\0\x40\0000000500050", AwsFault::BadSpare, 6),
+    ];
+    for (image, fault, offset) in short {
+        expect_fault(&rt, alloc, image, fault, offset);
+    }
+    let mut long = vec![in alloc; 0; 65_547]?;
+    long.as_mut_slice()[..6].copy_from_slice(&[0xFF, 0xFF, 0, 0, 0x80, 0]);
+    long.as_mut_slice()[65_541..].copy_from_slice(&[1, 0, 0xFF, 0xFF, 0x20, 0]);
+    expect_fault(&rt, alloc, &long, AwsFault::LongBlock, 65_541);
     Ok(())
 }
 
-/// The image of the same items with one chunk for each block.
-const CANONICAL: [u8; 30] = [
-    3, 0, 0, 0, 0xA0, 0, 0xC1, 0xC2, 0xC3, 0, 0, 3, 0, 0x40, 0, 3, 0, 0, 0, 0xA0, 0, 1, 2, 3, 0, 0,
-    3, 0, 0x40, 0,
-];
-
-/// If memory runs out for a save, the next save succeeds. Run it with each allocation made to fail in turn.
+/// A read that fails is an error of its own, in the chunk that is read. A start of twelve bytes is read at once.
 #[test]
-fn save_without_memory(rt: HostRuntime) -> Result<(), Fail> {
-    let Ok(mut tape) = loaded(rt.alloc(), 64, &IMAGE) else {
-        return Err(Fail::from(AllocError));
-    };
-    tape.cut();
-    let tape = tape.mount(rt.alloc(), &[])?;
-    let image = match save(rt.alloc(), tape.items()) {
-        Ok(image) => image,
-        Err(AllocError) => save(rt.alloc(), tape.items()).or(Err(TWICE))?,
-    };
-    assert!(rt; image.as_slice() == CANONICAL.as_slice());
+fn readers_that_fail(rt: HostRuntime) -> Result<(), Fail> {
+    for (count, offset) in [
+        (0, 0),
+        (11, 0),
+        (12, 9),
+        (15, 15),
+        (22, 15),
+        (23, 23),
+        (36, 36),
+    ] {
+        let mut source = Broken {
+            bytes: &IMAGE[..count],
+        };
+        match load(rt.alloc(), &mut source, LONGEST_REEL) {
+            Ok(_) => assert!(rt; false, "{count}"),
+            Err(found) => {
+                assert_eq!(rt; found.fault, AwsFault::Unreadable);
+                assert_eq!(rt; found.offset, offset);
+            }
+        }
+    }
     Ok(())
 }

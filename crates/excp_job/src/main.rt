@@ -1,20 +1,32 @@
 //! `excp_job` reads a script of EXCP requests, runs it on models of devices, and prints the post of each request. `report`
 //! also prints what the run left behind. `check` runs nothing and prints what is wrong in the script. `assemble` prints the
 //! plain script of one with symbolic areas. `step` carries out a scenario event by event. The script is standard input; all
-//! but `run` also take a file.
+//! but `run` also take a file. Media are loaded from images of tapes and disks, and saved to such. `describe` prints what
+//! images hold, and `convert` turns them into lines of a script and back.
 //!
 //! Tests: `tests/run command_line`, and every group that runs the program.
 #![tactic(auto)]
 
+mod convert;
+mod describe;
+mod images;
+mod replacement;
+mod saver;
 mod screen;
 mod words;
 
+use any_device::AnyDevice;
+use convert::{make_image, print_lines};
+use describe::describe_all;
+use images::{check_units, load_all};
 use job_assembler::assemble_script;
-use job_check::{Source, check_script};
-use job_options::{Counts, Order, StepOptions, Words};
-use job_run::{Workers, report_script, run_script};
-use job_script::JobError;
-use job_step::{SiteKind, Views, check_scenario, step_scenario};
+use job_check::{Source, check_script_on};
+use job_media::{Image, Kept, MountedImages, mount_images, sizes_of, with_sizes};
+use job_options::{Counts, Format, MediaFiles, Order, Print, StepOptions, Words};
+use job_run::{Finished, Output, Workers, report_script, run_parsed, run_script, write};
+use job_script::{JobError, Script, read_script};
+use job_step::{Images, Keeper, SiteKind, Views, check_scenario_on, step_scenario_on};
+use saver::{Medium, Saver};
 use screen::Screen;
 use std::cell::Cell;
 use std::env;
@@ -32,13 +44,40 @@ const STANDARD_INPUT: &str = "<stdin>";
 
 fn main(rt: HostRuntime) -> ExitCode {
     let status = match words::read(&rt) {
-        Ok(Words { order, script }) => match script {
-            Some(file) => of_file(&rt, &rt, order, &file),
-            None => carry_out(&rt, &rt, order, &mut rt.stdin(), STANDARD_INPUT),
+        Ok(Words::Script { order, file, media }) => match file {
+            Some(file) => of_file(&rt, &rt, order, &media, &file),
+            None => carry_out(&rt, &rt, order, &media, &mut rt.stdin(), STANDARD_INPUT),
         },
+        Ok(Words::Describe(names)) => of_images(&rt, &names),
+        Ok(Words::Convert { to, file, output }) => converted(&rt, to, &file, output),
         Err(status) => status,
     };
     ExitCode::from(status)
+}
+
+/// Describes images, and returns the exit status.
+fn of_images(rt: &HostRuntime, names: &[String]) -> u8 {
+    let is_broken = Cell::new(false);
+    ended(rt, describe_all(rt, names, &is_broken), is_broken.get())
+}
+
+/// Converts an image to lines, or lines to an image, and returns the exit status.
+fn converted(rt: &HostRuntime, to: Option<Format>, name: &str, output: Option<String>) -> u8 {
+    let is_broken = Cell::new(false);
+    let done = match (to, output) {
+        (Some(format), Some(output)) => make_image(rt, format, name, &output),
+        _ => print_lines(rt, name, &is_broken),
+    };
+    ended(rt, done, is_broken.get())
+}
+
+/// The exit status of what was done, after its fault was printed. If what reads the output has gone, nothing is printed.
+fn ended(rt: &HostRuntime, done: Result<u8, JobError>, is_broken: bool) -> u8 {
+    match done {
+        Ok(status) => status,
+        Err(JobError::NotWritten) if is_broken => 0,
+        Err(fault) => words::ended_by(rt, fault),
+    }
 }
 
 /// Carries out an order on the script in a file.
@@ -46,11 +85,12 @@ fn of_file<R: Threads + Wait + Sync>(
     rt: &HostRuntime,
     threads: &R,
     order: Order,
+    media: &MediaFiles,
     name: &str,
 ) -> u8 {
     match File::open(rt, name) {
         Ok(file) if is_directory(&file) => unreadable(rt, name, "it is a directory"),
-        Ok(mut file) => carry_out(rt, threads, order, &mut file, name),
+        Ok(mut file) => carry_out(rt, threads, order, media, &mut file, name),
         Err(error) => unreadable(rt, name, why_unopened(error.kind())),
     }
 }
@@ -83,28 +123,40 @@ fn carry_out<R: Threads + Wait + Sync, I: Read>(
     rt: &HostRuntime,
     threads: &R,
     order: Order,
+    media: &MediaFiles,
     input: &mut I,
     name: &str,
 ) -> u8 {
+    let images = match load_all(rt, media) {
+        Ok(images) => images,
+        Err(status) => return status,
+    };
     let is_broken = Cell::new(false);
     let done = match order {
         Order::Run(counts) => run(rt, threads, input, counts),
-        Order::Report { counts, steps } => report(rt, threads, input, counts, steps, &is_broken),
-        Order::Check { scenario } => check(rt, input, scenario, name, &is_broken),
-        Order::Assemble => assemble(rt, input, name, &is_broken),
-        Order::Step(options) => step(rt, threads, input, options, name, &is_broken),
-    };
-    match done {
-        Ok(status) => status,
-        Err(JobError::NotWritten) if is_broken.get() => {
-            if matches!(order, Order::Check { .. }) {
-                REJECTED
-            } else {
-                0
-            }
+        Order::Report { counts, print } => {
+            let asked = ReportOrder {
+                counts,
+                print,
+                media,
+            };
+            report(rt, threads, input, asked, images, &is_broken)
         }
-        Err(fault) => words::ended_by(rt, fault),
+        Order::Check { scenario } => check(rt, input, scenario, images, name, &is_broken),
+        Order::Assemble => assemble(rt, input, name, &is_broken),
+        Order::Step(options) => {
+            let asked = StepOrder {
+                options,
+                media,
+                name,
+            };
+            step(rt, threads, input, asked, images, &is_broken)
+        }
+    };
+    if matches!(order, Order::Check { .. }) && is_broken.get() {
+        return REJECTED;
     }
+    ended(rt, done, is_broken.get())
 }
 
 /// Runs a script, and prints its posts.
@@ -124,25 +176,108 @@ fn run<R: Threads + Wait + Sync, I: Read>(
     Ok(0)
 }
 
-/// Runs a script, and prints its posts and what the run left behind.
+/// What is asked of a report.
+#[derive(Clone, Copy)]
+struct ReportOrder<'a> {
+    counts: Counts,
+    print: Print,
+    media: &'a MediaFiles,
+}
+
+/// Runs a script, prints its posts and what the run left behind, and saves media.
 fn report<R: Threads + Wait + Sync, I: Read>(
     rt: &HostRuntime,
     threads: &R,
     input: &mut I,
-    counts: Counts,
-    steps: Option<u64>,
+    asked: ReportOrder<'_>,
+    images: Vec<Option<Image>>,
     is_broken: &Cell<bool>,
 ) -> Result<u8, JobError> {
+    let has_media = !images.is_empty() || !asked.media.saves.is_empty();
+    let steps = match asked.print {
+        Print::Report if !has_media => None,
+        Print::Steps(most) if !has_media => Some(most),
+        _ => return report_media(rt, threads, input, asked, images, is_broken),
+    };
     let mut screen = Screen::new(rt.stdout(), takes_colour(rt, rt.stdout()), is_broken);
     report_script(
         threads,
         rt.alloc(),
         input,
         &mut screen,
-        workers(counts),
+        workers(asked.counts),
         steps,
     )?;
     Ok(0)
+}
+
+/// Does so with media from images, or with the posts alone.
+fn report_media<R: Threads + Wait + Sync, I: Read>(
+    rt: &HostRuntime,
+    threads: &R,
+    input: &mut I,
+    asked: ReportOrder<'_>,
+    images: Vec<Option<Image>>,
+    is_broken: &Cell<bool>,
+) -> Result<u8, JobError> {
+    let alloc = rt.alloc();
+    let text = read_script(alloc, input)?;
+    let sizes = sizes_of(alloc, &images)?;
+    let text = with_sizes(alloc, &text, &sizes)?;
+    let script = Script::parse(alloc, &text)?;
+    if let Err(status) = check_units(rt, asked.media, script.set_up.units.len()) {
+        return Ok(status);
+    }
+    let MountedImages { devices, kept } = mount_images(alloc, &script.set_up.units, images)?;
+    let run = run_parsed(threads, alloc, &script, devices, workers(asked.counts))?;
+    let printed = print_report(rt, &script, &run, asked.print, is_broken);
+    let saved = save_media(rt, asked.media, &run, &kept);
+    printed?;
+    Ok(saved)
+}
+
+/// Prints what a run came to.
+fn print_report(
+    rt: &HostRuntime,
+    script: &Script,
+    run: &Finished,
+    print: Print,
+    is_broken: &Cell<bool>,
+) -> Result<(), JobError> {
+    let output = match print {
+        Print::Posts => Output::Posts,
+        Print::Report => whole_report(script, run, None),
+        Print::Steps(most) => whole_report(script, run, Some(most)),
+    };
+    let mut screen = Screen::new(rt.stdout(), takes_colour(rt, rt.stdout()), is_broken);
+    write(rt.alloc(), &run.lines, output, &mut screen)
+}
+
+/// The report of a run, with that many commands of each unit.
+fn whole_report<'a>(script: &'a Script, run: &'a Finished, steps: Option<u64>) -> Output<'a> {
+    Output::Report {
+        set_up: &script.set_up,
+        books: run.report.units(),
+        steps,
+    }
+}
+
+/// Saves the media of a run, and returns the exit status.
+fn save_media(rt: &HostRuntime, media: &MediaFiles, run: &Finished, kept: &[Option<Kept>]) -> u8 {
+    let mut saver = Saver::new(rt, &media.saves);
+    for (unit, book) in run.report.units().iter().enumerate() {
+        let kept = match kept.get(unit) {
+            Some(Some(kept)) => Some(kept),
+            _ => None,
+        };
+        let medium = Medium {
+            mounted: book.mounted(),
+            now: book.device(),
+            kept,
+        };
+        saver.write(unit, medium);
+    }
+    saver.finish()
 }
 
 /// Prints what is wrong in a script, or in a scenario, and returns the exit status.
@@ -150,6 +285,7 @@ fn check<I: Read>(
     rt: &HostRuntime,
     input: &mut I,
     scenario: bool,
+    images: Vec<Option<Image>>,
     name: &str,
     is_broken: &Cell<bool>,
 ) -> Result<u8, JobError> {
@@ -157,9 +293,9 @@ fn check<I: Read>(
     let source = Source { name, is_coloured };
     let mut screen = Screen::new(rt.stdout(), false, is_broken);
     let is_rejected = if scenario {
-        check_scenario(rt.alloc(), input, &mut screen, source)?
+        check_scenario_on(rt.alloc(), images, input, &mut screen, source)?
     } else {
-        check_script(rt.alloc(), input, source, screen)?
+        check_script_on(rt.alloc(), images, input, source, screen)?
     };
     Ok(if is_rejected { REJECTED } else { 0 })
 }
@@ -178,33 +314,60 @@ fn assemble<I: Read>(
     Ok(if is_rejected { REJECTED } else { 0 })
 }
 
+/// What is asked of a scenario, and the name of its script.
+#[derive(Clone, Copy)]
+struct StepOrder<'a> {
+    options: StepOptions,
+    media: &'a MediaFiles,
+    name: &'a str,
+}
+
+impl<'a> Keeper for Saver<'a> {
+    fn keep(&mut self, unit: u16, kept: Option<&Kept>, mounted: &AnyDevice, now: &AnyDevice) {
+        let medium = Medium { mounted, now, kept };
+        self.write(usize::from(unit), medium);
+    }
+}
+
 /// Carries out a scenario, and returns the exit status.
 fn step<R: Wait, I: Read>(
     rt: &HostRuntime,
     threads: &R,
     input: &mut I,
-    options: StepOptions,
-    name: &str,
+    asked: StepOrder<'_>,
+    images: Vec<Option<Image>>,
     is_broken: &Cell<bool>,
 ) -> Result<u8, JobError> {
+    let StepOrder {
+        options,
+        media,
+        name,
+    } = asked;
     let is_coloured = takes_colour(rt, rt.stderr());
     let source = Source { name, is_coloured };
     let views = Views {
         trace: options.trace,
         state: options.state,
     };
+    let mut saver = Saver::new(rt, &media.saves);
     let mut screen = Screen::new(rt.stdout(), false, is_broken);
-    let is_met = step_scenario(
+    let images = Images {
+        images,
+        keeper: &mut saver,
+    };
+    let is_met = step_scenario_on(
         threads,
         rt.alloc(),
         kind_of(options.plain),
         views,
+        images,
         input,
         &mut screen,
         &mut rt.stderr(),
         source,
-    )?;
-    Ok(if is_met { 0 } else { REJECTED })
+    );
+    let saved = saver.finish();
+    Ok(if is_met? { saved } else { saved.max(REJECTED) })
 }
 
 /// What carries a scenario out.

@@ -18,7 +18,25 @@ const REJECTED: u8 = 1;
 const MOST_BYTES: usize = 4096;
 
 /// The subcommands that take the file of a script.
-const FILED: [&[u8]; 4] = [b"report", b"check", b"assemble", b"step"];
+const FILED: [&[u8]; 6] = [
+    b"report",
+    b"check",
+    b"assemble",
+    b"step",
+    b"describe",
+    b"convert",
+];
+
+/// The options that take a value.
+const VALUED: [&[u8]; 7] = [
+    b"--channels",
+    b"--handlers",
+    b"--most-steps",
+    b"--load",
+    b"--save",
+    b"--to",
+    b"--output",
+];
 
 /// Reads the command line, before any byte of the script is read; or prints why not, or the help that is asked for, and
 /// returns the exit status.
@@ -69,7 +87,10 @@ fn is_of_own(words: &[String]) -> bool {
         .skip(1)
         .map(|word| word.as_str())
         .filter(|word| *word != "help");
-    matches!(words.next(), Some("report" | "check" | "assemble" | "step"))
+    matches!(
+        words.next(),
+        Some("report" | "check" | "assemble" | "step" | "describe" | "convert")
+    )
 }
 
 /// Prints that a word is not UTF-8, and returns the exit status: of a file name that of a file that is not read, else that
@@ -100,7 +121,7 @@ fn is_file_not_utf8(rt: &HostRuntime) -> bool {
             return takes_file && !is_value && !word.starts_with(b"-");
         }
         takes_file |= place == 1 && FILED.contains(&word);
-        is_value = [b"--channels".as_slice(), b"--handlers"].contains(&word);
+        is_value = VALUED.contains(&word);
     }
     false
 }

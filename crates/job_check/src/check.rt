@@ -4,13 +4,14 @@ ghost use Rattle.std.specs.Prelude.{◌+◌};
 ghost use Rattle.job_script.specs.Reading.{ReadsAtMost};
 
 use crate::finding::{Finding, FindingKind, SCRIPT, add, tell};
-use crate::media::check_unit;
+use crate::media::{check_unit, check_unit_on};
 use crate::notes::{early, note_doubles, note_unused};
 use crate::programs::{Issued, note_requests};
 use crate::races::Races;
 use crate::requests::why_rejected;
 use crate::suggestion::meant_in_script;
 use crate::telling::{Found, Source, write_findings};
+use job_media::{Image, sizes_of, with_sizes};
 use job_scenario::begins_event;
 use job_script::{
     Action, BYTE_ORDER_MARK, Cause, Command, DcbName, ExcpLine, FaultName, JobError, LIMIT, Line,
@@ -37,15 +38,34 @@ pub fn check_script<R: Read, W: Write + Drop>(
 ) -> Result<bool, JobError>
     ensures { ReadsAtMost (LIMIT + 1) (R.remaining reader.old) (R.remaining reader.new) }
 {
+    check_script_on(alloc, Vec::new(alloc), reader, source, writer)
+}
+
+/// Does so with the media of units from images, by their numbers.
+pub fn check_script_on<R: Read, W: Write + Drop>(
+    alloc: Global,
+    images: Vec<Option<Image>>,
+    reader: &mut R,
+    source: Source<'_>,
+    writer: W,
+) -> Result<bool, JobError>
+    ensures { ReadsAtMost (LIMIT + 1) (R.remaining reader.old) (R.remaining reader.new) }
+{
     let text = read_script(alloc, reader)?;
-    let findings = findings(alloc, &text)?;
+    let sizes = sizes_of(alloc, &images)?;
+    let text = with_sizes(alloc, &text, &sizes)?;
+    let findings = findings(alloc, images, &text)?;
     write_findings(alloc, source, &findings, writer)?;
     Ok(refuses(&findings))
 }
 
 /// What is found in the text of a script, in the order of lines. A script with symbolic areas has one finding, which says
 /// that.
-fn findings(alloc: Global, text: &[u8]) -> Result<Vec<Finding<'_>>, AllocError> {
+fn findings(
+    alloc: Global,
+    images: Vec<Option<Image>>,
+    text: &[u8],
+) -> Result<Vec<Finding<'_>>, AllocError> {
     if let Some(line) = end_of_symbolic(text) {
         let mut findings = Vec::new(alloc);
         tell(
@@ -59,7 +79,7 @@ fn findings(alloc: Global, text: &[u8]) -> Result<Vec<Finding<'_>>, AllocError> 
     for (place, bytes) in text.split(|byte| *byte == b'\n').enumerate() {
         check.line(alloc, place.saturating_add(1), bytes)?;
     }
-    let mut findings = check.end(alloc)?;
+    let mut findings = check.end(alloc, images)?;
     findings.sort_by_key(|finding| finding.line)?;
     Ok(findings)
 }
@@ -365,7 +385,11 @@ impl<'a> Check<'a> {
     }
 
     /// Adds what only the whole script shows, and returns all that was found.
-    fn end(self, alloc: Global) -> Result<Vec<Finding<'a>>, AllocError> {
+    fn end(
+        self,
+        alloc: Global,
+        images: Vec<Option<Image>>,
+    ) -> Result<Vec<Finding<'a>>, AllocError> {
         let Check {
             set_up,
             first_command: _,
@@ -380,8 +404,13 @@ impl<'a> Check<'a> {
             has_events: _,
         } = self;
         tell_lacks(&set_up, &mut findings)?;
+        let mut images = images.into_iter();
         for (number, unit) in set_up.units.iter().enumerate() {
-            if let Some(device) = check_unit(alloc, unit, &assumed, &mut findings)? {
+            let device = match images.next().unwrap_or(None) {
+                Some(image) => check_unit_on(alloc, image, unit, &assumed, &mut findings)?,
+                None => check_unit(alloc, unit, &assumed, &mut findings)?,
+            };
+            if let Some(device) = device {
                 note_doubles(alloc, unit, &mut findings)?;
                 note_requests(number, unit, &device, &requests, &assumed, &mut findings)?;
             }

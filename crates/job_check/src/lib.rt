@@ -17,9 +17,9 @@ mod requests;
 mod suggestion;
 mod telling;
 
-pub use check::check_script;
+pub use check::{check_script, check_script_on};
 pub use finding::{Finding, SCRIPT, write_meant};
-pub use media::mount_faults;
+pub use media::{mount_faults, mount_faults_but};
 pub use requests::why_rejected;
 pub use suggestion::{fault_of_scenario, nearest};
 pub use telling::{Found, Source, write_findings};

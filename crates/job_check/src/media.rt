@@ -5,6 +5,7 @@ use crate::finding::{Finding, tell};
 use any_device::AnyDevice;
 use ckd_disk::{Geometry, GeometryRefusal, InitialRecord, RecordRefusal, first_overfull};
 use device_port::{Fault, Kind, MountError, is_script};
+use job_media::{Image, Kept, MediaError, MediaRefusal};
 use job_mount::mounted;
 use job_script::{Cause, FaultName, Medium, UnitSetup};
 use line_printer::{PaperRefusal, paper_refusal};
@@ -26,6 +27,67 @@ pub fn mount_faults(
         check_unit(alloc, unit, &[], &mut findings)?;
     }
     Ok(findings)
+}
+
+/// Does so, but of units from images it returns only why their DCBs cannot be opened. `kept` has by the numbers of the units
+/// what their images have beside the media.
+pub fn mount_faults_but(
+    alloc: Global,
+    units: &[UnitSetup],
+    kept: &[Option<Kept>],
+) -> Result<Vec<Finding<'static>>, AllocError> {
+    let mut findings = Vec::new(alloc);
+    for (number, unit) in units.iter().enumerate() {
+        match kept.get(number) {
+            Some(Some(_)) => tell_openings(unit, &[], &mut findings)?,
+            _ => {
+                check_unit(alloc, unit, &[], &mut findings)?;
+            }
+        }
+    }
+    Ok(findings)
+}
+
+/// Does what `check_unit` does for a unit whose medium comes from an image.
+pub fn check_unit_on(
+    alloc: Global,
+    image: Image,
+    unit: &UnitSetup,
+    assumed: &[usize],
+    findings: &mut Vec<Finding<'_>>,
+) -> Result<Option<AnyDevice>, AllocError> {
+    if is_assumed(assumed, unit.line) {
+        return Ok(None);
+    }
+    let before = findings.len();
+    tell_faults(unit, findings)?;
+    for line in &unit.content_lines {
+        tell(findings, *line, MediaRefusal::Content.cause())?;
+    }
+    let device = match image.device(alloc, unit) {
+        Ok(device) => Some(device),
+        Err(error) => {
+            tell_unmounted(error, before, findings)?;
+            None
+        }
+    };
+    tell_openings(unit, assumed, findings)?;
+    Ok(device)
+}
+
+/// Reports why an image is not mounted, unless there are more than `before` findings already.
+fn tell_unmounted(
+    error: MediaError,
+    before: usize,
+    findings: &mut Vec<Finding<'_>>,
+) -> Result<(), AllocError> {
+    match error {
+        MediaError::NoMemory => Err(AllocError),
+        MediaError::Line { line, refusal } if findings.len() == before => {
+            tell(findings, line, refusal.cause())
+        }
+        MediaError::Line { .. } => Ok(()),
+    }
 }
 
 /// Reports why a unit cannot be mounted, and why each of its DCBs cannot be opened. Returns its device if it can be

@@ -23,13 +23,15 @@ use Rattle.job_mount.proofs.Trying.{all_tried, one_tried, one_untried}
 use Rattle.job_script.specs.Grammar.{FaultAt}
 use Rattle.job_script.specs.Outcomes.{Gives}
 use Rattle.job_script.specs.Said.{OpeningSaid, UnitSaid}
-use Rattle.job_mount.specs.Devices.{device_of}
-use Rattle.job_mount.specs.Mounting.{◌>>=◌, at, at_extent, devices_of, opened, tried, units_with}
+use Rattle.job_mount.specs.Mounting.{◌>>=◌, at, at_extent, device_with, devices_with, first_given, given_after, opened, tried, units_with}
 use Rattle.job_mount.specs.Openings.{beside, earlier, open_all, with_dcb}
 use Rattle.job_mount.specs.Outcomes.{MountsBook, all_without_spare, without_spare}
 
 abbrev Books : Type 0
 Books = List (Book AnyDevice)
+
+abbrev Given : Type 0
+Given = List (Option AnyDevice)
 
 -- the least line that was found, and the books that are done, before the books of the units that are left
 pub joined : Option ℕ → Books → Result Books ℕ → Result Books ℕ
@@ -39,8 +41,9 @@ joined (Some found) done (Ok books) = Err found
 joined (Some found) done (Err line) = Err (min found line)
 
 -- the same, if the units that are left are yet to be mounted
-pub after : ℕ → Option ℕ → Books → List UnitSaid → Result Books FaultAt
-after capacity found done rest = devices_of rest >>= λ devices. at_extent (joined found done (opened capacity rest devices))
+pub after : ℕ → Option ℕ → Books → Given → List UnitSaid → Result Books FaultAt
+after capacity found done given rest =
+    devices_with given rest >>= λ devices. at_extent (joined found done (opened capacity rest devices))
 
 min_assoc : (a b c : ℕ) → min a (min b c) ≡ min (min a b) c
 min_assoc a b c = omega arith
@@ -84,19 +87,21 @@ after_one capacity found done unit others device (Ok ds) =
 after_one capacity found done unit others device (Err fault) = refl
 
 -- a unit that is mounted
-next_unit : (capacity : ℕ) (found : Option ℕ) (done : Books) (unit : UnitSaid) (others : List UnitSaid) (device : AnyDevice)
-    (one : Result (Book AnyDevice) ℕ) → device_of unit ≡ Ok device → open_all (opening device unit.isc capacity) unit.openings ≡ one
-    → after capacity found done (unit ∷ others) ≡ after capacity (one_unit found done one).0 (one_unit found done one).1 others
-unfolding after devices_of
-next_unit capacity found done unit others device one e is =
-    rw e (after_one capacity found done unit others device (devices_of others))
-    ∙ ap (λ (r : Result (Book AnyDevice) ℕ). after capacity (one_unit found done r).0 (one_unit found done r).1 others) is
+next_unit : (capacity : ℕ) (found : Option ℕ) (done : Books) (given : Given) (unit : UnitSaid) (others : List UnitSaid) (device : AnyDevice)
+    (one : Result (Book AnyDevice) ℕ) → device_with (first_given given) unit ≡ Ok device
+    → open_all (opening device unit.isc capacity) unit.openings ≡ one
+    → after capacity found done given (unit ∷ others)
+    ≡ after capacity (one_unit found done one).0 (one_unit found done one).1 (given_after given) others
+unfolding after devices_with
+next_unit capacity found done given unit others device one e is =
+    rw e (after_one capacity found done unit others device (devices_with (given_after given) others))
+    ∙ ap (λ (r : Result (Book AnyDevice) ℕ). after capacity (one_unit found done r).0 (one_unit found done r).1 (given_after given) others) is
 
 -- a unit that cannot be mounted
-no_unit : (capacity : ℕ) (found : Option ℕ) (done : Books) (unit : UnitSaid) (others : List UnitSaid) (fault : FaultAt)
-    → at unit.line (device_of unit) ≡ Err fault → after capacity found done (unit ∷ others) ≡ Err fault
-unfolding after devices_of
-no_unit capacity found done unit others fault e = rw e refl
+no_unit : (capacity : ℕ) (found : Option ℕ) (done : Books) (given : Given) (unit : UnitSaid) (others : List UnitSaid) (fault : FaultAt)
+    → at unit.line (device_with (first_given given) unit) ≡ Err fault → after capacity found done given (unit ∷ others) ≡ Err fault
+unfolding after devices_with
+no_unit capacity found done given unit others fault e = rw e refl
 
 -- no unit is mounted yet
 unjoined : (r : Result Books ℕ) → joined None [] r ≡ r
@@ -109,18 +114,20 @@ first : (capacity : ℕ) (units : List UnitSaid) (devices : Result (List AnyDevi
 first capacity units (Ok ds) = ap (λ (r : Result Books ℕ). at_extent r) (unjoined (opened capacity units ds))
 first capacity units (Err fault) = refl
 
-pub no_unit_yet : (capacity : ℕ) (units : List UnitSaid) → after capacity None [] units ≡ units_with capacity units
+pub no_unit_yet : (capacity : ℕ) (given : Given) (units : List UnitSaid)
+    → after capacity None [] given units ≡ units_with capacity given units
 unfolding after units_with
-no_unit_yet capacity units = first capacity units (devices_of units)
+no_unit_yet capacity given units = first capacity units (devices_with given units)
 
 -- all units are mounted
-all_opened : (capacity : ℕ) (done : Books) → after capacity None done [] ≡ Ok done
-unfolding after devices_of opened joined
-all_opened capacity done = ap (λ (l : Books). Ok l) (append-nil done)
+all_opened : (capacity : ℕ) (done : Books) (given : Given) → after capacity None done given [] ≡ Ok done
+unfolding after devices_with opened joined
+all_opened capacity done given = ap (λ (l : Books). Ok l) (append-nil done)
 
-one_not_opened : (capacity : ℕ) (line : ℕ) (done : Books) → after capacity (Some line) done [] ≡ at_extent (Err line)
-unfolding after devices_of opened joined
-one_not_opened capacity line done = refl
+one_not_opened : (capacity : ℕ) (line : ℕ) (done : Books) (given : Given)
+    → after capacity (Some line) done given [] ≡ at_extent (Err line)
+unfolding after devices_with opened joined
+one_not_opened capacity line done given = refl
 
 -- what is left of a list that is gone through
 left_of : {A B : Type 0} (f : A → B) (xs : List A) (k : ℕ) (x : A) → k < length xs → x ≡ get_or xs k x
@@ -131,65 +138,65 @@ none_left_of : {A B : Type 0} (f : A → B) (xs : List A) (k : ℕ) → length x
 none_left_of f xs k over = ap (map f) (drop_all k xs over)
 
 -- a unit is mounted, and its DCBs are opened
-pub unit_opened : (capacity : ℕ) (found : Option ℕ) (books : Books) (units : List UnitSetup) (k : ℕ) (unit : UnitSetup)
+pub unit_opened : (capacity : ℕ) (found : Option ℕ) (books : Books) (given : Given) (units : List UnitSetup) (k : ℕ) (unit : UnitSetup)
     (mounted book : Book AnyDevice) (whole : Result Books FaultAt) → k < length units → unit ≡ get_or units k unit
-    → MountsBook capacity (unit_said unit) (Ok mounted)
+    → MountsBook capacity (first_given given) (unit_said unit) (Ok mounted)
     → open_all (without_spare mounted) (map opening_said unit.openings.items) ≡ Ok (without_spare book)
-    → after capacity found (map without_spare books) (map unit_said (drop k units)) ≡ whole
-    → after capacity found (map without_spare (books ++ book ∷ [])) (map unit_said (drop (k + 1) units)) ≡ whole
+    → after capacity found (map without_spare books) given (map unit_said (drop k units)) ≡ whole
+    → after capacity found (map without_spare (books ++ book ∷ [])) (given_after given) (map unit_said (drop (k + 1) units)) ≡ whole
 unfolding one_unit
-unit_opened capacity found books units k unit mounted book whole within is (device, fresh) opens so_far =
+unit_opened capacity found books given units k unit mounted book whole within is (device, fresh) opens so_far =
     let one = subst (λ b. open_all b (map opening_said unit.openings.items) ≡ Ok (without_spare book)) fresh opens in
     let left = left_of unit_said units k unit within is in
-    let next = next_unit capacity found (map without_spare books) (unit_said unit) (map unit_said (drop (k + 1) units)) mounted.mounted
+    let next = next_unit capacity found (map without_spare books) given (unit_said unit) (map unit_said (drop (k + 1) units)) mounted.mounted
     (Ok (without_spare book)) device one in
-    ap (λ (done : Books). after capacity found done (map unit_said (drop (k + 1) units))) (map-append without_spare books (book ∷ []))
-    ∙ sym next ∙ ap (after capacity found (map without_spare books)) (sym left) ∙ so_far
+    ap (λ (done : Books). after capacity found done (given_after given) (map unit_said (drop (k + 1) units))) (map-append without_spare books (book ∷ []))
+    ∙ sym next ∙ ap (after capacity found (map without_spare books) given) (sym left) ∙ so_far
 
 -- a unit is mounted, and one of its DCBs cannot be opened
-pub unit_at_fault : (capacity : ℕ) (found : Option ℕ) (books : Books) (units : List UnitSetup) (k : ℕ) (unit : UnitSetup)
+pub unit_at_fault : (capacity : ℕ) (found : Option ℕ) (books : Books) (given : Given) (units : List UnitSetup) (k : ℕ) (unit : UnitSetup)
     (mounted : Book AnyDevice) (line : ℕ) (whole : Result Books FaultAt) → k < length units → unit ≡ get_or units k unit
-    → MountsBook capacity (unit_said unit) (Ok mounted)
+    → MountsBook capacity (first_given given) (unit_said unit) (Ok mounted)
     → open_all (without_spare mounted) (map opening_said unit.openings.items) ≡ Err line
-    → after capacity found (map without_spare books) (map unit_said (drop k units)) ≡ whole
-    → after capacity (Some (earlier found line)) (map without_spare books) (map unit_said (drop (k + 1) units)) ≡ whole
+    → after capacity found (map without_spare books) given (map unit_said (drop k units)) ≡ whole
+    → after capacity (Some (earlier found line)) (map without_spare books) (given_after given) (map unit_said (drop (k + 1) units)) ≡ whole
 unfolding one_unit
-unit_at_fault capacity found books units k unit mounted line whole within is (device, fresh) opens so_far =
+unit_at_fault capacity found books given units k unit mounted line whole within is (device, fresh) opens so_far =
     let one = subst (λ b. open_all b (map opening_said unit.openings.items) ≡ Err line) fresh opens in
     let left = left_of unit_said units k unit within is in
-    let next = next_unit capacity found (map without_spare books) (unit_said unit) (map unit_said (drop (k + 1) units)) mounted.mounted
+    let next = next_unit capacity found (map without_spare books) given (unit_said unit) (map unit_said (drop (k + 1) units)) mounted.mounted
     (Err line) device one in
-    sym next ∙ ap (after capacity found (map without_spare books)) (sym left) ∙ so_far
+    sym next ∙ ap (after capacity found (map without_spare books) given) (sym left) ∙ so_far
 
 -- a unit cannot be mounted
-pub unit_refused : (capacity : ℕ) (found : Option ℕ) (books : Books) (units : List UnitSetup) (k : ℕ) (unit : UnitSetup) (fault : JobError)
-    (whole : Result Books FaultAt) → k < length units → unit ≡ get_or units k unit → MountsBook capacity (unit_said unit) (Err fault)
-    → after capacity found (map without_spare books) (map unit_said (drop k units)) ≡ whole → Gives all_without_spare (Err fault) whole
-unit_refused capacity found books units k unit (faults.Line line name) whole within is refused so_far =
-    sym so_far ∙ ap (after capacity found (map without_spare books)) (left_of unit_said units k unit within is)
-    ∙ no_unit capacity found (map without_spare books) (unit_said unit) (map unit_said (drop (k + 1) units))
+pub unit_refused : (capacity : ℕ) (found : Option ℕ) (books : Books) (given : Given) (units : List UnitSetup) (k : ℕ) (unit : UnitSetup) (fault : JobError)
+    (whole : Result Books FaultAt) → k < length units → unit ≡ get_or units k unit → MountsBook capacity (first_given given) (unit_said unit) (Err fault)
+    → after capacity found (map without_spare books) given (map unit_said (drop k units)) ≡ whole → Gives all_without_spare (Err fault) whole
+unit_refused capacity found books given units k unit (faults.Line line name) whole within is refused so_far =
+    sym so_far ∙ ap (after capacity found (map without_spare books) given) (left_of unit_said units k unit within is)
+    ∙ no_unit capacity found (map without_spare books) given (unit_said unit) (map unit_said (drop (k + 1) units))
     (record { line = line; name = name }) refused
-unit_refused capacity found books units k unit faults.NoMemory whole within is refused so_far = tt
-unit_refused capacity found books units k unit faults.TooLong whole within is refused so_far = absurd refused
-unit_refused capacity found books units k unit faults.Unreadable whole within is refused so_far = absurd refused
-unit_refused capacity found books units k unit faults.NotWritten whole within is refused so_far = absurd refused
-unit_refused capacity found books units k unit faults.Unmatched whole within is refused so_far = absurd refused
-unit_refused capacity found books units k unit faults.NoThread whole within is refused so_far = absurd refused
+unit_refused capacity found books given units k unit faults.NoMemory whole within is refused so_far = tt
+unit_refused capacity found books given units k unit faults.TooLong whole within is refused so_far = absurd refused
+unit_refused capacity found books given units k unit faults.Unreadable whole within is refused so_far = absurd refused
+unit_refused capacity found books given units k unit faults.NotWritten whole within is refused so_far = absurd refused
+unit_refused capacity found books given units k unit faults.Unmatched whole within is refused so_far = absurd refused
+unit_refused capacity found books given units k unit faults.NoThread whole within is refused so_far = absurd refused
 
 -- all units are mounted
-pub units_opened : (capacity : ℕ) (books : Books) (units : List UnitSetup) (k : ℕ) (whole : Result Books FaultAt) → length units ≤ k
-    → after capacity None (map without_spare books) (map unit_said (drop k units)) ≡ whole → whole ≡ Ok (map without_spare books)
-units_opened capacity books units k whole over so_far =
-    sym so_far ∙ ap (after capacity None (map without_spare books)) (none_left_of unit_said units k over)
-    ∙ all_opened capacity (map without_spare books)
+pub units_opened : (capacity : ℕ) (books : Books) (given : Given) (units : List UnitSetup) (k : ℕ) (whole : Result Books FaultAt) → length units ≤ k
+    → after capacity None (map without_spare books) given (map unit_said (drop k units)) ≡ whole → whole ≡ Ok (map without_spare books)
+units_opened capacity books given units k whole over so_far =
+    sym so_far ∙ ap (after capacity None (map without_spare books) given) (none_left_of unit_said units k over)
+    ∙ all_opened capacity (map without_spare books) given
 
-pub units_at_fault : (capacity : ℕ) (line : ℕ) (books : Books) (units : List UnitSetup) (k : ℕ) (whole : Result Books FaultAt) →
+pub units_at_fault : (capacity : ℕ) (line : ℕ) (books : Books) (given : Given) (units : List UnitSetup) (k : ℕ) (whole : Result Books FaultAt) →
     length units ≤ k
-    → after capacity (Some line) (map without_spare books) (map unit_said (drop k units)) ≡ whole
+    → after capacity (Some line) (map without_spare books) given (map unit_said (drop k units)) ≡ whole
     → whole ≡ Err (record { line = line; name = names.Extent })
-units_at_fault capacity line books units k whole over so_far =
-    sym so_far ∙ ap (after capacity (Some line) (map without_spare books)) (none_left_of unit_said units k over)
-    ∙ one_not_opened capacity line (map without_spare books)
+units_at_fault capacity line books given units k whole over so_far =
+    sym so_far ∙ ap (after capacity (Some line) (map without_spare books) given) (none_left_of unit_said units k over)
+    ∙ one_not_opened capacity line (map without_spare books) given
 
 -- one DCB is opened
 one_more_dcb : (old new : Book AnyDevice) (dcb : ℕ) (o : OpeningSaid) → OpensBook any_device old dcb o.method o.extents new

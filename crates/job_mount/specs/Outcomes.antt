@@ -12,8 +12,7 @@ use Rattle.job_script.specs.declared.fault.FaultName.{FaultName}
 use Rattle.job_script.specs.declared.fault.FaultName.TheVariants as names
 use Rattle.job_script.specs.Grammar.{FaultAt}
 use Rattle.job_script.specs.Said.{OpeningSaid, UnitSaid}
-use Rattle.job_mount.specs.Devices.{device_of}
-use Rattle.job_mount.specs.Mounting.{at}
+use Rattle.job_mount.specs.Mounting.{at, device_with}
 use Rattle.job_mount.specs.Openings.{open_all}
 
 -- a book apart from the room that its trace has
@@ -41,10 +40,16 @@ Refuses read faults.NotWritten = ⊥
 Refuses read faults.Unmatched = ⊥
 Refuses read faults.NoThread = ⊥
 
--- a call made the book of a unit, without a DCB, or found that the unit cannot be mounted
-abbrev pub MountsBook : ℕ → UnitSaid → Result (Book AnyDevice) JobError → Type 0
-MountsBook capacity unit (Ok book) = (device_of unit ≡ Ok book.mounted) × (without_spare book ≡ opening book.mounted unit.isc capacity)
-MountsBook capacity unit (Err fault) = Refuses (at unit.line (device_of unit)) fault
+-- a call returned the device of a unit that may be given one, or found that the unit cannot be mounted
+abbrev pub FindsDevice : Option AnyDevice → UnitSaid → Result AnyDevice JobError → Type 0
+FindsDevice given unit (Ok device) = device_with given unit ≡ Ok device
+FindsDevice given unit (Err fault) = Refuses (at unit.line (device_with given unit)) fault
+
+-- a call made the book of a unit that may be given a device, without a DCB, or found that the unit cannot be mounted
+abbrev pub MountsBook : ℕ → Option AnyDevice → UnitSaid → Result (Book AnyDevice) JobError → Type 0
+MountsBook capacity given unit (Ok book) =
+    (device_with given unit ≡ Ok book.mounted) × (without_spare book ≡ opening book.mounted unit.isc capacity)
+MountsBook capacity given unit (Err fault) = Refuses (at unit.line (device_with given unit)) fault
 
 -- a call opened the DCBs of a unit, or found the line of the first that cannot be opened
 abbrev pub Opens : Book AnyDevice → List OpeningSaid → Result (Option ℕ) AllocError → Book AnyDevice → Type 0

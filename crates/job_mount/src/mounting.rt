@@ -1,10 +1,11 @@
 //! The books of the units of a script: the units are mounted, then their DCBs opened, then the requests tried.
 
 ghost use Rattle.std.specs.Prelude.{◌≡◌, ◌≤◌, All, IfOk, OnOk, length, map, vec_len};
+ghost use Rattle.std.specs.Vec.Iter.{into_iter_items};
 ghost use Rattle.job_mount.specs.Books.{HasRoom, IsFresh};
-ghost use Rattle.job_mount.specs.Mounting.{books_of, tried, units_with};
+ghost use Rattle.job_mount.specs.Mounting.{books_with, first_given, given_after, tried, units_with};
 ghost use Rattle.job_mount.specs.Openings.{earlier};
-ghost use Rattle.job_mount.specs.Outcomes.{MountsBook, Opens, Tries, all_without_spare};
+ghost use Rattle.job_mount.specs.Outcomes.{FindsDevice, MountsBook, Opens, Tries, all_without_spare};
 ghost use Rattle.job_mount.specs.Requests.{CanBeDone};
 ghost use Rattle.job_script.specs.Outcomes.{Gives};
 ghost use Rattle.job_script.specs.Views.{command_said, opening_said, said, unit_said};
@@ -15,26 +16,29 @@ use any_device::AnyDevice;
 use device_port::MountError;
 use job_script::{Command, FaultName, JobError, Opening, Script, UnitSetup};
 use std::alloc::{AllocError, Global};
+use std::vec::IntoIter;
 use unit_book::{OpenError, UnitBook};
 
 /// The books of a script's units, in the order of their numbers, each for up to `capacity` requests at a time (1 to
-/// 65,536), with the DCBs of the script open. The first of these faults ends it: of a medium, in the order of
-/// units; of extents, in the order of lines; of a request, in the order of lines.
-#[tactic(auto, unfolding(crate::specs::Mounting::books_of))]
+/// 65,536), with the DCBs of the script open. `given` has the device that each unit is given, by its number, as one from
+/// an image. A unit without one is mounted as its lines say. The first of these faults ends it: of a medium,
+/// in the order of units; of extents, in the order of lines; of a request, in the order of lines.
+#[tactic(auto, unfolding(crate::specs::Mounting::books_with))]
 pub fn books(
     alloc: Global,
     script: &Script,
+    given: Vec<Option<AnyDevice>>,
     capacity: usize,
 ) -> Result<Vec<UnitBook<AnyDevice>>, JobError>
     requires some { 1 ≤ capacity }
     requires few { capacity ≤ 65536 }
-    ensures exact { Gives all_without_spare result (books_of capacity (said script.now)) }
+    ensures exact { Gives all_without_spare result (books_with given.items capacity (said script.now)) }
     ensures count { IfOk result (λ books. vec_len books ≡ vec_len script.now.set_up.units) }
     ensures fresh { IfOk result (λ books. All IsFresh books.items) }
     ensures room { IfOk result (λ books. All (HasRoom capacity) books.items) }
     ensures requests { OnOk result (All CanBeDone script.now.commands.items) }
 {
-    let books = opened_books(alloc, &script.set_up.units, capacity)?;
+    let books = opened_books(alloc, &script.set_up.units, given, capacity)?;
     try_requests(&script.commands)?;
     Ok(books)
 }
@@ -43,19 +47,22 @@ pub fn books(
 fn opened_books(
     alloc: Global,
     units: &[UnitSetup],
+    given: Vec<Option<AnyDevice>>,
     capacity: usize,
 ) -> Result<Vec<UnitBook<AnyDevice>>, JobError>
     requires some { 1 ≤ capacity }
     requires few { capacity ≤ 65536 }
-    ensures exact { Gives all_without_spare result (units_with capacity (map unit_said units.now)) }
+    ensures exact { Gives all_without_spare result (units_with capacity given.items (map unit_said units.now)) }
     ensures count { IfOk result (λ books. vec_len books ≡ length units.now) }
     ensures fresh { IfOk result (λ books. All IsFresh books.items) }
     ensures room { IfOk result (λ books. All (HasRoom capacity) books.items) }
 {
+    let mut given = given.into_iter();
     let mut books = Vec::new(alloc);
     let mut first = None;
     for unit in units {
-        let mut book = mounted_book(alloc, unit, capacity)?;
+        let device = next_given(&mut given);
+        let mut book = mounted_book(alloc, unit, device, capacity)?;
         match open_dcbs(&mut book, &unit.openings)? {
             None => books.push(book)?,
             Some(line) => first = Some(earlier(first, line)),
@@ -70,20 +77,46 @@ fn opened_books(
     }
 }
 
-/// The book of a unit, for up to `capacity` requests at a time (1 to 65,536), mounted, without a DCB.
+/// The device that is given for the next unit, if one is.
+fn next_given(given: &mut IntoIter<Option<AnyDevice>>) -> Option<AnyDevice>
+    ensures device { result ≡ first_given (into_iter_items given.old) }
+    ensures rest { into_iter_items given.new ≡ given_after (into_iter_items given.old) }
+{
+    match given.next() {
+        Some(device) => device,
+        None => None,
+    }
+}
+
+/// The book of a unit, for up to `capacity` requests at a time (1 to 65,536), without a DCB, on the device that is given,
+/// or else on the one that its lines say.
 pub fn mounted_book(
     alloc: Global,
     unit: &UnitSetup,
+    given: Option<AnyDevice>,
     capacity: usize,
 ) -> Result<UnitBook<AnyDevice>, JobError>
     requires some { 1 ≤ capacity }
     requires few { capacity ≤ 65536 }
-    ensures exact { MountsBook capacity (unit_said unit.now) result }
+    ensures exact { MountsBook capacity given (unit_said unit.now) result }
     ensures fresh { IfOk result IsFresh }
     ensures room { IfOk result (HasRoom capacity) }
 {
-    match mounted(alloc, unit) {
+    match device(alloc, unit, given) {
         Ok(device) => Ok(UnitBook::new(alloc, device, unit.isc, capacity)?),
+        Err(fault) => Err(fault),
+    }
+}
+
+/// The device of a unit: the one that is given, or else the one that its lines say.
+fn device(alloc: Global, unit: &UnitSetup, given: Option<AnyDevice>) -> Result<AnyDevice, JobError>
+    ensures { FindsDevice given (unit_said unit.now) result }
+{
+    if let Some(device) = given {
+        return Ok(device);
+    }
+    match mounted(alloc, unit) {
+        Ok(device) => Ok(device),
         Err(MountError::NoMemory) => Err(JobError::NoMemory),
         Err(_) => Err(JobError::Line {
             line: unit.line,

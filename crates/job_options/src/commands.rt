@@ -1,11 +1,26 @@
 //! The subcommands and their options, as `clap` takes them.
 
 use crate::VERSION;
+use clap::builder::ValueParser;
 use clap::{Arg, ArgAction, Command, value_parser};
 use std::alloc::{AllocError, Global};
 
 /// The argument that names the file of a script.
 pub const SCRIPT: &str = "SCRIPT";
+
+/// The argument that names the files of images to describe.
+pub const IMAGES: &str = "IMAGE";
+
+/// The argument that names the file of an image or of a script to convert.
+pub const FILE: &str = "FILE";
+
+/// The options that name the files of media, which are loaded before a run and saved after it.
+pub const LOAD: &str = "load";
+
+pub const SAVE: &str = "save";
+
+/// The formats of images, as words of `--to`.
+pub const FORMATS: &[&str] = &["aws", "ckd"];
 
 /// The lines of a script in brief (docs/MANUAL.md).
 const LINES: &str = "Lines of a script; tasks, units and areas are numbered from 0, DCBs from 1:
@@ -34,7 +49,9 @@ pub fn command<'a>(alloc: Global) -> Result<Command<'a>, AllocError> {
         .subcommand(report(alloc)?)?
         .subcommand(check(alloc)?)?
         .subcommand(assemble(alloc)?)?
-        .subcommand(step(alloc)?)
+        .subcommand(step(alloc)?)?
+        .subcommand(describe(alloc)?)?
+        .subcommand(convert(alloc)?)
 }
 
 fn run<'a>(alloc: Global) -> Result<Command<'a>, AllocError> {
@@ -50,12 +67,20 @@ fn report<'a>(alloc: Global) -> Result<Command<'a>, AllocError> {
         "steps",
         "Every command of each history too: some 200 bytes each, and up to 4,096 an attempt",
     );
+    let posts = flag(
+        alloc,
+        "posts",
+        "The posts and their count alone, as `run` prints them",
+    );
     Command::new(alloc, "report")
         .about("Prints the posts of a script, the history of each unit and what lies on its medium")
         .arg(channels(alloc))?
         .arg(handlers(alloc))?
         .arg(steps)?
         .arg(most_steps(alloc)?)?
+        .arg(posts.conflicts_with("steps")?)?
+        .arg(load(alloc))?
+        .arg(save(alloc))?
         .arg(script(alloc))
 }
 
@@ -64,6 +89,7 @@ fn check<'a>(alloc: Global) -> Result<Command<'a>, AllocError> {
     Command::new(alloc, "check")
         .about("Prints every fault of a script, and warnings, as FILE:LINE: TEXT; runs nothing")
         .arg(scenario)?
+        .arg(load(alloc))?
         .arg(script(alloc))
 }
 
@@ -90,7 +116,44 @@ fn step<'a>(alloc: Global) -> Result<Command<'a>, AllocError> {
         .arg(plain)?
         .arg(trace)?
         .arg(state)?
+        .arg(load(alloc))?
+        .arg(save(alloc))?
         .arg(script(alloc))
+}
+
+fn describe<'a>(alloc: Global) -> Result<Command<'a>, AllocError> {
+    let images = Arg::new(alloc, IMAGES)
+        .help("Files of AWS tape images and CKD disk images")
+        .required(true)
+        .num_args(1..);
+    Command::new(alloc, "describe")
+        .about(
+            "Prints what images of tapes and disks hold: size, label, data sets, and the first fault",
+        )
+        .arg(images)
+}
+
+fn convert<'a>(alloc: Global) -> Result<Command<'a>, AllocError> {
+    let to = Arg::new(alloc, "to")
+        .long("to")
+        .value_name("FORMAT")
+        .help("Makes an image of the one unit of a script, in this format")
+        .value_parser(ValueParser::Names(FORMATS))
+        .requires_arg("output")?;
+    let output = Arg::new(alloc, "output")
+        .short('o')
+        .long("output")
+        .value_name("OUT")
+        .help("The file of the image that is made")
+        .requires_arg("to")?;
+    let file = Arg::new(alloc, FILE)
+        .help("The file of an image, or with --to of a script")
+        .required(true);
+    Command::new(alloc, "convert")
+        .about("Prints an image as the lines of a script, or makes an image of such lines")
+        .arg(to)?
+        .arg(output)?
+        .arg(file)
 }
 
 /// An option without a value.
@@ -112,6 +175,27 @@ fn most_steps<'a>(alloc: Global) -> Result<Arg<'a>, AllocError> {
 
 fn script<'a>(alloc: Global) -> Arg<'a> {
     Arg::new(alloc, SCRIPT).help("The file of the script; without it, or with -, standard input")
+}
+
+fn load<'a>(alloc: Global) -> Arg<'a> {
+    let help =
+        "Loads the medium of unit U from an image; its line has its size, or - for the image's";
+    media_files(alloc, LOAD, help)
+}
+
+fn save<'a>(alloc: Global) -> Arg<'a> {
+    let help =
+        "Saves the medium of unit U at the end: a tape in AWS, a disk in CKD, a printer as text";
+    media_files(alloc, SAVE, help)
+}
+
+/// An option that names a unit and a file, and may come again for another unit.
+fn media_files<'a>(alloc: Global, name: &'a str, help: &'a str) -> Arg<'a> {
+    Arg::new(alloc, name)
+        .long(name)
+        .value_name("U=FILE")
+        .help(help)
+        .action(ArgAction::Append)
 }
 
 fn channels<'a>(alloc: Global) -> Arg<'a> {

@@ -1,17 +1,20 @@
-//! The command line: `excp_job run [--channels N] [--handlers N]`, `report` with the same options, `--steps` and
-//! `--most-steps N`, `check`, `assemble` and `step`, the last four with the name of a script's file or without.
+//! The command line. `run` and `report` take `--channels N` and `--handlers N`. `report` takes `--posts`, or `--steps` with
+//! `--most-steps N`. All but `run` take the name of a file. `--load U=FILE` and `--save U=FILE` name images of media.
 //!
 //! Tests: `tests/run command_line`.
 #![tactic(auto)]
 
 mod commands;
+mod unit_file;
 
 ghost use Rattle.std.specs.Prelude.{◌≤◌, IfSome};
 
 use clap::error::ErrorKind;
-use clap::{ArgMatches, Error};
-use commands::{SCRIPT, command};
+use clap::{ArgMatches, Command, Error};
+use commands::{FILE, IMAGES, LOAD, SAVE, SCRIPT, command};
 use std::alloc::{AllocError, Global};
+pub use unit_file::UnitFile;
+use unit_file::{UnitFileError, unit_files};
 
 /// The version of the program. `./excp` and the documents read it from this line.
 pub const VERSION: &str = "1.1";
@@ -34,14 +37,25 @@ pub struct StepOptions {
     pub state: bool,
 }
 
-/// What the command line asks for.
+/// What a report prints.
+#[derive(Clone, Copy)]
+pub enum Print {
+    /// The posts and their count.
+    Posts,
+    /// And what the run left behind.
+    Report,
+    /// And that many commands of each unit.
+    Steps(u64),
+}
+
+/// What is asked for a script.
 #[derive(Clone, Copy)]
 pub enum Order {
-    /// To run a script and print its posts.
+    /// To run it and print its posts.
     Run(Counts),
-    /// And to print what the run left behind, with `steps` that many commands of each unit too.
-    Report { counts: Counts, steps: Option<u64> },
-    /// To print every fault of a script, or of a scenario.
+    /// To run it and print a report.
+    Report { counts: Counts, print: Print },
+    /// To print every fault of it, or of a scenario.
     Check { scenario: bool },
     /// To print the plain script of one with symbolic areas.
     Assemble,
@@ -49,42 +63,136 @@ pub enum Order {
     Step(StepOptions),
 }
 
-/// What the command line asks for, and the file of the script; standard input if no file is named.
+/// The files that the media of units are loaded from before a run, and saved to after it.
 #[derive(Drop)]
-pub struct Words {
-    pub order: Order,
-    pub script: Option<String>,
+pub struct MediaFiles {
+    pub loads: Vec<UnitFile>,
+    pub saves: Vec<UnitFile>,
+}
+
+/// A format of images.
+#[derive(Clone, Copy)]
+pub enum Format {
+    Aws,
+    Ckd,
+}
+
+/// What the command line asks for.
+#[derive(Drop)]
+pub enum Words {
+    /// Something of a script, which is standard input if no file is named.
+    Script {
+        order: Order,
+        file: Option<String>,
+        media: MediaFiles,
+    },
+    /// To describe images.
+    Describe(Vec<String>),
+    /// To print an image as the lines of a script, or to make an image of such lines. It goes to standard output if no file
+    /// is named for it.
+    Convert {
+        to: Option<Format>,
+        file: String,
+        output: Option<String>,
+    },
 }
 
 /// What the words of the command line, the program's name first, ask for; or the error of `clap`.
 pub fn parse(alloc: Global, words: &[String]) -> Result<Words, Error> {
     let mut command = command(alloc)?;
     let matches = command.try_get_matches_from_mut(words)?;
-    let script = file_of(alloc, &matches)?;
-    match asked_for(&matches) {
-        Some(order) => Ok(Words { order, script }),
-        // no words get here: a subcommand is required, and its options have defaults and ranges
-        None => Err(command.error(ErrorKind::ValueValidation, "no number of workers")?),
+    let Some((name, options)) = matches.subcommand() else {
+        // no words get here: a subcommand is required
+        return Err(command.error(ErrorKind::MissingSubcommand, "no subcommand")?);
+    };
+    match name {
+        "describe" => Ok(Words::Describe(strings(alloc, options, IMAGES)?)),
+        "convert" => converting(alloc, options),
+        _ => of_script(alloc, &mut command, name, options),
     }
 }
 
-/// The name of the script's file, if a subcommand that takes one names it; `-` names none.
-fn file_of(alloc: Global, matches: &ArgMatches<'_>) -> Result<Option<String>, AllocError> {
-    let Some((name, options)) = matches.subcommand() else {
-        return Ok(None);
+/// What the options of `convert` ask for.
+fn converting(alloc: Global, options: &ArgMatches<'_>) -> Result<Words, Error> {
+    let to = match options.get_str("to") {
+        Some("aws") => Some(Format::Aws),
+        Some(_) => Some(Format::Ckd),
+        None => None,
     };
-    if name == "run" {
-        return Ok(None);
+    let file = string(alloc, options, FILE)?.unwrap_or(String::new(alloc));
+    let output = string(alloc, options, "output")?;
+    Ok(Words::Convert { to, file, output })
+}
+
+/// What a subcommand on a script and its options ask for.
+fn of_script(
+    alloc: Global,
+    command: &mut Command<'_>,
+    name: &str,
+    options: &ArgMatches<'_>,
+) -> Result<Words, Error> {
+    let Some(order) = asked_for(name, options) else {
+        // no words get here: the numbers have defaults and ranges
+        return Err(command.error(ErrorKind::ValueValidation, "no number of workers")?);
+    };
+    let file = if name == "run" {
+        None
+    } else {
+        string(alloc, options, SCRIPT)?.filter(|file| file.as_str() != "-")
+    };
+    let media = MediaFiles {
+        loads: files_of(alloc, command, options, LOAD)?,
+        saves: files_of(alloc, command, options, SAVE)?,
+    };
+    Ok(Words::Script { order, file, media })
+}
+
+/// The files that an option names, each for a unit.
+fn files_of(
+    alloc: Global,
+    command: &mut Command<'_>,
+    options: &ArgMatches<'_>,
+    option: &str,
+) -> Result<Vec<UnitFile>, Error> {
+    let Some(words) = options.get_raw(option) else {
+        return Ok(Vec::new(alloc));
+    };
+    let why = match unit_files(alloc, words) {
+        Ok(files) => return Ok(files),
+        Err(UnitFileError::NoMemory) => return Err(Error::from(AllocError)),
+        Err(UnitFileError::Form) => {
+            "--load and --save take U=FILE: a unit from 0 to 63, and the name of a file"
+        }
+        Err(UnitFileError::SameUnit) => "--load and --save name each unit once",
+    };
+    Err(command.error(ErrorKind::ValueValidation, why)?)
+}
+
+/// The value of an option or an argument, if it has one.
+fn string(
+    alloc: Global,
+    options: &ArgMatches<'_>,
+    name: &str,
+) -> Result<Option<String>, AllocError> {
+    match options.get_str(name) {
+        Some(text) => Ok(Some(String::from_str(alloc, text)?)),
+        None => Ok(None),
     }
-    match options.get_str(SCRIPT) {
-        Some(file) if file != "-" => Ok(Some(String::from_str(alloc, file)?)),
-        _ => Ok(None),
+}
+
+/// The values of an argument.
+fn strings(alloc: Global, options: &ArgMatches<'_>, name: &str) -> Result<Vec<String>, AllocError> {
+    let mut strings = Vec::new(alloc);
+    if let Some(texts) = options.get_raw(name) {
+        for text in texts {
+            strings.push(String::from_str(alloc, text)?)?;
+        }
     }
+    Ok(strings)
 }
 
 /// What a subcommand and its options ask for.
-fn asked_for(matches: &ArgMatches<'_>) -> Option<Order> {
-    let (name, options) = matches.subcommand()?;
+fn asked_for(name: &str, options: &ArgMatches<'_>) -> Option<Order> {
     match name {
         "check" => Some(Order::Check {
             scenario: options.get_flag("scenario"),
@@ -95,13 +203,22 @@ fn asked_for(matches: &ArgMatches<'_>) -> Option<Order> {
             trace: options.get_flag("trace"),
             state: options.get_flag("state"),
         })),
-        "report" => {
-            let counts = counts_of(options)?;
-            let most = options.get_one::<u64>("most-steps").unwrap_or(u64::MAX);
-            let steps = options.get_flag("steps").then_some(most);
-            Some(Order::Report { counts, steps })
-        }
+        "report" => Some(Order::Report {
+            counts: counts_of(options)?,
+            print: print_of(options),
+        }),
         _ => Some(Order::Run(counts_of(options)?)),
+    }
+}
+
+/// What a report prints.
+fn print_of(options: &ArgMatches<'_>) -> Print {
+    if options.get_flag("posts") {
+        Print::Posts
+    } else if options.get_flag("steps") {
+        Print::Steps(options.get_one::<u64>("most-steps").unwrap_or(u64::MAX))
+    } else {
+        Print::Report
     }
 }
 

@@ -8,5 +8,6 @@ mod medium;
 mod post;
 mod units;
 
+pub use medium::{are_declarable, write_medium};
 pub use post::{End, write_post};
 pub use units::write_units;

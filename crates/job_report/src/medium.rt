@@ -5,7 +5,7 @@ mod printer;
 mod tape;
 
 use any_device::AnyDevice;
-use disk::write_disk;
+use disk::{has_declarable, write_disk};
 use job_script::{Medium, UnitSetup};
 use printer::write_printer;
 use std::io;
@@ -21,7 +21,7 @@ struct Unit {
 
 /// Writes what lies on the medium of a unit. Sizes and subclass are those of its set-up, and the content is that of
 /// its device. The faults that it meets are no part of it.
-pub(crate) fn write_medium<W: Write>(
+pub fn write_medium<W: Write>(
     out: &mut W,
     number: usize,
     unit: &UnitSetup,
@@ -39,5 +39,14 @@ pub(crate) fn write_medium<W: Write>(
         }
         // no device comes to this: it was mounted as its set-up says
         _ => Ok(()),
+    }
+}
+
+/// Whether lines of a script declare all that lies on a device: on a disk, no other data in R0, and no record with a CCHHR of
+/// another track.
+pub fn are_declarable(device: &AnyDevice) -> bool {
+    match device {
+        AnyDevice::Disk(disk) => has_declarable(disk),
+        AnyDevice::Tape(_) | AnyDevice::Printer(_) => true,
     }
 }

@@ -6,7 +6,8 @@ use Rattle.job_script.specs.declared.fault.JobError.{JobError}
 use Rattle.job_script.specs.declared.fault.JobError.TheVariants as faults
 use Rattle.job_script.specs.Grammar.{FaultAt, script_of}
 use Rattle.job_script.specs.Reading.{ReadsAll, ReadsAtMost, ReadsMore}
-use Rattle.job_mount.specs.Mounting.{◌>>=◌, books_of}
+use Rattle.job_script.specs.Said.{Said}
+use Rattle.job_mount.specs.Mounting.{◌>>=◌, books_of, books_with}
 
 -- the books of a text, each for this many requests at a time, or its first fault
 abbrev pub books_of_text : ℕ → List ℕ → Result (List (Book AnyDevice)) FaultAt
@@ -41,6 +42,25 @@ EndsBy n old new faults.NotWritten = RunsWhole n old new
 EndsBy n old new faults.Unmatched = RunsWhole n old new
 EndsBy n old new faults.NoMemory = Unit {0}
 EndsBy n old new faults.NoThread = Unit {0}
+
+-- a parsed script, whose units are given these devices, has no fault
+abbrev pub IsFaultlessWith : List (Option AnyDevice) → Said → Type 0
+IsFaultlessWith given s = (capacity : ℕ) × (books : List (Book AnyDevice)) × (books_with given capacity s ≡ Ok books)
+
+-- its first fault is this one
+abbrev pub HasFaultWith : List (Option AnyDevice) → Said → FaultAt → Type 0
+HasFaultWith given s fault = (capacity : ℕ) × (books_with given capacity s ≡ Err fault)
+
+-- why a run of a parsed script ends, whose units are given these devices: its first fault; or that of a task, of a
+-- script without a fault
+abbrev pub EndsParsed : List (Option AnyDevice) → Said → JobError → Type 0
+EndsParsed given s (faults.Line line name) = HasFaultWith given s (record { line = line; name = name }) ⊎ IsFaultlessWith given s
+EndsParsed given s faults.Unmatched = IsFaultlessWith given s
+EndsParsed given s faults.NoMemory = Unit {0}
+EndsParsed given s faults.NoThread = Unit {0}
+EndsParsed given s faults.TooLong = ⊥
+EndsParsed given s faults.Unreadable = ⊥
+EndsParsed given s faults.NotWritten = ⊥
 
 -- what ends a run after its script was read and mounted
 abbrev pub IsLate : JobError → Type 0

@@ -4,7 +4,8 @@
 //! of a request is noted as its post is collected. A task that runs out of memory, or hears of a worker that does,
 //! ends. Then the run ends too, with all threads joined.
 //!
-//! The parts of `run_script` are public. [`run_on`] runs a script on rows and books of any size. [`ScriptTasks`] is
+//! The parts of `run_script` are public. [`run_parsed`] runs a script whose units may be given devices that are mounted
+//! already. [`run_on`] runs a script on rows and books of any size. [`ScriptTasks`] is
 //! what the tasks do, for a run by another gate than the alarm of its tasks (`system_threads::run_beside`). For tasks
 //! that do more or less, a [`Job`] does the commands of one. [`ended`] is the result of a run, and [`write`] prints
 //! it.
@@ -26,7 +27,7 @@ mod unit_calls;
 pub use job::Job;
 pub use lines::Lines;
 pub use output::{Output, write};
-pub use run::{Finished, ended, report_script, run_on, run_script};
+pub use run::{Finished, ended, report_script, run_on, run_parsed, run_script};
 pub use script_tasks::ScriptTasks;
 pub use system_threads::Workers;
 pub use task_error::TaskError;

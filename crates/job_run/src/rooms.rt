@@ -2,7 +2,7 @@
 
 ghost use Rattle.std.specs.Prelude.{◌≡◌, ◌≤◌, All, IfOk, OnOk, vec_len};
 ghost use Rattle.job_mount.specs.Requests.{CanBeDone};
-ghost use Rattle.job_mount.specs.Mounting.{books_of};
+ghost use Rattle.job_mount.specs.Mounting.{books_with};
 ghost use Rattle.job_mount.specs.Outcomes.{all_without_spare};
 ghost use Rattle.job_script.specs.Outcomes.{Gives};
 ghost use Rattle.job_script.specs.Views.{said};
@@ -25,21 +25,23 @@ fn room_for(requests: usize) -> usize
     requests.max(1).min(MOST_HELD)
 }
 
-/// The rows and the books that a script is run on, each with a place for all its requests.
+/// The rows and the books that a script is run on, each with a place for all its requests. Units are given these
+/// devices, by their numbers.
 pub(crate) fn rows_and_books(
     alloc: Global,
     script: &Script,
+    given: Vec<Option<AnyDevice>>,
 ) -> Result<(Rows, Vec<UnitBook<AnyDevice>>), JobError>
     requires tasks { (1 ≤ script.now.set_up.tasks) × (script.now.set_up.tasks ≤ 64) }
     requires units { (1 ≤ vec_len script.now.set_up.units) × (vec_len script.now.set_up.units ≤ 64) }
-    ensures exact { Gives (λ made. all_without_spare made.1) result (books_of (room_of_a_unit script.now) (said script.now)) }
+    ensures exact { Gives (λ made. all_without_spare made.1) result (books_with given.items (room_of_a_unit script.now) (said script.now)) }
     ensures rows { IfOk result (λ made. AreRowsOf script.now made.0) }
     ensures books { IfOk result (λ made. AreBooksOf script.now made.1.items) }
     ensures requests { OnOk result (All CanBeDone script.now.commands.items) }
 {
     let to_a_unit = room_for(script.most_to_a_unit());
     let of_a_task = room_for(script.most_of_a_task());
-    let books = books(alloc, script, to_a_unit)?;
+    let books = books(alloc, script, given, to_a_unit)?;
     let units = script.set_up.units.len() as u16;
     let rows = Rows::new(alloc, script.set_up.tasks, units, to_a_unit, of_a_task)?;
     Ok((rows, books))

@@ -3,8 +3,9 @@
 ghost use Rattle.std.specs.Prelude.{◌≡◌, ◌≤◌, ◌<◌, ◌+◌, All, IfErr, IfOk, OnOk, false, length, vec_len};
 ghost use Rattle.job_mount.specs.Requests.{CanBeDone};
 ghost use Rattle.job_script.specs.Reading.{ReadsAtMost};
+ghost use Rattle.job_script.specs.Views.{said};
 ghost use Rattle.job_run.specs.Complete.{IsComplete};
-ghost use Rattle.job_run.specs.Ending.{EndsBy, IsLate, RunsWhole};
+ghost use Rattle.job_run.specs.Ending.{EndsBy, EndsParsed, IsFaultlessWith, IsLate, RunsWhole};
 ghost use Rattle.job_run.specs.Faults.{LeavesWriter};
 ghost use Rattle.excp_system.specs.Opening.{AreBooks, AreFresh};
 ghost use Rattle.post_ledger.specs.Report.{IsFor};
@@ -94,9 +95,27 @@ fn read_and_run<R: Threads + Wait + Sync, I: Read>(
 {
     let text = read_script(alloc, reader)?;
     let script = Script::parse(alloc, &text)?;
-    let (rows, books) = rows_and_books(alloc, &script)?;
-    let run = run_on(rt, alloc, rows, books, &script, workers)?;
+    let run = run_parsed(rt, alloc, &script, Vec::new(alloc), workers)?;
     Ok((script, run))
+}
+
+/// Runs a script that was parsed, to its end. `given` has for each unit, by its number, the device that it is given, as
+/// one from an image; a unit without one is mounted as its lines say. The books of the run have for each unit the
+/// device as it was mounted, and the device as the run left it. [`write`] prints the run.
+pub fn run_parsed<R: Threads + Wait + Sync>(
+    rt: &R,
+    alloc: Global,
+    script: &Script,
+    given: Vec<Option<AnyDevice>>,
+    workers: Workers,
+) -> Result<Finished, JobError>
+    requires tasks { (1 ≤ script.now.set_up.tasks) × (script.now.set_up.tasks ≤ 64) }
+    requires units { (1 ≤ vec_len script.now.set_up.units) × (vec_len script.now.set_up.units ≤ 64) }
+    ensures ran { OnOk result (IsFaultlessWith given.items (said script.now)) }
+    ensures fault { IfErr result (EndsParsed given.items (said script.now)) }
+{
+    let (rows, books) = rows_and_books(alloc, script, given)?;
+    run_on(rt, alloc, rows, books, script, workers)
 }
 
 /// Runs a script on a system of these rows and books, to its end. Returns `NoThread` if no thread can be made for a

@@ -5,6 +5,7 @@ ghost use Rattle.job_mount.specs.Requests.{CanIssue};
 ghost use Rattle.job_step.specs.Faults.{IsStepFault};
 
 use crate::answer::Issuing;
+use crate::media::{Keeper, Media};
 use crate::shown::Shown;
 use crate::view::View;
 use io_images::Extent;
@@ -124,8 +125,18 @@ pub trait Carrier: Drop {
     fn skip(&self, unit: u16, view: &mut View)
         requires unit { unit < units self.now };
 
+    /// Hands over the medium of a unit.
+    fn keep<K: Keeper>(&self, unit: u16, media: &mut Media<'_, K>)
+        requires unit { unit < units self.now };
+
     /// Ends every request. Returns the answer: how many posts the tasks had not collected, and each of these posts. Adds to
-    /// the view what is to be printed of each unit.
-    fn finish(self, alloc: Global, shown: &Shown, view: &mut View) -> Result<Vec<u8>, JobError>
+    /// the view what is to be printed of each unit, and hands over its medium.
+    fn finish<K: Keeper>(
+        self,
+        alloc: Global,
+        shown: &Shown,
+        view: &mut View,
+        media: &mut Media<'_, K>,
+    ) -> Result<Vec<u8>, JobError>
         ensures { IfErr result IsStepFault };
 }

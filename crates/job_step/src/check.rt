@@ -5,13 +5,14 @@ ghost use Rattle.job_step.specs.Faults.{IsStepFault};
 
 use crate::lines::Lines;
 use crate::printer::Printer;
-use crate::report::after_finish;
+use crate::report::{after_finish, mounted_images};
 use crate::set_up::{Plan, read_line};
 use crate::shown::Shown;
 use crate::stepper::Stepper;
 use crate::unmade::Unmade;
 use crate::view::{View, Views};
-use job_check::{Source, mount_faults};
+use job_check::{Source, mount_faults_but};
+use job_media::{Image, sizes_of};
 use job_scenario::{Event, ScenarioLine};
 use job_script::{JobError, LIMIT};
 use std::alloc::Global;
@@ -27,20 +28,35 @@ pub fn check_scenario<I: Read + Drop, W: Write>(
 ) -> Result<bool, JobError>
     ensures { IfErr result IsStepFault }
 {
+    check_scenario_on(alloc, Vec::new(alloc), input, out, source)
+}
+
+/// Does so with the media of units from images, by their numbers.
+pub fn check_scenario_on<I: Read + Drop, W: Write>(
+    alloc: Global,
+    images: Vec<Option<Image>>,
+    input: I,
+    out: &mut W,
+    source: Source<'_>,
+) -> Result<bool, JobError>
+    ensures { IfErr result IsStepFault }
+{
     let views = Views {
         trace: false,
         state: false,
     };
-    let mut lines = Lines::new(alloc, input)?;
+    let sizes = sizes_of(alloc, &images)?;
+    let mut lines = Lines::new(alloc, input, sizes)?;
     let mut nothing = sink();
     let mut printer = Printer::new(alloc, &mut nothing, out, source, views);
-    check_lines(alloc, &mut lines, &mut printer)?;
+    check_lines(alloc, images, &mut lines, &mut printer)?;
     Ok(!printer.is_met())
 }
 
 /// Checks the set-up, and then the events.
 fn check_lines<I: Read + Drop, W: Write, E: Write>(
     alloc: Global,
+    images: Vec<Option<Image>>,
     lines: &mut Lines<I>,
     printer: &mut Printer<'_, W, E>,
 ) -> Result<(), JobError>
@@ -58,9 +74,7 @@ fn check_lines<I: Read + Drop, W: Write, E: Write>(
     {
         return read_on(alloc, lines, printer);
     }
-    if plan.books(alloc)?.is_none() {
-        printer.faults(&mount_faults(alloc, &plan.set_up.units)?)?;
-    }
+    check_units(alloc, &plan, images, printer)?;
     let carrier = Unmade {
         alloc,
         units: plan.set_up.units.len(),
@@ -77,6 +91,24 @@ fn check_lines<I: Read + Drop, W: Write, E: Write>(
         Some(first) => check_events(alloc, &mut stepper, first, lines, printer),
         None => Ok(()),
     }
+}
+
+/// Checks that the units can be mounted, and their DCBs opened.
+fn check_units<W: Write, E: Write>(
+    alloc: Global,
+    plan: &Plan,
+    images: Vec<Option<Image>>,
+    printer: &mut Printer<'_, W, E>,
+) -> Result<(), JobError>
+    ensures { IfErr result IsStepFault }
+{
+    let Some(mounted) = mounted_images(alloc, plan, images, printer)? else {
+        return Ok(());
+    };
+    if plan.books(alloc, mounted.devices)?.is_none() {
+        printer.faults(&mount_faults_but(alloc, &plan.set_up.units, &mounted.kept)?)?;
+    }
+    Ok(())
 }
 
 /// Checks the lines up to the first event. Returns that event, if one comes.

@@ -11,6 +11,7 @@ mod left;
 mod lines;
 mod lists;
 mod locked;
+mod media;
 mod plain;
 mod printer;
 mod report;
@@ -21,7 +22,8 @@ mod stepper;
 mod unmade;
 mod view;
 
-pub use check::check_scenario;
+pub use check::{check_scenario, check_scenario_on};
 pub use fault::StepError;
-pub use report::{SiteKind, step_scenario};
+pub use media::{Keeper, NoKeeper};
+pub use report::{Images, SiteKind, step_scenario, step_scenario_on};
 pub use view::Views;

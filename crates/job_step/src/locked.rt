@@ -8,6 +8,7 @@ ghost use Rattle.job_step.specs.Faults.{IsStepFault};
 
 use crate::answer::{Issuing, write_posted};
 use crate::carrier::Carrier;
+use crate::media::{Keeper, Media};
 use crate::shown::Shown;
 use crate::view::View;
 use any_device::AnyDevice;
@@ -131,13 +132,25 @@ impl<'a, 'r, S: Site, R: Wait> Carrier for Locked<'a, 'r, S, R> {
         view.skip(unit, state.book());
     }
 
-    fn finish(self, alloc: Global, shown: &Shown, view: &mut View) -> Result<Vec<u8>, JobError> {
+    fn keep<K: Keeper>(&self, unit: u16, media: &mut Media<'_, K>) {
+        let state = self.system.lock_of(unit).lock(self.rt);
+        media.keep(unit, state.book());
+    }
+
+    fn finish<K: Keeper>(
+        self,
+        alloc: Global,
+        shown: &Shown,
+        view: &mut View,
+        media: &mut Media<'_, K>,
+    ) -> Result<Vec<u8>, JobError> {
         let Locked { rt, system, tasks } = self;
         let count = tasks.len() as u16;
         let report = match finish(rt, alloc, system, tasks) {
             Ok(report) => report,
             Err(_) => return Err(JobError::NoMemory),
         };
+        keep_media(report.units(), media);
         let mut answer = Vec::new(alloc);
         let written = write_rest(&mut answer, &report, count, shown);
         match written.and(show_books(report.units(), view)) {
@@ -155,6 +168,15 @@ fn show_books(books: &[UnitBook<AnyDevice>], view: &mut View) -> std::io::Result
         view.add(unit as u16, &books[unit])?;
     }
     Ok(())
+}
+
+/// Hands over the medium of each unit.
+fn keep_media<K: Keeper>(books: &[UnitBook<AnyDevice>], media: &mut Media<'_, K>)
+    requires { length books.now ≤ 64 }
+{
+    for unit in 0..books.len() {
+        media.keep(unit as u16, &books[unit]);
+    }
 }
 
 /// Writes how many posts the tasks had not collected, and each of these posts, in order of tasks and units.

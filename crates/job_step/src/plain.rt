@@ -6,6 +6,7 @@ ghost use Rattle.excp_system.specs.Opening.{AreBooks};
 use crate::answer::Issuing;
 use crate::carrier::Carrier;
 use crate::left::{Left, gather};
+use crate::media::{Keeper, Media};
 use crate::shown::Shown;
 use crate::view::View;
 use any_device::AnyDevice;
@@ -133,7 +134,17 @@ impl Carrier for Plain {
         view.skip(unit, self.site.book(unit));
     }
 
-    fn finish(self, alloc: Global, shown: &Shown, view: &mut View) -> Result<Vec<u8>, JobError> {
+    fn keep<K: Keeper>(&self, unit: u16, media: &mut Media<'_, K>) {
+        media.keep(unit, self.site.book(unit));
+    }
+
+    fn finish<K: Keeper>(
+        self,
+        alloc: Global,
+        shown: &Shown,
+        view: &mut View,
+        media: &mut Media<'_, K>,
+    ) -> Result<Vec<u8>, JobError> {
         let Plain { site } = self;
         let mut site = site;
         let units = site.units() as u16;
@@ -142,6 +153,7 @@ impl Carrier for Plain {
         if show_units(&site, units, view).is_err() {
             return Err(JobError::NoMemory);
         }
+        keep_media(&site, units, media);
         left.written(alloc, shown)
     }
 }
@@ -154,4 +166,13 @@ fn show_units(site: &PlainSite<AnyDevice>, units: u16, view: &mut View) -> std::
         view.add(unit, site.book(unit))?;
     }
     Ok(())
+}
+
+/// Hands over the medium of each unit.
+fn keep_media<K: Keeper>(site: &PlainSite<AnyDevice>, units: u16, media: &mut Media<'_, K>)
+    requires { units ≡ length site.now.units }
+{
+    for unit in 0..units {
+        media.keep(unit, site.book(unit));
+    }
 }

@@ -8,6 +8,7 @@ use crate::carrier::Carrier;
 use crate::fault::StepError;
 use crate::lines::Lines;
 use crate::locked::Locked;
+use crate::media::{Keeper, Media, NoKeeper};
 use crate::plain::Plain;
 use crate::printer::Printer;
 use crate::set_up::{Plan, read_line};
@@ -16,7 +17,8 @@ use crate::stepper::Stepper;
 use crate::view::{View, Views};
 use any_device::AnyDevice;
 use excp_system::{Rows, Site, System};
-use job_check::{Source, mount_faults};
+use job_check::{Finding, Source, mount_faults_but};
+use job_media::{Image, MediaError, MountedImages, mount_images, sizes_of};
 use job_scenario::{Event, ScenarioLine};
 use job_script::{Cause, FaultName, JobError, LIMIT, Line};
 use std::alloc::Global;
@@ -49,17 +51,49 @@ pub fn step_scenario<R: Wait, I: Read + Drop, W: Write, E: Write>(
 ) -> Result<bool, JobError>
     ensures { IfErr result IsStepFault }
 {
-    let mut lines = Lines::new(alloc, input)?;
+    let mut keeper = NoKeeper;
+    let images = Images {
+        images: Vec::new(alloc),
+        keeper: &mut keeper,
+    };
+    step_scenario_on(rt, alloc, kind, views, images, input, out, errors, source)
+}
+
+/// The images of units, by their numbers, and what takes over the media at the end.
+#[derive(Drop)]
+pub struct Images<'a, K: Keeper> {
+    pub images: Vec<Option<Image>>,
+    pub keeper: &'a mut K,
+}
+
+/// Does so with the media of units from images. The keeper gets the medium of each unit at `finish`, or at the end of a
+/// scenario without it. If a line before that has a fault, it gets none.
+pub fn step_scenario_on<R: Wait, K: Keeper, I: Read + Drop, W: Write, E: Write>(
+    rt: &R,
+    alloc: Global,
+    kind: SiteKind,
+    views: Views,
+    images: Images<'_, K>,
+    input: I,
+    out: &mut W,
+    errors: &mut E,
+    source: Source<'_>,
+) -> Result<bool, JobError>
+    ensures { IfErr result IsStepFault }
+{
+    let sizes = sizes_of(alloc, &images.images)?;
+    let mut lines = Lines::new(alloc, input, sizes)?;
     let mut printer = Printer::new(alloc, out, errors, source, views);
-    carry_out(rt, alloc, kind, &mut lines, &mut printer)?;
+    carry_out(rt, alloc, kind, images, &mut lines, &mut printer)?;
     Ok(printer.is_met())
 }
 
 /// Reads the set-up, and then carries the events out.
-fn carry_out<R: Wait, I: Read + Drop, W: Write, E: Write>(
+fn carry_out<R: Wait, K: Keeper, I: Read + Drop, W: Write, E: Write>(
     rt: &R,
     alloc: Global,
     kind: SiteKind,
+    images: Images<'_, K>,
     lines: &mut Lines<I>,
     printer: &mut Printer<'_, W, E>,
 ) -> Result<(), JobError>
@@ -69,22 +103,48 @@ fn carry_out<R: Wait, I: Read + Drop, W: Write, E: Write>(
     let Some((plan, first)) = printer.unless_fault(read, lines.current())? else {
         return Ok(());
     };
-    let Some(books) = plan.books(alloc)? else {
-        return printer.faults(&mount_faults(alloc, &plan.set_up.units)?);
+    let Images { images, keeper } = images;
+    let Some(mounted) = mounted_images(alloc, &plan, images, printer)? else {
+        return Ok(());
     };
+    let MountedImages { devices, kept } = mounted;
+    let Some(books) = plan.books(alloc, devices)? else {
+        return printer.faults(&mount_faults_but(alloc, &plan.set_up.units, &kept)?);
+    };
+    let mut media = Media { kept, keeper };
     match kind {
-        SiteKind::Locked => with_rows(rt, alloc, books, &plan, first, lines, printer),
-        SiteKind::Plain => on_plain_site(alloc, books, &plan, first, lines, printer),
+        SiteKind::Locked => with_rows(rt, alloc, books, &plan, first, &mut media, lines, printer),
+        SiteKind::Plain => on_plain_site(alloc, books, &plan, first, &mut media, lines, printer),
+    }
+}
+
+/// Mounts the images of units. Prints why one is not mounted.
+pub fn mounted_images<W: Write, E: Write>(
+    alloc: Global,
+    plan: &Plan,
+    images: Vec<Option<Image>>,
+    printer: &mut Printer<'_, W, E>,
+) -> Result<Option<MountedImages>, JobError>
+    ensures { IfErr result IsStepFault }
+{
+    match mount_images(alloc, &plan.set_up.units, images) {
+        Ok(mounted) => Ok(Some(mounted)),
+        Err(MediaError::NoMemory) => Err(JobError::NoMemory),
+        Err(MediaError::Line { line, refusal }) => {
+            printer.faults(&[Finding::fault(line, &[], refusal.cause())])?;
+            Ok(None)
+        }
     }
 }
 
 /// Carries the events out on real rows.
-fn with_rows<R: Wait, I: Read + Drop, W: Write, E: Write>(
+fn with_rows<R: Wait, K: Keeper, I: Read + Drop, W: Write, E: Write>(
     rt: &R,
     alloc: Global,
     books: Vec<UnitBook<AnyDevice>>,
     plan: &Plan,
     first: Option<ScenarioLine>,
+    media: &mut Media<'_, K>,
     lines: &mut Lines<I>,
     printer: &mut Printer<'_, W, E>,
 ) -> Result<(), JobError>
@@ -96,15 +156,18 @@ fn with_rows<R: Wait, I: Read + Drop, W: Write, E: Write>(
     let units = plan.set_up.units.len() as u16;
     let (intake, post) = (plan.rooms.intake(), plan.rooms.post());
     let mut rows = Rows::new(alloc, plan.set_up.tasks, units, intake, post)?;
-    on_site::<Brand, R, I, W, E>(rt, alloc, &mut rows, books, plan, first, lines, printer)
+    on_site::<Brand, R, K, I, W, E>(
+        rt, alloc, &mut rows, books, plan, first, media, lines, printer,
+    )
 }
 
 /// Carries the events out on a site without locks.
-fn on_plain_site<I: Read + Drop, W: Write, E: Write>(
+fn on_plain_site<K: Keeper, I: Read + Drop, W: Write, E: Write>(
     alloc: Global,
     books: Vec<UnitBook<AnyDevice>>,
     plan: &Plan,
     first: Option<ScenarioLine>,
+    media: &mut Media<'_, K>,
     lines: &mut Lines<I>,
     printer: &mut Printer<'_, W, E>,
 ) -> Result<(), JobError>
@@ -115,17 +178,18 @@ fn on_plain_site<I: Read + Drop, W: Write, E: Write>(
 {
     let (intake, post) = (plan.rooms.intake(), plan.rooms.post());
     let carrier = Plain::new(alloc, books, plan.set_up.tasks, intake, post)?;
-    all_events(alloc, carrier, plan, first, lines, printer)
+    all_events(alloc, carrier, plan, first, media, lines, printer)
 }
 
 /// Carries the events out on the units and rows of a site.
-fn on_site<S: Site, R: Wait, I: Read + Drop, W: Write, E: Write>(
+fn on_site<S: Site, R: Wait, K: Keeper, I: Read + Drop, W: Write, E: Write>(
     rt: &R,
     alloc: Global,
     rows: &mut Rows,
     books: Vec<UnitBook<AnyDevice>>,
     plan: &Plan,
     first: Option<ScenarioLine>,
+    media: &mut Media<'_, K>,
     lines: &mut Lines<I>,
     printer: &mut Printer<'_, W, E>,
 ) -> Result<(), JobError>
@@ -139,15 +203,16 @@ fn on_site<S: Site, R: Wait, I: Read + Drop, W: Write, E: Write>(
 {
     let (system, tasks, _) = System::<S, AnyDevice>::new(alloc, rows, books)?;
     let carrier = Locked { rt, system, tasks };
-    all_events(alloc, carrier, plan, first, lines, printer)
+    all_events(alloc, carrier, plan, first, media, lines, printer)
 }
 
 /// Carries the events out up to the end of the scenario.
-fn all_events<C: Carrier, I: Read + Drop, W: Write, E: Write>(
+fn all_events<C: Carrier, K: Keeper, I: Read + Drop, W: Write, E: Write>(
     alloc: Global,
     carrier: C,
     plan: &Plan,
     first: Option<ScenarioLine>,
+    media: &mut Media<'_, K>,
     lines: &mut Lines<I>,
     printer: &mut Printer<'_, W, E>,
 ) -> Result<(), JobError>
@@ -160,47 +225,61 @@ fn all_events<C: Carrier, I: Read + Drop, W: Write, E: Write>(
     let view = View::new(alloc, printer.views(), set_up.units.len())?;
     let mut stepper = Stepper::new(alloc, carrier, set_up, shown, view, lines.number);
     stepper.skip_set_up();
-    if !events(alloc, &mut stepper, first, lines, printer)? {
-        return Ok(());
+    match events(alloc, &mut stepper, first, lines, printer)? {
+        Ending::Fault => return Ok(()),
+        Ending::Lines => {
+            stepper.keep(media);
+            return Ok(());
+        }
+        Ending::Finish => {}
     }
     let (carrier, shown, mut view) = stepper.into_parts();
     view.text.clear();
     let finished = lines.number;
-    let answer = carrier.finish(alloc, &shown, &mut view)?;
+    let answer = carrier.finish(alloc, &shown, &mut view, media)?;
     printer.answer(lines.current(), &answer, &view.text)?;
     rest(alloc, finished, lines, &answer, printer)
 }
 
-/// Carries events out up to `finish`, a line with a fault or the end of the scenario. Returns whether it came to `finish`,
-/// which the caller carries out.
+/// What the events of a scenario end with.
+enum Ending {
+    /// `finish`, which is yet to be carried out.
+    Finish,
+    /// The last line.
+    Lines,
+    /// A line with a fault.
+    Fault,
+}
+
+/// Carries events out up to `finish`, a line with a fault or the end of the scenario. Returns which of these came.
 fn events<C: Carrier, I: Read + Drop, W: Write, E: Write>(
     alloc: Global,
     stepper: &mut Stepper<'_, C>,
     first: Option<ScenarioLine>,
     lines: &mut Lines<I>,
     printer: &mut Printer<'_, W, E>,
-) -> Result<bool, JobError>
+) -> Result<Ending, JobError>
     ensures { IfErr result IsStepFault }
 {
     let mut next = first;
     for _ in 0..=LIMIT {
         let Some(line) = next else {
-            return Ok(false);
+            return Ok(Ending::Lines);
         };
         if let ScenarioLine::Event(Event::Finish) = &line {
-            return Ok(true);
+            return Ok(Ending::Finish);
         }
         let done = one_line(stepper, line, lines, printer);
         if printer.unless_fault(done, lines.current())?.is_none() {
-            return Ok(false);
+            return Ok(Ending::Fault);
         }
         let read = read_line(alloc, lines);
         match printer.unless_fault(read, lines.current())? {
             Some(line) => next = line,
-            None => return Ok(false),
+            None => return Ok(Ending::Fault),
         }
     }
-    Ok(false)
+    Ok(Ending::Lines)
 }
 
 /// Carries out the event of a line and prints its answer, or compares an expectation. An empty line does neither.

@@ -117,14 +117,20 @@ impl Plan {
         Ok(())
     }
 
-    /// The books of the units, mounted, with their DCBs open. Returns `None` if a unit cannot be mounted or a DCB cannot be
-    /// opened.
-    pub fn books(&self, alloc: Global) -> Result<Option<Vec<UnitBook<AnyDevice>>>, AllocError>
+    /// The books of the units, mounted, with their DCBs open. `given` has for each unit, by its number, the device that it
+    /// is given. Returns `None` if a unit cannot be mounted or a DCB cannot be opened.
+    pub fn books(
+        &self,
+        alloc: Global,
+        given: Vec<Option<AnyDevice>>,
+    ) -> Result<Option<Vec<UnitBook<AnyDevice>>>, AllocError>
         ensures { IfOk result (λ made. IfSome made (λ books. AreBooks (vec_len self.now.set_up.units) books.items)) }
     {
+        let mut given = given.into_iter();
         let mut books = Vec::new(alloc);
         for (number, unit) in self.set_up.units.iter().enumerate() {
-            match opened_book(alloc, unit, self.rooms.book(number))? {
+            let device = given.next().unwrap_or(None);
+            match opened_book(alloc, unit, device, self.rooms.book(number))? {
                 Some(book) => books.push(book)?,
                 None => return Ok(None),
             }
@@ -133,18 +139,19 @@ impl Plan {
     }
 }
 
-/// The book of a unit, for up to `capacity` requests at a time (1 to 65,536), mounted, with its DCBs open. Returns `None` if
-/// the unit cannot be mounted or a DCB cannot be opened.
+/// The book of a unit, for up to `capacity` requests at a time (1 to 65,536), mounted, with its DCBs open. The unit may be
+/// given a device. Returns `None` if the unit cannot be mounted or a DCB cannot be opened.
 fn opened_book(
     alloc: Global,
     unit: &UnitSetup,
+    given: Option<AnyDevice>,
     capacity: usize,
 ) -> Result<Option<UnitBook<AnyDevice>>, AllocError>
     requires some { 1 ≤ capacity }
     requires few { capacity ≤ 65536 }
     ensures { IfOk result (λ made. IfSome made IsFresh) }
 {
-    let mut book = match mounted_book(alloc, unit, capacity) {
+    let mut book = match mounted_book(alloc, unit, given, capacity) {
         Ok(book) => book,
         Err(JobError::NoMemory) => return Err(AllocError),
         Err(_) => return Ok(None),

@@ -9,6 +9,7 @@ use crate::answer::{
 };
 use crate::carrier::Carrier;
 use crate::fault::StepError;
+use crate::media::{Keeper, Media};
 use crate::set_up::rejected;
 use crate::shown::Shown;
 use crate::view::View;
@@ -101,6 +102,13 @@ impl<'a, C: Carrier> Stepper<'a, C> {
         ensures fault { IfErr result EndsStep }
     {
         written(self.carrier.show(unit, &mut self.view))
+    }
+
+    /// Hands over the medium of each unit.
+    pub fn keep<K: Keeper>(&self, media: &mut Media<'_, K>) {
+        for unit in 0..self.set_up.units.len() {
+            self.carrier.keep(unit as u16, media);
+        }
     }
 
     /// What carried the events out, the bytes that requests show, and the view.

@@ -5,6 +5,7 @@ ghost use Rattle.job_step.specs.Faults.{IsStepFault};
 
 use crate::answer::Issuing;
 use crate::carrier::Carrier;
+use crate::media::{Keeper, Media};
 use crate::shown::Shown;
 use crate::view::View;
 use io_images::Extent;
@@ -96,7 +97,15 @@ impl Carrier for Unmade {
 
     fn skip(&self, _unit: u16, _view: &mut View) {}
 
-    fn finish(self, alloc: Global, _shown: &Shown, _view: &mut View) -> Result<Vec<u8>, JobError> {
+    fn keep<K: Keeper>(&self, _unit: u16, _media: &mut Media<'_, K>) {}
+
+    fn finish<K: Keeper>(
+        self,
+        alloc: Global,
+        _shown: &Shown,
+        _view: &mut View,
+        _media: &mut Media<'_, K>,
+    ) -> Result<Vec<u8>, JobError> {
         Ok(Vec::new(alloc))
     }
 }

@@ -23,7 +23,7 @@ const ONE_OF_EACH: Workers = Workers {
 fn books_have_their_subclasses(rt: HostRuntime) -> Result<(), Fail> {
     let text = "tasks 1\ndisk 0 0 1 1 40\ntape 1 7 40\nprinter 2 3 10 2\n";
     let script = Script::parse(rt.alloc(), text.as_bytes())?;
-    let books = books(rt.alloc(), &script, 1)?;
+    let books = books(rt.alloc(), &script, Vec::new(rt.alloc()), 1)?;
     assert!(rt; books.iter().map(|book| book.isc()).eq([0, 7, 3]));
     Ok(())
 }

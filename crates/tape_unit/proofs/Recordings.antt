@@ -1,12 +1,12 @@
 -- What a recording shows, and what an item more leaves of it.
-use Rattle.std.proofs.Common.{◌≡◌, ℕ, ◌+◌, ◌-◌, ◌*◌, ◌≤◌, true, List, [], ◌∷◌, ◌++◌, length, take, replicate, refl, sym, ap, ◌∙◌}
+use Rattle.std.proofs.Common.{◌≡◌, ℕ, ◌+◌, ◌-◌, ◌*◌, ◌≤◌, true, List, [], ◌∷◌, ◌++◌, length, take, replicate, refl, ap, ◌∙◌}
 use Rattle.std.proofs.Common.{append_assoc, arith}
 use Rattle.std.proofs.lemmas.List.{length-append, length-replicate, take_all}
 use Rattle.device_port.specs.Moves.{written}
 use Rattle.device_port.specs.Packed.{items_at, image_of}
 use Rattle.device_port.proofs.Items.{Packs, packs-held, held-packs, length-written, item_pushed}
 use Rattle.tape_unit.specs.Item.{Item, is_item, size_of, packed, on_tape}
-use Rattle.tape_unit.specs.Reel.{ReelState, HoldsReel, longest_reel, bytes_of}
+use Rattle.tape_unit.specs.Reel.{ReelState, HoldsReel, longest_reel}
 use Rattle.tape_unit.specs.Recording.{HoldsRecording, with_item}
 use Rattle.tape_unit.proofs.Spelled.{reads, wide, length-packed}
 

@@ -1,7 +1,7 @@
 -- What the buffer of a reel shows, where positions on it lie, and what a write leaves of it.
-use Rattle.std.proofs.Common.{◌≡◌, ℕ, ◌+◌, ◌*◌, ◌-◌, ◌<◌, ◌≤◌, true, List, [], ◌∷◌, ◌++◌, length, get_or, take, drop, refl, sym, ap}
+use Rattle.std.proofs.Common.{◌≡◌, ℕ, ◌+◌, ◌*◌, ◌-◌, ◌<◌, ◌≤◌, true, List, [], ◌∷◌, ◌++◌, length, take, drop, refl, sym, ap}
 use Rattle.std.proofs.Common.{subst, ◌∙◌, append_assoc, arith}
-use Rattle.std.proofs.lemmas.List.{length-append, length-take-le, drop_at, take-append-le, take-take, take_more, take_all}
+use Rattle.std.proofs.lemmas.List.{length-append, length-take-le, drop_at, take-append-le, take-take, take_more}
 use Rattle.device_port.specs.Moves.{written}
 use Rattle.device_port.specs.Packed.{items_at, image_of, Begins}
 use Rattle.device_port.proofs.Items.{Packs, packs-held, held-packs, length-written, begins_at, cut_at, offset_of-within, offset_of-all}

@@ -7,8 +7,9 @@ use Rattle.device_port.specs.declared.faults.Fault.{Fault}
 use Rattle.device_port.specs.Faults.{is_script}
 use Rattle.tape_unit.specs.declared.mount.InitialItem.{InitialItem}
 use Rattle.tape_unit.specs.declared.mount.InitialItem.TheVariants as initially
+use Rattle.tape_unit.specs.declared.recording.Unmounted.{Unmounted}
 use Rattle.tape_unit.specs.Item.{Item, tape_mark, block, is_item}
-use Rattle.tape_unit.specs.Reel.{bytes_of}
+use Rattle.tape_unit.specs.Reel.{ReelState, bytes_of}
 use Rattle.tape_unit.specs.Tape.{TapeState}
 
 -- A SIZE: 4 to 16,777,216 bytes
@@ -32,13 +33,12 @@ abbrev pub is_medium : ℕ → List InitialItem → List Fault → Bool
 is_medium bytes items faults =
     is_script faults && list_all is_initial items && nat_le (bytes_of (opening_items items)) bytes
 
--- THE OPENING STATE: the tape stands at the load point
+-- THE OPENING STATE of a tape with this reel: it stands at the load point
+abbrev pub wound : ReelState → List Fault → TapeState
+wound reel faults = record { reel = reel; place = 0; ordinals = record { script = faults; done = 0 } }
+
 abbrev pub opening : ℕ → List InitialItem → List Fault → TapeState
-opening bytes items faults = record {
-  reel = record { size = bytes; items = opening_items items };
-  place = 0;
-  ordinals = record { script = faults; done = 0 };
-}
+opening bytes items faults = wound (record { size = bytes; items = opening_items items }) faults
 
 -- WHAT MOUNTING ANSWERS: the tape, or the first reason that holds
 abbrev pub Mounts : ℕ → List InitialItem → List Fault → Result TapeState MountError → Type 0
@@ -46,3 +46,13 @@ Mounts bytes items faults (Ok tape) = (is_size bytes ≡ true) × (is_medium byt
 Mounts bytes items faults (Err BadGeometry) = is_size bytes ≡ false
 Mounts bytes items faults (Err BadMedium) = (is_size bytes ≡ true) × (is_medium bytes items faults ≡ false)
 Mounts bytes items faults (Err NoMemory) = (is_size bytes ≡ true) × (is_medium bytes items faults ≡ true)
+
+-- WHAT MOUNTING A RECORDED TAPE ANSWERS: the tape, or the first reason that holds and the reel as it was
+abbrev pub Unmounts : List Fault → MountError → Type 0
+Unmounts faults BadGeometry = ⊥
+Unmounts faults BadMedium = is_script faults ≡ false
+Unmounts faults NoMemory = is_script faults ≡ true
+
+abbrev pub MountsReel : ReelState → List Fault → Result TapeState Unmounted → Type 0
+MountsReel reel faults (Ok tape) = (is_script faults ≡ true) × (tape ≡ wound reel faults)
+MountsReel reel faults (Err e) = Unmounts faults e.reason × (e.recording ≡ reel)

@@ -1,15 +1,10 @@
--- A tape that is recorded item by item from its load point on, as from an image of a tape, and mounted then.
+-- A tape that is recorded item by item from its load point on, as from an image of a tape.
 use Rattle.std.specs.Prelude.{◌≡◌, ℕ, ◌≤◌, Bool, true, false, nat_le, List, [], ◌∷◌, ◌++◌, length, Result, Ok, Err}
-use Rattle.device_port.specs.declared.device.MountError.{MountError}
-use Rattle.device_port.specs.declared.device.MountError.TheVariants.{BadGeometry, BadMedium, NoMemory}
-use Rattle.device_port.specs.declared.faults.Fault.{Fault}
-use Rattle.device_port.specs.Faults.{is_script}
 use Rattle.device_port.specs.Packed.{HoldsItems}
 use Rattle.tape_unit.specs.declared.recording.RecordingError.{RecordingError}
 use Rattle.tape_unit.specs.declared.recording.RecordingError.TheVariants as recording
 use Rattle.tape_unit.specs.Item.{Item, content_of, is_item, on_tape}
 use Rattle.tape_unit.specs.Reel.{ReelState, longest_reel, has_room_at, bytes_of}
-use Rattle.tape_unit.specs.Tape.{TapeState}
 
 -- A SIZE of a tape that is recorded: up to 4 GiB
 abbrev pub is_recordable : ℕ → Bool
@@ -39,20 +34,21 @@ Records reel x (Err recording.BadBlock) = is_item x ≡ false
 Records reel x (Err recording.Full) = (is_item x ≡ true) × (takes_item reel x ≡ false)
 Records reel x (Err recording.NoMemory) = (is_item x ≡ true) × (takes_item reel x ≡ true)
 
+-- the reel with another size
+abbrev pub resized : ReelState → ℕ → ReelState
+resized reel bytes = record { size = bytes; items = reel.items }
+
+-- WHAT CHANGING THE SIZE ANSWERS: the first reason that holds, if it stays
+abbrev pub Resizes : ReelState → ℕ → {A : Type 0} → Result A RecordingError → Type 0
+Resizes reel bytes (Ok done) = (is_recordable bytes ≡ true) × (nat_le (bytes_of reel.items) bytes ≡ true)
+Resizes reel bytes (Err recording.BadSize) = is_recordable bytes ≡ false
+Resizes reel bytes (Err recording.BadBlock) = ⊥
+Resizes reel bytes (Err recording.Full) = (is_recordable bytes ≡ true) × (nat_le (bytes_of reel.items) bytes ≡ false)
+Resizes reel bytes (Err recording.NoMemory) = ⊥
+
 -- a reel cut after its last item
 abbrev pub cut : ReelState → ReelState
-cut reel = record { size = bytes_of reel.items; items = reel.items }
-
--- THE OPENING STATE: the tape stands at the load point
-abbrev pub wound : ReelState → List Fault → TapeState
-wound reel faults = record { reel = reel; place = 0; ordinals = record { script = faults; done = 0 } }
-
--- WHAT MOUNTING A RECORDED TAPE ANSWERS
-abbrev pub MountsReel : ReelState → List Fault → Result TapeState MountError → Type 0
-MountsReel reel faults (Ok tape) = (is_script faults ≡ true) × (tape ≡ wound reel faults)
-MountsReel reel faults (Err BadGeometry) = ⊥
-MountsReel reel faults (Err BadMedium) = is_script faults ≡ false
-MountsReel reel faults (Err NoMemory) = is_script faults ≡ true
+cut reel = resized reel (bytes_of reel.items)
 
 -- what the code keeps of it: the bytes of the items alone, and the size that the tape has in the end
 pub record HoldsRecording (bytes : List ℕ) (count size : ℕ) : Type 0 where

@@ -9,7 +9,7 @@ ghost use Rattle.tape_unit.specs.Reel.{bytes_of};
 ghost use Rattle.tape_unit.specs.Mount.{is_size, initial, is_initial, opening_items};
 
 use crate::position::Position;
-use crate::reel::{LENGTHS, Reel};
+use crate::reel::{LENGTHS, LONGEST_BLOCK, Reel};
 pub use refusal::{Overrun, overrun_of};
 use std::alloc::{AllocError, Global};
 
@@ -39,7 +39,7 @@ impl InitialItem {
     {
         match self {
             InitialItem::Mark => true,
-            InitialItem::Block(bytes) => bytes.len() >= 1 && bytes.len() <= 65_535,
+            InitialItem::Block(bytes) => bytes.len() >= 1 && bytes.len() <= LONGEST_BLOCK,
         }
     }
 }

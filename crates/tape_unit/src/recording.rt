@@ -1,8 +1,8 @@
 //! A tape that is recorded item by item.
 
-ghost use Rattle.std.specs.Prelude.{◌≡◌, ◌∷◌, [], IfSome, OnErr, OnOk, true};
+ghost use Rattle.std.specs.Prelude.{◌≡◌, ◌*◌, ◌≤◌, ◌∷◌, [], MatchResult, OnErr, OnOk, length, true};
 ghost use Rattle.tape_unit.specs.Item.{tape_mark, block, item_with, is_item};
-ghost use Rattle.tape_unit.specs.Reel.{bytes_of};
+ghost use Rattle.tape_unit.specs.Reel.{bytes_of, longest_reel};
 
 use crate::reel::{LENGTHS, LONGEST_BLOCK, LONGEST_REEL, Reel, write_item};
 use crate::tape::Tape;
@@ -50,8 +50,16 @@ impl Model for Recording {
     ghost invariant = { λ r. HoldsRecording r.bytes.items r.count r.size };
 }
 
+/// A recording that is not mounted, as it was, and why.
+#[derive(Debug, Drop)]
+pub struct Unmounted {
+    pub reason: MountError,
+    pub recording: Recording,
+}
+
 impl Recording {
-    ghost use Rattle.tape_unit.specs.Recording.{BeginsRecording, Records, MountsReel, with_item, cut};
+    ghost use Rattle.tape_unit.specs.Recording.{BeginsRecording, Records, Resizes, with_item, resized, cut};
+    ghost use Rattle.tape_unit.specs.Mount.{MountsReel};
 
     /// A tape of `bytes` bytes with no item yet.
     ///
@@ -74,6 +82,14 @@ impl Recording {
         ensures { result ≡ bytes_of self.now.items }
     {
         self.bytes.len() as u64
+    }
+
+    /// How many items it has.
+    pub fn len(&self) -> usize
+        ensures len { result ≡ length self.now.items }
+        ensures few { 4 * result ≤ longest_reel }
+    {
+        self.count
     }
 
     /// Records a block after the items there.
@@ -121,6 +137,25 @@ impl Recording {
         Ok(())
     }
 
+    /// Gives the tape a size of `bytes` bytes.
+    ///
+    /// Errors, in this order: `BadSize` if that is more than 4 GiB, `Full` if the items take more. The size stays as it
+    /// is then.
+    pub fn resize(&mut self, bytes: u64) -> Result<(), RecordingError>
+        ensures answer { Resizes self.old bytes result }
+        ensures resized { OnOk result (self.new ≡ resized self.old bytes) }
+        ensures unchanged { OnErr result (self.new ≡ self.old) }
+    {
+        if bytes > LONGEST_REEL {
+            return Err(RecordingError::BadSize);
+        }
+        if self.used() > bytes {
+            return Err(RecordingError::Full);
+        }
+        self.size = bytes as usize;
+        Ok(())
+    }
+
     /// Cuts the tape after its last item, so that it has no room for another.
     pub fn cut(&mut self)
         ensures { self.new ≡ cut self.old }
@@ -130,38 +165,50 @@ impl Recording {
 
     /// The tape at its load point, that meets these faults.
     ///
-    /// Errors, in this order:
+    /// Errors, in this order, each with the recording as it was:
     ///
     /// - `BadMedium`: the faults are no fault script.
     /// - `NoMemory`.
-    pub fn mount(self, alloc: Global, faults: &[Fault]) -> Result<Tape, MountError>
+    pub fn mount(self, alloc: Global, faults: &[Fault]) -> Result<Tape, Unmounted>
         ensures { MountsReel self faults.now result }
     {
         if !is_script(faults) {
-            return Err(MountError::BadMedium);
+            return Err(Unmounted {
+                reason: MountError::BadMedium,
+                recording: self,
+            });
         }
-        let Some(reel) = self.wound() else {
-            return Err(MountError::NoMemory);
-        };
         let Ok(faults) = FaultScript::new(alloc, faults) else {
-            return Err(MountError::NoMemory);
+            return Err(Unmounted {
+                reason: MountError::NoMemory,
+                recording: self,
+            });
         };
-        Ok(Tape::wound(reel, faults))
+        match self.wound() {
+            Ok(reel) => Ok(Tape::wound(reel, faults)),
+            Err(recording) => Err(Unmounted {
+                reason: MountError::NoMemory,
+                recording,
+            }),
+        }
     }
 
-    /// The reel, unless memory runs out.
-    fn wound(self) -> Option<Reel>
-        ensures { IfSome result (λ reel. reel ≡ self) }
+    /// The reel; or the recording as it was if memory runs out.
+    fn wound(mut self) -> Result<Reel, Self>
+        ensures { MatchResult result (λ reel. reel ≡ self) (λ recording. recording ≡ self) }
     {
+        let used = self.bytes.len();
+        let Ok(()) = self.bytes.reserve_exact(self.size - used) else {
+            return Err(self);
+        };
         let Recording {
             mut bytes,
             count,
             size,
         } = self;
-        let used = bytes.len();
         let Ok(()) = bytes.resize(size, 0) else {
-            return None;
+            unreachable!()
         };
-        Some(Reel::of(bytes, used, count))
+        Ok(Reel::of(bytes, used, count))
     }
 }

@@ -95,6 +95,13 @@ impl Tape {
         self.reel.items()
     }
 
+    /// How many items it has.
+    pub fn len(&self) -> usize
+        ensures { result ≡ length self.now.reel.items }
+    {
+        self.reel.len()
+    }
+
     /// Where the tape stands: how many items lie before its head.
     pub fn place(&self) -> usize
         ensures { result ≡ self.now.place }

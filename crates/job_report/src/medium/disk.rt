@@ -36,6 +36,28 @@ impl Track {
     }
 }
 
+/// Whether lines declare all records of a disk.
+pub(super) fn has_declarable(disk: &Disk) -> bool {
+    for cylinder in 0..disk.cylinders() {
+        for head in 0..disk.heads() {
+            if !are_declarable(disk, Track { cylinder, head }) {
+                return false;
+            }
+        }
+    }
+    true
+}
+
+/// Whether lines declare all records of a track, the first of which is R0 as mounting makes it.
+fn are_declarable(disk: &Disk, track: Track) -> bool {
+    let mut records = disk.records(track.cylinder, track.head);
+    let has_mounted = match records.next() {
+        Some(first) => track.has_mounted(&first),
+        None => true,
+    };
+    has_mounted && records.all(|record| track.number_of(&record).is_some())
+}
+
 /// Writes the lines of a disk, its tracks in the order of their numbers.
 pub(super) fn write_disk<W: Write>(
     out: &mut W,

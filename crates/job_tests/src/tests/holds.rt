@@ -280,7 +280,7 @@ fn expect_posts<R: Wait + Abort + AllocGlobal>(
     wanted: &[Post],
 ) -> Result<(), Fail> {
     let script = Script::parse(rt.alloc(), DISK.as_bytes())?;
-    let books = books(rt.alloc(), &script, 4)?;
+    let books = books(rt.alloc(), &script, Vec::new(rt.alloc()), 4)?;
     let mut rows = Rows::new(rt.alloc(), 1, 1, 3, 3)?;
     if books.len() != 1 {
         return Err(Fail::from("no unit"));

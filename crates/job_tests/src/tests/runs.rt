@@ -356,7 +356,7 @@ fn rows_and_books(
     ensures fresh { IfOk result (λ made. AreFresh made.0) }
     ensures books { IfOk result (λ made. AreBooks (vec_len script.now.set_up.units) made.1.items) }
 {
-    let books = books(alloc, script, room)?;
+    let books = books(alloc, script, Vec::new(alloc), room)?;
     let units = script.set_up.units.len() as u16;
     let rows = Rows::new(alloc, script.set_up.tasks, units, room, room)?;
     Ok((rows, books))
@@ -383,7 +383,7 @@ fn run<R: Threads + Wait + Sync + AllocGlobal>(
     }
     let script = Script::parse(alloc, &text)?;
     // its requests can be made
-    books(alloc, &script, room)?;
+    books(alloc, &script, Vec::new(alloc), room)?;
     if script.set_up.units.len() != mounted.set_up.units.len() {
         return Err(JobError::Unmatched);
     }

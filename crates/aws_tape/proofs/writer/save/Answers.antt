@@ -1,60 +1,54 @@
-use Rattle.std.proofs.Common.{◌≡◌, ◌++◌, ◌∷◌, [], ℕ, List, true, append_assoc, refl, sym, ap, subst, ◌∙◌}
-use Rattle.std.proofs.lemmas.List.{append-nil}
+use Rattle.std.proofs.Common.{◌≡◌, ◌+◌, ◌++◌, ◌∷◌, [], List, ℕ, Bool, ◌&&◌, length, take, drop, sym, ap, ◌∙◌, arith}
 use Rattle.std.specs.List.{list_all}
-use Rattle.tape_unit.specs.Item.{Item, is_item, content_of}
-use Rattle.aws_tape.specs.Writing.{header_of, chunks_of, IsReadBack}
-use Rattle.aws_tape.proofs.Written.{written_more, written_all, all_pushed, read_back}
+use Rattle.tape_unit.specs.Item.{Item, is_item}
+use Rattle.aws_tape.specs.declared.layout.Part.{Part}
+use Rattle.aws_tape.specs.Layout.{own_count}
+use Rattle.aws_tape.specs.Writing.{item_image, items_image, last_len}
+use Rattle.aws_tape.proofs.Written.{wrote-more, wrote-all, items_step, items_end, own-le}
+use Rattle.aws_tape.proofs.ReadBack.{read_back}
 use Rattle.aws_tape.proofs.writer.save.Goals as goal
 
-pub loop-item-init : goal.loop-item-init
-loop-item-init c =
-    let image = c.new-image.result.items in
-    let items = c.into_iter-item-iterator.result in
-    let same = c.into_iter-item-iterator.ensures.into_iter_gives in
-    record {
-      written = ap (λ (l : List ℕ). l ++ chunks_of c.new-writer.result items) c.new-image.ensures.items
-          ∙ ap (λ (n : ℕ). chunks_of n items) c.new-writer.ensures ∙ ap (chunks_of 0) same;
-      all = same;
-      fits = refl;
-    }
+pub split_at-requires : goal.split_at-requires
+split_at-requires g c = omega (arith, c.own_count.ensures, own-le c.in-Some.place c.loop-place.parts.now)
 
-pub loop-item-preserved : goal.loop-item-preserved
-loop-item-preserved c =
+pub loop-place-preserved : goal.loop-place-preserved
+loop-place-preserved g c =
+    let l = c.loop-place in
+    let parts = l.parts.now in
+    let at = l.place-iterator.count in
     let x = c.in-Some.item in
-    let left = c.next.new.self in
-    let steps : c.loop-item.item-iterator ≡ x ∷ left = (c.in-Some.ensures {u = tt}).steps in
-    let i = c.loop-item.invariant in
-    let image = c.loop-item.image.items in
-    let previous = c.loop-item.writer in
-    let whole = chunks_of 0 c.args.items in
-    let before : image ++ chunks_of previous (x ∷ left) ≡ whole =
-    ap (λ (l : List Item). image ++ chunks_of previous l) (sym steps) ∙ i.written in
-    let first = (c.in_ok-extend_from_slice.ensures {u = tt}).items ∙ ap (λ (l : List ℕ). image ++ l) c.header-header.ensures.header in
-    let new : c.extend_from_slice-in-loop-item.new.self.items ≡ (image ++ header_of previous x) ++ content_of x =
-    (c.in_ok-extend_from_slice-2.ensures {u = tt}).items ∙ ap (λ (l : List ℕ). l ++ c.content.result.now) first
-    ∙ ap (λ (l : List ℕ). (image ++ header_of previous x) ++ l) c.content.ensures in
+    let xs = c.next.new.self.iter in
+    let own = c.split_at.result.0.now in
+    let others = c.split_at.result.1.now in
+    let next = c.next.new.self.count in
+    let last = c.in_ok-previous.previous in
+    let h = (c.in-Some.ensures {u = tt}).steps in
+    let w = c.in_ok-previous.ensures {u = tt} in
+    let count : c.own_count.result ≡ own_count at parts = c.own_count.ensures ∙ ap (λ (n : ℕ). own_count n parts) h.1 in
+    let n = own_count at parts in
+    let own-is : own ≡ take n parts = c.split_at.ensures.front ∙ ap (λ (k : ℕ). take k parts) count in
+    let others-is : others ≡ drop n parts = c.split_at.ensures.back ∙ ap (λ (k : ℕ). drop k parts) count in
+    let step : items_image parts at l.previous l.place-iterator.iter ≡ item_image l.previous own x ++ items_image others next last xs =
+    ap (items_image parts at l.previous) h.0 ∙ items_step parts at l.previous x xs
+    ∙ ap (λ (o : List Part). item_image l.previous o x ++ items_image (drop n parts) (at + 1) (last_len l.previous o x) xs) (sym own-is)
+    ∙ ap (λ (o : List Part). item_image l.previous own x ++ items_image o (at + 1) (last_len l.previous own x) xs) (sym others-is)
+    ∙ ap (λ (k : ℕ). item_image l.previous own x ++ items_image others k (last_len l.previous own x) xs) (sym h.2)
+    ∙ ap (λ (k : ℕ). item_image l.previous own x ++ items_image others next k xs) (sym w.last) in
     record {
-      written = ap (λ (l : List ℕ). l ++ chunks_of c.header-header.new.self left) new
-          ∙ ap (λ (n : ℕ). ((image ++ header_of previous x) ++ content_of x) ++ chunks_of n left) c.header-header.ensures.previous
-          ∙ written_more image whole previous x left before;
-      all = append_assoc c.loop-item.yielded (x ∷ []) left ∙ ap (λ (l : List Item). c.loop-item.yielded ++ l) (sym steps) ∙ i.all;
-      fits = all_pushed c.loop-item.yielded x i.fits c.header-header.ensures.item;
+      wrote = wrote-more _ _ _ (item_image l.previous own x) (items_image others next last xs)
+          (items_image parts at l.previous l.place-iterator.iter) _ l.invariant.wrote step w.image;
+      fits = l.invariant.fits ∙ ap (list_all is_item) h.0 ∙ ap (λ (b : Bool). b && list_all is_item xs) w.item;
     }
 
 pub returns-clause-image : goal.returns-clause-image
-returns-clause-image c =
-    let i = c.loop-item.invariant in
-    let none : c.loop-item.item-iterator ≡ [] = (c.in-None.ensures {u = tt}).steps.0 in
-    written_all c.loop-item.image.items (chunks_of 0 c.args.items) c.loop-item.writer c.loop-item.item-iterator none i.written
+returns-clause-image g c =
+    let l = c.loop-place in
+    let none : l.place-iterator.iter ≡ [] = (c.in-None.ensures {u = tt}).steps.0.0 in
+    wrote-all _ _ (items_image l.parts.now l.place-iterator.count l.previous l.place-iterator.iter) _ l.invariant.wrote
+    (items_end l.parts.now l.place-iterator.count l.previous l.place-iterator.iter none)
 
 pub returns-clause-read_back : goal.returns-clause-read_back
-returns-clause-read_back c =
-    let i = c.loop-item.invariant in
-    let items = c.args.items in
-    let none : c.loop-item.item-iterator ≡ [] = (c.in-None.ensures {u = tt}).steps.0 in
-    let whole : c.loop-item.image.items ≡ chunks_of 0 items =
-    written_all c.loop-item.image.items (chunks_of 0 items) c.loop-item.writer c.loop-item.item-iterator none i.written in
-    let every : c.loop-item.yielded ≡ items =
-    sym (append-nil c.loop-item.yielded) ∙ ap (λ (l : List Item). c.loop-item.yielded ++ l) (sym none) ∙ i.all in
-    let fits : list_all is_item items ≡ true = subst (λ (l : List Item). list_all is_item l ≡ true) every i.fits in
-    subst (λ (l : List ℕ). IsReadBack items l) (sym whole) (read_back items fits)
+returns-clause-read_back g c =
+    let none : c.loop-place.place-iterator.iter ≡ [] = (c.in-None.ensures {u = tt}).steps.0.0 in
+    read_back c.args.layout.now c.args.mounted.now.reel.items c.args.now.now.reel.items
+    (c.loop-place.invariant.fits ∙ ap (list_all is_item) none)

@@ -8,7 +8,7 @@ use Rattle.job_script.specs.Lines.{fault_line, open_line, area_line, excp_line, 
 use Rattle.job_script.specs.Adding.{numbered, is_dcb, add_tasks, add_unit, change_unit, add_area, add_set_up}
 use Rattle.job_script.specs.Adding.{names_command, excp_command, add_command, add_line}
 use Rattle.job_script.specs.Grammar.{lines_from, script_of}
-use Rattle.job_mount.specs.Mounting.{books_of, devices_of, opened, tried, units_with}
+use Rattle.job_mount.specs.Mounting.{books_with, devices_with, opened, tried, units_with}
 use Rattle.job_mount.specs.Openings.{open_all}
 use Rattle.job_mount.proofs.runs.worked_runs.Goals as goal
 
@@ -18,7 +18,7 @@ unfolding
     tasks_line disk_line tape_line printer_line record_line block_line mark_line fault_line open_line area_line
     excp_line set_up_line by_verb line_kind
     numbered is_dcb add_tasks add_unit change_unit add_area add_set_up names_command excp_command add_command add_line lines_from script_of
-    books_of devices_of opened tried units_with open_all
+    books_with devices_with opened tried units_with open_all
 returns c = record {
   no_command = refl;
   one_request = refl;

@@ -1,5 +1,5 @@
 use Rattle.std.proofs.Common.{arith}
-use Rattle.tape_unit.proofs.Reels.{After, after}
+use Rattle.tape_unit.proofs.Reels.{after}
 use Rattle.tape_unit.proofs.reel.Reel.next.Goals as goal
 
 pub read_length-len-requires : goal.read_length-len-requires

@@ -1,7 +1,7 @@
 use Rattle.std.proofs.Common.{◌≡◌, ◌-◌, length, drop, ap, ◌∙◌, arith}
 use Rattle.tape_unit.specs.Item.{content_of, length_at}
 use Rattle.tape_unit.specs.Reel.{item_of}
-use Rattle.tape_unit.proofs.Reels.{Before, before, bounds}
+use Rattle.tape_unit.proofs.Reels.{before, bounds}
 use Rattle.tape_unit.proofs.reel.Reel.previous.Goals as goal
 
 pub split_at-requires : goal.split_at-requires

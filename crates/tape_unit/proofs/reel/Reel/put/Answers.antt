@@ -1,11 +1,11 @@
-use Rattle.std.proofs.Common.{◌≡◌, true, ◌+◌, ◌≤◌, ℕ, List, length, take, ap, subst, sym, ◌∙◌, arith, rules}
+use Rattle.std.proofs.Common.{◌≡◌, ◌+◌, ◌≤◌, ℕ, List, length, ap, subst, sym, ◌∙◌, arith, rules}
 use Rattle.std.proofs.lemmas.Bool.Decides.{nat_tests}
-use Rattle.std.proofs.lemmas.List.{with_items_is, length-take-le}
+use Rattle.std.proofs.lemmas.List.{with_items_is}
 use Rattle.std.specs.Vec.{with_items}
 use Rattle.device_port.specs.Moves.{written}
-use Rattle.tape_unit.specs.Item.{Item, block, item_with, is_item, content_of, packed}
+use Rattle.tape_unit.specs.Item.{Item, item_with, content_of, packed}
 use Rattle.tape_unit.specs.Reel.{ReelState, IsOn, bytes_before, with_item_at}
-use Rattle.tape_unit.proofs.Spelled.{block_fits, content_of-item_with}
+use Rattle.tape_unit.proofs.Spelled.{content_of-item_with}
 use Rattle.tape_unit.proofs.Reels.{Kept, bounds, put_kept, after_put}
 use Rattle.tape_unit.proofs.reel.Reel.put.Goals as goal
 

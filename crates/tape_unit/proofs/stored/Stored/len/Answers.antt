@@ -1,4 +1,4 @@
-use Rattle.std.proofs.Common.{◌≡◌, ◌∙◌, length, sym, ap, subst, true, arith}
+use Rattle.std.proofs.Common.{◌≡◌, ◌∙◌, length, sym, ap, subst, true}
 use Rattle.tape_unit.specs.Item.{Item, content_of, is_item}
 use Rattle.tape_unit.proofs.Spelled.{content_of-item_with, item_with-fits}
 use Rattle.tape_unit.proofs.stored.Stored.len.Goals as goal

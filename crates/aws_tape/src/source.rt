@@ -1,0 +1,25 @@
+//! Bytes from a reader.
+
+ghost use Rattle.std.specs.Prelude.{◌≡◌, IfErr, IfOk};
+ghost use Rattle.aws_tape.specs.Sources.{Fills};
+
+use crate::fault::AwsFault;
+use std::io::Read;
+
+/// Reads bytes until the buffer is full or the reader is at its end, and returns how many.
+///
+/// Error: `Unreadable` if a read fails.
+pub fn fill<R: Read>(source: &mut R, buffer: &mut [u8]) -> Result<usize, AwsFault>
+    ensures read { IfOk result (Fills (R.remaining source.old) (R.remaining source.new) buffer.new) }
+    ensures fault { IfErr result (λ e. e ≡ AwsFault.Unreadable) }
+{
+    let mut count = 0;
+    while count < buffer.len() {
+        match source.read(&mut buffer[count..]) {
+            Ok(0) => return Ok(count),
+            Ok(more) => count += more,
+            Err(_) => return Err(AwsFault::Unreadable),
+        }
+    }
+    Ok(count)
+}

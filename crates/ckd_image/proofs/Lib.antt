@@ -1,0 +1,6 @@
+-- The lemmas of ckd_image.
+pub mod Sources
+pub mod Files
+pub mod Tracks
+pub mod Reading
+pub mod Writing

@@ -1,0 +1,24 @@
+-- Bytes that are read one piece after another.
+use Rattle.std.proofs.Common.{◌≡◌, ℕ, ◌+◌, ◌≤◌, List, [], ◌++◌, length, take, Option, Some, None, refl, sym, ap, ◌∙◌, append_assoc}
+use Rattle.std.proofs.lemmas.List.{length-take-le, take-append-le}
+use Rattle.std.proofs.Math.Seq.{take-append-add}
+use Rattle.std.specs.Io.KnownBytes.{Consumes}
+
+pub consumes-nothing : (a : Option (List ℕ)) → Consumes a a []
+consumes-nothing None = tt
+consumes-nothing (Some xs) = refl
+
+pub consumes-more : (a b c : Option (List ℕ)) (xs ys : List ℕ) → Consumes a b xs → Consumes b c ys → Consumes a c (xs ++ ys)
+consumes-more None b c xs ys h k = tt
+consumes-more (Some old) None c xs ys h k = absurd h
+consumes-more (Some old) (Some bs) None xs ys h k = absurd k
+consumes-more (Some old) (Some bs) (Some cs) xs ys h k = h ∙ ap (λ (l : List ℕ). xs ++ l) k ∙ sym (append_assoc xs ys cs)
+
+-- the part of a buffer from n on was written, with m bytes
+pub filled_more : (n m : ℕ) (old new after : List ℕ) → n ≤ length old → m ≤ length new →
+    take (n + m) (take n old ++ (new ++ after)) ≡ take n old ++ take m new
+filled_more n m old new after le few =
+    let len : length (take n old) ≡ n = length-take-le n old le in
+    ap (λ (k : ℕ). take (k + m) (take n old ++ (new ++ after))) (sym len)
+    ∙ take-append-add (take n old) (new ++ after) m
+    ∙ ap (λ (l : List ℕ). take n old ++ l) (take-append-le m new after few)

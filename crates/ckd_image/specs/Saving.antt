@@ -1,0 +1,43 @@
+-- What saving a disk to an image writes.
+use Rattle.std.specs.Prelude.{◌≡◌, ℕ, ◌+◌, ◌-◌, ◌&&◌, nat_lt, true, List, ◌∷◌, ◌++◌, length, if◌then◌else◌}
+use Rattle.std.specs.Str.{bytes_eq}
+use Rattle.device_port.specs.Moves.{padded}
+use Rattle.device_port.specs.Packed.{image_of}
+use Rattle.ckd_disk.specs.Record.{ckd}
+use Rattle.ckd_disk.specs.Track.{TrackState}
+use Rattle.ckd_disk.specs.Disk.{DiskState, track_of}
+use Rattle.ckd_disk.specs.Volume.{VolumeState, is_whole, end_mark}
+use Rattle.ckd_image.specs.declared.format.Format.{Format}
+use Rattle.ckd_image.specs.Image.{KeptTrackState, KeptState, plain, kept_at, tracks_file, IsImageBegun}
+
+-- the format of an image of a disk
+abbrev pub format_on : DiskState → Format
+format_on disk = record { heads = disk.heads; bytes = (track_of disk.tracks 0).size + 14 }
+
+-- a track with these packed records
+abbrev pub track_bytes_with : ℕ → ℕ → List ℕ → List ℕ → List ℕ → List ℕ
+track_bytes_with bytes flag address records tail =
+    flag ∷ (address ++ (records ++ (end_mark ++ padded (bytes - 13 - length records) tail)))
+
+-- WHAT A TRACK HAS BESIDE ITS RECORDS: what was kept, as long as these are the records of the mounted disk
+abbrev pub kept_with : KeptState → List TrackState → List ℕ → ℕ → KeptTrackState
+kept_with kept mounted records number =
+    if nat_lt number (length mounted) && bytes_eq (image_of ckd (track_of mounted number).records) records
+    then kept_at kept.tracks number
+    else plain
+
+abbrev pub kept_now : KeptState → List TrackState → List TrackState → ℕ → KeptTrackState
+kept_now kept mounted tracks number = kept_with kept mounted (image_of ckd (track_of tracks number).records) number
+
+-- THE IMAGE OF A DISK
+abbrev pub image_on : KeptState → DiskState → DiskState → List ℕ
+image_on kept mounted disk =
+    kept.header ++ tracks_file (format_on disk) (kept_now kept mounted.tracks disk.tracks) 0 disk.tracks
+
+-- a disk has the tracks of a volume from an image, as they were read
+pub record IsAsRead (f : Format) (kept : KeptState) (v : VolumeState) (before disk : DiskState) : Type 0 where
+  pub begun : IsImageBegun f kept v
+  pub whole : is_whole v ≡ true
+  pub heads : disk.heads ≡ v.heads
+  pub mounted : before.tracks ≡ v.tracks
+  pub tracks : disk.tracks ≡ v.tracks

@@ -1,0 +1,125 @@
+//! What an image has beside the records of its tracks.
+
+ghost use Rattle.std.specs.Prelude.{◌≡◌, ◌+◌, ◌<◌, ◌≤◌, Ok, IfOk, [], length};
+ghost use Rattle.ckd_image.specs.Header.{format_of};
+ghost use Rattle.ckd_image.specs.Image.{kept_at};
+
+use crate::fault::SaveError;
+use crate::format::{BESIDE, Format, HEADER};
+use crate::models::device_type;
+use byteorder::{ByteOrder, LittleEndian};
+use ckd_disk::Volume;
+use std::alloc::Global;
+use std::marker::Model;
+
+/// A volume from an image, and what the image has beside it. Both are needed to save the image as it was.
+#[derive(Debug, Drop)]
+pub struct Image {
+    pub volume: Volume,
+    pub kept: Kept,
+}
+
+/// What an image has beside the records of its tracks.
+#[derive(Debug, Drop)]
+pub struct Kept {
+    header: [u8; 512],
+    tracks: Vec<KeptTrack>,
+}
+
+impl Model for Kept {
+    ghost use Rattle.ckd_image.specs.Image.{KeptState};
+
+    ghost Value = { KeptState };
+
+    ghost view = { λ k. record { header = k.header; tracks = k.tracks.items } };
+}
+
+/// What a track has beside its records: the flag byte of its home address, and the bytes after its end mark unless
+/// they are all zero.
+#[derive(Debug, Drop)]
+pub struct KeptTrack {
+    flag: u8,
+    tail: Vec<u8>,
+}
+
+impl Model for KeptTrack {
+    ghost use Rattle.ckd_image.specs.Image.{KeptTrackState};
+
+    ghost Value = { KeptTrackState };
+
+    ghost view = { λ k. record { flag = k.flag; tail = k.tail.items } };
+}
+
+impl KeptTrack {
+    /// A track with this flag and these bytes after its end mark; none if they are all zero.
+    pub(crate) fn new(flag: u8, tail: Vec<u8>) -> Self
+        ensures { result ≡ record { flag = flag; tail = tail.items } }
+    {
+        KeptTrack { flag, tail }
+    }
+}
+
+impl Kept {
+    /// What an image with this header has beside its records.
+    pub(crate) fn new(header: [u8; 512], tracks: Vec<KeptTrack>) -> Self
+        ensures { result ≡ record { header = header; tracks = tracks.items } }
+    {
+        Kept { header, tracks }
+    }
+
+    /// What a new image of a disk has, if the disk is that of a model.
+    ///
+    /// Error: `NoModel`.
+    pub fn of_model(alloc: Global, heads: u16, track_bytes: u32) -> Result<Self, SaveError>
+        ensures format { IfOk result (λ k. format_of k.header ≡ Ok (record { heads = heads; bytes = track_bytes + 14 })) }
+        ensures tracks { IfOk result (λ k. k.tracks ≡ []) }
+    {
+        let no_model = SaveError::NoModel { heads, track_bytes };
+        let Some(device_type) = device_type(heads, track_bytes) else {
+            return Err(no_model);
+        };
+        let Some(bytes) = track_bytes.checked_add(BESIDE) else {
+            return Err(no_model);
+        };
+        let mut header = [0; HEADER];
+        header[..8].copy_from_slice(b"CKD_P370");
+        LittleEndian::write_u32(&mut header[8..], u32::from(heads));
+        LittleEndian::write_u32(&mut header[12..], bytes);
+        header[16] = device_type;
+        // The header is read back, so that the contract needs no proof of how it was put together.
+        match Format::of(&header) {
+            Ok(format) if format == (Format { heads, bytes }) => Ok(Kept {
+                header,
+                tracks: Vec::new(alloc),
+            }),
+            _ => Err(no_model),
+        }
+    }
+
+    /// The header.
+    pub(crate) fn header(&self) -> &[u8]
+        ensures { result.now ≡ self.now.header }
+    {
+        &self.header
+    }
+
+    /// The flag of a track; 0 of one that is not kept.
+    pub(crate) fn flag(&self, number: usize) -> u8
+        ensures { result ≡ (kept_at self.now.tracks number).flag }
+    {
+        if number >= self.tracks.len() {
+            return 0;
+        }
+        self.tracks[number].flag
+    }
+
+    /// The bytes after the end mark of a track; none if they are all zero.
+    pub(crate) fn tail(&self, number: usize) -> &[u8]
+        ensures { result.now ≡ (kept_at self.now.tracks number).tail }
+    {
+        if number >= self.tracks.len() {
+            return &[];
+        }
+        &self.tracks[number].tail
+    }
+}

@@ -1,0 +1,23 @@
+//! Images of disks in the CKD format (`CKD_P370`), read and written.
+//!
+//! An image is a header of 512 bytes and then the tracks, each with as many bytes: its home address, its records, an end
+//! mark, and a rest. `load` reads an image to a volume, or returns the first fault of the image. What an image has
+//! beside the records of its tracks is kept, so that `save` writes the same bytes for a disk that was not written on.
+//!
+//! Tests: component_tests (`disk_images`).
+#![tactic(auto)]
+
+mod fault;
+mod format;
+mod kept;
+mod loader;
+mod models;
+mod saver;
+mod source;
+
+pub use fault::{CkdError, CkdFault, SaveError};
+pub use format::Format;
+pub use kept::{Image, Kept, KeptTrack};
+pub use loader::load;
+pub use models::{DiskModel, MODELS};
+pub use saver::save;

@@ -1,0 +1,119 @@
+//! Images of disks, written track by track.
+
+ghost use Rattle.std.specs.Prelude.{◌≡◌, ◌++◌, OnOk, replicate};
+ghost use Rattle.std.specs.Io.KnownBytes.{Appends};
+ghost use Rattle.ckd_image.specs.Image.{file_of};
+ghost use Rattle.ckd_image.specs.declared.format.Format.{Format};
+ghost use Rattle.ckd_disk.specs.Volume.{VolumeState};
+ghost use Rattle.ckd_image.specs.Saving.{track_bytes_with, kept_with, image_on, IsAsRead};
+
+use crate::fault::SaveError;
+use crate::format::BESIDE;
+use crate::kept::Kept;
+use crate::loader::address;
+use ckd_disk::{Disk, END_MARK};
+use device_port::Device;
+use std::alloc::Global;
+use std::io::Write;
+
+/// How many bytes of a track in an image its records never take: the home address and the end mark.
+const LEAST_BESIDE: usize = 13;
+
+/// Writes the image of a disk. A track whose records are those of the disk as it was mounted has the flag and the bytes
+/// after its end mark that are kept; any other has flag 00 and zeros. So a disk that was not written on since its image
+/// was read gives the same bytes.
+///
+/// Errors: `BadDisk` if the disk has more tracks than an image, or a track that does not fit the size of track 0, `NotWritten` if a write fails, and `NoMemory`.
+pub fn save<W: Write>(
+    alloc: Global,
+    writer: &mut W,
+    kept: &Kept,
+    mounted: &Disk,
+    disk: &Disk,
+) -> Result<(), SaveError>
+    ensures saved { OnOk result (Appends (W.contents writer.old) (W.contents writer.new) (image_on kept.now mounted.now disk.now)) }
+    ensures same { OnOk result ((f : Format) (v : VolumeState) → IsAsRead f kept.now v mounted.now disk.now
+        → Appends (W.contents writer.old) (W.contents writer.new) (file_of f kept.now v.tracks)) }
+{
+    match writer.write_all(kept.header()) {
+        Ok(()) => {}
+        Err(error) => return Err(SaveError::NotWritten(error.kind())),
+    }
+    let heads = disk.heads();
+    let count = disk.tracks();
+    let size = disk.track_bytes(0);
+    if heads == 0 || count > 65_535 || size > 65_535 {
+        return Err(SaveError::BadDisk);
+    }
+    let bytes = size + BESIDE as usize;
+    let Ok(zeros) = vec![in alloc; 0; bytes] else {
+        return Err(SaveError::NoMemory);
+    };
+    let Ok(mut track) = Vec::with_capacity(alloc, bytes) else {
+        return Err(SaveError::NoMemory);
+    };
+    for number in 0..count {
+        let records = disk.track_image(number);
+        let (flag, tail) = kept_with(kept, mounted, records, number);
+        let home = address(heads, number);
+        match put_track(&mut track, bytes, flag, &home, records, tail, &zeros) {
+            Ok(()) => {}
+            Err(error) => return Err(error),
+        }
+        match writer.write_all(&track) {
+            Ok(()) => {}
+            Err(error) => return Err(SaveError::NotWritten(error.kind())),
+        }
+    }
+    Ok(())
+}
+
+/// The flag of a track, and the bytes after its end mark: those kept if its records are those of the mounted disk.
+fn kept_with<'a>(kept: &'a Kept, mounted: &Disk, records: &[u8], number: usize) -> (u8, &'a [u8])
+    ensures flag { result.0 ≡ (kept_with kept.now mounted.now.tracks records.now number).flag }
+    ensures tail { result.1.now ≡ (kept_with kept.now mounted.now.tracks records.now number).tail }
+{
+    if number < mounted.tracks() && mounted.track_image(number) == records {
+        return (kept.flag(number), kept.tail(number));
+    }
+    (0, &[])
+}
+
+/// Puts the bytes of a track into a buffer.
+fn put_track(
+    track: &mut Vec<u8>,
+    bytes: usize,
+    flag: u8,
+    address: &[u8],
+    records: &[u8],
+    tail: &[u8],
+    zeros: &[u8],
+) -> Result<(), SaveError>
+    requires zeros { zeros.now ≡ replicate bytes 0 }
+    ensures { OnOk result (track.new.items ≡ track_bytes_with bytes flag address.now records.now tail.now) }
+{
+    if bytes < LEAST_BESIDE || bytes - LEAST_BESIDE < records.len() {
+        return Err(SaveError::BadDisk);
+    }
+    let room = bytes - LEAST_BESIDE - records.len();
+    let tail = &tail[..tail.len().min(room)];
+    track.clear();
+    let Ok(()) = track.push(flag) else {
+        return Err(SaveError::NoMemory);
+    };
+    append(track, address)?;
+    append(track, records)?;
+    append(track, &END_MARK)?;
+    append(track, tail)?;
+    append(track, &zeros[..room - tail.len()])
+}
+
+/// Adds bytes to a buffer.
+fn append(buffer: &mut Vec<u8>, bytes: &[u8]) -> Result<(), SaveError>
+    ensures { OnOk result (buffer.new.items ≡ buffer.old.items ++ bytes.now) }
+{
+    match buffer.extend_from_slice(bytes) {
+        Ok(()) => Ok(()),
+        Err(_) => Err(SaveError::NoMemory),
+    }
+}

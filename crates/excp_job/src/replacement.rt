@@ -1,0 +1,200 @@
+//! Files that are replaced whole: what is written goes to a new file beside the old one, which takes its place at the end.
+//! After an error the old file is as it was.
+
+use ckd_image::{DiskModel, MODELS};
+use job_media::SaveError;
+use std::alloc::AllocError;
+use std::fmt::{Display, Formatter};
+use std::fs::{File, OpenOptions};
+use std::io::{ErrorKind, Write};
+use std::{fmt, fs, io};
+
+/// What is added to the name of a file for the new one beside it. A run that is killed leaves it.
+const BESIDE: &str = ".excp-new";
+
+/// A file that is to be replaced, and the new one beside it.
+#[derive(Drop)]
+pub struct Replacement {
+    target: String,
+    beside: String,
+    file: File,
+}
+
+/// Why a file is not replaced.
+#[derive(Clone, Copy, PartialEq, Eq)]
+pub enum ReplaceError {
+    /// It is a directory, a device or the like.
+    NotAFile,
+    /// It is a link to a file that is not there.
+    DeadLink,
+    /// An earlier run that was killed left a new file beside it.
+    LeftBeside,
+    /// It is to be the image of a disk with these heads and bytes a track, and no model has them.
+    NoModel { heads: u16, track_bytes: u32 },
+    NoMemory,
+    Io(ErrorKind),
+}
+
+impl From<AllocError> for ReplaceError {
+    fn from(_: AllocError) -> Self {
+        ReplaceError::NoMemory
+    }
+}
+
+impl From<io::Error> for ReplaceError {
+    fn from(error: io::Error) -> Self {
+        match error.kind() {
+            ErrorKind::OutOfMemory => ReplaceError::NoMemory,
+            kind => ReplaceError::Io(kind),
+        }
+    }
+}
+
+impl From<SaveError> for ReplaceError {
+    fn from(error: SaveError) -> Self {
+        match error {
+            SaveError::NoModel { heads, track_bytes } => {
+                ReplaceError::NoModel { heads, track_bytes }
+            }
+            SaveError::NotWritten(kind) => ReplaceError::Io(kind),
+            SaveError::NoMemory => ReplaceError::NoMemory,
+        }
+    }
+}
+
+impl Display for ReplaceError {
+    fn fmt<W: fmt::Write>(&self, f: &mut Formatter<W>) -> fmt::Result {
+        let why = match self {
+            ReplaceError::NotAFile => "it is not a regular file",
+            ReplaceError::DeadLink => "it is a link to a file that is not there",
+            ReplaceError::LeftBeside => {
+                "a run that was killed left a file beside it, with .excp-new after its name: remove that one"
+            }
+            ReplaceError::NoModel { heads, track_bytes } => {
+                return write_models(f, *heads, *track_bytes);
+            }
+            ReplaceError::NoMemory => "out of memory",
+            ReplaceError::Io(kind) => why_unwritten(*kind),
+        };
+        f.write_str(why)
+    }
+}
+
+/// Why a file is not written.
+fn why_unwritten(kind: ErrorKind) -> &'static str {
+    match kind {
+        ErrorKind::StorageFull => "the disk is full",
+        ErrorKind::FileTooLarge => "the file gets larger than this user's files may be",
+        ErrorKind::NotFound | ErrorKind::NotADirectory => "there is no such directory",
+        ErrorKind::PermissionDenied => "this user has no permission to write it",
+        _ => "the file cannot be written",
+    }
+}
+
+/// Writes that no model of a disk has these numbers, and those of all models.
+fn write_models<W: fmt::Write>(f: &mut Formatter<W>, heads: u16, track_bytes: u32) -> fmt::Result {
+    write!(
+        f,
+        "no model of a disk has {heads} heads and {track_bytes} bytes a track; the models are"
+    )?;
+    for model in &MODELS {
+        let DiskModel {
+            name,
+            heads,
+            track_bytes,
+            ..
+        } = model;
+        write!(f, " {name} ({heads}, {track_bytes})")?;
+    }
+    Ok(())
+}
+
+impl Replacement {
+    /// Begins to replace the file of this name, or to make it. A link stays, and the file that it names is replaced.
+    pub fn begin(rt: &HostRuntime, name: &str) -> Result<Self, ReplaceError> {
+        let target = target_of(rt, name)?;
+        let mut beside = String::from_str(rt.alloc(), target.as_str())?;
+        beside.push_str(BESIDE)?;
+        let file = match OpenOptions::new()
+            .write(true)
+            .create_new(true)
+            .open(rt, beside.as_str())
+        {
+            Ok(file) => file,
+            Err(error) if error.kind() == ErrorKind::AlreadyExists => {
+                return Err(ReplaceError::LeftBeside);
+            }
+            Err(error) => return Err(error.into()),
+        };
+        let replacement = Replacement {
+            target,
+            beside,
+            file,
+        };
+        match replacement.take_mode(rt) {
+            Ok(()) => Ok(replacement),
+            Err(error) => {
+                replacement.abandon(rt);
+                Err(error)
+            }
+        }
+    }
+
+    /// Gives the new file the mode of the old one, if there is an old one.
+    fn take_mode(&self, rt: &HostRuntime) -> Result<(), ReplaceError> {
+        match fs::metadata(rt, self.target.as_str()) {
+            Ok(old) => Ok(self.file.set_permissions(old.permissions())?),
+            Err(error) if error.kind() == ErrorKind::NotFound => Ok(()),
+            Err(error) => Err(error.into()),
+        }
+    }
+
+    /// The new file.
+    pub fn file(&mut self) -> &mut File {
+        &mut self.file
+    }
+
+    /// Waits until what was written is on the disk.
+    pub fn sync(&self) -> Result<(), ReplaceError> {
+        Ok(self.file.sync_all()?)
+    }
+
+    /// The name of the file that is replaced.
+    pub fn target(&self) -> &str {
+        self.target.as_str()
+    }
+
+    /// Puts the new file in the place of the old one, or removes it.
+    pub fn finish(&self, rt: &HostRuntime) -> Result<(), ReplaceError> {
+        match fs::rename(rt, self.beside.as_str(), self.target.as_str()) {
+            Ok(()) => Ok(()),
+            Err(error) => {
+                self.abandon(rt);
+                Err(error.into())
+            }
+        }
+    }
+
+    /// Removes the new file. The old one stays as it was.
+    pub fn abandon(&self, rt: &HostRuntime) {
+        let _ = fs::remove_file(rt, self.beside.as_str());
+    }
+}
+
+/// The file that a name comes to, through all links.
+pub fn target_of(rt: &HostRuntime, name: &str) -> Result<String, ReplaceError> {
+    match fs::metadata(rt, name) {
+        Ok(metadata) if !metadata.is_file() => Err(ReplaceError::NotAFile),
+        Ok(_) => {
+            let path = fs::canonicalize(rt, name)?;
+            Ok(String::from_str(rt.alloc(), path.to_string_lossy())?)
+        }
+        Err(error) if error.kind() == ErrorKind::NotFound => {
+            if fs::symlink_metadata(rt, name).is_ok() {
+                return Err(ReplaceError::DeadLink);
+            }
+            Ok(String::from_str(rt.alloc(), name)?)
+        }
+        Err(error) => Err(error.into()),
+    }
+}

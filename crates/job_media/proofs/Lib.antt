@@ -1,0 +1,2 @@
+-- Lemmas on texts with the sizes of images.
+pub mod Lines

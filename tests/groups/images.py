@@ -1,0 +1,502 @@
+"""Images of tapes and disks: loaded, saved, described and converted, with Hercules' tools on both sides.
+
+What an image holds, and its first fault, is by `tests/formats.py`. Volumes and tapes are made and read by Hercules' tools
+(Debian's package `hercules`); without them these cases are skipped.
+"""
+
+import os
+import random
+import re
+import shutil
+import struct
+import subprocess
+import tempfile
+
+import formats
+from harness import CASES, SAMPLES, SECONDS, Case, Failed, Skipped, expect, expect_text, read, require, run
+
+STORED = f"{CASES}/images"
+ORIGIN = "tests/formats.py, by docs/FORMATS.md"
+BY_HERCULES = "Hercules' tools, which made the image and read it again"
+
+# The models that dasdinit makes whole: cylinders, heads, and bytes of a track in the profile.
+MODELS = {
+    "2305-1": (48, 8, 14_322),
+    "2305-2": (96, 8, 14_834),
+    "2311": (200, 10, 4_082),
+    "2314": (200, 20, 7_666),
+    "3330": (404, 19, 13_298),
+    "3340": (348, 12, 8_690),
+    "3350": (555, 30, 19_442),
+    "3380": (885, 15, 47_602),
+    "3390": (1_113, 15, 56_818),
+}
+
+# The bytes of a volume that an unproved program has no time for.
+LARGE = 1 << 25
+
+# How many files one `describe` is given.
+FILES = 400
+
+
+def tool(name):
+    """A tool of Hercules."""
+    found = shutil.which(name)
+    if not found:
+        raise Skipped(f"no {name}: install Hercules' tools")
+    return found
+
+
+def made(*words, cwd):
+    """Runs a tool of Hercules, and gives what it printed."""
+    ran = subprocess.run([tool(words[0]), *words[1:]], cwd=cwd, stdin=subprocess.DEVNULL, capture_output=True, check=False)
+    require(ran.returncode == 0, f"{' '.join(words)}: {ran.stdout + ran.stderr}")
+    return ran.stdout
+
+
+def bytes_of(file):
+    with open(file, "rb") as it:
+        return it.read()
+
+
+def in_memory(size):
+    """A folder in memory, if it has room for so many bytes twice over; else none is named."""
+    shared = "/dev/shm"
+    return shared if os.path.isdir(shared) and shutil.disk_usage(shared).free > 4 * size else None
+
+
+def write(file, data):
+    with open(file, "wb") as it:
+        it.write(data)
+    return file
+
+
+def idle(kind):
+    """A job that does nothing on one unit with the size of its image."""
+    return f"tasks 1\n{kind} 0 0 -\nwait 0\n"
+
+
+def program(setup, folder, *words, script="", seconds=SECONDS):
+    return run([setup.program, *words], script, cwd=folder, timeout=seconds)
+
+
+def keeps(setup, folder, kind, name, saved="saved"):
+    """An image is the same file after it was loaded and saved."""
+    ran = program(setup, folder, "report", "--posts", "--load", f"0={name}", "--save", f"0={saved}", script=idle(kind))
+    expect(ran, (0, "end 0\n"))
+    same = subprocess.run(["cmp", name, saved], cwd=folder, capture_output=True, check=False)
+    require(same.returncode == 0, f"{name} is another file after load and save: {same.stdout.decode()}", ran)
+
+
+# --- media of Hercules
+
+
+def is_kept_whole(setup, model):
+    """A whole volume of a model is loaded, saved and described."""
+    cylinders, heads, size = MODELS[model]
+    if cylinders * heads * size > LARGE:
+        setup.skip_unproved()
+    with tempfile.TemporaryDirectory(prefix="images-", dir=in_memory(cylinders * heads * size)) as folder:
+        made("dasdinit", "volume", model if "-" in model or model == "2311" else f"{model}-1", "VOL001", cwd=folder)
+        keeps(setup, folder, "disk", "volume")
+        os.remove(f"{folder}/saved")
+        ran = program(setup, folder, "describe", "volume")
+        wanted = f"{cylinders} cylinders of {heads} heads, {size} bytes a track"
+        require(ran.status == 0 and wanted in ran.out and "volume VOL001" in ran.out, f"not described as {wanted}", ran)
+
+
+def loaded_volume(folder):
+    """A 3390 of three cylinders with a data set of blocks of 800 bytes."""
+    lines = [f"LINE {number:03d} OF THE DATA SET".ljust(80).encode("cp037") for number in range(1, 41)]
+    write(f"{folder}/lines", b"".join(lines))
+    control = "TEST01 3390-1 3\nSYS1.TEXT SEQ lines TRK 2 0 0 PS FB 80 800\nSYSVTOC VTOC TRK 1\n"
+    write(f"{folder}/control", control.encode())
+    made("dasdload", "control", "old", cwd=folder)
+
+
+def script_of(setup, sample, folder):
+    """The plain script of a symbolic sample."""
+    ran = program(setup, folder, "assemble", f"{SAMPLES}/images/{sample}")
+    require(ran.status == 0, f"{sample} is not assembled", ran)
+    return ran.out
+
+
+def rewrites_a_block(setup):
+    """A job finds a data set by its label and its VTOC, and rewrites its first block; dasdls and dasdseq read the result."""
+    with tempfile.TemporaryDirectory(prefix="images-") as folder:
+        loaded_volume(folder)
+        script = script_of(setup, "vtoc.symbolic", folder)
+        ran = program(setup, folder, "report", "--posts", "--load", "0=old", "--save", "0=new", script=script)
+        label = "VOL1TEST01".encode("cp037").hex().upper()
+        begins = [f"post 0 0 {number} 7F " for number in (1, 2, 3)]
+        lines = ran.out.splitlines()
+        require(ran.status == 0 and len(lines) == 4, "no three posts", ran)
+        require(all(line.startswith(it) for line, it in zip(lines, begins)) and label in lines[0], "other posts", ran)
+        first = "LINE 001 OF THE DATA SET".ljust(80).encode("cp037").hex().upper()
+        require(lines[2].endswith(first), "another first block", ran)
+        names = made("dasdls", "new", cwd=folder)
+        require(b"SYS1.TEXT" in names and b"TEST01" in names, f"dasdls: {names}")
+        made("dasdseq", "new", "SYS1.TEXT", cwd=folder)
+        records = bytes_of(f"{folder}/SYS1.TEXT")
+        new = [f"LINE {number:03d} WAS REWRITTEN BY A CHANNEL PROGRAM".ljust(80).encode("cp037") for number in range(1, 11)]
+        old = [f"LINE {number:03d} OF THE DATA SET".ljust(80).encode("cp037") for number in range(11, 41)]
+        require(b"".join(new + old) in (records, records.replace(b"\n", b"")), f"dasdseq: {records[:200]}")
+        tracks_are_kept(bytes_of(f"{folder}/old"), bytes_of(f"{folder}/new"), {1})
+
+
+def tracks_are_kept(old, new, written):
+    """All tracks but those written are as they were, and those have no byte after their end mark."""
+    before, after = formats.volume_of(old), formats.volume_of(new)
+    require(before.header == after.header, "another header")
+    for number, (one, other) in enumerate(zip(before.tracks, after.tracks)):
+        if number in written:
+            require(other.flag == 0 and not any(other.tail), f"track {number} is not canonical")
+        else:
+            require(one == other, f"track {number} was changed")
+    require(len(before.tracks) == len(after.tracks), "another number of tracks")
+
+
+def tape_with_labels():
+    """A tape with IBM standard labels and one data set."""
+
+    def text(line):
+        return line.ljust(80).encode("cp037")
+
+    first = [text("VOL1VOL001"), text("HDR1FIRST.FILE"), text("HDR2F0008000080"), None]
+    return [*first, text("THE ONLY LINE"), None, text("EOF1FIRST.FILE"), text("EOF2F0008000080"), None, None]
+
+
+def appends_a_file(setup):
+    """A job appends a data set to a labelled tape; tapemap and hetmap read the result."""
+    with tempfile.TemporaryDirectory(prefix="images-") as folder:
+        items = tape_with_labels()
+        # the one line is in two chunks
+        chunks = [[27, 53] if number == 4 else [len(it or b"")] for number, it in enumerate(items)]
+        write(f"{folder}/old", formats.image_of(formats.Tape(items, chunks)))
+        script = script_of(setup, "append.symbolic", folder)
+        ran = program(setup, folder, "report", "--posts", "--load", "0=old", "--save", "0=new", script=script)
+        require(ran.status == 0 and ran.out.startswith("post 0 0 1 7F "), "no post", ran)
+        tape = formats.tape_of(bytes_of(f"{folder}/new"))
+        require(tape.items[:9] == items[:9] and tape.chunks[:9] == chunks[:9], "the first data set was changed")
+        require(len(tape.items) == 19 and tape.items[17:] == [None, None], "no second data set")
+        require(all(len(it) == 1 for it in tape.chunks[9:]), "what was written is not canonical")
+        for reader in "tapemap", "hetmap":
+            shown = made(reader, "new", cwd=folder).decode("utf-8", "replace")
+            require("SECOND.FILE" in shown or "SECOND" in shown, f"{reader}: {shown}")
+
+
+def hetupd_reads(setup):
+    """Hercules' hetupd makes a plain tape of a compressed one, and it is loaded; it reads what is saved."""
+    with tempfile.TemporaryDirectory(prefix="images-") as folder:
+        shutil.copy(f"{STORED}/w.het", f"{folder}/packed")
+        ran = program(setup, folder, "describe", "packed")
+        require(ran.status == 1 and "hetupd -d IN OUT" in ran.err and ": byte 0: " in ran.err, "no cure", ran)
+        made("hetupd", "-d", "packed", "plain", cwd=folder)
+        keeps(setup, folder, "tape", "plain")
+        made("hetupd", "-d", "saved", "again", cwd=folder)
+        one, other = (formats.tape_of(bytes_of(f"{folder}/{it}")) for it in ("plain", "again"))
+        require(one.items == other.items, "hetupd reads another tape")
+
+
+# --- the stored samples
+
+
+def sample_is_kept(setup, name, kind):
+    with tempfile.TemporaryDirectory(prefix="images-") as folder:
+        shutil.copy(f"{STORED}/{name}", f"{folder}/image")
+        keeps(setup, folder, kind, "image")
+
+
+def is_converted(setup, name, to, kind):
+    """An image becomes the lines of a script, and these become an image of the same medium."""
+    with tempfile.TemporaryDirectory(prefix="images-") as folder:
+        shutil.copy(f"{STORED}/{name}", f"{folder}/image")
+        ran = program(setup, folder, "convert", "image")
+        require(ran.status == 0, "not converted", ran)
+        write(f"{folder}/lines", ran.out.encode())
+        expect(program(setup, folder, "convert", "--to", to, "--output", "again", "lines"), (0, ""))
+        if kind == "tape":
+            one, other = (formats.tape_of(bytes_of(f"{folder}/{it}")).items for it in ("image", "again"))
+        else:
+            one, other = (formats.volume_of(bytes_of(f"{folder}/{it}")) for it in ("image", "again"))
+            one, other = ([it.records for it in volume.tracks] for volume in (one, other))
+        require(one == other, "another medium")
+
+
+# --- images at fault
+
+
+def fault_of(image, is_disk):
+    """The first fault of an image, or nothing."""
+    try:
+        (formats.volume_of if is_disk else formats.tape_of)(image)
+    except formats.Fault as fault:
+        return fault
+    return None
+
+
+def are_judged(setup, images):
+    """`describe` takes each image, or reports its first fault with its byte."""
+    with tempfile.TemporaryDirectory(prefix="images-", dir=in_memory(sum(map(len, images)))) as folder:
+        names = [f"{number}" for number in range(len(images))]
+        for name, image in zip(names, images):
+            write(f"{folder}/{name}", image)
+        ran = program(setup, folder, "describe", *names, seconds=5 * SECONDS)
+        said = dict(re.findall(r"(?m)^excp_job: (\d+): (.*)$", ran.err))
+        taken = set(re.findall(r"(?m)^(\d+): (?:tape|disk) image", ran.out))
+        require(ran.status in (0, 1), "the program did not end by itself", ran)
+        for name, image in zip(names, images):
+            is_right(name, image, said.get(name), name in taken)
+
+
+def is_right(name, image, said, is_taken):
+    """What was said of an image is right."""
+    fault = fault_of(image, image[:4] == b"CKD_")
+    if fault is None:
+        require(is_taken and said is None, f"image {name} has no fault: {said}")
+        return
+    require(said and not is_taken, f"image {name} has a fault at {fault.offset}: {fault.names}")
+    offsets = fault.offset if isinstance(fault.offset, set) else {fault.offset}
+    found = re.match(r"byte (\d+): (.*)", said)
+    is_named = found and any(found[2].startswith(formats.TEXTS[it]) for it in fault.names)
+    require(is_named and int(found[1]) in offsets, f"image {name}: {said}; expected {fault.names} at {fault.offset}")
+
+
+def cuts(image, heads):
+    """An image cut after every byte of its headers and of its first and last 4 KiB, and elsewhere after every 97th."""
+    size = len(image)
+    places = {*range(min(4096, size)), *range(max(0, size - 4096), size), *range(0, size, 97), *heads}
+    return [image[:place] for place in sorted(places)]
+
+
+def changed(image, places):
+    """An image with each of these bytes replaced by every value."""
+    return [image[:at] + bytes([value]) + image[at + 1 :] for at in places for value in range(256) if value != image[at]]
+
+
+def headers_of_tape(image):
+    """The bytes of the headers of chunks."""
+    at, places = 0, []
+    while at < len(image):
+        places += range(at, at + formats.CHUNK)
+        at += formats.CHUNK + struct.unpack_from("<H", image, at)[0]
+    return places
+
+
+def small_volume():
+    """A volume of two tracks with a flag, odd bytes in R0, a record of another track, and bytes after an end mark."""
+    header = b"CKD_P370" + struct.pack("<IIB", 2, 120, 0x90).ljust(504, b"\0")
+    zero = (bytes(5), b"", bytes(8))
+    one = formats.Track(0, [zero, (bytes(4) + b"\1", b"KEY", b"DATA")], b"")
+    other = formats.Track(0x80, [(b"\0\0\0\1\0", b"", b"ODD DATA"), (b"\0\7\0\7\7", b"", b"")], b"after the end")
+    tracks = formats.bytes_of(one, 120, 0, 0) + formats.bytes_of(other, 120, 0, 1)
+    return header + tracks
+
+
+def small_tape():
+    """A tape with a block in several chunks, one of which is empty, and marks."""
+    items = [b"FIRST", None, b"IN SEVERAL CHUNKS", None, None]
+    return formats.image_of(formats.Tape(items, [[5], [0], [2, 0, 15], [0], [0]]))
+
+
+def parted(images, count=FILES):
+    return [images[at : at + count] for at in range(0, len(images), count)]
+
+
+def hostile():
+    """Images at fault, and some that are not, by name."""
+    tape, disk = small_tape(), small_volume()
+    headers = [*range(0, 20), *range(512, 517), *range(517, 525), *range(632, 645)]
+    yield "a small tape, changed", changed(tape, headers_of_tape(tape)) + [tape[:at] for at in range(len(tape))]
+    yield "a small disk, changed", changed(disk, headers) + [disk[:at] for at in range(len(disk))]
+    sizes = [disk[:at] + struct.pack("<I", it) + disk[at + 4 :] for at in (8, 12) for it in (0, 1, 65_536, 2**31, 2**32 - 1)]
+    yield "a small disk with other sizes", sizes
+    for name in "w.aws", "wnc.het":
+        image = bytes_of(f"{STORED}/{name}")
+        yield f"{name}, cut", cuts(image, headers_of_tape(image))
+    image = bytes_of(f"{STORED}/load2311.img")
+    yield "load2311.img, cut", cuts(image, [512 + number * 4096 + at for number in range(50) for at in range(13)])
+
+
+def at_random(setup, seed):
+    """Tapes with chunks at random are kept, byte for byte."""
+    chance = random.Random(seed)
+    items, chunks = [], []
+    for _ in range(chance.randrange(12)):
+        if chance.random() < 0.3:
+            items.append(None)
+            chunks.append([0])
+            continue
+        lengths = [chance.choice((0, 1, 2, 80, 4096)) for _ in range(chance.randrange(1, 5))]
+        lengths[-1] += 0 if sum(lengths) else 1
+        items.append(chance.randbytes(sum(lengths)))
+        chunks.append(lengths)
+    with tempfile.TemporaryDirectory(prefix="images-") as folder:
+        write(f"{folder}/image", formats.image_of(formats.Tape(items, chunks)))
+        keeps(setup, folder, "tape", "image")
+
+
+# --- the command line, and files that are replaced
+
+
+def small(folder):
+    """The small images in a folder."""
+    write(f"{folder}/tape", small_tape())
+    write(f"{folder}/disk", small_volume())
+
+
+TAPE, DISK = idle("tape"), idle("disk")
+
+# Words, a script, and what is printed on standard error with status 1.
+REJECTED = [
+    (["report", "--load", "0=missing"], TAPE, "excp_job: missing: there is no such file\n"),
+    (["report", "--load", "0=."], TAPE, "excp_job: .: it is not a regular file\n"),
+    (["report", "--load", "0=disk"], TAPE, "excp_job: line 2: "),
+    (["report", "--load", "0=tape"], DISK, "excp_job: line 2: "),
+    (["report", "--load", "1=tape"], TAPE, "excp_job: "),
+    (["report", "--load", "0=tape", "--save", "1=other"], TAPE, "excp_job: 1=other: no line declares unit 1\n"),
+    (["report", "--load", "0=tape", "--load", "1=./tape"], TAPE, "excp_job: ./tape: it is named for two units\n"),
+    (["report", "--load", "0=tape"], "tasks 1\ntape 0 0 20\nwait 0\n", "excp_job: line 2: Medium\n"),
+    (["report", "--load", "0=tape"], "tasks 1\ntape 0 0 -\nblock 0 C1\nwait 0\n", "excp_job: line 3: Medium\n"),
+    (["report", "--load", "0=tape"], "tasks 1\ntape 0 0 -\nmark 0\nwait 0\n", "excp_job: line 3: Medium\n"),
+    (["report", "--load", "0=disk"], "tasks 1\ndisk 0 0 -\nrec 0 0 0 1 - C1\nwait 0\n", "excp_job: line 3: Medium\n"),
+    (["report", "--load", "0=disk"], "tasks 1\ndisk 0 0 2 1 106\nwait 0\n", "excp_job: line 2: Medium\n"),
+    (["report"], TAPE, "excp_job: line 2: Number\n"),
+    (["run"], TAPE, "excp_job: line 2: Number\n"),
+    (["report", "--load", "0=tape", "--save", "0=none/there"], TAPE, "excp_job: none/there: there is no such directory\n"),
+    (["report", "--load", "0=tape", "--save", "0=/dev/null"], TAPE, "excp_job: /dev/null: it is not a regular file\n"),
+    (["convert", "missing"], "", "excp_job: missing: there is no such file\n"),
+    (["describe", "missing", "disk"], "", "excp_job: missing: there is no such file\n"),
+]
+
+
+def is_rejected(setup, words, script, said):
+    with tempfile.TemporaryDirectory(prefix="images-") as folder:
+        small(folder)
+        before = sorted(os.listdir(folder))
+        ran = program(setup, folder, *words, script=script)
+        require(ran.status == 1 and ran.err.startswith(said), f"expected {said!r}", ran)
+        require(sorted(os.listdir(folder)) == before, "a file was made", ran)
+
+
+# Scripts with one unit that are the same job, with the size as numbers or as the image has it.
+SIZES = [
+    ("tape", "tape 0 0 -"),
+    ("tape", f"tape 0 0 {4 * 5 + 5 + 17}"),
+    ("tape", "tape 0 0 20000000"),
+    ("disk", "disk 0 0 -"),
+    ("disk", "disk 0 0 - - -"),
+    ("disk", "disk 0 0 1 2 106"),
+]
+
+
+def size_is_taken(setup, name, line):
+    with tempfile.TemporaryDirectory(prefix="images-") as folder:
+        small(folder)
+        script = f"tasks 1\n{line}\nwait 0\n"
+        words = ["report", "--posts", "--load", f"0={name}", "--save", "0=saved"]
+        expect(program(setup, folder, *words, script=script), (0, "end 0\n"))
+        require(bytes_of(f"{folder}/saved") == bytes_of(f"{folder}/{name}"), "another image")
+        ran = program(setup, folder, "check", "--load", f"0={name}", script=script)
+        require(ran.status == 0, "check finds a fault", ran)
+
+
+def replaces_whole(setup):
+    """A file is replaced whole through a link, and keeps its mode. One that is loaded may be saved to."""
+    with tempfile.TemporaryDirectory(prefix="images-") as folder:
+        small(folder)
+        os.chmod(f"{folder}/tape", 0o640)
+        os.symlink("tape", f"{folder}/link")
+        before = os.stat(f"{folder}/tape").st_ino
+        script = "tasks 1\ntape 0 0 100\nopen 0 out\n" + write_mark()
+        ran = program(setup, folder, "report", "--posts", "--load", "0=tape", "--save", "0=link", script=script)
+        require(ran.status == 0, "not saved", ran)
+        after = os.stat(f"{folder}/tape")
+        require(os.path.islink(f"{folder}/link") and after.st_ino != before, "the file was not replaced")
+        require(after.st_mode & 0o777 == 0o640, "another mode")
+        require(formats.tape_of(bytes_of(f"{folder}/tape")).items == [None], "another tape")
+        require(sorted(os.listdir(folder)) == ["disk", "link", "tape"], f"files left: {os.listdir(folder)}")
+
+
+def write_mark():
+    """An area with a request that writes a tape mark at the load point, and its EXCP."""
+    iob = "4200000000001028 0000000000000000 0000103000000001 0000000000000000 0000000000000000"
+    return f"area 0 001000 {iob} 0000000000000000 1F00000020000001\nexcp 0 0 1 001000 0 001000 0\n"
+
+
+def full_disk_loses_nothing(setup):
+    """If the file gets too large for its user, the old one stays, and no other is left."""
+    with tempfile.TemporaryDirectory(prefix="images-") as folder:
+        shutil.copy(f"{STORED}/w.aws", f"{folder}/tape")
+        words = f"trap '' XFSZ; ulimit -f 8; exec {setup.program} report --posts --load 0=tape --save 0=tape"
+        ran = run(["bash", "-c", words], TAPE, cwd=folder)
+        require(ran.status == 1 and "excp_job: " in ran.err and "larger" in ran.err, "no error", ran)
+        require(bytes_of(f"{folder}/tape") == bytes_of(f"{STORED}/w.aws"), "the old file was changed")
+        require(os.listdir(folder) == ["tape"], f"files left: {os.listdir(folder)}")
+
+
+def failed_run_saves_nothing(setup):
+    with tempfile.TemporaryDirectory(prefix="images-") as folder:
+        small(folder)
+        script = f"{TAPE}close 0 0 1\n"
+        ran = program(setup, folder, "report", "--load", "0=tape", "--save", "0=saved", script=script)
+        require(ran.status == 1 and ran.err == "excp_job: line 4: Name\n", "no fault", ran)
+        require(not os.path.exists(f"{folder}/saved"), "it was saved")
+
+
+def left_file_is_named(setup):
+    """A new file that a killed run left is not overwritten."""
+    with tempfile.TemporaryDirectory(prefix="images-") as folder:
+        small(folder)
+        write(f"{folder}/tape.excp-new", b"left")
+        ran = program(setup, folder, "report", "--load", "0=tape", "--save", "0=tape", script=TAPE)
+        require(ran.status == 1 and ".excp-new" in ran.err, "no error", ran)
+        require(bytes_of(f"{folder}/tape.excp-new") == b"left", "it was overwritten")
+
+
+def prints_paper(setup):
+    """What a printer printed is saved as text: the job of the manual, whose paper it shows."""
+    with tempfile.TemporaryDirectory(prefix="images-") as folder:
+        file = f"{SAMPLES}/print-pages.script"
+        ran = program(setup, folder, "report", "--save", "0=paper", file)
+        require(ran.status == 0, "not saved", ran)
+        shown = re.findall(r"(?m)^# page +(\d+) line +(\d+) \|(.*)$", ran.out)
+        page, line, text = 1, 1, ""
+        for number, (to_page, to_line, printed) in enumerate(shown):
+            to = int(to_page), int(to_line)
+            text += "\r" if number and to == (page, line) else ""
+            while page < to[0]:
+                page, line, text = page + 1, 1, f"{text}\f"
+            text += "\n" * (to[1] - line)
+            page, line, text = *to, text + printed.rstrip()
+        paper = read(f"{folder}/paper")
+        expect_text("another paper", ran, text, paper[: len(text)])
+        require(set(paper[len(text) :]) <= set("\r\n\f"), "more than motion after the last line")
+
+
+def cases(setup):
+    for model in MODELS:
+        yield Case(f"whole volume {model}", lambda m=model: is_kept_whole(setup, m), BY_HERCULES, "volumes")
+    for name, judge in {
+        "a block of a data set is rewritten": rewrites_a_block,
+        "a data set is appended to a tape": appends_a_file,
+        "a compressed tape": hetupd_reads,
+    }.items():
+        yield Case(name, lambda j=judge: j(setup), BY_HERCULES)
+    for name, kind, to in ("w.aws", "tape", "aws"), ("wnc.het", "tape", "aws"), ("load2311.img", "disk", "ckd"):
+        yield Case(f"{name} is kept", lambda n=name, k=kind: sample_is_kept(setup, n, k), ORIGIN)
+        yield Case(f"{name} is converted", lambda n=name, t=to, k=kind: is_converted(setup, n, t, k), ORIGIN)
+    for name in "w.het", "w.fkt":
+        yield Case(f"{name} is rejected", lambda n=name: are_judged(setup, [bytes_of(f"{STORED}/{n}")]), ORIGIN)
+    for name, images in hostile():
+        for number, part in enumerate(parted(images), 1):
+            yield Case(f"hostile: {name}, {number}", lambda p=part: are_judged(setup, p), ORIGIN)
+    for seed in range(20):
+        yield Case(f"tape at random {seed}", lambda s=seed: at_random(setup, s), ORIGIN)
+    for words, script, said in REJECTED:
+        name = f"rejected: {' '.join(words)} {script.splitlines()[1:2]}"
+        yield Case(name, lambda w=words, s=script, t=said: is_rejected(setup, w, s, t), "docs/MANUAL.md, Images")
+    for name, line in SIZES:
+        yield Case(f"size: {line}", lambda n=name, it=line: size_is_taken(setup, n, it), "docs/MANUAL.md, Images")
+    for judge in replaces_whole, full_disk_loses_nothing, failed_run_saves_nothing, left_file_is_named, prints_paper:
+        yield Case(judge.__name__.replace("_", " "), lambda j=judge: j(setup), "docs/MANUAL.md, Images")
