@@ -1,8 +1,7 @@
 //! Images of tapes in the AWSTAPE format. The items of the image are those that `hetmap` of Hercules shows.
 
-use crate::devices::late_fault;
 use crate::memory::TWICE;
-use crate::tapes::expect_items;
+use crate::tapes::{expect_items, mounted};
 use aws_tape::{AwsError, AwsFault, Image, load};
 use std::alloc::Global;
 use std::io;
@@ -54,7 +53,7 @@ fn load_without_memory(rt: HostRuntime) -> Result<(), Fail> {
     };
     assert_eq!(rt; tape.used(), 22);
     tape.cut();
-    let tape = tape.mount(rt.alloc(), &[late_fault()])?;
+    let tape = mounted(&rt, rt.alloc(), tape).ok_or(TWICE)?;
     expect_items(&rt, &tape, &ITEMS);
     Ok(())
 }

@@ -6,7 +6,7 @@ use device_port::{Device, MountError};
 use std::alloc::{AllocError, Global};
 use std::process::Abort;
 use std::test::Fail;
-use tape_unit::{InitialItem, Recording, RecordingError, Tape};
+use tape_unit::{InitialItem, Recording, RecordingError, Tape, Unmounted};
 
 /// Items, the empty one being a tape mark.
 fn items(alloc: Global, contents: &[&[u8]]) -> Result<Vec<InitialItem>, AllocError> {
@@ -39,6 +39,17 @@ pub fn expect_items(rt: &impl Abort, tape: &Tape, expected: &[&[u8]]) {
 /// A tape of the most bytes with these items, and a fault that no command comes to.
 fn longest(alloc: Global, items: &[InitialItem]) -> Result<Tape, MountError> {
     Tape::mount(alloc, items, 16_777_216, &[late_fault()])
+}
+
+/// Mounts a recording with a fault that no command comes to, once more if memory runs out.
+pub fn mounted(rt: &impl Abort, alloc: Global, recording: Recording) -> Option<Tape> {
+    match recording.mount(alloc, &[late_fault()]) {
+        Ok(tape) => Some(tape),
+        Err(Unmounted { recording, reason }) => {
+            assert_eq!(rt; reason, MountError::NoMemory);
+            recording.mount(alloc, &[late_fault()]).ok()
+        }
+    }
 }
 
 /// A block and a tape mark.
@@ -94,7 +105,7 @@ fn record_without_memory(rt: HostRuntime) -> Result<(), Fail> {
     assert!(rt; matches!(tape.write_block(&[]), Err(RecordingError::BadBlock)));
     assert!(rt; matches!(tape.write_tape_mark(), Err(RecordingError::Full)));
     assert_eq!(rt; tape.used(), 9);
-    let tape = tape.mount(rt.alloc(), &[late_fault()])?;
+    let tape = mounted(&rt, rt.alloc(), tape).ok_or(TWICE)?;
     expect_items(&rt, &tape, &TWO_ITEMS);
     Ok(())
 }
