@@ -2,11 +2,11 @@
 use Rattle.std.proofs.Common.{◌≡◌, ℕ, ◌+◌, ◌<◌, ◌≤◌, Bool, true, false, cond, nat_le, nat_lt, ◌&&◌, List, [], ◌++◌, length, take, drop}
 use Rattle.std.proofs.Common.{Ok, Err, Result, Option, Some, None, refl, sym, ap, subst, ◌∙◌, inl, inr, append-nil, length-append, arith}
 use Rattle.std.proofs.lemmas.Bool.Decides.{nat_tests}
-use Rattle.std.proofs.lemmas.List.{length-drop, drop-drop, take_at, drop_at, length-take-le, take-append-le}
+use Rattle.std.proofs.lemmas.List.{drop-drop, take_at, drop_at, length-take-le, take-append-le}
 use Rattle.std.proofs.Math.Nat.{eq-or-lt_of_le}
 use Rattle.std.specs.List.{list_all}
 use Rattle.std.specs.Fmt.{option_append}
-use Rattle.std.specs.Io.KnownBytes.{Consumes, IsAtEnd}
+use Rattle.std.specs.Io.KnownBytes.{Consumes}
 use Rattle.aws_tape.specs.declared.chunk.Header.{Header}
 use Rattle.aws_tape.specs.declared.image.Image.{Image}
 use Rattle.aws_tape.specs.declared.fault.AwsError.{AwsError}
@@ -15,7 +15,7 @@ use Rattle.aws_tape.specs.declared.fault.AwsFault.TheVariants as fault
 use Rattle.aws_tape.specs.Chunk.{len_of, is_digit}
 use Rattle.aws_tape.specs.Between.{Between}
 use Rattle.aws_tape.specs.Steps.{◌>>=◌}
-use Rattle.aws_tape.specs.Sources.{Fills}
+use Rattle.image_source.specs.Filled.{Fills}
 use Rattle.aws_tape.specs.Reading.{IsOfImage, at_offset, image_end, with_data, header_after, data_after, first_after, start, read_from, is_fake_tape, Loads}
 use Rattle.aws_tape.specs.Stepping.{Drops, FetchesChunk, ReadsData, ReadsChunk, ReadsChunks, IsLeft}
 use Rattle.aws_tape.proofs.Images.{first_with, first_len, read_chunk, read_fault, read_end}

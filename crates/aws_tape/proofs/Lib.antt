@@ -1,5 +1,5 @@
 -- The lemmas of aws_tape.
-pub mod Sources
+pub mod Buffers
 pub mod Images
 pub mod Chunks
 pub mod Written

@@ -2,7 +2,6 @@
 pub mod Chunk
 pub mod Layout
 pub mod Steps
-pub mod Sources
 pub mod Between
 pub mod Reading
 pub mod Stepping

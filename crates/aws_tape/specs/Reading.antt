@@ -6,7 +6,6 @@ use Rattle.std.specs.List.{list_all}
 use Rattle.tape_unit.specs.Item.{Item, tape_mark, block}
 use Rattle.tape_unit.specs.Reel.{ReelState}
 use Rattle.tape_unit.specs.Recording.{with_item, takes_item}
-use Rattle.aws_tape.specs.declared.layout.Part.{Part}
 use Rattle.aws_tape.specs.declared.image.Image.{Image}
 use Rattle.aws_tape.specs.declared.chunk.Header.{Header}
 use Rattle.aws_tape.specs.declared.chunk.ChunkKind.{ChunkKind}

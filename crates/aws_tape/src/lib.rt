@@ -14,7 +14,6 @@ mod image;
 mod layout;
 mod loading;
 mod reader;
-mod source;
 mod writer;
 
 pub use fault::{AwsError, AwsFault};

@@ -11,7 +11,7 @@ use crate::chunk::{HEADER, is_digit};
 use crate::fault::{AwsError, AwsFault};
 use crate::image::Image;
 use crate::reader::Reader;
-use crate::source::fill;
+use image_source::fill;
 use std::alloc::Global;
 use std::io::Read;
 use tape_unit::Recording;
@@ -31,9 +31,11 @@ pub fn load<R: Read>(alloc: Global, source: &mut R, bytes: u64) -> Result<Image,
     ensures { Loads bytes (R.remaining source.old) result }
 {
     let mut first = [0; FAKE_HEADER];
-    let count = match fill(source, &mut first) {
-        Ok(count) => count,
-        Err(fault) => return Err(AwsError { fault, offset: 0 }),
+    let Ok(count) = fill(source, &mut first) else {
+        return Err(AwsError {
+            fault: AwsFault::Unreadable,
+            offset: 0,
+        });
     };
     let read = &first[..count];
     if is_fake_tape(read) {

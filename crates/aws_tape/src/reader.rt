@@ -8,7 +8,7 @@ use crate::chunk::{ChunkKind, HEADER, Header, number};
 use crate::fault::AwsFault;
 use crate::image::Image;
 use crate::layout::{Layout, Part};
-use crate::source::fill;
+use image_source::fill;
 use std::alloc::Global;
 use std::io::Read;
 use std::marker::Model;
@@ -114,7 +114,9 @@ impl Reader {
         let Ok(()) = self.block.resize(start + len as usize, 0) else {
             return Err(AwsFault::NoMemory);
         };
-        let count = fill(source, &mut self.block[start..])?;
+        let Ok(count) = fill(source, &mut self.block[start..]) else {
+            return Err(AwsFault::Unreadable);
+        };
         if count < len as usize {
             return Err(AwsFault::DataCutShort);
         }
@@ -214,9 +216,8 @@ impl Reader {
         ensures short { IfOk result (λ found. IfSome found (λ len. len ≤ 65_535)) }
     {
         let mut bytes = [0; HEADER];
-        let count = match fill(source, &mut bytes) {
-            Ok(count) => count,
-            Err(fault) => return Err(fault),
+        let Ok(count) = fill(source, &mut bytes) else {
+            return Err(AwsFault::Unreadable);
         };
         if count == 0 {
             return Ok(None);

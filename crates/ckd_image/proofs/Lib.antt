@@ -1,5 +1,4 @@
 -- The lemmas of ckd_image.
-pub mod Sources
 pub mod Files
 pub mod Tracks
 pub mod Reading

@@ -2,18 +2,18 @@
 use Rattle.std.proofs.Common.{◌≡◌, ℕ, ◌+◌, ◌*◌, ◌<◌, ◌≤◌, ◌⊎◌, false, List, [], ◌∷◌, ◌++◌, length, take, Option, Ok, Err, Result, IfOk}
 use Rattle.std.proofs.Common.{refl, sym, ap, subst, ◌∙◌, append_assoc, arith, inl, inr}
 use Rattle.std.specs.Prelude.{IfErr}
-use Rattle.std.proofs.lemmas.List.{length-append, append-nil, take_all, length-take-le}
+use Rattle.std.proofs.lemmas.List.{length-append, append-nil, length-take-le}
 use Rattle.std.specs.Io.KnownBytes.{Consumes}
 use Rattle.ckd_disk.specs.Volume.{VolumeState, is_whole}
 use Rattle.ckd_image.specs.declared.fault.CkdError.{CkdError}
 use Rattle.ckd_image.specs.declared.fault.CkdFault.{CkdFault}
 use Rattle.ckd_image.specs.declared.format.Format.{Format}
 use Rattle.ckd_image.specs.declared.kept.Image.{Image}
-use Rattle.ckd_image.specs.Sources.{Fills}
+use Rattle.image_source.specs.Filled.{Fills}
 use Rattle.ckd_image.specs.Header.{format_of}
 use Rattle.ckd_image.specs.Image.{KeptTrackState, KeptState, kept_at, tracks_file, file_of, IsImageBegun}
 use Rattle.ckd_image.specs.Loading.{TakesTrack, IsLoader, FailsTrack, FailsAfter, FailsImage, ReadsTracks, Loaded, EndsImage, IsFault}
-use Rattle.ckd_image.proofs.Sources.{consumes-nothing, consumes-more}
+use Rattle.image_source.proofs.Sources.{consumes-nothing, consumes-more}
 use Rattle.ckd_image.proofs.Files.{no_files, file_more, loader_more, begun}
 
 abbrev tracks_of : Format → VolumeState → List KeptTrackState → List ℕ
@@ -57,10 +57,6 @@ far_more f old now next v after kept more zeros track offset far read long takes
     }
 
 -- the whole buffer was filled
-pub whole_read : (old new : Option (List ℕ)) (buffer : List ℕ) (count : ℕ) → Fills old new buffer count → length buffer ≤ count →
-    Consumes old new buffer
-whole_read old new buffer count f le = subst (λ (l : List ℕ). Consumes old new l) (take_all count buffer le) f.consumed
-
 pub fails_track : (f : Format) (header : List ℕ) (old now next : Option (List ℕ)) (v : VolumeState) (kept : List KeptTrackState)
     (zeros track : List ℕ) (offset : ℕ) (fault : CkdFault) (at : ℕ) → Far f old now v kept zeros offset → format_of header ≡ Ok f →
     length header ≡ 512 → Consumes now next track → length track ≡ f.bytes → FailsTrack f v track fault at

@@ -1,5 +1,4 @@
 -- The definitions of ckd_image: the header, the bytes of an image, and what reading one answers.
-pub mod Sources
 pub mod Header
 pub mod Image
 pub mod Loading

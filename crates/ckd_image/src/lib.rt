@@ -13,7 +13,6 @@ mod kept;
 mod loader;
 mod models;
 mod saver;
-mod source;
 
 pub use fault::{CkdError, CkdFault, SaveError};
 pub use format::Format;

@@ -9,8 +9,8 @@ ghost use Rattle.ckd_image.specs.Loading.{IsFault, Loaded, FailsImage, FailsTrac
 use crate::fault::{CkdError, CkdFault};
 use crate::format::{BESIDE, Format, HEADER};
 use crate::kept::{Image, Kept, KeptTrack};
-use crate::source::fill;
 use ckd_disk::{Volume, VolumeError};
+use image_source::fill;
 use std::alloc::{AllocError, Global};
 use std::io::Read;
 
@@ -41,9 +41,11 @@ pub fn load<R: Read>(alloc: Global, reader: &mut R) -> Result<Image, CkdError>
     ensures fault { IfErr result (λ e. IsFault e.fault → FailsImage (R.remaining reader.old) (R.remaining reader.new) e) }
 {
     let mut header = [0; HEADER];
-    let count = match fill(reader, &mut header) {
-        Ok(count) => count,
-        Err(fault) => return Err(CkdError { fault, offset: 0 }),
+    let Ok(count) = fill(reader, &mut header) else {
+        return Err(CkdError {
+            fault: CkdFault::Unreadable,
+            offset: 0,
+        });
     };
     if count < HEADER {
         return Err(CkdError {
@@ -112,9 +114,11 @@ impl Loader {
             });
         };
         'tracks: loop {
-            let count = match fill(reader, &mut buffer) {
-                Ok(count) => count,
-                Err(fault) => return Err(CkdError { fault, offset }),
+            let Ok(count) = fill(reader, &mut buffer) else {
+                return Err(CkdError {
+                    fault: CkdFault::Unreadable,
+                    offset,
+                });
             };
             if count < bytes {
                 return self.end(header, offset, count);

@@ -1,4 +1,4 @@
-use Rattle.std.proofs.Common.{◌+◌, ◌≤◌, arith}
+use Rattle.std.proofs.Common.{◌≤◌, arith}
 use Rattle.aws_tape.proofs.Chunks.{left_chunk, left_end, left_fault}
 use Rattle.aws_tape.proofs.loading.load_chunks.Goals as goal
 

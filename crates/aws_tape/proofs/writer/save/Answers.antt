@@ -1,6 +1,6 @@
-use Rattle.std.proofs.Common.{◌≡◌, ◌+◌, ◌++◌, ◌∷◌, [], List, ℕ, Bool, ◌&&◌, length, take, drop, sym, ap, ◌∙◌, arith}
+use Rattle.std.proofs.Common.{◌≡◌, ◌+◌, ◌++◌, [], List, ℕ, Bool, ◌&&◌, take, drop, sym, ap, ◌∙◌, arith}
 use Rattle.std.specs.List.{list_all}
-use Rattle.tape_unit.specs.Item.{Item, is_item}
+use Rattle.tape_unit.specs.Item.{is_item}
 use Rattle.aws_tape.specs.declared.layout.Part.{Part}
 use Rattle.aws_tape.specs.Layout.{own_count}
 use Rattle.aws_tape.specs.Writing.{item_image, items_image, last_len}

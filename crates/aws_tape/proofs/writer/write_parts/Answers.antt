@@ -1,5 +1,4 @@
-use Rattle.std.proofs.Common.{◌≡◌, ◌+◌, ◌++◌, ◌∷◌, [], ℕ, List, length, take, drop, refl, sym, ap, subst, ◌∙◌, arith}
-use Rattle.std.specs.Io.KnownBytes.{Appends}
+use Rattle.std.proofs.Common.{◌≡◌, ◌++◌, ◌∷◌, ℕ, List, take, sym, ap, ◌∙◌, arith}
 use Rattle.aws_tape.specs.declared.layout.Part.{Part}
 use Rattle.aws_tape.specs.Layout.{bytes_in}
 use Rattle.aws_tape.specs.Writing.{header_of, flags_of, chunks_of, last_length}

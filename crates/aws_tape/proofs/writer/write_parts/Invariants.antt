@@ -1,5 +1,4 @@
-use Rattle.std.proofs.Common.{◌≡◌, ◌≤◌, ◌++◌, ℕ, List, length}
-use Rattle.std.specs.Io.KnownBytes.{Appends}
+use Rattle.std.proofs.Common.{◌≡◌, ◌≤◌, length}
 use Rattle.aws_tape.specs.Layout.{bytes_in}
 use Rattle.aws_tape.specs.Writing.{chunks_of, last_length}
 use Rattle.aws_tape.proofs.Written.{Wrote}

@@ -1,9 +1,9 @@
-use Rattle.std.proofs.Common.{◌≡◌, ◌+◌, ◌-◌, ◌++◌, ℕ, List, length, take, drop, replicate, refl, sym, ap, ◌∙◌, arith, rules}
-use Rattle.std.specs.Vec.{with_items}
+use Rattle.std.proofs.Common.{◌≡◌, ◌-◌, ◌++◌, ℕ, List, length, take, drop, sym, ap, ◌∙◌, arith, rules}
 use Rattle.std.proofs.lemmas.List.{with_items_is}
 use Rattle.aws_tape.specs.Between.{Between}
 use Rattle.aws_tape.specs.Reading.{with_data}
-use Rattle.aws_tape.proofs.Sources.{whole_read, grown_filled}
+use Rattle.aws_tape.proofs.Buffers.{grown_filled}
+use Rattle.image_source.proofs.Sources.{whole_read}
 use Rattle.aws_tape.proofs.Chunks.{fetched}
 use Rattle.aws_tape.proofs.reader.Reader.fetch.Goals as goal
 
@@ -23,7 +23,7 @@ returns g c =
     let grown-is = c.deref_mut.ensures.value ∙ (c.in-Ok.ensures {u = tt}).items in
     let block-is = with_items_is v image same ∙ grown_filled i.block.items grown filled start n i.block.len start-is k-is grown-is len in
     fetched c.args.self.now _ n _ _ filled tt len
-    (whole_read _ _ filled c.in_ok-count.count ((c.in_ok-count.ensures {u = tt}).read) (omega (arith, len)))
+    (whole_read _ _ filled c.in-Ok-fill.count (c.in-Ok-fill.ensures {u = tt}) (omega (arith, len)))
     (ap (λ (l : List ℕ). record { reel = i.tape; is_open = i.is_open; block = l; layout = i.layout; previous = n }) block-is
     ∙ ap (λ (m : ℕ). record { reel = i.tape; is_open = i.is_open; block = i.block.items ++ filled; layout = i.layout; previous = m }) (sym len)
     ∙ ap (λ (at : Between). with_data at filled) c.self.view_is)

@@ -4,7 +4,8 @@ use Rattle.ckd_image.specs.declared.format.Format.{Format}
 use Rattle.ckd_image.specs.declared.fault.CkdError.{CkdError}
 use Rattle.ckd_image.specs.Header.{format_of}
 use Rattle.ckd_image.specs.Loading.{TakesTrack, FailsTrack}
-use Rattle.ckd_image.proofs.Reading.{Far, far_start, far_more, whole_read, fails_track, ends_loaded, ends_failed}
+use Rattle.ckd_image.proofs.Reading.{Far, far_start, far_more, fails_track, ends_loaded, ends_failed}
+use Rattle.image_source.proofs.Sources.{whole_read}
 use Rattle.ckd_image.proofs.loader.Loader.read.Goals as goal
 
 pub tracks-init : goal.tracks-init
@@ -26,7 +27,7 @@ returns-then-count-bytes-clause-loaded g c =
     let same : length c.fill.new.buffer ≡ c.tracks.buffer.len = search rules in
     let len : length c.tracks.buffer.items ≡ c.tracks.buffer.len = search rules in
     ends_loaded s.format c.args.header _ (g.R.Read.remaining c.tracks.reader) _ s.volume s.tracks.items s.zeros.items c.fill.new.buffer
-    c.tracks.offset c.in-Ok-fill.count c.end.result i.far says c.requires.long ((c.in-Ok-fill.ensures {u = tt}).read)
+    c.tracks.offset c.in-Ok-fill.count c.end.result i.far says c.requires.long (c.in-Ok-fill.ensures {u = tt})
     (omega (arith, same, len, i.buffer, i.bytes)) c.end.ensures
 
 pub returns-then-count-bytes-clause-fault : goal.returns-then-count-bytes-clause-fault
@@ -38,11 +39,11 @@ returns-then-count-bytes-clause-fault g c =
     let same : length c.fill.new.buffer ≡ c.tracks.buffer.len = search rules in
     let len : length c.tracks.buffer.items ≡ c.tracks.buffer.len = search rules in
     ends_failed s.format c.args.header _ (g.R.Read.remaining c.tracks.reader) _ s.volume s.tracks.items s.zeros.items c.fill.new.buffer
-    c.tracks.offset c.in-Ok-fill.count c.end.result i.far says c.requires.long ((c.in-Ok-fill.ensures {u = tt}).read)
+    c.tracks.offset c.in-Ok-fill.count c.end.result i.far says c.requires.long (c.in-Ok-fill.ensures {u = tt})
     (omega (arith, same, len, i.buffer, i.bytes)) (omega (arith, same, len, i.buffer, i.bytes)) c.end.ensures
 
-pub returns-in-Err-take-clause-fault : goal.returns-in-Err-take-clause-fault
-returns-in-Err-take-clause-fault g c = λ (known : _).
+pub returns-in-Err-clause-fault : goal.returns-in-Err-clause-fault
+returns-in-Err-clause-fault g c = λ (known : _).
     let s = c.tracks.self in
     let i = c.tracks.invariant in
     let ok : Format → Result Format CkdError = λ x. Ok x in
@@ -52,11 +53,11 @@ returns-in-Err-take-clause-fault g c = λ (known : _).
     let long : length c.fill.new.buffer ≡ s.format.bytes = omega (arith, same, len, i.buffer, i.bytes) in
     let track-is : c.deref.result.now ≡ c.fill.new.buffer = c.deref.ensures.value ∙ with_items_is c.tracks.buffer c.fill.new.buffer same in
     fails_track s.format c.args.header _ (g.R.Read.remaining c.tracks.reader) _ s.volume s.tracks.items s.zeros.items c.fill.new.buffer
-    c.tracks.offset c.in-Err-take.error.fault c.in-Err-take.error.offset i.far says c.requires.long
-    (whole_read _ _ c.fill.new.buffer c.in-Ok-fill.count ((c.in-Ok-fill.ensures {u = tt}).read) (omega (arith, long, ap (λ (x : Format). x.bytes) i.format, c.if-count-bytes.false)))
+    c.tracks.offset c.in-Err.error.fault c.in-Err.error.offset i.far says c.requires.long
+    (whole_read _ _ c.fill.new.buffer c.in-Ok-fill.count (c.in-Ok-fill.ensures {u = tt}) (omega (arith, long, ap (λ (x : Format). x.bytes) i.format, c.if-count-bytes.false)))
     long
-    (subst (λ (l : List ℕ). FailsTrack s.format s.volume l c.in-Err-take.error.fault c.in-Err-take.error.offset) track-is
-    ((c.in-Err-take.ensures {u = tt}).fault))
+    (subst (λ (l : List ℕ). FailsTrack s.format s.volume l c.in-Err.error.fault c.in-Err.error.offset) track-is
+    ((c.in-Err.ensures {u = tt}).fault))
 
 pub tracks-preserved : goal.tracks-preserved
 tracks-preserved g c =
@@ -73,7 +74,7 @@ tracks-preserved g c =
     let track-is : c.deref.result.now ≡ c.fill.new.buffer = c.deref.ensures.value ∙ kept in
     let takes : TakesTrack s.format c.fill.new.buffer s.volume t.volume s.tracks.items t.tracks.items =
     subst (λ (l : List ℕ). TakesTrack s.format l s.volume t.volume s.tracks.items t.tracks.items) track-is ((c.in-Ok-take.ensures {u = tt}).taken) in
-    let read = whole_read _ _ c.fill.new.buffer c.in-Ok-fill.count ((c.in-Ok-fill.ensures {u = tt}).read)
+    let read = whole_read _ _ c.fill.new.buffer c.in-Ok-fill.count (c.in-Ok-fill.ensures {u = tt})
     (omega (arith, long, wide, c.if-count-bytes.false)) in
     let far = far_more s.format old (g.R.Read.remaining c.tracks.reader) next s.volume t.volume s.tracks.items t.tracks.items s.zeros.items
     c.fill.new.buffer c.tracks.offset i.far read long takes in

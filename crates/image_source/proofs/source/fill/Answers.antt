@@ -1,8 +1,8 @@
-use Rattle.std.proofs.Common.{◌≡◌, ◌+◌, ◌-◌, ◌≤◌, ◌++◌, ℕ, List, length, take, drop, subst, sym, length-append, arith}
+use Rattle.std.proofs.Common.{◌-◌, ◌≤◌, ◌++◌, ℕ, List, length, take, drop, subst, sym, length-append, arith}
 use Rattle.std.proofs.lemmas.List.{length-take-le}
 use Rattle.std.specs.Io.KnownBytes.{Consumes}
-use Rattle.aws_tape.proofs.Sources.{consumes-more, filled_more}
-use Rattle.aws_tape.proofs.source.fill.Goals as goal
+use Rattle.image_source.proofs.Sources.{consumes-more, filled_more}
+use Rattle.image_source.proofs.source.fill.Goals as goal
 
 pub loop-count-preserved : goal.loop-count-preserved
 loop-count-preserved g c =
@@ -10,11 +10,11 @@ loop-count-preserved g c =
     let old = c.loop-count.buffer in
     let new = c.read.new.buf in
     let after = drop (length old - n) (drop n old) in
-    let few : c.in-Ok.more ≤ length new = omega (arith, c.in-Ok.ensures.bound) in
+    let few : c.in_ok-more.more ≤ length new = omega (arith, c.in_ok-more.ensures.bound) in
     let i = c.loop-count.invariant in
-    let taken = filled_more n c.in-Ok.more old new after i.within few in
+    let taken = filled_more n c.in_ok-more.more old new after i.within few in
     record {
       read = subst (λ (l : List ℕ). Consumes (g.R.Read.remaining c.args.source.now) (g.R.Read.remaining c.read.new.self) l) (sym taken)
-          (consumes-more _ _ _ (take n old) (take c.in-Ok.more new) i.read c.in-Ok.ensures.bytes.0);
+          (consumes-more _ _ _ (take n old) (take c.in_ok-more.more new) i.read c.in_ok-more.ensures.bytes.0);
       within = omega (arith, length-append (take n old) (new ++ after), length-append new after, length-take-le n old i.within, few);
     }

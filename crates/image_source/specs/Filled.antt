@@ -1,4 +1,4 @@
--- What is read from a reader.
+-- What is read from a reader into a buffer.
 use Rattle.std.specs.Prelude.{ℕ, ◌<◌, ◌≤◌, List, Option, length, take}
 use Rattle.std.specs.Io.KnownBytes.{Consumes, IsAtEnd}
 

@@ -1,8 +1,9 @@
 -- Bytes that are read one piece after another.
-use Rattle.std.proofs.Common.{◌≡◌, ℕ, ◌+◌, ◌≤◌, List, [], ◌++◌, length, take, Option, Some, None, refl, sym, ap, ◌∙◌, append_assoc}
-use Rattle.std.proofs.lemmas.List.{length-take-le, take-append-le}
+use Rattle.std.proofs.Common.{◌≡◌, ℕ, ◌+◌, ◌≤◌, List, [], ◌++◌, length, take, Option, Some, None, refl, sym, ap, ◌∙◌, append_assoc, subst}
+use Rattle.std.proofs.lemmas.List.{length-take-le, take-append-le, take_all}
 use Rattle.std.proofs.Math.Seq.{take-append-add}
 use Rattle.std.specs.Io.KnownBytes.{Consumes}
+use Rattle.image_source.specs.Filled.{Fills}
 
 pub consumes-nothing : (a : Option (List ℕ)) → Consumes a a []
 consumes-nothing None = tt
@@ -22,3 +23,8 @@ filled_more n m old new after le few =
     ap (λ (k : ℕ). take (k + m) (take n old ++ (new ++ after))) (sym len)
     ∙ take-append-add (take n old) (new ++ after) m
     ∙ ap (λ (l : List ℕ). take n old ++ l) (take-append-le m new after few)
+
+-- a buffer that was filled to its end
+pub whole_read : (old new : Option (List ℕ)) (buffer : List ℕ) (count : ℕ) → Fills old new buffer count → length buffer ≤ count → Consumes old new buffer
+whole_read old new buffer count f le =
+    subst (λ (l : List ℕ). Consumes old new l) (take_all count buffer le) f.consumed

@@ -1,0 +1,2 @@
+-- The lemmas of image_source.
+pub mod Sources
