@@ -1,13 +1,14 @@
 /* Refuses calls of a program: preloaded into it, those calls of one kind fail whose numbers REFUSE has (one or two, from
  * 1; 0 for none). REFUSE_KIND is `growth` for malloc and realloc, which then answer that there is no memory, `lasting` for
  * the same from the first such number on, `write` for what is written to standard output, `thread` for threads, which
- * then cannot be made, and `file` for what is written to other files, synced and renamed. How many such calls there were
- * stands, as eight bytes, in the file that CALLS names. */
+ * then cannot be made, and `file` for what is written to other files, synced and renamed. At such a call `kill` kills the
+ * program instead. How many such calls there were stands, as eight bytes, in the file that CALLS names. */
 #define _GNU_SOURCE
 #include <dlfcn.h>
 #include <errno.h>
 #include <fcntl.h>
 #include <pthread.h>
+#include <signal.h>
 #include <stdatomic.h>
 #include <stdlib.h>
 #include <string.h>
@@ -23,6 +24,7 @@ enum kind { GROWTH, WRITE, THREAD, FILES };
 typedef int create(pthread_t *, const pthread_attr_t *, void *(*)(void *), void *);
 
 static int lasts;
+static int kills;
 static atomic_long none;
 static atomic_long *calls = &none;
 static enum kind kind;
@@ -45,7 +47,8 @@ __attribute__((constructor)) static void begin(void)
         kind = WRITE;
     if (name && strcmp(name, "thread") == 0)
         kind = THREAD;
-    if (name && strcmp(name, "file") == 0)
+    kills = name && strcmp(name, "kill") == 0;
+    if (kills || (name && strcmp(name, "file") == 0))
         kind = FILES;
     if (numbers) {
         char *behind;
@@ -61,7 +64,10 @@ static int is_refused(enum kind of)
     long number = atomic_fetch_add(calls, 1) + 1;
     if (lasts)
         return refused[0] > 0 && number >= refused[0];
-    return number == refused[0] || number == refused[1];
+    int refuses = number == refused[0] || number == refused[1];
+    if (refuses && kills)
+        raise(SIGKILL);
+    return refuses;
 }
 
 void *malloc(size_t size)

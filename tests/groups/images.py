@@ -5,6 +5,7 @@ What an image holds, and its first fault, is by `tests/formats.py`. Volumes and 
 """
 
 import os
+import pty
 import random
 import re
 import shutil
@@ -435,6 +436,53 @@ def full_disk_loses_nothing(setup):
         require(os.listdir(folder) == ["tape"], f"files left: {os.listdir(folder)}")
 
 
+def full_file_system_loses_nothing(setup):
+    """If the file system is full, the old file stays, and no other is left."""
+    with tempfile.TemporaryDirectory(prefix="images-") as folder:
+        shutil.copy(f"{STORED}/w.aws", f"{folder}/tape")
+        os.mkdir(f"{folder}/small")
+        size = os.stat(f"{folder}/tape").st_size * 3 // 2
+        mounted = f"mount -t tmpfs -o size={size} none small && cp tape small/"
+        if run(["unshare", "-rm", "sh", "-c", mounted], cwd=folder).status:
+            raise Skipped("no file system can be mounted here (unshare -rm)")
+        saved = f"{setup.program} report --posts --load 0=small/tape --save 0=small/tape"
+        after = 'echo "status $?"; cmp small/tape tape && ls small'
+        ran = run(["unshare", "-rm", "sh", "-c", f"{mounted} && {{ {saved}; {after}; }}"], TAPE, cwd=folder)
+        require(ran.err == "excp_job: small/tape: the disk is full\n", "no error", ran)
+        expect_text("another file", ran, "end 0\nstatus 1\ntape\n", ran.out)
+
+
+def model_is_asked_before_the_run(setup):
+    """Whether a disk that was not loaded can be saved is asked before the run, in which nothing is then printed."""
+    script = "tasks 1\ndisk 0 0 1 2 100\n"
+    with tempfile.TemporaryDirectory(prefix="images-") as folder:
+        for word, rest in ("report", "wait 0\n"), ("step", "finish\n"):
+            ran = program(setup, folder, word, "--save", "0=saved", script=script + rest)
+            said = "excp_job: saved: no model of a disk has 2 heads and 100 bytes a track; the models are 2305-1 (8, 14322)"
+            require((ran.status, ran.out) == (1, "") and ran.err.startswith(said), "it ran, or no error", ran)
+            ran = program(setup, folder, word, "--save", "1=saved", script=script + rest)
+            expect(ran, (1, "", "excp_job: 1=saved: no line declares unit 1\n"))
+            require(os.listdir(folder) == [], f"files left: {os.listdir(folder)}")
+
+
+def progress_is_shown_on_a_terminal(setup):
+    """A line on a terminal says how much of a file over 64 MiB was read or written, and then goes."""
+    setup.skip_unproved()
+    tape = formats.Tape([bytes(65_535)] * 1030, [[65_535]] * 1030)
+    with tempfile.TemporaryDirectory(prefix="images-") as folder:
+        write(f"{folder}/tape", formats.image_of(tape))
+        words = [setup.program, "report", "--posts", "--load", "0=tape", "--save", "0=saved"]
+        ran = run(words, TAPE, cwd=folder)
+        require((ran.status, ran.out, ran.err) == (0, "end 0\n", ""), "not saved, or progress where no terminal is", ran)
+        parent, child = pty.openpty()
+        ended = subprocess.run(words, input=TAPE.encode(), stdout=subprocess.PIPE, stderr=child, cwd=folder, check=False)
+        os.close(child)
+        said = os.read(parent, 4096).decode()
+        os.close(parent)
+        lines = [f"\rexcp_job: {name}: 64 MiB {done}\r\x1b[K" for name, done in (("tape", "read"), ("saved", "written"))]
+        require((ended.returncode, ended.stdout, said) == (0, b"end 0\n", "".join(lines)), f"other lines on the terminal: {said!r}")
+
+
 def failed_run_saves_nothing(setup):
     with tempfile.TemporaryDirectory(prefix="images-") as folder:
         small(folder)
@@ -498,5 +546,14 @@ def cases(setup):
         yield Case(name, lambda w=words, s=script, t=said: is_rejected(setup, w, s, t), "docs/MANUAL.md, Images")
     for name, line in SIZES:
         yield Case(f"size: {line}", lambda n=name, it=line: size_is_taken(setup, n, it), "docs/MANUAL.md, Images")
-    for judge in replaces_whole, full_disk_loses_nothing, failed_run_saves_nothing, left_file_is_named, prints_paper:
+    for judge in (
+        replaces_whole,
+        full_disk_loses_nothing,
+        full_file_system_loses_nothing,
+        failed_run_saves_nothing,
+        left_file_is_named,
+        model_is_asked_before_the_run,
+        progress_is_shown_on_a_terminal,
+        prints_paper,
+    ):
         yield Case(judge.__name__.replace("_", " "), lambda j=judge: j(setup), "docs/MANUAL.md, Images")

@@ -1,5 +1,5 @@
 """Calls made to fail in turn: each allocation, each write, each sync and rename of a file, and each thread, in programs and
-in tests.
+in tests. A program is killed at each call on a file, too.
 
 `tests/refuse.c`, preloaded, makes calls of one kind fail by their numbers. A case runs a proved program, or a test as `rt
 ci` or `rt test` leaves it in crates/*/out, with the first call failing, then with the second, and so on, until there is no
@@ -9,6 +9,7 @@ such call. Each run ends in one of the ways that the case allows; the last one, 
 import os
 import re
 import shutil
+import signal
 import struct
 import subprocess
 import tempfile
@@ -103,6 +104,17 @@ def saves_one_or_all(ran, text):
     if ran.status == 1 and len(rest) == 1 and rest.items() <= right.items() and "the file cannot be written" in ran.err:
         return "one saved"
     return saves_all_or_nothing(ran, text)
+
+
+def is_killed_whole(ran, _text):
+    """It was killed. Each file that it saves to has the whole image or is not there, no other file changed, and a new file
+    that is left has its documented name."""
+    right = {**IMAGES, **{SAVED[name]: data for name, data in IMAGES.items()}}
+    left = {f"{name}.excp-new" for name in SAVED.values()}
+    is_whole = IMAGES.items() <= ran.files.items() and all(right.get(name) == data for name, data in ran.files.items() if name not in left)
+    if ran.status != -signal.SIGKILL or not is_whole:
+        return None
+    return "killed, with a new file left" if left & ran.files.keys() else "killed"
 
 
 def is_program(ran, text):
@@ -272,6 +284,8 @@ def programs(setup):
     yield plan("report", saves_all_or_nothing, script, text, "--posts", *loads, files=IMAGES, least=2)
     name, it = plan("report", saves_one_or_all, script, text, "--posts", *loads, files=IMAGES, kind="file", least=2)
     yield f"{name}: files", it
+    name, it = plan("report", is_killed_whole, script, text, "--posts", *loads, files=IMAGES, kind="kill")
+    yield f"{name}: kills", it
     client = f"{TOP}/crates/print_tape"
     yield "print_tape", Plan([f"{client}/out/print_tape"], is_program, text=read(f"{client}/stdout"))
 

@@ -1,12 +1,14 @@
 //! The images that the command line names, read before a run.
 
+use crate::progress::Progress;
 use crate::replacement::{ReplaceError, target_of};
-use job_media::Image;
+use job_media::{Image, ImageError};
 use job_options::MediaFiles;
 use job_script::JobError;
+use std::alloc::Global;
 use std::fmt::Display;
 use std::fs::File;
-use std::io::BufReader;
+use std::io::{self, BufReader, Read};
 
 /// The bytes that are read at a time.
 const AT_A_TIME: usize = 1 << 16;
@@ -61,14 +63,22 @@ pub fn load(rt: &HostRuntime, name: &str) -> Result<Image, u8> {
     if crate::is_directory(&file) {
         return Err(failed(rt, name, "it is a directory"));
     }
-    let Ok(mut reader) = BufReader::with_capacity(rt.alloc(), AT_A_TIME, file) else {
-        return Err(no_memory(rt));
-    };
-    match Image::load(rt.alloc(), &mut reader) {
-        Ok(image) => Ok(image),
-        Err(error) if error.is_no_memory() => Err(no_memory(rt)),
-        Err(error) => Err(failed(rt, name, error)),
+    let mut progress = Progress::new(rt, name, "read", file);
+    let loaded = load_from(rt.alloc(), &mut progress);
+    progress.end();
+    match loaded {
+        Ok(Ok(image)) => Ok(image),
+        Ok(Err(error)) if !error.is_no_memory() => Err(failed(rt, name, error)),
+        _ => Err(no_memory(rt)),
     }
+}
+
+/// Reads an image from a file.
+///
+/// Errors: out of memory for the bytes that are read at a time; within, why it is not loaded.
+fn load_from<R: Read>(alloc: Global, file: &mut R) -> io::Result<Result<Image, ImageError>> {
+    let mut reader = BufReader::with_capacity(alloc, AT_A_TIME, file)?;
+    Ok(Image::load(alloc, &mut reader))
 }
 
 /// Finds a file that the command line names for two units.
@@ -89,21 +99,6 @@ fn check_names(rt: &HostRuntime, media: &MediaFiles) -> Result<(), u8> {
         }
         if known.push((file.unit, target)).is_err() {
             return Err(no_memory(rt));
-        }
-    }
-    Ok(())
-}
-
-/// Prints which unit the command line names that no line of the script declares, if it names one.
-///
-/// Error: the exit status.
-pub fn check_units(rt: &HostRuntime, media: &MediaFiles, units: usize) -> Result<(), u8> {
-    for file in media.loads.iter().chain(&media.saves) {
-        if usize::from(file.unit) >= units {
-            let unit = file.unit;
-            let name = file.file.as_str();
-            let _ = eprintln!(rt; "excp_job: {unit}={name}: no line declares unit {unit}");
-            return Err(REJECTED);
         }
     }
     Ok(())

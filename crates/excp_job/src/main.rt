@@ -10,6 +10,7 @@
 mod convert;
 mod describe;
 mod images;
+mod progress;
 mod replacement;
 mod saver;
 mod screen;
@@ -18,13 +19,13 @@ mod words;
 use any_device::AnyDevice;
 use convert::{make_image, print_lines};
 use describe::describe_all;
-use images::{check_units, load_all};
+use images::load_all;
 use job_assembler::assemble_script;
 use job_check::{Source, check_script_on};
 use job_media::{Image, Kept, MountedImages, mount_images, sizes_of, with_sizes};
 use job_options::{Counts, Format, MediaFiles, Order, Print, StepOptions, Words};
 use job_run::{Finished, Output, Workers, report_script, run_parsed, run_script, write};
-use job_script::{JobError, Script, read_script};
+use job_script::{JobError, Script, UnitSetup, read_script};
 use job_step::{Images, Keeper, SiteKind, Views, check_scenario_on, step_scenario_on};
 use saver::{Medium, Saver};
 use screen::Screen;
@@ -225,13 +226,15 @@ fn report_media<R: Threads + Wait + Sync, I: Read>(
     let sizes = sizes_of(alloc, &images)?;
     let text = with_sizes(alloc, &text, &sizes)?;
     let script = Script::parse(alloc, &text)?;
-    if let Err(status) = check_units(rt, asked.media, script.set_up.units.len()) {
-        return Ok(status);
+    let mut saver = Saver::new(rt, asked.media);
+    if !saver.begin(&script.set_up.units) {
+        return Ok(saver.finish());
     }
     let MountedImages { devices, kept } = mount_images(alloc, &script.set_up.units, images)?;
     let run = run_parsed(threads, alloc, &script, devices, workers(asked.counts))?;
     let printed = print_report(rt, &script, &run, asked.print, is_broken);
-    let saved = save_media(rt, asked.media, &run, &kept);
+    save_media(&mut saver, &run, &kept);
+    let saved = saver.finish();
     printed?;
     Ok(saved)
 }
@@ -262,9 +265,8 @@ fn whole_report<'a>(script: &'a Script, run: &'a Finished, steps: Option<u64>) -
     }
 }
 
-/// Saves the media of a run, and returns the exit status.
-fn save_media(rt: &HostRuntime, media: &MediaFiles, run: &Finished, kept: &[Option<Kept>]) -> u8 {
-    let mut saver = Saver::new(rt, &media.saves);
+/// Writes the media of a run that are to be saved.
+fn save_media(saver: &mut Saver<'_>, run: &Finished, kept: &[Option<Kept>]) {
     for (unit, book) in run.report.units().iter().enumerate() {
         let kept = match kept.get(unit) {
             Some(Some(kept)) => Some(kept),
@@ -277,7 +279,6 @@ fn save_media(rt: &HostRuntime, media: &MediaFiles, run: &Finished, kept: &[Opti
         };
         saver.write(unit, medium);
     }
-    saver.finish()
 }
 
 /// Prints what is wrong in a script, or in a scenario, and returns the exit status.
@@ -323,6 +324,10 @@ struct StepOrder<'a> {
 }
 
 impl<'a> Keeper for Saver<'a> {
+    fn begin(&mut self, units: &[UnitSetup]) -> bool {
+        Saver::begin(self, units)
+    }
+
     fn keep(&mut self, unit: u16, kept: Option<&Kept>, mounted: &AnyDevice, now: &AnyDevice) {
         let medium = Medium { mounted, now, kept };
         self.write(usize::from(unit), medium);
@@ -349,7 +354,7 @@ fn step<R: Wait, I: Read>(
         trace: options.trace,
         state: options.state,
     };
-    let mut saver = Saver::new(rt, &media.saves);
+    let mut saver = Saver::new(rt, media);
     let mut screen = Screen::new(rt.stdout(), false, is_broken);
     let images = Images {
         images,

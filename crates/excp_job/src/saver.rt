@@ -1,43 +1,77 @@
 //! Media that are saved to the files that the command line names: all, or none.
 
 use crate::images::{failed, no_memory};
+use crate::progress::Progress;
 use crate::replacement::{ReplaceError, Replacement};
 use any_device::AnyDevice;
-use job_media::{Kept, save};
-use job_options::UnitFile;
-use std::fs::File;
+use ckd_image::Kept;
+use job_media::{SaveError, save};
+use job_options::MediaFiles;
+use job_script::UnitSetup;
 use std::io::{BufWriter, Write};
 
 /// The bytes that are written at a time.
 const AT_A_TIME: usize = 1 << 16;
+
+/// The exit status of a command line that does not fit the script.
+const REJECTED: u8 = 1;
 
 /// A medium to save: as it was mounted, as it is, and what the file has beside it that it came from.
 #[derive(Clone, Copy)]
 pub struct Medium<'a> {
     pub mounted: &'a AnyDevice,
     pub now: &'a AnyDevice,
-    pub kept: Option<&'a Kept>,
+    pub kept: Option<&'a job_media::Kept>,
 }
 
 /// The new files of the media that were written so far, each beside the file that it replaces.
 #[derive(Drop)]
 pub struct Saver<'a> {
     rt: &'a HostRuntime,
-    files: &'a [UnitFile],
+    media: &'a MediaFiles,
     written: Vec<Replacement>,
     /// The exit status.
     status: u8,
 }
 
 impl<'a> Saver<'a> {
-    /// Saves units to these files.
-    pub fn new(rt: &'a HostRuntime, files: &'a [UnitFile]) -> Self {
+    /// Saves units to the files that the command line names.
+    pub fn new(rt: &'a HostRuntime, media: &'a MediaFiles) -> Self {
         Saver {
             rt,
-            files,
+            media,
             written: Vec::new(rt.alloc()),
             status: 0,
         }
+    }
+
+    /// Whether the command line fits the units of a script: each that it names is declared, and each disk that is to be
+    /// saved comes from an image or is a model. Asked before a run. If not, it prints why, and nothing is saved.
+    pub fn begin(&mut self, units: &[UnitSetup]) -> bool {
+        for file in self.media.loads.iter().chain(&self.media.saves) {
+            if usize::from(file.unit) >= units.len() {
+                let unit = file.unit;
+                let name = file.file.as_str();
+                let _ = eprintln!(self.rt; "excp_job: {unit}={name}: no line declares unit {unit}");
+                self.status = REJECTED;
+                return false;
+            }
+        }
+        for file in &self.media.saves {
+            if let Some(unit) = units.get(usize::from(file.unit))
+                && !self.is_loaded(file.unit)
+                && let Err(error) = is_model(self.rt, unit)
+            {
+                self.status = said(self.rt, file.file.as_str(), error);
+                return false;
+            }
+        }
+        true
+    }
+
+    /// Whether the medium of a unit comes from an image.
+    fn is_loaded(&self, unit: u8) -> bool {
+        self.media.loads.iter().any(|file| file.unit == unit)
     }
 
     /// Writes the medium of a unit, if it is to be saved and nothing has failed.
@@ -45,7 +79,7 @@ impl<'a> Saver<'a> {
         if self.status != 0 {
             return;
         }
-        for file in self.files {
+        for file in &self.media.saves {
             if usize::from(file.unit) == unit {
                 self.status = self.write_to(file.file.as_str(), medium);
             }
@@ -80,6 +114,23 @@ impl<'a> Saver<'a> {
     }
 }
 
+/// Whether a disk by the lines of its unit can be saved, since there is such a model. Every other medium can.
+fn is_model(rt: &HostRuntime, unit: &UnitSetup) -> Result<(), ReplaceError> {
+    let job_script::Medium::Disk(geometry, _) = &unit.medium else {
+        return Ok(());
+    };
+    let (Ok(heads), Ok(track_bytes)) = (
+        u16::try_from(geometry.heads),
+        u32::try_from(geometry.track_bytes),
+    ) else {
+        return Ok(());
+    };
+    match Kept::of_model(rt.alloc(), heads, track_bytes) {
+        Ok(_) => Ok(()),
+        Err(error) => Err(ReplaceError::from(SaveError::from(error))),
+    }
+}
+
 /// Writes a medium to a new file beside the one of this name.
 ///
 /// Error: what is wrong was printed; the exit status.
@@ -88,7 +139,7 @@ pub fn written_beside(rt: &HostRuntime, name: &str, medium: Medium<'_>) -> Resul
         Ok(replacement) => replacement,
         Err(error) => return Err(said(rt, name, error)),
     };
-    match write_medium(rt, &mut replacement, medium) {
+    match write_medium(rt, name, &mut replacement, medium) {
         Ok(()) => Ok(replacement),
         Err(error) => {
             replacement.abandon(rt);
@@ -100,14 +151,22 @@ pub fn written_beside(rt: &HostRuntime, name: &str, medium: Medium<'_>) -> Resul
 /// Writes a medium to the new file, and waits until it is on the disk.
 fn write_medium(
     rt: &HostRuntime,
+    name: &str,
     replacement: &mut Replacement,
     medium: Medium<'_>,
 ) -> Result<(), ReplaceError> {
-    write_to(rt, replacement.file(), medium)?;
+    let mut progress = Progress::new(rt, name, "written", replacement.file());
+    let written = write_to(rt, &mut progress, medium);
+    progress.end();
+    written?;
     replacement.sync()
 }
 
-fn write_to(rt: &HostRuntime, file: &mut File, medium: Medium<'_>) -> Result<(), ReplaceError> {
+fn write_to<W: Write>(
+    rt: &HostRuntime,
+    file: &mut W,
+    medium: Medium<'_>,
+) -> Result<(), ReplaceError> {
     let mut out = BufWriter::with_capacity(rt.alloc(), AT_A_TIME, file)?;
     save(
         rt.alloc(),

@@ -1,11 +1,15 @@
-//! The media of units at the end of a scenario.
+//! The media of units, before the first event and at the end of a scenario.
 
 use any_device::AnyDevice;
 use job_media::Kept;
+use job_script::UnitSetup;
 use unit_book::UnitBook;
 
 /// Takes over the medium of each unit at the end of a scenario.
 pub trait Keeper {
+    /// Whether the scenario may begin, which has these units. If not, it ends here, and the keeper gets no medium.
+    fn begin(&mut self, units: &[UnitSetup]) -> bool;
+
     /// Takes over the medium of a unit: the device as it was mounted, and as it is. `kept` is what the file of its image has
     /// beside, if it came from one.
     fn keep(&mut self, unit: u16, kept: Option<&Kept>, mounted: &AnyDevice, now: &AnyDevice);
@@ -16,6 +20,10 @@ pub trait Keeper {
 pub struct NoKeeper;
 
 impl Keeper for NoKeeper {
+    fn begin(&mut self, _units: &[UnitSetup]) -> bool {
+        true
+    }
+
     fn keep(&mut self, _unit: u16, _kept: Option<&Kept>, _mounted: &AnyDevice, _now: &AnyDevice) {}
 }
 

@@ -67,7 +67,7 @@ pub struct Images<'a, K: Keeper> {
 }
 
 /// Does so with the media of units from images. The keeper gets the medium of each unit at `finish`, or at the end of a
-/// scenario without it. If a line before that has a fault, it gets none.
+/// scenario without it. If it does not let the scenario begin, or a line before has a fault, it gets none.
 pub fn step_scenario_on<R: Wait, K: Keeper, I: Read + Drop, W: Write, E: Write>(
     rt: &R,
     alloc: Global,
@@ -104,6 +104,9 @@ fn carry_out<R: Wait, K: Keeper, I: Read + Drop, W: Write, E: Write>(
         return Ok(());
     };
     let Images { images, keeper } = images;
+    if !keeper.begin(&plan.set_up.units) {
+        return Ok(());
+    }
     let Some(mounted) = mounted_images(alloc, &plan, images, printer)? else {
         return Ok(());
     };
