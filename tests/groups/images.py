@@ -33,6 +33,9 @@ MODELS = {
     "3390": (1_113, 15, 56_818),
 }
 
+# The models that a new disk may be of: those, and two more.
+NEW = {model: sizes[1:] for model, sizes in MODELS.items()} | {"3375": (12, 35_826), "9345": (15, 46_578)}
+
 # The bytes of a volume that an unproved program has no time for.
 LARGE = 1 << 25
 
@@ -104,6 +107,18 @@ def is_kept_whole(setup, model):
         ran = program(setup, folder, "describe", "volume")
         wanted = f"{cylinders} cylinders of {heads} heads, {size} bytes a track"
         require(ran.status == 0 and wanted in ran.out and "volume VOL001" in ran.out, f"not described as {wanted}", ran)
+
+
+def is_new(setup, model):
+    """A disk of a model that was not loaded is saved with the header of Hercules' new disks, and Hercules reads it."""
+    heads, size = NEW[model]
+    with tempfile.TemporaryDirectory(prefix="images-") as folder:
+        made("dasdinit", "new", model, "VOL001", "1", cwd=folder)
+        script = f"tasks 1\ndisk 0 0 1 {heads} {size}\nwait 0\n"
+        expect(program(setup, folder, "report", "--posts", "--save", "0=saved", script=script), (0, "end 0\n"))
+        header = bytes_of(f"{folder}/new")[:512]
+        require(bytes_of(f"{folder}/saved")[:512] == header, "another header")
+        made("dasdls", "saved", cwd=folder)
 
 
 def loaded_volume(folder):
@@ -525,6 +540,8 @@ def prints_paper(setup):
 def cases(setup):
     for model in MODELS:
         yield Case(f"whole volume {model}", lambda m=model: is_kept_whole(setup, m), BY_HERCULES, "volumes")
+    for model in NEW:
+        yield Case(f"new volume {model}", lambda m=model: is_new(setup, m), BY_HERCULES)
     for name, judge in {
         "a block of a data set is rewritten": rewrites_a_block,
         "a data set is appended to a tape": appends_a_file,

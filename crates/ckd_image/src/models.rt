@@ -11,7 +11,7 @@ pub struct DiskModel {
 }
 
 /// The models.
-pub static MODELS: [DiskModel; 9] = [
+pub static MODELS: [DiskModel; 11] = [
     DiskModel {
         name: "2305-1",
         heads: 8,
@@ -55,6 +55,12 @@ pub static MODELS: [DiskModel; 9] = [
         device_type: 0x50,
     },
     DiskModel {
+        name: "3375",
+        heads: 12,
+        track_bytes: 35_826,
+        device_type: 0x75,
+    },
+    DiskModel {
         name: "3380",
         heads: 15,
         track_bytes: 47_602,
@@ -65,6 +71,12 @@ pub static MODELS: [DiskModel; 9] = [
         heads: 15,
         track_bytes: 56_818,
         device_type: 0x90,
+    },
+    DiskModel {
+        name: "9345",
+        heads: 15,
+        track_bytes: 46_578,
+        device_type: 0x45,
     },
 ];
 
