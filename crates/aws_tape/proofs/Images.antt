@@ -107,7 +107,7 @@ kind_len (Some Middle) len so_far false = refl
 kind_len (Some Last) len so_far true = joins_len Last len so_far
 kind_len (Some Last) len so_far false = refl
 
-header_len : (at : Between) (bytes : List ℕ) (header : Header) → header_after at bytes ≡ Ok header → header.len ≡ len_of bytes
+pub header_len : (at : Between) (bytes : List ℕ) (header : Header) → header_after at bytes ≡ Ok header → header.len ≡ len_of bytes
 header_len at bytes header is =
     let len = len_of bytes in
     let flags = slice_index bytes 4 in

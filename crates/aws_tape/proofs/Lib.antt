@@ -4,3 +4,7 @@ pub mod Images
 pub mod Chunks
 pub mod Written
 pub mod ReadBack
+pub mod FirstChunk
+pub mod Layouts
+pub mod Kept
+pub mod Untouched

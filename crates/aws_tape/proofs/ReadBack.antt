@@ -167,7 +167,7 @@ last_done reel layout so_far bytes previous n len least room =
     block_done (with_chunk_part (with_data (inside reel layout so_far previous) bytes)) least room
     ∙ ap (λ (m : ℕ). known (between (with_item reel (block (so_far ++ bytes))) (and_part reel layout m) m)) len
 
-flags-more : (first : ℕ) (part : Part) (parts : List Part) → flags_of first (part ∷ parts) ≡ first
+pub flags-more : (first : ℕ) (part : Part) (parts : List Part) → flags_of first (part ∷ parts) ≡ first
 flags-more first part parts =
     let more : nat_eq (length (part ∷ parts)) 0 ≡ false = grind (arith, nat_tests) in
     ap (λ (b : Bool). first + cond b 0x20 0) more ∙ add-zero first
@@ -228,7 +228,7 @@ parts_end (second ∷ parts) part reel layout so_far previous offset bytes rest 
 
 -- ---- items
 
-both : (a b : Bool) → (a && b) ≡ true → (a ≡ true) × (b ≡ true)
+pub both : (a b : Bool) → (a && b) ≡ true → (a ≡ true) × (b ≡ true)
 both true b h = (refl, h)
 both false b h = absurd (cc)
 

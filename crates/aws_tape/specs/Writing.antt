@@ -1,9 +1,10 @@
 -- The bytes of an image of a tape (AWSTAPE).
-use Rattle.std.specs.Prelude.{◌≡◌, ℕ, ◌+◌, ◌≤◌, ◌==◌, Ok, nat_lt, Bool, ◌&&◌, List, [], ◌∷◌, ◌++◌, length, take, drop, if◌then◌else◌}
+use Rattle.std.specs.Prelude.{◌≡◌, ℕ, ◌+◌, ◌<◌, ◌≤◌, ◌==◌, nat_lt, Bool, ◌&&◌, Ok, if◌then◌else◌}
+use Rattle.std.specs.Prelude.{List, [], ◌∷◌, ◌++◌, length, take, drop, get_or}
 use Rattle.std.specs.Str.{bytes_eq}
 use Rattle.byteorder.specs.Endian.{little_bytes}
 use Rattle.tape_unit.specs.Item.{Item, tape_mark, block, content_of}
-use Rattle.tape_unit.specs.Reel.{bytes_of}
+use Rattle.tape_unit.specs.Reel.{ReelState, bytes_of}
 use Rattle.aws_tape.specs.declared.layout.Part.{Part}
 use Rattle.aws_tape.specs.Reading.{read_image}
 use Rattle.aws_tape.specs.Layout.{count_before, own_count, bytes_in}
@@ -65,3 +66,28 @@ abbrev pub IsReadBack : List Item → List ℕ → Type 0
 IsReadBack items image =
     (size : ℕ) → bytes_of items ≤ size
     → (layout : List Part) × (read_image size image ≡ Ok (record { tape = record { size = size; items = items }; layout = layout }))
+
+-- numbers that are bytes, as those of a reader
+abbrev pub IsBytes : List ℕ → Type 0
+IsBytes bytes = (i : ℕ) → get_or bytes i 0 < 256
+
+-- AN IMAGE THAT WAS LOADED: its bytes say this layout and these items, to a tape of some size
+pub record IsLoaded (layout : List Part) (items : List Item) (image : List ℕ) : Type 0 where
+  pub size : ℕ
+  pub tape : ReelState
+  pub bytes : IsBytes image
+  pub loads : read_image size image ≡ Ok (record { tape = tape; layout = layout })
+  pub recorded : tape.items ≡ items
+
+-- both begin with the same bytes, from which these items are loaded
+pub record HaveFront (items : List Item) (image written : List ℕ) : Type 0 where
+  pub front : List ℕ
+  pub in_front : IsReadBack items front
+  pub of_image : take (length front) image ≡ front
+  pub of_written : take (length front) written ≡ front
+
+-- WHAT WAS NOT WRITTEN IS SAVED AS IT WAS LOADED: the items that the tape has in common with the one that was loaded have
+-- the bytes that they have in its image
+abbrev pub IsUntouched : List Part → List Item → List Item → List ℕ → Type 0
+IsUntouched layout mounted now written =
+    (image : List ℕ) → IsLoaded layout mounted image → HaveFront (take (common mounted now) mounted) image written

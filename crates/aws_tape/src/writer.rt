@@ -1,23 +1,26 @@
 //! Images of tapes, written.
 
-ghost use Rattle.std.specs.Prelude.{◌≡◌, ◌++◌, ◌≤◌, IfOk, OnOk, length, true};
+ghost use Rattle.std.specs.Prelude.{◌≡◌, ◌++◌, ◌≤◌, ℕ, List, IfOk, OnOk, length, true};
 ghost use Rattle.std.specs.Io.KnownBytes.{Appends};
 ghost use Rattle.std.specs.Str.{bytes_eq};
 ghost use Rattle.tape_unit.specs.Item.{block, content_of, is_item};
 ghost use Rattle.aws_tape.specs.Layout.{count_before, own_count, bytes_in};
-ghost use Rattle.aws_tape.specs.Writing.{header_of, flags_of, chunks_of, is_split, item_image, last_len, last_length, common, saved, IsReadBack};
+ghost use Rattle.aws_tape.specs.Writing.{header_of, flags_of, chunks_of, is_split, item_image, last_len, last_length, common, saved, IsReadBack, IsLoaded, IsUntouched};
 
 use crate::layout::{Layout, Part};
 use std::io::{self, Write};
 use tape_unit::{Items, Stored, Tape};
 
 /// Writes the image of a tape. What it has in common with the tape that was mounted, from the load point on, is written
-/// in the chunks that the layout says, and the rest in one chunk for each block.
+/// in the chunks that the layout says, and the rest in one chunk for each block. So a tape that was loaded from an image
+/// and not written is saved as this image, byte for byte. A write changes no bytes of the items before it.
 ///
 /// Error: that of the writer. A part of the image is written then.
 pub fn save<W: Write>(writer: &mut W, layout: &Layout, mounted: &Tape, now: &Tape) -> io::Result<()>
     ensures image { OnOk result (Appends (W.contents writer.old) (W.contents writer.new) (saved layout.now mounted.now.reel.items now.now.reel.items)) }
     ensures read_back { OnOk result (IsReadBack now.now.reel.items (saved layout.now mounted.now.reel.items now.now.reel.items)) }
+    ensures as_loaded { OnOk result ((image : List ℕ) → IsLoaded layout.now mounted.now.reel.items image → now.now.reel.items ≡ mounted.now.reel.items → Appends (W.contents writer.old) (W.contents writer.new) image) }
+    ensures untouched { OnOk result (IsUntouched layout.now mounted.now.reel.items now.now.reel.items (saved layout.now mounted.now.reel.items now.now.reel.items)) }
 {
     let kept = common(mounted, now);
     let parts = layout.parts();

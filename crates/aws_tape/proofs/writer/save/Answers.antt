@@ -1,4 +1,4 @@
-use Rattle.std.proofs.Common.{◌≡◌, ◌+◌, ◌++◌, [], List, ℕ, Bool, ◌&&◌, take, drop, sym, ap, ◌∙◌, arith}
+use Rattle.std.proofs.Common.{◌≡◌, ◌+◌, ◌++◌, [], List, ℕ, Bool, ◌&&◌, take, drop, sym, ap, subst, ◌∙◌, arith}
 use Rattle.std.specs.List.{list_all}
 use Rattle.tape_unit.specs.Item.{is_item}
 use Rattle.aws_tape.specs.declared.layout.Part.{Part}
@@ -6,6 +6,9 @@ use Rattle.aws_tape.specs.Layout.{own_count}
 use Rattle.aws_tape.specs.Writing.{item_image, items_image, last_len}
 use Rattle.aws_tape.proofs.Written.{wrote-more, wrote-all, items_step, items_end, own-le}
 use Rattle.aws_tape.proofs.ReadBack.{read_back}
+use Rattle.aws_tape.proofs.Kept.{saved_as_loaded}
+use Rattle.aws_tape.proofs.Untouched.{saved_untouched}
+use Rattle.std.specs.Io.KnownBytes.{Appends}
 use Rattle.aws_tape.proofs.writer.save.Goals as goal
 
 pub split_at-requires : goal.split_at-requires
@@ -46,6 +49,18 @@ returns-clause-image g c =
     let none : l.place-iterator.iter ≡ [] = (c.in-None.ensures {u = tt}).steps.0.0 in
     wrote-all _ _ (items_image l.parts.now l.place-iterator.count l.previous l.place-iterator.iter) _ l.invariant.wrote
     (items_end l.parts.now l.place-iterator.count l.previous l.place-iterator.iter none)
+
+pub returns-clause-as_loaded : goal.returns-clause-as_loaded
+returns-clause-as_loaded g c image loaded same =
+    subst (λ (bytes : List ℕ). Appends (g.W.Write.contents c.args.writer.now) (g.W.Write.contents c.loop-place.writer) bytes)
+    (saved_as_loaded c.args.layout.now c.args.mounted.now.reel.items c.args.now.now.reel.items image loaded same)
+    (returns-clause-image g c)
+
+pub returns-clause-untouched : goal.returns-clause-untouched
+returns-clause-untouched g c =
+    let none : c.loop-place.place-iterator.iter ≡ [] = (c.in-None.ensures {u = tt}).steps.0.0 in
+    saved_untouched c.args.layout.now c.args.mounted.now.reel.items c.args.now.now.reel.items
+    (c.loop-place.invariant.fits ∙ ap (list_all is_item) none)
 
 pub returns-clause-read_back : goal.returns-clause-read_back
 returns-clause-read_back g c =
