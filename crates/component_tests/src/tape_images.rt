@@ -1,14 +1,14 @@
 //! Images of tapes in the AWSTAPE format. The items of the image are those that `hetmap` of Hercules shows.
 
 use crate::memory::TWICE;
-use crate::tapes::{expect_items, mounted};
-use aws_tape::{AwsError, AwsFault, Image, load};
+use crate::tapes::{expect_items, items, mounted};
+use aws_tape::{AwsError, AwsFault, Image, load, save};
 use std::alloc::Global;
 use std::io;
 use std::io::Read;
 use std::process::Abort;
 use std::test::Fail;
-use tape_unit::LONGEST_REEL;
+use tape_unit::{LONGEST_REEL, Tape};
 
 /// A block, a tape mark, a block in two chunks, and a tape mark.
 const IMAGE: [u8; 36] = [
@@ -55,6 +55,46 @@ fn load_without_memory(rt: HostRuntime) -> Result<(), Fail> {
     tape.cut();
     let tape = mounted(&rt, rt.alloc(), tape).ok_or(TWICE)?;
     expect_items(&rt, &tape, &ITEMS);
+    Ok(())
+}
+
+/// A tape that was not written is saved as its image. After a write the items before it keep their chunks, and each block
+/// from there on has one. The bytes after the kept ones are put together by hand from the format's description.
+#[test]
+fn saved_images(rt: HostRuntime) -> Result<(), Fail> {
+    let alloc = rt.alloc();
+    let Image { mut tape, layout } = loaded(alloc, &IMAGE)?;
+    tape.cut();
+    let mounted = mounted(&rt, alloc, tape).ok_or(TWICE)?;
+    let [first, mark, split, _] = ITEMS;
+    let cases: [(&[&[u8]], &[u8], &[u8]); 5] = [
+        (&ITEMS, &IMAGE, &[]),
+        (
+            &[first, mark, split, mark, &[9]],
+            &IMAGE,
+            &[1, 0, 0, 0, 0xA0, 0, 9],
+        ),
+        (
+            &[first, mark, split, &[9, 8]],
+            &IMAGE[..30],
+            &[2, 0, 1, 0, 0xA0, 0, 9, 8],
+        ),
+        (
+            &[first, mark, &[1, 2, 4]],
+            &IMAGE[..15],
+            &[3, 0, 0, 0, 0xA0, 0, 1, 2, 4],
+        ),
+        (&[first], &IMAGE[..9], &[]),
+    ];
+    for (contents, kept, added) in cases {
+        let now = Tape::mount(alloc, &items(alloc, contents)?, 64, &[])?;
+        let mut bytes = Vec::new(alloc);
+        save(&mut bytes, &layout, &mounted, &now)?;
+        assert!(rt;
+            bytes.as_slice().strip_prefix(kept) == Some(added),
+            "{contents:?}"
+        );
+    }
     Ok(())
 }
 

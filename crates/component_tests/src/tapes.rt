@@ -9,7 +9,7 @@ use std::test::Fail;
 use tape_unit::{InitialItem, Recording, RecordingError, Tape, Unmounted};
 
 /// Items, the empty one being a tape mark.
-fn items(alloc: Global, contents: &[&[u8]]) -> Result<Vec<InitialItem>, AllocError> {
+pub fn items(alloc: Global, contents: &[&[u8]]) -> Result<Vec<InitialItem>, AllocError> {
     let mut items = Vec::new(alloc);
     for content in contents {
         items.push(if content.is_empty() {
