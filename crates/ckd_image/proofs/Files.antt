@@ -2,6 +2,7 @@
 use Rattle.std.proofs.Common.{◌≡◌, ℕ, suc, ◌+◌, ◌-◌, ◌<◌, ◌≤◌, List, [], ◌∷◌, ◌++◌, length, take, replicate, get_or, Ok}
 use Rattle.std.proofs.Common.{refl, sym, ap, subst, ◌∙◌, append_assoc, arith}
 use Rattle.std.specs.List.{AllByRecursion}
+use Rattle.std.proofs.lemmas.Bool.Decides.{nat_tests}
 use Rattle.std.proofs.lemmas.List.{length-append, append-nil, take_all, get_or_append_left, get_or-append_right, take-replicate}
 use Rattle.device_port.specs.Moves.{padded}
 use Rattle.ckd_disk.specs.Track.{TrackState}
@@ -10,6 +11,15 @@ use Rattle.ckd_image.specs.declared.format.Format.{Format}
 use Rattle.ckd_image.specs.Header.{format_of}
 use Rattle.ckd_image.specs.Image.{KeptTrackState, plain, kept_at, track_file, tracks_file, IsRecorded, IsImageBegun}
 use Rattle.ckd_image.specs.Loading.{TakesTrack, IsLoader}
+
+-- how long the tracks of a format are
+pub small_track : (header : List ℕ) (f : Format) → format_of header ≡ Ok f → f.bytes ≤ 65_549
+small_track header f says = grind (arith, nat_tests, says)
+
+pub all_pushed : (P : TrackState → Type 0) (l : List TrackState) (t : TrackState) → AllByRecursion P l → P t
+    → AllByRecursion P (l ++ t ∷ [])
+all_pushed P [] t all p = (p, tt)
+all_pushed P (x ∷ l) t all p = (all.0, all_pushed P l t all.1 p)
 
 module _ (f : Format) where
   -- tracks of which the same is kept
@@ -62,12 +72,9 @@ module _ (f : Format) where
       ap (λ (l : List KeptTrackState). tracks_file f (kept_at l) 0 after.tracks) takes.tracks
       ∙ ap (λ (x : VolumeState). tracks_file f (kept_at all) 0 x.tracks) takes.volume
       ∙ files_push (kept_at all) 0 v.tracks t
-      ∙ ap (λ (l : List ℕ). l ++ track_file f (0 + n) (kept_at all (0 + n)) takes.records) (same_files (kept_at all) (kept_at kept) 0 v.tracks before)
+      ∙ ap (λ (l : List ℕ). l ++ track_file f (0 + n) (kept_at all (0 + n)) takes.records) (same_files (kept_at all)
+      (kept_at kept) 0 v.tracks before)
       ∙ ap (λ (l : List ℕ). tracks_file f (kept_at kept) 0 v.tracks ++ l) last
-
-  all_pushed : (P : TrackState → Type 0) (l : List TrackState) (t : TrackState) → AllByRecursion P l → P t → AllByRecursion P (l ++ t ∷ [])
-  all_pushed P [] t all p = (p, tt)
-  all_pushed P (x ∷ l) t all p = (all.0, all_pushed P l t all.1 p)
 
   pub loader_more : (track : List ℕ) (v after : VolumeState) (kept more : List KeptTrackState) (zeros : List ℕ) → IsLoader f v kept zeros →
       TakesTrack f track v after kept more → IsLoader f after more zeros
@@ -97,11 +104,13 @@ module _ (f : Format) where
   }
 
 -- zeros, or all bytes given
-pub padded-zeros : (n m : ℕ) (tail given zeros : List ℕ) → length tail ≡ n → given ≡ [] → zeros ≡ replicate m 0 → n ≤ m → tail ≡ take n zeros →
+pub padded-zeros : (n m : ℕ) (tail given zeros : List ℕ) → length tail ≡ n → given ≡ [] → zeros ≡ replicate m 0 → n ≤ m
+    → tail ≡ take n zeros →
     padded n given ≡ tail
 padded-zeros n m tail given zeros len none blank le is =
     let all : n - 0 ≡ n = omega arith in
-    ap (padded n) none ∙ ap (λ (k : ℕ). take n [] ++ replicate k 0) all ∙ ap (λ (l : List ℕ). l ++ replicate n 0) (take_all n [] (omega arith))
+    ap (padded n) none ∙ ap (λ (k : ℕ). take n [] ++ replicate k 0) all
+    ∙ ap (λ (l : List ℕ). l ++ replicate n 0) (take_all n [] (omega arith))
     ∙ sym (take-replicate n m 0 le) ∙ ap (take n) (sym blank) ∙ sym is
 
 pub padded-whole : (n : ℕ) (tail given : List ℕ) → length tail ≡ n → given ≡ tail → padded n given ≡ tail

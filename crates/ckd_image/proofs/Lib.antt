@@ -3,3 +3,5 @@ pub mod Files
 pub mod Tracks
 pub mod Reading
 pub mod Writing
+pub mod Records
+pub mod Unique

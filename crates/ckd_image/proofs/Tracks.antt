@@ -67,8 +67,10 @@ taken f v after track body tail given kept more zeros used is long home body-is 
       );
     }
 
-pub refused : (f : Format) (v after : VolumeState) (track body : List ℕ) (error : VolumeError) → is_home f.heads (length v.tracks) track ≡ true
-    → body ≡ drop 5 track → RecordsTrack v body after (Err error) → FailsTrack f v track (track_fault error).fault (track_fault error).offset
+pub refused : (f : Format) (v after : VolumeState) (track body : List ℕ) (error : VolumeError)
+    → is_home f.heads (length v.tracks) track ≡ true
+    → body ≡ drop 5 track → RecordsTrack v body after (Err error)
+    → FailsTrack f v track (track_fault error).fault (track_fault error).offset
 refused f v after track body volume.BadHeads home e h = absurd h.1
 refused f v after track body volume.BadTrackBytes home e h = absurd h.1
 refused f v after track body volume.TooManyTracks home e h = (h, refl)

@@ -1,12 +1,12 @@
 -- The bytes of an image of a disk (CKD_P370): a header, and then the tracks.
-use Rattle.std.specs.Prelude.{◌≡◌, ℕ, ◌+◌, ◌-◌, ◌/◌, ◌%◌, ◌<◌, ◌≤◌, List, [], ◌∷◌, ◌++◌, length, slice_index_or, Ok}
+use Rattle.std.specs.Prelude.{◌≡◌, ℕ, ◌+◌, ◌-◌, ◌/◌, ◌%◌, ◌<◌, ◌≤◌, true, List, [], ◌∷◌, ◌++◌, length, slice_index_or, Ok}
 use Rattle.std.specs.Int.{w16, to_be_bytes}
 use Rattle.std.specs.List.{AllByRecursion}
 use Rattle.device_port.specs.Moves.{padded}
 use Rattle.device_port.specs.Packed.{image_of}
 use Rattle.ckd_disk.specs.Record.{Record, FitsCountArea, ckd}
 use Rattle.ckd_disk.specs.Track.{TrackState, bytes_of}
-use Rattle.ckd_disk.specs.Volume.{VolumeState, end_mark}
+use Rattle.ckd_disk.specs.Volume.{VolumeState, end_mark, is_whole}
 use Rattle.ckd_image.specs.declared.format.Format.{Format}
 use Rattle.ckd_image.specs.Header.{format_of}
 
@@ -63,3 +63,16 @@ pub record IsImageBegun (f : Format) (kept : KeptState) (v : VolumeState) : Type
   pub bytes : v.track_bytes + 14 ≡ f.bytes
   pub each : length kept.tracks ≡ length v.tracks
   pub tracks : AllByRecursion (IsRecorded v.track_bytes) v.tracks
+
+-- a header and whole cylinders that break no rule: at least one cylinder, and at most 65,535 tracks
+pub record IsWholeImage (f : Format) (kept : KeptState) (v : VolumeState) : Type 0 where
+  pub begun : IsImageBegun f kept v
+  pub few : length v.tracks ≤ 65_535
+  pub whole : is_whole v ≡ true
+
+-- BYTES ARE AN IMAGE of a volume: some header, and its tracks with some flags and some bytes after their end marks
+pub record IsImage (bytes : List ℕ) (v : VolumeState) : Type 0 where
+  pub format : Format
+  pub kept : KeptState
+  pub valid : IsWholeImage format kept v
+  pub file : bytes ≡ file_of format kept v.tracks

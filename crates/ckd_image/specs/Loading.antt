@@ -13,7 +13,7 @@ use Rattle.ckd_image.specs.declared.fault.CkdFault.TheVariants as fault
 use Rattle.ckd_image.specs.declared.format.Format.{Format}
 use Rattle.ckd_image.specs.declared.kept.Image.{Image}
 use Rattle.ckd_image.specs.Header.{format_of}
-use Rattle.ckd_image.specs.Image.{KeptTrackState, KeptState, home_of, track_file, file_of, IsImageBegun, IsRecorded}
+use Rattle.ckd_image.specs.Image.{KeptTrackState, KeptState, home_of, track_file, file_of, IsImageBegun, IsRecorded, IsWholeImage}
 
 -- a rule of the format, and not a failed read or out of memory
 pub record IsFault (e : CkdFault) : Type 0 where
@@ -23,10 +23,14 @@ pub record IsFault (e : CkdFault) : Type 0 where
 -- AN IMAGE WAS READ: all bytes of the reader are its header and whole cylinders, at least one
 pub record Loaded (old new : Option (List ℕ)) (image : Image) : Type 0 where
   pub format : Format
-  pub begun : IsImageBegun format image.kept image.volume
-  pub whole : is_whole image.volume ≡ true
+  pub valid : IsWholeImage format image.kept image.volume
   pub read : Consumes old new (file_of format image.kept image.volume.tracks)
   pub end : IsAtEnd new
+
+-- WHAT READING AN IMAGE OF A VOLUME ANSWERS: this volume, unless a read fails or memory runs out
+abbrev pub LoadsVolume : VolumeState → Result Image CkdError → Type 0
+LoadsVolume v (Ok image) = image.volume ≡ v
+LoadsVolume v (Err e) = (e.fault ≡ fault.Unreadable) ⊎ (e.fault ≡ fault.NoMemory)
 
 -- bytes begin with a header and whole tracks that break no rule; `rest` follows them, at `offset`
 pub record StartsWell (bytes : List ℕ) (offset : ℕ) : Type 0 where
@@ -129,8 +133,7 @@ pub record IsLoader (f : Format) (v : VolumeState) (kept : List KeptTrackState) 
 -- the tracks after a header were read to the end
 pub record ReadsTracks (header : List ℕ) (old new : Option (List ℕ)) (image : Image) : Type 0 where
   pub format : Format
-  pub begun : IsImageBegun format image.kept image.volume
-  pub whole : is_whole image.volume ≡ true
+  pub valid : IsWholeImage format image.kept image.volume
   pub read : (bytes : List ℕ) × Consumes old new bytes × (header ++ bytes ≡ file_of format image.kept image.volume.tracks)
   pub end : IsAtEnd new
 

@@ -34,6 +34,10 @@ abbrev pub image_on : KeptState → DiskState → DiskState → List ℕ
 image_on kept mounted disk =
     kept.header ++ tracks_file (format_on disk) (kept_now kept mounted.tracks disk.tracks) 0 disk.tracks
 
+-- the volume that a disk is now
+abbrev pub volume_on : DiskState → VolumeState
+volume_on disk = record { heads = disk.heads; track_bytes = (track_of disk.tracks 0).size; tracks = disk.tracks }
+
 -- a disk has the tracks of a volume from an image, as they were read
 pub record IsAsRead (f : Format) (kept : KeptState) (v : VolumeState) (before disk : DiskState) : Type 0 where
   pub begun : IsImageBegun f kept v

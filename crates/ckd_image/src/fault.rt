@@ -50,7 +50,7 @@ pub enum CkdFault {
 pub enum SaveError {
     #[error("no model of a disk has {heads} heads and {track_bytes} bytes a track")]
     NoModel { heads: u16, track_bytes: u32 },
-    #[error("an image has at most 65,535 tracks, all of the size of the first")]
+    #[error("an image has at most 65,535 tracks, all of the size that its header gives")]
     BadDisk,
     #[error("the image cannot be written")]
     NotWritten(ErrorKind),

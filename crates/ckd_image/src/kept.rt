@@ -1,6 +1,7 @@
 //! What an image has beside the records of its tracks.
 
 ghost use Rattle.std.specs.Prelude.{◌≡◌, ◌+◌, ◌<◌, ◌≤◌, Ok, IfOk, [], length};
+ghost use Rattle.std.specs.Bool.{Decides, OnTrue};
 ghost use Rattle.ckd_image.specs.Header.{format_of};
 ghost use Rattle.ckd_image.specs.Image.{kept_at};
 
@@ -96,9 +97,22 @@ impl Kept {
         }
     }
 
+    /// Whether the header is that of a disk with these heads, and these bytes a track on a volume.
+    pub(crate) fn is_of(&self, heads: u16, track_bytes: u32) -> bool
+        requires { track_bytes ≤ 65_535 }
+        ensures format { Decides result (format_of self.now.header ≡ Ok (record { heads = heads; bytes = track_bytes + 14 })) }
+        ensures heads { OnTrue result (1 ≤ heads) }
+    {
+        match Format::of(&self.header) {
+            Ok(format) => format.heads == heads && format.bytes == track_bytes + BESIDE,
+            Err(_) => false,
+        }
+    }
+
     /// The header.
     pub(crate) fn header(&self) -> &[u8]
-        ensures { result.now ≡ self.now.header }
+        ensures header { result.now ≡ self.now.header }
+        ensures long { length result.now ≡ 512 }
     {
         &self.header
     }

@@ -3,6 +3,7 @@
 //! An image is a header of 512 bytes and then the tracks, each with as many bytes: its home address, its records, an end
 //! mark, and a rest. `load` reads an image to a volume, or returns the first fault of the image. What an image has
 //! beside the records of its tracks is kept, so that `save` writes the same bytes for a disk that was not written on.
+//! What `save` writes is an image, and `load` reads it back as the disk that was saved.
 //!
 //! Tests: component_tests (`disk_images`).
 #![tactic(auto)]

@@ -1,10 +1,11 @@
 //! Images of disks, read track by track.
 
-ghost use Rattle.std.specs.Prelude.{◌≡◌, ◌+◌, ◌^◌, ◌<◌, ◌≤◌, Ok, IfOk, IfErr, OnOk, [], ◌++◌, length, replicate};
+ghost use Rattle.std.specs.Prelude.{◌≡◌, ℕ, ◌+◌, ◌^◌, ◌<◌, ◌≤◌, List, Some, Ok, IfOk, IfErr, OnOk, [], ◌++◌, length, replicate};
 ghost use Rattle.device_port.specs.Moves.{padded};
+ghost use Rattle.ckd_disk.specs.Volume.{VolumeState};
 ghost use Rattle.ckd_image.specs.Header.{format_of};
-ghost use Rattle.ckd_image.specs.Image.{home_of, tracks_file, kept_at};
-ghost use Rattle.ckd_image.specs.Loading.{IsFault, Loaded, FailsImage, FailsTrack, TakesTrack, EndsImage, track_fault, IsLoader, ReadsTracks, FailsAfter};
+ghost use Rattle.ckd_image.specs.Image.{home_of, tracks_file, kept_at, IsImage};
+ghost use Rattle.ckd_image.specs.Loading.{IsFault, Loaded, FailsImage, LoadsVolume, FailsTrack, TakesTrack, EndsImage, track_fault, IsLoader, ReadsTracks, FailsAfter};
 
 use crate::fault::{CkdError, CkdFault};
 use crate::format::{BESIDE, Format, HEADER};
@@ -35,10 +36,13 @@ struct Loader {
 
 /// Reads an image of a disk to its end.
 ///
+/// An image that breaks no rule loads to its volume, unless a read fails or memory runs out.
+///
 /// Errors: the first rule that the image breaks, with its offset; `Unreadable` if a read fails; or `NoMemory`.
 pub fn load<R: Read>(alloc: Global, reader: &mut R) -> Result<Image, CkdError>
     ensures loaded { IfOk result (Loaded (R.remaining reader.old) (R.remaining reader.new)) }
     ensures fault { IfErr result (λ e. IsFault e.fault → FailsImage (R.remaining reader.old) (R.remaining reader.new) e) }
+    ensures reads_back { (bytes : List ℕ) (v : VolumeState) → R.remaining reader.old ≡ Some bytes → IsImage bytes v → LoadsVolume v result }
 {
     let mut header = [0; HEADER];
     let Ok(count) = fill(reader, &mut header) else {

@@ -1,11 +1,11 @@
 //! Images of disks, written track by track.
 
-ghost use Rattle.std.specs.Prelude.{◌≡◌, ◌++◌, OnOk, replicate};
+ghost use Rattle.std.specs.Prelude.{◌≡◌, ◌+◌, ◌≤◌, ◌++◌, OnOk, IfErr, length, replicate};
 ghost use Rattle.std.specs.Io.KnownBytes.{Appends};
-ghost use Rattle.ckd_image.specs.Image.{file_of};
+ghost use Rattle.ckd_image.specs.Image.{file_of, IsImage};
 ghost use Rattle.ckd_image.specs.declared.format.Format.{Format};
 ghost use Rattle.ckd_disk.specs.Volume.{VolumeState};
-ghost use Rattle.ckd_image.specs.Saving.{track_bytes_with, kept_with, image_on, IsAsRead};
+ghost use Rattle.ckd_image.specs.Saving.{track_bytes_with, kept_with, image_on, volume_on, IsAsRead};
 
 use crate::fault::SaveError;
 use crate::format::BESIDE;
@@ -23,7 +23,14 @@ const LEAST_BESIDE: usize = 13;
 /// after its end mark that are kept; any other has flag 00 and zeros. So a disk that was not written on since its image
 /// was read gives the same bytes.
 ///
-/// Errors: `BadDisk` if the disk has more tracks than an image, or a track that does not fit the size of track 0, `NotWritten` if a write fails, and `NoMemory`.
+/// What was written is an image, and loads to the volume that the disk is now.
+///
+/// Errors:
+///
+/// - `BadDisk`: the header is that of a disk with other heads or other tracks, or the disk has over 65,535 tracks or tracks of
+///   several sizes.
+/// - `NotWritten`: a write fails.
+/// - `NoMemory`.
 pub fn save<W: Write>(
     alloc: Global,
     writer: &mut W,
@@ -32,18 +39,25 @@ pub fn save<W: Write>(
     disk: &Disk,
 ) -> Result<(), SaveError>
     ensures saved { OnOk result (Appends (W.contents writer.old) (W.contents writer.new) (image_on kept.now mounted.now disk.now)) }
+    ensures read_back { OnOk result (IsImage (image_on kept.now mounted.now disk.now) (volume_on disk.now)) }
+    ensures refused { IfErr result (λ e. e ≡ SaveError.BadDisk → IsImage (image_on kept.now mounted.now disk.now) (volume_on disk.now) → ⊥) }
     ensures same { OnOk result ((f : Format) (v : VolumeState) → IsAsRead f kept.now v mounted.now disk.now
         → Appends (W.contents writer.old) (W.contents writer.new) (file_of f kept.now v.tracks)) }
 {
-    match writer.write_all(kept.header()) {
-        Ok(()) => {}
-        Err(error) => return Err(SaveError::NotWritten(error.kind())),
-    }
+    let header = kept.header();
     let heads = disk.heads();
     let count = disk.tracks();
     let size = disk.track_bytes(0);
-    if heads == 0 || count > 65_535 || size > 65_535 {
+    if size > 65_535
+        || !kept.is_of(heads, size as u32)
+        || count > 65_535
+        || count % usize::from(heads) != 0
+    {
         return Err(SaveError::BadDisk);
+    }
+    match writer.write_all(header) {
+        Ok(()) => {}
+        Err(error) => return Err(SaveError::NotWritten(error.kind())),
     }
     let bytes = size + BESIDE as usize;
     let Ok(zeros) = vec![in alloc; 0; bytes] else {
@@ -53,13 +67,13 @@ pub fn save<W: Write>(
         return Err(SaveError::NoMemory);
     };
     for number in 0..count {
+        if disk.track_bytes(number) != size {
+            return Err(SaveError::BadDisk);
+        }
         let records = disk.track_image(number);
         let (flag, tail) = kept_with(kept, mounted, records, number);
         let home = address(heads, number);
-        match put_track(&mut track, bytes, flag, &home, records, tail, &zeros) {
-            Ok(()) => {}
-            Err(error) => return Err(error),
-        }
+        put_track(&mut track, bytes, flag, &home, records, tail, &zeros)?;
         match writer.write_all(&track) {
             Ok(()) => {}
             Err(error) => return Err(SaveError::NotWritten(error.kind())),
@@ -90,11 +104,10 @@ fn put_track(
     zeros: &[u8],
 ) -> Result<(), SaveError>
     requires zeros { zeros.now ≡ replicate bytes 0 }
-    ensures { OnOk result (track.new.items ≡ track_bytes_with bytes flag address.now records.now tail.now) }
+    requires room { 13 + length records.now ≤ bytes }
+    ensures put { OnOk result (track.new.items ≡ track_bytes_with bytes flag address.now records.now tail.now) }
+    ensures fault { IfErr result (λ e. e ≡ SaveError.NoMemory) }
 {
-    if bytes < LEAST_BESIDE || bytes - LEAST_BESIDE < records.len() {
-        return Err(SaveError::BadDisk);
-    }
     let room = bytes - LEAST_BESIDE - records.len();
     let tail = &tail[..tail.len().min(room)];
     track.clear();
@@ -110,7 +123,8 @@ fn put_track(
 
 /// Adds bytes to a buffer.
 fn append(buffer: &mut Vec<u8>, bytes: &[u8]) -> Result<(), SaveError>
-    ensures { OnOk result (buffer.new.items ≡ buffer.old.items ++ bytes.now) }
+    ensures appended { OnOk result (buffer.new.items ≡ buffer.old.items ++ bytes.now) }
+    ensures fault { IfErr result (λ e. e ≡ SaveError.NoMemory) }
 {
     match buffer.extend_from_slice(bytes) {
         Ok(()) => Ok(()),

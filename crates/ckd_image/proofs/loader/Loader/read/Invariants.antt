@@ -4,8 +4,7 @@ use Rattle.ckd_image.proofs.loader.Loader.read.Given as goal
 
 abbrev pub invariant-tracks : goal.invariant-tracks
 invariant-tracks g l = record {
-  format : l.self.format ≡ l.fn.self.format;
-  far : Far l.self.format (g.R.Read.remaining l.fn.reader) (g.R.Read.remaining l.reader) l.self.volume l.self.tracks.items
+  far : Far l.self.format l.header (g.R.Read.remaining l.fn.reader) (g.R.Read.remaining l.reader) l.self.volume l.self.tracks.items
       l.self.zeros.items l.offset;
   bytes : l.bytes ≡ l.self.format.bytes;
   buffer : length l.buffer.items ≡ l.bytes;
