@@ -1,5 +1,6 @@
 -- What was written of an image.
-use Rattle.std.proofs.Common.{◌≡◌, ◌+◌, ◌≤◌, ◌==◌, Bool, true, false, cond, List, [], ◌∷◌, ◌++◌, length, take, drop, ℕ, Option, Some, None}
+use Rattle.std.proofs.Common.{◌≡◌, ◌+◌, ◌≤◌, ◌==◌, Bool, true, false, cond, List, [], ◌∷◌, ◌++◌, length, take, drop, ℕ, Option}
+use Rattle.std.proofs.KnownBytes.{Appends-nil, Appends-trans}
 use Rattle.std.proofs.Common.{refl, sym, ap, subst, ◌∙◌, append_assoc, append-nil, arith}
 use Rattle.std.specs.Io.KnownBytes.{Appends}
 use Rattle.std.proofs.lemmas.List.Sums.{sum_by-cons, prefix_len-le-length}
@@ -9,16 +10,6 @@ use Rattle.aws_tape.specs.declared.layout.Part.{Part}
 use Rattle.aws_tape.specs.Layout.{own_count, bytes_in}
 use Rattle.aws_tape.specs.Writing.{header_of, flags_of, chunks_of, item_image, items_image, last_length, last_len, common}
 
-pub appends-nothing : (a : Option (List ℕ)) → Appends a a []
-appends-nothing None = tt
-appends-nothing (Some xs) = sym (append-nil xs)
-
-pub appends-more : (a b c : Option (List ℕ)) (xs ys : List ℕ) → Appends a b xs → Appends b c ys → Appends a c (xs ++ ys)
-appends-more None b c xs ys h k = tt
-appends-more (Some old) None c xs ys h k = absurd h
-appends-more (Some old) (Some bs) None xs ys h k = absurd k
-appends-more (Some old) (Some bs) (Some cs) xs ys h k = k ∙ ap (λ (l : List ℕ). l ++ ys) h ∙ append_assoc old xs ys
-
 -- a writer has got all of an image but the bytes that are left
 pub record Wrote (old now : Option (List ℕ)) (left image : List ℕ) : Type 0 where
   pub written : List ℕ
@@ -26,13 +17,13 @@ pub record Wrote (old now : Option (List ℕ)) (left image : List ℕ) : Type 0 
   pub whole : written ++ left ≡ image
 
 pub wrote-nothing : (a : Option (List ℕ)) (image : List ℕ) → Wrote a a image image
-wrote-nothing a image = record { written = []; appends = appends-nothing a; whole = refl }
+wrote-nothing a image = record { written = []; appends = Appends-nil a; whole = refl }
 
 pub wrote-more : (a b c : Option (List ℕ)) (piece left before image : List ℕ) → Wrote a b before image → before ≡ piece ++ left
     → Appends b c piece → Wrote a c left image
 wrote-more a b c piece left before image w is more = record {
   written = w.written ++ piece;
-  appends = appends-more a b c w.written piece w.appends more;
+  appends = Appends-trans a b c w.written piece w.appends more;
   whole = append_assoc w.written piece left ∙ ap (λ (l : List ℕ). w.written ++ l) (sym is) ∙ w.whole;
 }
 

@@ -1,5 +1,6 @@
 -- How far the tracks of an image were read, and what a loader answers in the end.
 use Rattle.std.proofs.Common.{◌≡◌, ℕ, ◌+◌, ◌*◌, ◌<◌, ◌≤◌, ◌⊎◌, false, List, [], ◌∷◌, ◌++◌, length, take, Option, Ok, Err, Result, IfOk}
+use Rattle.std.proofs.KnownBytes.{Consumes-nil, Consumes-trans}
 use Rattle.std.proofs.Common.{refl, sym, ap, subst, ◌∙◌, append_assoc, arith, inl, inr}
 use Rattle.std.specs.Prelude.{IfErr}
 use Rattle.std.proofs.lemmas.List.{length-append, append-nil, length-take-le}
@@ -13,7 +14,6 @@ use Rattle.image_source.specs.Filled.{Fills}
 use Rattle.ckd_image.specs.Header.{format_of}
 use Rattle.ckd_image.specs.Image.{KeptTrackState, KeptState, kept_at, tracks_file, file_of, IsWholeImage}
 use Rattle.ckd_image.specs.Loading.{TakesTrack, IsLoader, FailsTrack, FailsAfter, FailsImage, ReadsTracks, Loaded, EndsImage, IsFault}
-use Rattle.image_source.proofs.Sources.{consumes-nothing, consumes-more}
 use Rattle.ckd_image.proofs.Files.{no_files, file_more, loader_more, begun}
 
 abbrev tracks_of : Format → VolumeState → List KeptTrackState → List ℕ
@@ -39,7 +39,7 @@ far_start f header now v kept zeros is says wide empty =
       says = says;
       wide = wide;
       few = omega (arith, ap length empty);
-      read = subst (λ (l : List ℕ). Consumes now now l) (sym none) (consumes-nothing now);
+      read = subst (λ (l : List ℕ). Consumes now now l) (sym none) (Consumes-nil now);
       place = omega (arith, ap length none);
       bound = omega arith;
     }
@@ -57,7 +57,7 @@ far_more f header old now next v after kept more zeros track offset far read lon
       says = far.says;
       wide = far.wide;
       few = takes.few;
-      read = subst (λ (l : List ℕ). Consumes old next l) (sym file) (consumes-more old now next (tracks_of f v kept) track far.read read);
+      read = subst (λ (l : List ℕ). Consumes old next l) (sym file) (Consumes-trans old now next (tracks_of f v kept) track far.read read);
       place = omega (arith, far.place, ap length file, length-append (tracks_of f v kept) track, long);
       bound = omega (arith, far.bound, grown, far.loader.large);
     }
@@ -69,7 +69,7 @@ pub fails_track : (f : Format) (header : List ℕ) (old now next : Option (List 
 fails_track f header old now next v kept zeros track offset fault at far read long why =
     let tracks = tracks_of f v kept in (
       tracks ++ track,
-      consumes-more old now next tracks track far.read read,
+      Consumes-trans old now next tracks track far.read read,
       inr (inr (inl (record {
         start = offset;
         at = at;
@@ -103,7 +103,7 @@ ends f header old now next v kept zeros buffer offset count (Ok image) far fills
     let none : take count buffer ≡ [] = ap (λ (n : ℕ). take n buffer) answer.0 in
     let last : Consumes now next [] = subst (λ (l : List ℕ). Consumes now next l) none fills.consumed in
     let all : Consumes old next tracks = subst (λ (l : List ℕ). Consumes old next l) (append-nil tracks)
-    (consumes-more old now next tracks [] far.read last) in
+    (Consumes-trans old now next tracks [] far.read last) in
     let is : IsWholeImage f k v = record {
       begun = begun f header v kept zeros far.loader far.says far.wide;
       few = far.few;
@@ -135,7 +135,7 @@ ends f header old now next v kept zeros buffer offset count (Err e) far fills sh
       loaded = tt;
       fault = λ (known : IsFault e.fault). (
         tracks ++ rest,
-        consumes-more old now next tracks rest far.read fills.consumed,
+        Consumes-trans old now next tracks rest far.read fills.consumed,
         inr (inr (inr (record {
           start = offset;
           well = record {
@@ -172,7 +172,7 @@ loaded header old mid new (Ok image) read h =
     record {
       format = h.format;
       valid = h.valid;
-      read = subst (λ (l : List ℕ). Consumes old new l) h.read.2 (consumes-more old mid new header bytes read h.read.1);
+      read = subst (λ (l : List ℕ). Consumes old new l) h.read.2 (Consumes-trans old mid new header bytes read h.read.1);
       end = h.end;
     }
 
@@ -181,4 +181,4 @@ pub failed : (header : List ℕ) (old mid new : Option (List ℕ)) (result : Res
 failed header old mid new (Ok image) read h = tt
 failed header old mid new (Err e) read h = λ (known : IsFault e.fault).
     let after = h known in
-    (header ++ after.0, consumes-more old mid new header after.0 read after.1, after.2)
+    (header ++ after.0, Consumes-trans old mid new header after.0 read after.1, after.2)

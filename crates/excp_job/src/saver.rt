@@ -5,7 +5,7 @@ use crate::progress::Progress;
 use crate::replacement::{ReplaceError, Replacement};
 use any_device::AnyDevice;
 use ckd_image::Kept;
-use job_media::{SaveError, save};
+use job_media::save;
 use job_options::MediaFiles;
 use job_script::UnitSetup;
 use std::io::{BufWriter, Write};
@@ -127,7 +127,7 @@ fn is_model(rt: &HostRuntime, unit: &UnitSetup) -> Result<(), ReplaceError> {
     };
     match Kept::of_model(rt.alloc(), heads, track_bytes) {
         Ok(_) => Ok(()),
-        Err(error) => Err(ReplaceError::from(SaveError::from(error))),
+        Err(_) => Err(ReplaceError::NoModel { heads, track_bytes }),
     }
 }
 

@@ -1,2 +1,7 @@
--- The sizes of media from images, in the lines of their units.
+-- The definitions of job_media: the sizes of images in the lines of units, and how images are loaded, mounted and saved.
 pub mod Sizes
+pub mod Images
+pub mod Mounting
+pub mod Loading
+pub mod Paper
+pub mod Saving

@@ -1,5 +1,8 @@
 //! The characters of EBCDIC code page 1047.
 
+ghost use Rattle.std.specs.Prelude.{◌≡◌};
+ghost use Rattle.job_media.specs.Paper.{character};
+
 /// What stands for a control character, which is none that can be printed (profile).
 const NO_CHARACTER: char = '\u{fffd}';
 
@@ -32,7 +35,9 @@ static GRAPHICS: [char; 192] = [
 ];
 
 /// The character of a byte: that of code page 1047, or U+FFFD for a control character.
-pub(crate) fn character(byte: u8) -> char {
+pub(crate) fn character(byte: u8) -> char
+    ensures { result ≡ character byte }
+{
     match byte.checked_sub(0x40) {
         Some(place) => GRAPHICS[usize::from(place)],
         None => NO_CHARACTER,

@@ -1,6 +1,9 @@
 //! An image of a medium: loaded from a reader, and mounted as the device of a unit.
 
-ghost use Rattle.std.specs.Prelude.{◌≤◌, IfSome, length};
+ghost use Rattle.std.specs.Prelude.{◌≡◌, ◌≢◌, ◌↔◌, IsTrue, bytes_eq, codes};
+ghost use Rattle.job_media.specs.Images.{geometry_of, image_size};
+ghost use Rattle.job_media.specs.Loading.{LoadsImage, RunsOut};
+ghost use Rattle.job_media.specs.Mounting.{AnswersMounting, device_alone, for_disk, for_tape, as_job_error, mounted_from};
 
 use crate::sizes::Size;
 use any_device::AnyDevice;
@@ -8,6 +11,7 @@ use aws_tape::{AwsError, AwsFault, Layout};
 use ckd_disk::Geometry;
 use ckd_image::{CkdError, CkdFault};
 use device_port::MountError;
+use image_source::fill;
 use job_script::{Cause, FaultName, JobError, Medium, UnitSetup};
 use std::alloc::Global;
 use std::io::Read;
@@ -44,7 +48,9 @@ pub enum ImageError {
 
 impl ImageError {
     /// Whether memory ran out.
-    pub fn is_no_memory(&self) -> bool {
+    pub fn is_no_memory(&self) -> bool
+        ensures { IsTrue result ↔ RunsOut self.now }
+    {
         match self {
             ImageError::Disk(error) => error.fault == CkdFault::NoMemory,
             ImageError::Tape(error) => error.fault == AwsFault::NoMemory,
@@ -81,7 +87,9 @@ pub enum MediaRefusal {
 
 impl MediaRefusal {
     /// The fault of a line, in words.
-    pub fn cause(self) -> Cause {
+    pub fn cause(self) -> Cause
+        ensures { result.name ≡ FaultName.Medium }
+    {
         match self {
             MediaRefusal::Content => medium(
                 "the medium of this unit is an image: no line says what is on it",
@@ -110,11 +118,15 @@ impl MediaRefusal {
 }
 
 /// A fault of a medium.
-fn medium(text: &'static str, numbers: &[u64]) -> Cause {
+fn medium(text: &'static str, numbers: &[u64]) -> Cause
+    ensures { result.name ≡ FaultName.Medium }
+{
     Cause::new(FaultName::Medium, text, numbers)
 }
 
 impl From<MediaError> for JobError {
+    ghost from_gives = { λ error e. e ≡ as_job_error error };
+
     fn from(error: MediaError) -> Self {
         match error {
             MediaError::Line { line, .. } => JobError::Line {
@@ -128,14 +140,16 @@ impl From<MediaError> for JobError {
 
 impl Image {
     /// Reads an image to its end. If it begins with `CKD_`, it is one of a disk, and else one of a tape.
-    pub fn load<R: Read>(alloc: Global, reader: &mut R) -> Result<Self, ImageError> {
+    pub fn load<R: Read>(alloc: Global, reader: &mut R) -> Result<Self, ImageError>
+        ensures { LoadsImage (R.remaining reader.old) result }
+    {
         let mut first = [0; 4];
-        let Some(count) = fill(reader, &mut first) else {
+        let Ok(count) = fill(reader, &mut first) else {
             return Err(ImageError::Unreadable);
         };
         let read = &first[..count];
         let mut whole = read.chain(reader);
-        if read == DISK {
+        if is_disk(read) {
             match ckd_image::load(alloc, &mut whole) {
                 Ok(image) => Ok(Image::Disk(image)),
                 Err(error) => Err(ImageError::Disk(error)),
@@ -149,7 +163,9 @@ impl Image {
     }
 
     /// The size of its medium. A tape has the bytes that its items take.
-    pub fn size(&self) -> Size {
+    pub fn size(&self) -> Size
+        ensures { result ≡ image_size self.now }
+    {
         match self {
             Image::Disk(image) => Size::Disk(geometry(image)),
             Image::Tape(image) => Size::Tape(image.tape.used()),
@@ -164,7 +180,9 @@ impl Image {
     /// - the unit is of another kind than the image, or of another size. A tape may have more bytes than the image.
     /// - the faults of the unit are no fault script.
     /// - out of memory.
-    pub fn mounted(self, alloc: Global, unit: &UnitSetup) -> Result<(AnyDevice, Kept), MediaError> {
+    pub fn mounted(self, alloc: Global, unit: &UnitSetup) -> Result<(AnyDevice, Kept), MediaError>
+        ensures { AnswersMounting (mounted_from self unit.now) result }
+    {
         if let Some(line) = unit.content_lines.first() {
             return Err(fault(*line, MediaRefusal::Content));
         }
@@ -175,7 +193,9 @@ impl Image {
     }
 
     /// The device of a unit alone. Errors: as `mounted`.
-    pub fn device(self, alloc: Global, unit: &UnitSetup) -> Result<AnyDevice, MediaError> {
+    pub fn device(self, alloc: Global, unit: &UnitSetup) -> Result<AnyDevice, MediaError>
+        ensures { AnswersMounting (device_alone (mounted_from self unit.now)) result }
+    {
         match self.mounted(alloc, unit) {
             Ok((device, _kept)) => Ok(device),
             Err(error) => Err(error),
@@ -183,23 +203,17 @@ impl Image {
     }
 }
 
-/// Reads bytes until the buffer is full or the reader is at its end, and returns how many; nothing if a read fails.
-fn fill<R: Read>(reader: &mut R, buffer: &mut [u8]) -> Option<usize>
-    ensures { IfSome result (λ count. count ≤ length buffer.new) }
+/// Whether the first four bytes of an image are those of an image of a disk.
+fn is_disk(first: &[u8]) -> bool
+    ensures { result ≡ bytes_eq first.now (codes "CKD_") }
 {
-    let mut count = 0;
-    while count < buffer.len() {
-        match reader.read(&mut buffer[count..]) {
-            Ok(0) => return Some(count),
-            Ok(more) => count += more,
-            Err(_) => return None,
-        }
-    }
-    Some(count)
+    first == DISK
 }
 
 /// The geometry of the disk of an image.
-fn geometry(image: &ckd_image::Image) -> Geometry {
+fn geometry(image: &ckd_image::Image) -> Geometry
+    ensures { result ≡ geometry_of image.now.volume }
+{
     let volume = &image.volume;
     let heads = u64::from(volume.heads());
     Geometry {
@@ -210,12 +224,17 @@ fn geometry(image: &ckd_image::Image) -> Geometry {
 }
 
 /// A fault of a line.
-fn fault(line: usize, refusal: MediaRefusal) -> MediaError {
+fn fault(line: usize, refusal: MediaRefusal) -> MediaError
+    ensures { result ≡ MediaError.Line line refusal }
+{
     MediaError::Line { line, refusal }
 }
 
 /// Why a medium of a unit is not mounted, whose size is right.
-fn not_mounted(unit: &UnitSetup, reason: MountError) -> MediaError {
+fn not_mounted(unit: &UnitSetup, reason: MountError) -> MediaError
+    ensures memory { reason ≡ MountError.NoMemory → result ≡ MediaError.NoMemory }
+    ensures faults { reason ≢ MountError.NoMemory → result ≡ MediaError.Line unit.now.line MediaRefusal.Faults }
+{
     match reason {
         MountError::NoMemory => MediaError::NoMemory,
         _ => fault(unit.line, MediaRefusal::Faults),
@@ -226,7 +245,9 @@ fn mounted_disk(
     alloc: Global,
     image: ckd_image::Image,
     unit: &UnitSetup,
-) -> Result<(AnyDevice, Kept), MediaError> {
+) -> Result<(AnyDevice, Kept), MediaError>
+    ensures { AnswersMounting (for_disk image unit.now.medium unit.now) result }
+{
     let Medium::Disk(declared, _) = &unit.medium else {
         return Err(fault(unit.line, MediaRefusal::Disk));
     };
@@ -245,7 +266,9 @@ fn mounted_tape(
     alloc: Global,
     image: aws_tape::Image,
     unit: &UnitSetup,
-) -> Result<(AnyDevice, Kept), MediaError> {
+) -> Result<(AnyDevice, Kept), MediaError>
+    ensures { AnswersMounting (for_tape image unit.now.medium unit.now) result }
+{
     let Medium::Tape(bytes, _) = &unit.medium else {
         return Err(fault(unit.line, MediaRefusal::Tape));
     };

@@ -1,5 +1,13 @@
 //! Media written: a tape or a disk as an image, a printer as a text file.
 
+ghost use Rattle.std.specs.Prelude.{◌≡◌, ◌-◌, ◌^◌, min, OnOk, IfOk, IfErr, option_copied};
+ghost use Rattle.std.specs.Io.KnownBytes.{Appends};
+ghost use Rattle.ckd_disk.specs.Disk.{track_of};
+ghost use Rattle.ckd_image.specs.Saving.{image_on};
+ghost use Rattle.aws_tape.specs.Writing.{IsReadBack, saved};
+ghost use Rattle.any_device.specs.declared.device.AnyDevice.TheVariants as AnyDevice;
+ghost use Rattle.job_media.specs.Saving.{FailsSaving, FailsWriting, IsNewImage, LoadsAgain, SavesDisk, SavesMedium, SavesTape};
+
 use crate::image::Kept;
 use crate::paper::write_paper;
 use any_device::AnyDevice;
@@ -9,6 +17,7 @@ use device_port::Device;
 use std::alloc::Global;
 use std::io;
 use std::io::{ErrorKind, Write};
+use tape_unit::Tape;
 
 /// Why a medium is not written.
 #[derive(Clone, Copy, Debug, PartialEq, Eq)]
@@ -19,68 +28,151 @@ pub enum SaveError {
     NoMemory,
 }
 
-impl From<io::Error> for SaveError {
-    fn from(error: io::Error) -> Self {
-        match error.kind() {
-            ErrorKind::OutOfMemory => SaveError::NoMemory,
-            kind => SaveError::NotWritten(kind),
-        }
-    }
-}
-
-impl From<ckd_image::SaveError> for SaveError {
-    fn from(error: ckd_image::SaveError) -> Self {
-        match error {
-            ckd_image::SaveError::NoModel { heads, track_bytes } => {
-                SaveError::NoModel { heads, track_bytes }
-            }
-            ckd_image::SaveError::NoMemory => SaveError::NoMemory,
-            ckd_image::SaveError::BadDisk => SaveError::NotWritten(ErrorKind::InvalidInput),
-            ckd_image::SaveError::NotWritten(kind) => SaveError::NotWritten(kind),
-        }
-    }
-}
-
 /// Writes the medium of a unit: an image of a disk or a tape, or the text that a printer has printed. `mounted` is the
 /// device as it was mounted, and `now` as it is. What was not written since is as in the image that it came from, if
 /// it came from one.
 ///
-/// Errors: `NoModel` if a disk is no model that an image has, and nothing is written; that of the writer, or out of memory,
-/// after a part.
+/// Errors:
+///
+/// - `NoModel`: a disk that came from no image is of no model. Nothing is written.
+/// - `NotWritten`: a write failed, the disk is none that an image can have, or the devices are of two kinds. A part may be
+///   written.
+/// - `NoMemory`. A part may be written.
 pub fn save<W: Write>(
     alloc: Global,
     writer: &mut W,
     kept: Option<&Kept>,
     mounted: &AnyDevice,
     now: &AnyDevice,
-) -> Result<(), SaveError> {
+) -> Result<(), SaveError>
+    ensures saved { OnOk result
+        (SavesMedium (W.contents writer.old) (W.contents writer.new) (option_copied kept.entry) mounted.now now.now) }
+    ensures read_back { OnOk result (LoadsAgain (option_copied kept.entry) mounted.now now.now) }
+    ensures fault { IfErr result (FailsSaving (W.contents writer.old) (W.contents writer.new) (option_copied kept.entry) now.now) }
+{
     match (mounted, now) {
-        (AnyDevice::Tape(mounted), AnyDevice::Tape(now)) => match kept {
-            Some(Kept::Tape(layout)) => Ok(aws_tape::save(writer, layout, mounted, now)?),
-            _ => Ok(aws_tape::save(writer, &Layout::canonical(alloc), mounted, now)?),
+        (AnyDevice::Tape(mounted), AnyDevice::Tape(now)) => save_tape(
+            alloc, writer, kept, mounted, now,
+        ),
+        (AnyDevice::Disk(mounted), AnyDevice::Disk(now)) => save_disk(
+            alloc, writer, kept, mounted, now,
+        ),
+        (_, AnyDevice::Printer(printer)) => match write_paper(writer, printer) {
+            Ok(()) => Ok(()),
+            Err(error) => Err(not_written(error)),
         },
-        (AnyDevice::Disk(mounted), AnyDevice::Disk(now)) => match kept {
-            Some(Kept::Disk(kept)) => Ok(ckd_image::save(alloc, writer, kept, mounted, now)?),
-            _ => {
-                let kept = of_model(alloc, now)?;
-                Ok(ckd_image::save(alloc, writer, &kept, mounted, now)?)
-            }
-        },
-        (_, AnyDevice::Printer(printer)) => Ok(write_paper(writer, printer)?),
         // no unit comes to this: its device stays of one kind
         _ => Err(SaveError::NotWritten(ErrorKind::Other)),
     }
 }
 
-/// What a new image of a disk has.
-fn of_model(alloc: Global, disk: &Disk) -> Result<ckd_image::Kept, ckd_image::SaveError> {
-    ckd_image::Kept::of_model(alloc, disk.heads(), track_bytes(disk))
+/// Writes the image of a tape.
+fn save_tape<W: Write>(
+    alloc: Global,
+    writer: &mut W,
+    kept: Option<&Kept>,
+    mounted: &Tape,
+    now: &Tape,
+) -> Result<(), SaveError>
+    ensures saved { OnOk result (SavesTape (W.contents writer.old) (W.contents writer.new) (option_copied kept.entry) mounted.now now.now) }
+    ensures read_back { OnOk result (LoadsAgain (option_copied kept.entry) (AnyDevice.Tape mounted.now) (AnyDevice.Tape now.now)) }
+    ensures fault { IfErr result FailsWriting }
+{
+    match kept {
+        Some(Kept::Tape(layout)) => write_tape(writer, layout, mounted, now),
+        _ => write_tape(writer, &Layout::canonical(alloc), mounted, now),
+    }
 }
 
-/// How many bytes the first track of a disk has. Every disk has one.
-fn track_bytes(disk: &Disk) -> u32 {
-    if disk.tracks() == 0 {
-        return 0;
+/// Writes the image of a tape with this layout.
+fn write_tape<W: Write>(
+    writer: &mut W,
+    layout: &Layout,
+    mounted: &Tape,
+    now: &Tape,
+) -> Result<(), SaveError>
+    ensures saved { OnOk result
+        (Appends (W.contents writer.old) (W.contents writer.new) (saved layout.now mounted.now.reel.items now.now.reel.items)) }
+    ensures read_back { OnOk result (IsReadBack now.now.reel.items (saved layout.now mounted.now.reel.items now.now.reel.items)) }
+    ensures fault { IfErr result FailsWriting }
+{
+    match aws_tape::save(writer, layout, mounted, now) {
+        Ok(()) => Ok(()),
+        Err(error) => Err(not_written(error)),
     }
+}
+
+/// Writes the image of a disk.
+fn save_disk<W: Write>(
+    alloc: Global,
+    writer: &mut W,
+    kept: Option<&Kept>,
+    mounted: &Disk,
+    now: &Disk,
+) -> Result<(), SaveError>
+    ensures saved { OnOk result (SavesDisk (W.contents writer.old) (W.contents writer.new) (option_copied kept.entry) mounted.now now.now) }
+    ensures fault { IfErr result
+        (FailsSaving (W.contents writer.old) (W.contents writer.new) (option_copied kept.entry) (AnyDevice.Disk now.now)) }
+{
+    if let Some(Kept::Disk(kept)) = kept {
+        return write_disk(alloc, writer, kept, mounted, now);
+    }
+    let kept = match of_model(alloc, now) {
+        Ok(kept) => kept,
+        Err(error) => return Err(error),
+    };
+    write_disk(alloc, writer, &kept, mounted, now)
+}
+
+/// Writes the image of a disk with what it has beside its records.
+fn write_disk<W: Write>(
+    alloc: Global,
+    writer: &mut W,
+    kept: &ckd_image::Kept,
+    mounted: &Disk,
+    now: &Disk,
+) -> Result<(), SaveError>
+    ensures saved { OnOk result (Appends (W.contents writer.old) (W.contents writer.new) (image_on kept.now mounted.now now.now)) }
+    ensures fault { IfErr result FailsWriting }
+{
+    match ckd_image::save(alloc, writer, kept, mounted, now) {
+        Ok(()) => Ok(()),
+        Err(ckd_image::SaveError::NoMemory) => Err(SaveError::NoMemory),
+        Err(ckd_image::SaveError::NotWritten(kind)) => Err(SaveError::NotWritten(kind)),
+        Err(_) => Err(SaveError::NotWritten(ErrorKind::InvalidInput)),
+    }
+}
+
+/// What a new image of a disk has.
+///
+/// Error: `NoModel`.
+fn of_model(alloc: Global, disk: &Disk) -> Result<ckd_image::Kept, SaveError>
+    ensures new { IfOk result (IsNewImage disk.now) }
+    ensures fault { IfErr result (λ e. e ≡ SaveError.NoModel disk.now.heads (min (track_of disk.now.tracks 0).size (2 ^ 32 - 1))) }
+{
+    let heads = disk.heads();
+    let track_bytes = track_bytes(disk);
+    match ckd_image::Kept::of_model(alloc, heads, track_bytes) {
+        Ok(kept) => Ok(kept),
+        Err(_) => Err(SaveError::NoModel { heads, track_bytes }),
+    }
+}
+
+/// How many bytes the first track of a disk has, up to 4,294,967,295.
+fn track_bytes(disk: &Disk) -> u32
+    ensures { result ≡ min (track_of disk.now.tracks 0).size (2 ^ 32 - 1) }
+{
+    // No effect at run time. The proof reads that a disk has a track.
+    let _ = disk.tracks();
     u32::try_from(disk.track_bytes(0)).unwrap_or(u32::MAX)
+}
+
+/// A failed write.
+fn not_written(error: io::Error) -> SaveError
+    ensures { FailsWriting result }
+{
+    match error.kind() {
+        ErrorKind::OutOfMemory => SaveError::NoMemory,
+        kind => SaveError::NotWritten(kind),
+    }
 }

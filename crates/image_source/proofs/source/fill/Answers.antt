@@ -1,7 +1,8 @@
 use Rattle.std.proofs.Common.{◌-◌, ◌≤◌, ◌++◌, ℕ, List, length, take, drop, subst, sym, length-append, arith}
+use Rattle.std.proofs.KnownBytes.{Consumes-trans}
 use Rattle.std.proofs.lemmas.List.{length-take-le}
 use Rattle.std.specs.Io.KnownBytes.{Consumes}
-use Rattle.image_source.proofs.Sources.{consumes-more, filled_more}
+use Rattle.image_source.proofs.Sources.{filled_more}
 use Rattle.image_source.proofs.source.fill.Goals as goal
 
 pub loop-count-preserved : goal.loop-count-preserved
@@ -15,6 +16,6 @@ loop-count-preserved g c =
     let taken = filled_more n c.in_ok-more.more old new after i.within few in
     record {
       read = subst (λ (l : List ℕ). Consumes (g.R.Read.remaining c.args.source.now) (g.R.Read.remaining c.read.new.self) l) (sym taken)
-          (consumes-more _ _ _ (take n old) (take c.in_ok-more.more new) i.read c.in_ok-more.ensures.bytes.0);
+          (Consumes-trans _ _ _ (take n old) (take c.in_ok-more.more new) i.read c.in_ok-more.ensures.bytes.0);
       within = omega (arith, length-append (take n old) (new ++ after), length-append new after, length-take-le n old i.within, few);
     }
