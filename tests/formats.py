@@ -156,11 +156,12 @@ def volume_of(image):
     if image[:8] != b"CKD_P370":
         raise Fault(0, "compressed disk" if image[:8] == b"CKD_C370" else "eye catcher")
     heads, size = struct.unpack_from("<II", image, 8)
-    faults = [(8, "heads")] if not 1 <= heads <= 65_535 else []
-    faults += [(12, "track bytes")] if not 30 <= size <= 65_549 else []
-    faults += [(17, "split")] if image[17] else []
-    if faults:
-        raise Fault({at for at, _ in faults}, *(name for _, name in faults))
+    if not 1 <= heads <= 65_535:
+        raise Fault(8, "heads")
+    if not 30 <= size <= 65_549:
+        raise Fault(12, "track bytes")
+    if image[17]:
+        raise Fault(17, "split")
     volume = Volume(image[:DISK], heads, size, [])
     at = DISK
     while at < len(image) or not volume.tracks or len(volume.tracks) % heads:

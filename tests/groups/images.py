@@ -272,10 +272,9 @@ def is_right(name, image, said, is_taken):
         require(is_taken and said is None, f"image {name} has no fault: {said}")
         return
     require(said and not is_taken, f"image {name} has a fault at {fault.offset}: {fault.names}")
-    offsets = fault.offset if isinstance(fault.offset, set) else {fault.offset}
     found = re.match(r"byte (\d+): (.*)", said)
     is_named = found and any(found[2].startswith(formats.TEXTS[it]) for it in fault.names)
-    require(is_named and int(found[1]) in offsets, f"image {name}: {said}; expected {fault.names} at {fault.offset}")
+    require(is_named and int(found[1]) == fault.offset, f"image {name}: {said}; expected {fault.names} at {fault.offset}")
 
 
 def cuts(image, heads):
@@ -309,6 +308,13 @@ def small_volume():
     return header + tracks
 
 
+def volume_with(cylinders, heads, records):
+    """A volume whose tracks have these records and 30 bytes in the image, the fewest."""
+    header = b"CKD_P370" + struct.pack("<IIB", heads, 30, 0x90).ljust(504, b"\0")
+    track = formats.Track(0, records, b"")
+    return header + b"".join(formats.bytes_of(track, 30, *divmod(number, heads)) for number in range(cylinders * heads))
+
+
 def small_tape():
     """A tape with a block in several chunks, one of which is empty, and marks."""
     items = [b"FIRST", None, b"IN SEVERAL CHUNKS", None, None]
@@ -327,11 +333,38 @@ def hostile():
     yield "a small disk, changed", changed(disk, headers) + [disk[:at] for at in range(len(disk))]
     sizes = [disk[:at] + struct.pack("<I", it) + disk[at + 4 :] for at in (8, 12) for it in (0, 1, 65_536, 2**31, 2**32 - 1)]
     yield "a small disk with other sizes", sizes
+    split = [image[:17] + b"\1" + image[18:] for image in (disk, *sizes)]
+    yield "a small disk that is split", split
+    zero = [(bytes(5), b"", bytes(8))]
+    yield "tracks without a record, and too many tracks", [volume_with(1, 1, []), volume_with(32_768, 2, zero)]
     for name in "w.aws", "wnc.het":
         image = bytes_of(f"{STORED}/{name}")
         yield f"{name}, cut", cuts(image, headers_of_tape(image))
     image = bytes_of(f"{STORED}/load2311.img")
     yield "load2311.img, cut", cuts(image, [512 + number * 4096 + at for number in range(50) for at in range(13)])
+
+
+def script_is_no_image(setup):
+    """What is no image may be no damaged image, and the error says so."""
+    with tempfile.TemporaryDirectory(prefix="images-") as folder:
+        write(f"{folder}/script", TAPE.encode())
+        ran = program(setup, folder, "describe", "script")
+        told = re.fullmatch(r"excp_job: script: byte 0: .*, or the file is no image of a tape\n", ran.err)
+        require(ran.status == 1 and ran.out == "" and told, "another error", ran)
+
+
+def check_wants_a_unit_for_each_image(setup):
+    with tempfile.TemporaryDirectory(prefix="images-") as folder:
+        small(folder)
+        ran = program(setup, folder, "check", "--load", "1=tape", script="tasks 1\nprinter 0 0 1 1\nwait 0\n")
+        require(ran.status == 1 and "unit 1 has an image, and no line declares it" in ran.out, "no fault", ran)
+
+
+def most_tracks_are_kept(setup):
+    """A volume of 65,535 tracks is kept, byte for byte."""
+    with tempfile.TemporaryDirectory(prefix="images-") as folder:
+        write(f"{folder}/volume", volume_with(13_107, 5, [(bytes(5), b"", bytes(8))]))
+        keeps(setup, folder, "disk", "volume")
 
 
 def at_random(setup, seed):
@@ -380,6 +413,9 @@ REJECTED = [
     (["report"], TAPE, "excp_job: line 2: Number\n"),
     (["run"], TAPE, "excp_job: line 2: Number\n"),
     (["report", "--load", "0=tape", "--save", "0=none/there"], TAPE, "excp_job: none/there: there is no such directory\n"),
+    (["report", "--save", "0=new", "--save", "1=./new"], TAPE, "excp_job: ./new: it is named for two units\n"),
+    (["report", "--load", "1=new.excp-new", "--save", "0=new"], TAPE, "excp_job: new: it is named for two units\n"),
+    (["report", "--save", "0=new", "--save", "1=new.excp-new"], TAPE, "excp_job: new.excp-new: it is named for two units\n"),
     (["report", "--load", "0=tape", "--save", "0=/dev/null"], TAPE, "excp_job: /dev/null: it is not a regular file\n"),
     (["convert", "missing"], "", "excp_job: missing: there is no such file\n"),
     (["describe", "missing", "disk"], "", "excp_job: missing: there is no such file\n"),
@@ -570,6 +606,9 @@ def cases(setup):
         failed_run_saves_nothing,
         left_file_is_named,
         model_is_asked_before_the_run,
+        most_tracks_are_kept,
+        script_is_no_image,
+        check_wants_a_unit_for_each_image,
         progress_is_shown_on_a_terminal,
         prints_paper,
     ):

@@ -1,6 +1,7 @@
 -- The bytes of a disk that are written.
 use Rattle.std.proofs.Common.{◌≡◌, ℕ, zero, suc, ◌+◌, ◌-◌, ◌%◌, ◌<◌, ◌≤◌, Bool, true, ◌&&◌, cond, nat_lt, List, [], ◌∷◌, ◌++◌, length, take, map, replicate, min, Ok}
-use Rattle.std.proofs.Common.{Option, Some, None, Result, refl, sym, ap, subst, ◌∙◌, append_assoc, arith, inl, inr}
+use Rattle.std.proofs.KnownBytes.{Appends-trans}
+use Rattle.std.proofs.Common.{Option, Result, refl, sym, ap, subst, ◌∙◌, append_assoc, arith, inl, inr}
 use Rattle.std.specs.Io.KnownBytes.{Appends}
 use Rattle.std.specs.List.{AllByRecursion, range_with_len}
 use Rattle.std.specs.Str.{bytes_eq}
@@ -57,12 +58,6 @@ put_together bytes flag m address records tail zeros start none blank m-is =
 
 -- ---- what a writer holds
 
-pub appends_more : (a b c : Option (List ℕ)) (xs ys : List ℕ) → Appends a b xs → Appends b c ys → Appends a c (xs ++ ys)
-appends_more None b c xs ys h k = tt
-appends_more (Some old) None c xs ys h k = absurd h
-appends_more (Some old) (Some bs) None xs ys h k = absurd k
-appends_more (Some old) (Some bs) (Some cs) xs ys h k = k ∙ ap (λ (l : List ℕ). l ++ ys) h ∙ append_assoc old xs ys
-
 -- the header and the first tracks of an image
 abbrev pub first_tracks : KeptState → DiskState → DiskState → ℕ → List ℕ
 first_tracks kept mounted disk n =
@@ -89,7 +84,7 @@ first_more kept mounted disk n old now next track lt so_far put track-is =
     ∙ ap (λ (l : List ℕ). tracks_file f k 0 ts ++ l) here in
     let whole : first_tracks kept mounted disk n ++ track ≡ first_tracks kept mounted disk (n + 1) =
     append_assoc kept.header (tracks_file f k 0 ts) track ∙ ap (λ (l : List ℕ). kept.header ++ l) (sym more) in
-    subst (λ (l : List ℕ). Appends old next l) whole (appends_more old now next (first_tracks kept mounted disk n) track so_far put)
+    subst (λ (l : List ℕ). Appends old next l) whole (Appends-trans old now next (first_tracks kept mounted disk n) track so_far put)
 
 pub first_all : (kept : KeptState) (mounted disk : DiskState) (n : ℕ) (old now : Option (List ℕ)) → length disk.tracks ≤ n →
     Appends old now (first_tracks kept mounted disk n) → Appends old now (image_on kept mounted disk)

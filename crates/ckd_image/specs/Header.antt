@@ -28,7 +28,7 @@ abbrev pub format_of : List ℕ → Result Format CkdError
 format_of header =
     if starts_with nat_eq header (codes "CKD_C370") then fails_at fault.Compressed 0
     else if not (starts_with nat_eq header (codes "CKD_P370")) then fails_at fault.BadEyeCatcher 0
-    else if not (slice_index header 17 == 0) then fails_at fault.SplitVolume 17
     else if not (is_heads (header_heads header)) then fails_at fault.BadHeads 8
     else if not (is_bytes (bytes_of header)) then fails_at fault.BadTrackBytes 12
+    else if not (slice_index header 17 == 0) then fails_at fault.SplitVolume 17
     else Ok (record { heads = header_heads header; bytes = bytes_of header })

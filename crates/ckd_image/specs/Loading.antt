@@ -141,7 +141,7 @@ pub record ReadsTracks (header : List ℕ) (old new : Option (List ℕ)) (image 
 abbrev pub FailsAfter : List ℕ → Option (List ℕ) → Option (List ℕ) → CkdError → Type 0
 FailsAfter header old new e = (bytes : List ℕ) × Consumes old new bytes × FailsIn new (header ++ bytes) e
 
--- what follows the last track: nothing, behind whole cylinders
+-- what follows the last track: nothing, after whole cylinders
 abbrev pub EndsImage : VolumeState → KeptState → ℕ → ℕ → Result Image CkdError → Type 0
 EndsImage v kept size count (Ok image) = (count ≡ 0) × (is_whole v ≡ true) × (image.volume ≡ v) × (image.kept ≡ kept)
 EndsImage v kept size count (Err e) = ((0 < count) ⊎ (is_whole v ≡ false)) × (e ≡ record { fault = fault.CutShort; offset = size })

@@ -1,5 +1,6 @@
 -- What saving a disk to an image writes.
-use Rattle.std.specs.Prelude.{◌≡◌, ℕ, ◌+◌, ◌-◌, ◌&&◌, nat_lt, true, List, ◌∷◌, ◌++◌, length, if◌then◌else◌}
+use Rattle.std.specs.Prelude.{◌≡◌, ℕ, ◌+◌, ◌-◌, ◌&&◌, nat_lt, true, List, ◌∷◌, ◌++◌, length, Option, Ok, if◌then◌else◌}
+use Rattle.std.specs.Io.KnownBytes.{Keeps}
 use Rattle.std.specs.Str.{bytes_eq}
 use Rattle.device_port.specs.Moves.{padded}
 use Rattle.device_port.specs.Packed.{image_of}
@@ -8,7 +9,10 @@ use Rattle.ckd_disk.specs.Track.{TrackState}
 use Rattle.ckd_disk.specs.Disk.{DiskState, track_of}
 use Rattle.ckd_disk.specs.Volume.{VolumeState, is_whole, end_mark}
 use Rattle.ckd_image.specs.declared.format.Format.{Format}
-use Rattle.ckd_image.specs.Image.{KeptTrackState, KeptState, plain, kept_at, tracks_file, IsImageBegun}
+use Rattle.ckd_image.specs.declared.fault.SaveError.{SaveError}
+use Rattle.ckd_image.specs.declared.fault.SaveError.TheVariants as save
+use Rattle.ckd_image.specs.Header.{format_of}
+use Rattle.ckd_image.specs.Image.{KeptTrackState, KeptState, plain, kept_at, tracks_file, IsImageBegun, IsImage}
 
 -- the format of an image of a disk
 abbrev pub format_on : DiskState → Format
@@ -37,6 +41,15 @@ image_on kept mounted disk =
 -- the volume that a disk is now
 abbrev pub volume_on : DiskState → VolumeState
 volume_on disk = record { heads = disk.heads; track_bytes = (track_of disk.tracks 0).size; tracks = disk.tracks }
+
+-- WHY A DISK IS NOT SAVED: what would be written is no image of it, and nothing is written if the header is of another disk;
+-- or a write failed or memory ran out. A model is asked for by a new image alone
+abbrev pub RefusesSaving : KeptState → DiskState → DiskState → Option (List ℕ) → Option (List ℕ) → SaveError → Type 0
+RefusesSaving kept mounted disk old new (save.NoModel heads track_bytes) = ⊥
+RefusesSaving kept mounted disk old new save.BadDisk =
+    (IsImage (image_on kept mounted disk) (volume_on disk) → ⊥) × ((format_of kept.header ≡ Ok (format_on disk) → ⊥) → Keeps old new)
+RefusesSaving kept mounted disk old new (save.NotWritten kind) = Unit {0}
+RefusesSaving kept mounted disk old new save.NoMemory = Unit {0}
 
 -- a disk has the tracks of a volume from an image, as they were read
 pub record IsAsRead (f : Format) (kept : KeptState) (v : VolumeState) (before disk : DiskState) : Type 0 where

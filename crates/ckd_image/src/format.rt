@@ -35,9 +35,6 @@ impl Format {
         if !header.starts_with(b"CKD_P370") {
             return fails(CkdFault::BadEyeCatcher, 0);
         }
-        if header[17] != 0 {
-            return fails(CkdFault::SplitVolume, 17);
-        }
         let heads = LittleEndian::read_u32(&header[8..]);
         if heads < 1 || heads > 65_535 {
             return fails(CkdFault::BadHeads, 8);
@@ -45,6 +42,9 @@ impl Format {
         let bytes = LittleEndian::read_u32(&header[12..]);
         if bytes < 30 || bytes > 65_549 {
             return fails(CkdFault::BadTrackBytes, 12);
+        }
+        if header[17] != 0 {
+            return fails(CkdFault::SplitVolume, 17);
         }
         Ok(Format {
             heads: heads as u16,

@@ -15,7 +15,7 @@ use image_source::fill;
 use std::alloc::{AllocError, Global};
 use std::io::Read;
 
-/// Where the records of a track begin, behind its home address.
+/// Where the records of a track begin, after its home address.
 const HOME: usize = 5;
 
 /// The most tracks that a volume has.
@@ -139,7 +139,7 @@ impl Loader {
         }
     }
 
-    /// The image, if the reader ended behind whole cylinders: `count` bytes follow the tracks so far, which end at
+    /// The image, if the reader ended after whole cylinders: `count` bytes follow the tracks so far, which end at
     /// `offset`.
     ///
     /// Error: `CutShort`.

@@ -5,7 +5,7 @@ ghost use Rattle.std.specs.Io.KnownBytes.{Appends};
 ghost use Rattle.ckd_image.specs.Image.{file_of, IsImage};
 ghost use Rattle.ckd_image.specs.declared.format.Format.{Format};
 ghost use Rattle.ckd_disk.specs.Volume.{VolumeState};
-ghost use Rattle.ckd_image.specs.Saving.{track_bytes_with, kept_with, image_on, volume_on, IsAsRead};
+ghost use Rattle.ckd_image.specs.Saving.{track_bytes_with, kept_with, image_on, volume_on, IsAsRead, RefusesSaving};
 
 use crate::fault::SaveError;
 use crate::format::BESIDE;
@@ -40,7 +40,7 @@ pub fn save<W: Write>(
 ) -> Result<(), SaveError>
     ensures saved { OnOk result (Appends (W.contents writer.old) (W.contents writer.new) (image_on kept.now mounted.now disk.now)) }
     ensures read_back { OnOk result (IsImage (image_on kept.now mounted.now disk.now) (volume_on disk.now)) }
-    ensures refused { IfErr result (λ e. e ≡ SaveError.BadDisk → IsImage (image_on kept.now mounted.now disk.now) (volume_on disk.now) → ⊥) }
+    ensures refused { IfErr result (RefusesSaving kept.now mounted.now disk.now (W.contents writer.old) (W.contents writer.new)) }
     ensures same { OnOk result ((f : Format) (v : VolumeState) → IsAsRead f kept.now v mounted.now disk.now
         → Appends (W.contents writer.old) (W.contents writer.new) (file_of f kept.now v.tracks)) }
 {

@@ -138,7 +138,7 @@ fn expect_fault(rt: &impl Abort, alloc: Global, image: &[u8], fault: CkdFault, o
     }
 }
 
-/// A reader that fails behind its bytes.
+/// A reader that fails after its bytes.
 #[derive(Drop)]
 struct Broken<'a> {
     bytes: &'a [u8],

@@ -1,9 +1,10 @@
 //! The images that the command line names, read before a run.
 
 use crate::progress::Progress;
-use crate::replacement::{ReplaceError, target_of};
+use crate::replacement::{BESIDE, ReplaceError, target_of};
+use aws_tape::AwsError;
 use job_media::{Image, ImageError};
-use job_options::MediaFiles;
+use job_options::{MediaFiles, UnitFile};
 use job_script::JobError;
 use std::alloc::Global;
 use std::fmt::Display;
@@ -68,8 +69,19 @@ pub fn load(rt: &HostRuntime, name: &str) -> Result<Image, u8> {
     progress.end();
     match loaded {
         Ok(Ok(image)) => Ok(image),
-        Ok(Err(error)) if !error.is_no_memory() => Err(failed(rt, name, error)),
+        Ok(Err(error)) if !error.is_no_memory() => Err(not_loaded(rt, name, error)),
         _ => Err(no_memory(rt)),
+    }
+}
+
+/// Prints why an image is not loaded, and returns the exit status. A file without even the header of a chunk may be no image.
+fn not_loaded(rt: &HostRuntime, name: &str, error: ImageError) -> u8 {
+    match error {
+        ImageError::Tape(AwsError { offset: 0, .. }) => {
+            let _ = eprintln!(rt; "excp_job: {name}: {error}, or the file is no image of a tape");
+            REJECTED
+        }
+        _ => failed(rt, name, error),
     }
 }
 
@@ -81,25 +93,45 @@ fn load_from<R: Read>(alloc: Global, file: &mut R) -> io::Result<Result<Image, I
     Ok(Image::load(alloc, &mut reader))
 }
 
-/// Finds a file that the command line names for two units.
+/// Finds a file that the command line names for two units, where a file that is saved has two: itself, and the new one beside
+/// it.
 fn check_names(rt: &HostRuntime, media: &MediaFiles) -> Result<(), u8> {
     let mut known: Vec<(u8, String)> = Vec::new(rt.alloc());
-    for file in media.loads.iter().chain(&media.saves) {
-        let name = file.file.as_str();
-        let target = match target_of(rt, name) {
-            Ok(target) => target,
-            Err(ReplaceError::NoMemory) => return Err(no_memory(rt)),
-            Err(error) => return Err(failed(rt, name, error)),
-        };
-        if known
-            .iter()
-            .any(|other| other.0 != file.unit && other.1 == target)
-        {
-            return Err(failed(rt, name, "it is named for two units"));
-        }
-        if known.push((file.unit, target)).is_err() {
-            return Err(no_memory(rt));
-        }
+    for file in &media.loads {
+        note_name(rt, &mut known, file, "")?;
+    }
+    for file in &media.saves {
+        note_name(rt, &mut known, file, "")?;
+        note_name(rt, &mut known, file, BESIDE)?;
     }
     Ok(())
+}
+
+/// Notes the file of a unit, with this after its name, unless it is noted for another unit.
+fn note_name(
+    rt: &HostRuntime,
+    known: &mut Vec<(u8, String)>,
+    file: &UnitFile,
+    ending: &str,
+) -> Result<(), u8> {
+    let name = file.file.as_str();
+    let target = match target_with(rt, name, ending) {
+        Ok(target) => target,
+        Err(ReplaceError::NoMemory) => return Err(no_memory(rt)),
+        Err(error) => return Err(failed(rt, name, error)),
+    };
+    if known
+        .iter()
+        .any(|other| other.0 != file.unit && other.1 == target)
+    {
+        return Err(failed(rt, name, "it is named for two units"));
+    }
+    known.push((file.unit, target)).or_else(|_| Err(no_memory(rt)))
+}
+
+/// The file that a name comes to, with this after its name.
+fn target_with(rt: &HostRuntime, name: &str, ending: &str) -> Result<String, ReplaceError> {
+    let mut target = target_of(rt, name)?;
+    target.push_str(ending)?;
+    Ok(target)
 }

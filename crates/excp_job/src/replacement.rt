@@ -10,7 +10,7 @@ use std::io::{ErrorKind, Write};
 use std::{fmt, fs, io};
 
 /// What is added to the name of a file for the new one beside it. A run that is killed leaves it.
-const BESIDE: &str = ".excp-new";
+pub const BESIDE: &str = ".excp-new";
 
 /// A file that is to be replaced, and the new one beside it.
 #[derive(Drop)]
@@ -193,8 +193,24 @@ pub fn target_of(rt: &HostRuntime, name: &str) -> Result<String, ReplaceError> {
             if fs::symlink_metadata(rt, name).is_ok() {
                 return Err(ReplaceError::DeadLink);
             }
-            Ok(String::from_str(rt.alloc(), name)?)
+            new_file(rt, name)
         }
         Err(error) => Err(error.into()),
     }
+}
+
+/// The file of this name that is to be made: the directory is there, and the file is not.
+fn new_file(rt: &HostRuntime, name: &str) -> Result<String, ReplaceError> {
+    let (directory, last) = match name.rsplit_once('/') {
+        Some(("", last)) => ("/", last),
+        Some((directory, last)) => (directory, last),
+        None => (".", name),
+    };
+    let path = fs::canonicalize(rt, directory)?;
+    let mut target = String::from_str(rt.alloc(), path.to_string_lossy())?;
+    if target.as_str() != "/" {
+        target.push('/')?;
+    }
+    target.push_str(last)?;
+    Ok(target)
 }

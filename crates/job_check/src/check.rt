@@ -20,6 +20,7 @@ use job_script::{
 use script_words::{Words, next_word};
 use std::alloc::{AllocError, Global};
 use std::io::{Read, Write};
+use std::vec::IntoIter;
 
 /// A line ends a symbolic area, which no run takes.
 const SYMBOLIC: &str =
@@ -121,6 +122,22 @@ fn tell_lacks(set_up: &SetUp, findings: &mut Vec<Finding<'_>>) -> Result<(), All
             SCRIPT,
             lack("no line declares a unit: add a line 'disk', 'tape' or 'printer'"),
         )?;
+    }
+    Ok(())
+}
+
+/// Adds a finding for each image of a unit that no line declares. The images are those of the units from this number on.
+fn tell_unmounted(
+    units: usize,
+    images: IntoIter<Option<Image>>,
+    findings: &mut Vec<Finding<'_>>,
+) -> Result<(), AllocError> {
+    for (place, image) in images.enumerate() {
+        if image.is_some() {
+            let unit = units.saturating_add(place) as u64;
+            let text = "unit {n} has an image, and no line declares it";
+            tell(findings, SCRIPT, Cause::new(FaultName::Order, text, &[unit]))?;
+        }
     }
     Ok(())
 }
@@ -406,7 +423,7 @@ impl<'a> Check<'a> {
         tell_lacks(&set_up, &mut findings)?;
         let mut images = images.into_iter();
         for (number, unit) in set_up.units.iter().enumerate() {
-            let device = match images.next().unwrap_or(None) {
+            let device = match images.next().flatten() {
                 Some(image) => check_unit_on(alloc, image, unit, &assumed, &mut findings)?,
                 None => check_unit(alloc, unit, &assumed, &mut findings)?,
             };
@@ -415,6 +432,7 @@ impl<'a> Check<'a> {
                 note_requests(number, unit, &device, &requests, &assumed, &mut findings)?;
             }
         }
+        tell_unmounted(set_up.units.len(), images, &mut findings)?;
         note_unused(&set_up.area_lines, &used, &assumed, &mut findings)?;
         races.note(&set_up.units, &mut findings)?;
         Ok(findings)

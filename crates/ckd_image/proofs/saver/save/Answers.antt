@@ -1,5 +1,6 @@
 use Rattle.std.proofs.Common.{◌≡◌, ◌+◌, ◌%◌, ◌<◌, ◌≤◌, ℕ, List, length, take, Ok, ap, subst, sym, ◌∙◌, arith}
 use Rattle.std.specs.Io.KnownBytes.{Appends}
+use Rattle.std.proofs.KnownBytes.{Keeps-refl}
 use Rattle.std.specs.List.{AllByRecursion}
 use Rattle.std.proofs.lemmas.Bool.{true≢false}
 use Rattle.device_port.specs.Packed.{image_of}
@@ -97,28 +98,35 @@ returns-clause-same g c = λ (f : Format) (v : VolumeState) (is : IsAsRead f c.a
     (as_read f c.args.kept.now v c.args.mounted.now c.args.disk.now is) (returns-clause-saved g c)
 
 pub returns-then-size-gt65535-clause-refused : goal.returns-then-size-gt65535-clause-refused
-returns-then-size-gt65535-clause-refused g c = λ (e : _) (is : _).
-    let kept = c.args.kept.now in
-    let disk = c.args.disk.now in
-    let s = savable kept c.args.mounted.now disk (sym (ap length c.header-header.ensures.header) ∙ c.header-header.ensures.long) is in
-    let says = s.says
-    ∙ sym (says_format disk c.heads-heads.result c.track_bytes-size.result c.heads-heads.ensures c.track_bytes-size.ensures) in
-    elim c.then-size-gt65535.branch [
-      | then-size-gt65535-via-then-size-gt65535 w ↦ omega (arith, s.small, w.if-size-gt65535.true, c.track_bytes-size.ensures)
-      | then-size-gt65535-via-else-size-gt65535+then-not-is_of w ↦ true≢false (sym (w.is_of.ensures.format.1 says) ∙ w.if-not-is_of.true)
-      | then-size-gt65535-via-else-size-gt65535+else-not-is_of+then-count-gt65535 w ↦
-          omega (arith, s.few, w.if-count-gt65535.true, c.tracks-count.ensures.tracks)
-      | then-size-gt65535-via-else-size-gt65535+else-not-is_of+else-count-gt65535+then-count-from-ne0 w ↦
-          w.if-count-from-ne0.true (ap (λ (n : ℕ). n % w.from.result) c.tracks-count.ensures.tracks
-          ∙ ap (λ (n : ℕ). length disk.tracks % n) (w.from.ensures ∙ c.heads-heads.ensures) ∙ s.whole)
-    ]
+returns-then-size-gt65535-clause-refused g c = (
+  λ (is : _).
+      let kept = c.args.kept.now in
+      let disk = c.args.disk.now in
+      let s = savable kept c.args.mounted.now disk (sym (ap length c.header-header.ensures.header) ∙ c.header-header.ensures.long) is in
+      let says = s.says
+      ∙ sym (says_format disk c.heads-heads.result c.track_bytes-size.result c.heads-heads.ensures c.track_bytes-size.ensures) in
+      elim c.then-size-gt65535.branch [
+        | then-size-gt65535-via-then-size-gt65535 w ↦ omega (arith, s.small, w.if-size-gt65535.true, c.track_bytes-size.ensures)
+        | then-size-gt65535-via-else-size-gt65535+then-not-is_of w ↦ true≢false (sym (w.is_of.ensures.format.1 says) ∙ w.if-not-is_of.true)
+        | then-size-gt65535-via-else-size-gt65535+else-not-is_of+then-count-gt65535 w ↦
+            omega (arith, s.few, w.if-count-gt65535.true, c.tracks-count.ensures.tracks)
+        | then-size-gt65535-via-else-size-gt65535+else-not-is_of+else-count-gt65535+then-count-from-ne0 w ↦
+            w.if-count-from-ne0.true (ap (λ (n : ℕ). n % w.from.result) c.tracks-count.ensures.tracks
+            ∙ ap (λ (n : ℕ). length disk.tracks % n) (w.from.ensures ∙ c.heads-heads.ensures) ∙ s.whole)
+      ],
+  λ (other : _). Keeps-refl (g.W.Write.contents c.args.writer.now),
+)
 
 pub returns-then-track_bytes-size-clause-refused : goal.returns-then-track_bytes-size-clause-refused
-returns-then-track_bytes-size-clause-refused g c = λ (e : _) (is : _).
-    let kept = c.args.kept.now in
-    let disk = c.args.disk.now in
-    let n = c.loop-number.number in
-    let s = savable kept c.args.mounted.now disk (sym (ap length c.header-header.ensures.header) ∙ c.header-header.ensures.long) is in
-    let lt : n < length disk.tracks = omega (arith, c.loop-number-test.true, c.tracks-count.ensures.tracks) in
-    c.if-track_bytes-size.true (c.track_bytes.ensures ∙ size_of_each (track_of disk.tracks 0).size disk.tracks n s.each lt
-    ∙ sym c.track_bytes-size.ensures)
+returns-then-track_bytes-size-clause-refused g c = (
+  λ (is : _).
+      let kept = c.args.kept.now in
+      let disk = c.args.disk.now in
+      let n = c.loop-number.number in
+      let s = savable kept c.args.mounted.now disk (sym (ap length c.header-header.ensures.header) ∙ c.header-header.ensures.long) is in
+      let lt : n < length disk.tracks = omega (arith, c.loop-number-test.true, c.tracks-count.ensures.tracks) in
+      c.if-track_bytes-size.true (c.track_bytes.ensures ∙ size_of_each (track_of disk.tracks 0).size disk.tracks n s.each lt
+      ∙ sym c.track_bytes-size.ensures),
+  λ (other : _). absurd (other (c.is_of.ensures.format.0 c.if-not-is_of.false
+      ∙ says_format c.args.disk.now c.heads-heads.result c.track_bytes-size.result c.heads-heads.ensures c.track_bytes-size.ensures)),
+)
