@@ -1,12 +1,15 @@
 //! Media written: a tape or a disk as an image, a printer as a text file.
 
-ghost use Rattle.std.specs.Prelude.{◌≡◌, ◌-◌, ◌^◌, min, OnOk, IfOk, IfErr, option_copied};
+ghost use Rattle.std.specs.Prelude.{◌≡◌, ◌-◌, ◌^◌, ℕ, List, min, OnOk, IfOk, IfErr, option_copied};
 ghost use Rattle.std.specs.Io.KnownBytes.{Appends};
 ghost use Rattle.ckd_disk.specs.Disk.{track_of};
-ghost use Rattle.ckd_image.specs.Saving.{image_on};
-ghost use Rattle.aws_tape.specs.Writing.{IsReadBack, saved};
+ghost use Rattle.ckd_disk.specs.Volume.{VolumeState};
+ghost use Rattle.ckd_image.specs.Image.{IsImage, file_of};
+ghost use Rattle.ckd_image.specs.Saving.{image_on, volume_on, IsAsRead};
+ghost use Rattle.ckd_image.specs.declared.format.Format.{Format};
+ghost use Rattle.aws_tape.specs.Writing.{IsLoaded, IsReadBack, IsUntouched, saved};
 ghost use Rattle.any_device.specs.declared.device.AnyDevice.TheVariants as AnyDevice;
-ghost use Rattle.job_media.specs.Saving.{FailsSaving, FailsWriting, IsNewImage, LoadsAgain, SavesDisk, SavesMedium, SavesTape};
+ghost use Rattle.job_media.specs.Saving.{FailsSaving, FailsWriting, IsNewImage, IsSameImage, KeepsItems, LoadsAgain, SavesDisk, SavesMedium, SavesTape};
 
 use crate::image::Kept;
 use crate::paper::write_paper;
@@ -30,7 +33,10 @@ pub enum SaveError {
 
 /// Writes the medium of a unit: an image of a disk or a tape, or the text that a printer has printed. `mounted` is the
 /// device as it was mounted, and `now` as it is. What was not written since is as in the image that it came from, if
-/// it came from one.
+/// it came from one. A disk or a tape that was not written is saved as its image, byte for byte. A write to a tape changes
+/// no bytes of the items before it.
+///
+/// What was written of a disk or a tape loads again, as the volume or the items that it has now.
 ///
 /// Errors:
 ///
@@ -48,6 +54,9 @@ pub fn save<W: Write>(
     ensures saved { OnOk result
         (SavesMedium (W.contents writer.old) (W.contents writer.new) (option_copied kept.entry) mounted.now now.now) }
     ensures read_back { OnOk result (LoadsAgain (option_copied kept.entry) mounted.now now.now) }
+    ensures same { OnOk result ((image : List ℕ) → IsSameImage (option_copied kept.entry) mounted.now now.now image
+        → Appends (W.contents writer.old) (W.contents writer.new) image) }
+    ensures untouched { OnOk result (KeepsItems (option_copied kept.entry) mounted.now now.now) }
     ensures fault { IfErr result (FailsSaving (W.contents writer.old) (W.contents writer.new) (option_copied kept.entry) now.now) }
 {
     match (mounted, now) {
@@ -76,6 +85,10 @@ fn save_tape<W: Write>(
 ) -> Result<(), SaveError>
     ensures saved { OnOk result (SavesTape (W.contents writer.old) (W.contents writer.new) (option_copied kept.entry) mounted.now now.now) }
     ensures read_back { OnOk result (LoadsAgain (option_copied kept.entry) (AnyDevice.Tape mounted.now) (AnyDevice.Tape now.now)) }
+    ensures same { OnOk result ((image : List ℕ)
+        → IsSameImage (option_copied kept.entry) (AnyDevice.Tape mounted.now) (AnyDevice.Tape now.now) image
+        → Appends (W.contents writer.old) (W.contents writer.new) image) }
+    ensures untouched { OnOk result (KeepsItems (option_copied kept.entry) (AnyDevice.Tape mounted.now) (AnyDevice.Tape now.now)) }
     ensures fault { IfErr result FailsWriting }
 {
     match kept {
@@ -94,6 +107,10 @@ fn write_tape<W: Write>(
     ensures saved { OnOk result
         (Appends (W.contents writer.old) (W.contents writer.new) (saved layout.now mounted.now.reel.items now.now.reel.items)) }
     ensures read_back { OnOk result (IsReadBack now.now.reel.items (saved layout.now mounted.now.reel.items now.now.reel.items)) }
+    ensures same { OnOk result ((image : List ℕ) → IsLoaded layout.now mounted.now.reel.items image
+        → now.now.reel.items ≡ mounted.now.reel.items → Appends (W.contents writer.old) (W.contents writer.new) image) }
+    ensures untouched { OnOk result (IsUntouched layout.now mounted.now.reel.items now.now.reel.items
+        (saved layout.now mounted.now.reel.items now.now.reel.items)) }
     ensures fault { IfErr result FailsWriting }
 {
     match aws_tape::save(writer, layout, mounted, now) {
@@ -111,6 +128,9 @@ fn save_disk<W: Write>(
     now: &Disk,
 ) -> Result<(), SaveError>
     ensures saved { OnOk result (SavesDisk (W.contents writer.old) (W.contents writer.new) (option_copied kept.entry) mounted.now now.now) }
+    ensures same { OnOk result ((image : List ℕ)
+        → IsSameImage (option_copied kept.entry) (AnyDevice.Disk mounted.now) (AnyDevice.Disk now.now) image
+        → Appends (W.contents writer.old) (W.contents writer.new) image) }
     ensures fault { IfErr result
         (FailsSaving (W.contents writer.old) (W.contents writer.new) (option_copied kept.entry) (AnyDevice.Disk now.now)) }
 {
@@ -133,6 +153,9 @@ fn write_disk<W: Write>(
     now: &Disk,
 ) -> Result<(), SaveError>
     ensures saved { OnOk result (Appends (W.contents writer.old) (W.contents writer.new) (image_on kept.now mounted.now now.now)) }
+    ensures read_back { OnOk result (IsImage (image_on kept.now mounted.now now.now) (volume_on now.now)) }
+    ensures same { OnOk result ((f : Format) (v : VolumeState) → IsAsRead f kept.now v mounted.now now.now
+        → Appends (W.contents writer.old) (W.contents writer.new) (file_of f kept.now v.tracks)) }
     ensures fault { IfErr result FailsWriting }
 {
     match ckd_image::save(alloc, writer, kept, mounted, now) {
