@@ -126,7 +126,9 @@ fn note_name(
     {
         return Err(failed(rt, name, "it is named for two units"));
     }
-    known.push((file.unit, target)).or_else(|_| Err(no_memory(rt)))
+    known
+        .push((file.unit, target))
+        .or_else(|_| Err(no_memory(rt)))
 }
 
 /// The file that a name comes to, with this after its name.

@@ -136,7 +136,11 @@ fn tell_unmounted(
         if image.is_some() {
             let unit = units.saturating_add(place) as u64;
             let text = "unit {n} has an image, and no line declares it";
-            tell(findings, SCRIPT, Cause::new(FaultName::Order, text, &[unit]))?;
+            tell(
+                findings,
+                SCRIPT,
+                Cause::new(FaultName::Order, text, &[unit]),
+            )?;
         }
     }
     Ok(())
