@@ -3,7 +3,7 @@
 The theorems are in the files of proofs/ whose first line begins with `-- Worked`. A number is a numeral, `true` or `false`.
 Those that a theorem has after `≡`, as what is computed, are changed one at a time, in all theorems of a file at once: the
 prover reports each theorem of which a number is changed. If a theorem has none there, its other numbers are changed, and
-those of the abbreviations of its file that it names; the prover rejects at least one such change.
+those of the abbreviations of its file that it names, to one more and to one less; the prover rejects at least one such change.
 """
 
 import glob
@@ -41,6 +41,13 @@ def changed(number):
     if number in truth:
         return truth[number]
     return f"0x{int(number, 16) + 1:X}" if number.startswith("0x") else str(int(number.replace("_", "")) + 1)
+
+
+def lessened(number):
+    """The number one less than this one; of a truth value and of 0, as `changed`."""
+    if number in ("true", "false", "0"):
+        return changed(number)
+    return f"0x{int(number, 16) - 1:X}" if number.startswith("0x") else str(int(number.replace("_", "")) - 1)
 
 
 def definitions(text):
@@ -83,10 +90,10 @@ def others(text, theorem, all_of_them):
     return places
 
 
-def with_changed(text, places):
+def with_changed(text, places, change=changed):
     """The text with the numbers at these places changed."""
     for begin, end in sorted(places, reverse=True):
-        text = text[:begin] + changed(text[begin:end]) + text[end:]
+        text = text[:begin] + change(text[begin:end]) + text[end:]
     return text
 
 
@@ -127,7 +134,8 @@ def one_rejected(text, path, check, theorem, found):
     """Changes the other numbers of a theorem one after another until it is rejected, and gives how many that took."""
     tried = 0
     for place in others(text, theorem, found):
-        tried += 1
-        if theorem.name in rejected(check(with_changed(text, [place])), path):
-            return tried
+        for change in changed, lessened:
+            tried += 1
+            if theorem.name in rejected(check(with_changed(text, [place], change)), path):
+                return tried
     raise Failed(f"NOT REJECTED: {path}: {theorem.name}, with any of {tried} numbers changed")
