@@ -236,7 +236,6 @@ typedef struct excp_unit_state {
     uint32_t waiting;       /* requests that wait */
     uint32_t out;           /* posted requests that were not delivered */
     uint32_t held_room;     /* how many more requests the unit may hold */
-    uint32_t dcbs;          /* how many DCBs were opened */
     uint32_t printed;       /* lines that a printer printed, or 0 */
     uint16_t active_task;   /* of the active request, or 0 */
     uint8_t active;         /* EXCP_NONE_ACTIVE, .. */
