@@ -231,15 +231,16 @@ enum { EXCP_DISK = 0, EXCP_TAPE = 1, EXCP_PRINTER = 2 };
 enum { EXCP_NONE_ACTIVE = 0, EXCP_RUNNING = 1, EXCP_PENDING = 2, EXCP_AWAITS_RESTART = 3 };
 
 typedef struct excp_unit_state {
-    uint64_t active_number; /* of the active request, or 0 */
-    uint32_t in_flight;     /* requests in flight to the unit */
-    uint32_t waiting;       /* requests that wait */
-    uint32_t out;           /* posted requests that were not delivered */
-    uint32_t held_room;     /* how many more requests the unit may hold */
-    uint32_t printed;       /* lines that a printer printed, or 0 */
-    uint16_t active_task;   /* of the active request, or 0 */
-    uint8_t active;         /* EXCP_NONE_ACTIVE, .. */
-    uint8_t kind;           /* EXCP_DISK, .. */
+    uint64_t active_number;  /* of the active request, or 0 */
+    uint32_t in_flight;      /* requests in flight to the unit */
+    uint32_t in_flight_room; /* how many more may be in flight */
+    uint32_t waiting;        /* requests that wait */
+    uint32_t out;            /* posted requests that were not delivered */
+    uint32_t printed;        /* lines that a printer printed, or 0 */
+    uint16_t active_task;    /* of the active request, or 0 */
+    uint8_t active;          /* EXCP_NONE_ACTIVE, .. */
+    uint8_t kind;            /* EXCP_DISK, .. */
+    uint8_t has_room;        /* 1 if the unit can take another request, 0 if it holds as many as it may */
 } excp_unit_state;
 
 excp_status excp_look(excp_site *site, uint16_t unit, excp_unit_state *state);
