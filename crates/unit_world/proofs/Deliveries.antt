@@ -1,9 +1,10 @@
 -- Posts go into the rows of a site and out of them, and units come to it.
 use Rattle.std.proofs.Common.{◌≡◌, ◌<◌, ◌⊎◌, ℕ, zero, suc, eqb, true, false, Option, Some, None, List, [], ◌∷◌, ◌++◌, length, set, drop}
-use Rattle.std.proofs.Common.{replicate, refl, sym, ap, ◌∙◌, subst, inl, inr, arith}
+use Rattle.std.proofs.Common.{map, replicate, refl, sym, ap, ◌∙◌, subst, inl, inr, arith, Bool, not, ◌&&◌, ◌==◌}
 use Rattle.std.specs.Prelude.{slice_get, slice_index_or}
 use Rattle.std.specs.List.{list_all}
 use Rattle.std.proofs.lemmas.List.{get_or-set_same, get_or-set_other, length_push as length-push, length-map, length-replicate, set-get_or}
+use Rattle.std.proofs.lemmas.Bool.{cases_Bool}
 use Rattle.std.proofs.lemmas.Option.{slice_get_within}
 use Rattle.std.proofs.Math.ListN.{length-set}
 use mathlib.Core.Logic.{dite}
@@ -12,20 +13,26 @@ use Rattle.circular_buffer.proofs.Places.{slice_get-set_same, slice_get-some}
 use Rattle.device_port.specs.Meaning.{Meaning}
 use Rattle.request_piece.specs.PostedState.{PostedState}
 use Rattle.request_piece.specs.declared.piece.Name.{Name}
+use Rattle.unit_book.specs.declared.answer.Closing.{Closing}
+use Rattle.io_images.specs.declared.extent.Extent.{Extent}
+use Rattle.unit_book.specs.declared.dcb.ProcessingMethod.{ProcessingMethod}
+use Rattle.unit_book.specs.Answers.{OpensBook}
 use Rattle.unit_book.specs.Book.{Book, given}
+use Rattle.unit_book.specs.Controls.{ClosesBook}
 use Rattle.unit_book.specs.Legal.{Legal}
 use Rattle.unit_book.specs.Lists.{Each}
 use Rattle.unit_book.specs.Posts.{posted}
 use Rattle.unit_book.specs.Trace.{is_opening}
 use Rattle.unit_world.specs.Parts.{UnitPart, opening_part}
 use Rattle.unit_world.specs.PostLists.{list_of, with_value, without_value}
-use Rattle.unit_world.specs.Sites.{SiteState, IsFirstOut, IsSite, KeepsOthers, StepsUnit, from_unit, world_at}
-use Rattle.unit_world.specs.States.{IsWorldState, MakesStep, StepName, CollectStep, DeliverStep}
+use Rattle.unit_world.specs.Sites.{SiteState, MayBegin, IsFirstOut, IsSite, KeepsOthers, StepsUnit, from_unit, is_collected, world_at}
+use Rattle.unit_world.specs.States.{WorldState, IsWorldState, MakesStep, StepName, CollectStep, DeliverStep}
 use Rattle.unit_world.proofs.Moves.{DeliversValue}
 use Rattle.unit_world.proofs.Sites.{eqb-other, fewer, first-own, from-row, less-other, less-own, others-stay, put-other, put-own, same-item}
 use Rattle.unit_world.proofs.Sites.{site-keeps}
 use Rattle.unit_world.proofs.States.{all-same, no-rest, opened-out, state-opening, state-step}
 use Rattle.unit_world.proofs.Steps.{collects, delivers, has-list}
+use Rattle.unit_world.proofs.Steps.{closes as closing, opens as opening}
 
 Each-push : {X : Type 0} (P : X → Type 0) (xs : List X) (x : X) → Each P xs → P x → Each P (xs ++ x ∷ [])
 Each-push P [] x h p = (p, tt)
@@ -66,6 +73,25 @@ none-of unit (v ∷ vs) h =
     let lt : v.unit < unit = h.0 in
     let e : eqb v.unit unit ≡ false = eqb-other v.unit unit (λ q. omega (arith, q, lt)) in
     rw e (none-of unit vs h.1)
+
+none-waits-in : (unit : ℕ) (vs : List PostedState) → list_all (λ v. not (v.unit == unit)) vs ≡ true → from_unit unit vs ≡ []
+none-waits-in unit [] h = refl
+none-waits-in unit (v ∷ vs) h = elim (cases_Bool (v.unit == unit)) [
+  | inl e ↦ let f : false ≡ true = rw e at h in absurd cc
+  | inr e ↦ let f : list_all (λ x. not (x.unit == unit)) vs ≡ true = rw e at h in rw e (none-waits-in unit vs f)
+]
+
+both-true : (a b : Bool) → (a && b) ≡ true → (a ≡ true) × (b ≡ true)
+both-true true true h = (refl, refl)
+both-true true false h = absurd cc
+both-true false b h = absurd cc
+
+-- no post of the unit is in a row, if none waits
+none-waits : (unit task : ℕ) (rows : List (List PostedState)) → list_all (list_all (λ v. not (v.unit == unit))) rows ≡ true →
+    from_unit unit (list_of rows task) ≡ []
+none-waits unit task [] h = refl
+none-waits unit zero (r ∷ rows) h = none-waits-in unit r (both-true (list_all (λ v. not (v.unit == unit)) r) _ h).0
+none-waits unit (suc task) (r ∷ rows) h = none-waits unit task rows (both-true (list_all (λ v. not (v.unit == unit)) r) _ h).1
 
 module _ {D : Type 0} (meaning : Meaning D) where
   steps-from : (old new : SiteState D) (unit : ℕ) (before after : UnitPart D) {name : StepName} → KeepsOthers meaning old unit new →
@@ -175,6 +201,38 @@ module _ {D : Type 0} (meaning : Meaning D) where
           (after-set (λ (v : PostedState). v.unit < length old.units) old.rows task (drop 1 (list_of old.rows task)) site.of_units
           (λ lt. Each-rest (λ (v : PostedState). v.unit < length old.units) (list_of old.rows task) (site.of_units task))
           (has-list old.rows task value e))
+
+  -- A UNIT BEGINS AGAIN
+  pub renewed-unit : (old : SiteState D) (unit : ℕ) (before : UnitPart D) (book : Book D) (intake : ℕ) →
+      IsWorldState meaning (world_at old unit before) → is_collected old unit ≡ true → MayBegin meaning book →
+      IsWorldState meaning (world_at old unit (opening_part book (length before.issued) intake))
+  renewed-unit old unit before book intake world collected begins =
+      subst (λ n. IsWorldState meaning (world_at old unit (opening_part book n intake))) world.tasks
+      (begins unit old.post_room intake (map (from_unit unit) old.rows) (λ task. from-row unit task old.rows ∙ none-waits unit task old.rows collected))
+
+  -- a book in which DCBs were opened and nothing else happened
+  pub opened-begins : (book : Book D) → Legal meaning book.mounted book.trace → list_all is_opening book.trace ≡ true →
+      given meaning book ++ book.out ≡ posted meaning book.mounted book.trace → MayBegin meaning book
+  opened-begins book legal opened all unit post_room intake back none =
+      state-opening meaning (record { unit = unit; part = opening_part book (length back) intake; post_room = post_room; back = back })
+      legal opened (opened-out meaning book opened all) refl none (λ task. all-same (length back) task 0)
+      (sym (length-replicate (length back) 0))
+
+  -- one more DCB was opened
+  pub opened-also : (book after : Book D) (dcb : ℕ) (method : ProcessingMethod) (extents : List Extent) →
+      OpensBook meaning book dcb method extents after → MayBegin meaning book → MayBegin meaning after
+  opened-also book after dcb method extents opened begins unit post_room intake back none =
+      let v : WorldState D = record { unit = unit; part = opening_part book (length back) intake; post_room = post_room; back = back } in
+      state-step meaning v (record v { part = opening_part after (length back) intake }) (begins unit post_room intake back none)
+      (sym (length-replicate (length back) 0)) (opening meaning v (opening_part after (length back) intake) dcb method extents refl opened)
+
+  -- one was closed
+  pub closed-begins : (book after : Book D) (dcb : ℕ) (answer : Closing) → ClosesBook meaning book dcb answer after → MayBegin meaning book →
+      MayBegin meaning after
+  closed-begins book after dcb answer closes begins unit post_room intake back none =
+      let v : WorldState D = record { unit = unit; part = opening_part book (length back) intake; post_room = post_room; back = back } in
+      state-step meaning v (record v { part = opening_part after (length back) intake }) (begins unit post_room intake back none)
+      (sym (length-replicate (length back) 0)) (closing meaning v (opening_part after (length back) intake) dcb answer refl closes)
 
   -- A SITE WITH NO UNITS YET
   pub empty-site : (tasks room : ℕ) → IsSite meaning (record { units = []; post_room = room; rows = replicate tasks [] })

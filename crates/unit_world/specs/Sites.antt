@@ -1,7 +1,7 @@
 -- A SITE WITHOUT LOCKS AND THREADS: units, and a post row for each task, into which each unit's posts go in the order of
 -- their delivery (profile).
-use Rattle.std.specs.Prelude.{◌≡◌, ◌≢◌, ◌≤◌, ◌<◌, ◌==◌, ℕ, Some, List, [], length, drop, map, slice_get, slice_set}
-use Rattle.std.specs.List.{filter}
+use Rattle.std.specs.Prelude.{◌≡◌, ◌≢◌, ◌≤◌, ◌<◌, ◌==◌, ℕ, Bool, true, not, Some, List, [], length, drop, map, slice_get, slice_set}
+use Rattle.std.specs.List.{filter, list_all}
 use Rattle.device_port.specs.Meaning.{Meaning}
 use Rattle.request_piece.specs.PostedState.{PostedState}
 use Rattle.request_piece.specs.declared.piece.Name.{Name}
@@ -10,7 +10,7 @@ use Rattle.unit_book.specs.declared.answer.Delivery.TheVariants as delivery
 use Rattle.unit_book.specs.Book.{Book}
 use Rattle.unit_book.specs.Lists.{Each}
 use Rattle.unit_book.specs.Settle.{AddsService, Settles}
-use Rattle.unit_world.specs.Parts.{UnitPart}
+use Rattle.unit_world.specs.Parts.{UnitPart, IsFinishedPart, opening_part}
 use Rattle.unit_world.specs.PostLists.{list_of, with_value, without_value}
 use Rattle.unit_world.specs.States.{WorldState, IsWorldState, KeepsLaws, MakesStep, MakesSteps, StepName}
 
@@ -33,6 +33,10 @@ world_at s unit part = record {
   post_room = s.post_room;
   back = map (from_unit unit) s.rows;
 }
+
+-- no post of a unit waits for its task to collect it
+abbrev pub is_collected : {D : Type 0} → SiteState D → ℕ → Bool
+is_collected s unit = list_all (list_all (λ v. not (v.unit == unit))) s.rows
 
 -- what holds of the unit with this number
 abbrev pub OnPart : {D : Type 0} → SiteState D → ℕ → (UnitPart D → Type 0) → Type 0
@@ -74,6 +78,18 @@ pub record HoldsPost {D : Type 0} (old : SiteState D) (unit : ℕ) (name : Name)
   pub out : IsFirstOut old unit name
   pub full : old.post_room ≤ length (list_of old.rows name.task)
   pub is : new ≡ old
+
+-- NOTHING OF A UNIT IS WITH ANYBODY: no request is in flight, waits or is active, and no post is out or waits for its task
+pub record IsAtRest {D : Type 0} (s : SiteState D) (unit : ℕ) : Type 0 where
+  pub finished : OnPart s unit IsFinishedPart
+  pub out : OnPart s unit (λ p. p.book.out ≡ [])
+  pub collected : is_collected s unit ≡ true
+
+-- A UNIT MAY BEGIN WITH THIS BOOK: a list of steps leads from an opening world to one that has the book, and in which no task has
+-- sent anything
+abbrev pub MayBegin : {D : Type 0} → Meaning D → Book D → Type 0
+MayBegin meaning book = (unit post_room intake_room : ℕ) (back : List (List PostedState)) → ((task : ℕ) → list_of back task ≡ []) →
+    IsWorldState meaning (record { unit = unit; part = opening_part book (length back) intake_room; post_room = post_room; back = back })
 
 -- what `deliver` answers: quiet if nothing is out at the unit, full if the row of the task is
 abbrev pub DeliversAs : {D : Type 0} → SiteState D → ℕ → Delivery → SiteState D → Type 0

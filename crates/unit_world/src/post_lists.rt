@@ -1,6 +1,7 @@
 //! The post rows of a site.
 
-ghost use Rattle.std.specs.Prelude.{◌≡◌, ◌<◌, ◌≤◌, [], length, replicate, slice_get, IfErr, IfOk, OnErr, OnOk};
+ghost use Rattle.std.specs.Prelude.{◌≡◌, ◌==◌, ◌<◌, ◌≤◌, [], length, not, replicate, slice_get, IfErr, IfOk, OnErr, OnOk};
+ghost use Rattle.std.specs.List.{list_all};
 ghost use Rattle.std.specs.Option.{option_copied};
 ghost use Rattle.unit_world.specs.PostLists.{list_of, with_value, without_value};
 
@@ -72,6 +73,13 @@ impl PostLists {
         ring.get(at)
     }
 
+    /// Whether no post in any row is of this unit.
+    pub fn has_none_of(&self, unit: u16) -> bool
+        ensures { result ≡ list_all (list_all (λ v. not (v.unit == unit))) self.now.lists }
+    {
+        rings_have_none_of(&self.rings, unit)
+    }
+
     /// Puts a post into the row of its task, after all others. It is handed back if the row is full.
     pub fn push(&mut self, value: Posted) -> Result<(), Posted>
         requires { value.name.task < length self.old.lists }
@@ -98,4 +106,18 @@ impl PostLists {
         let ring = &mut self.rings[task];
         ring.pop_front()
     }
+}
+
+/// Whether no post in any of these rows is of this unit.
+fn rings_have_none_of(rings: &[HeapCircularBuffer<Posted>], unit: u16) -> bool
+    ensures { result ≡ list_all (λ r. list_all (λ v. not (v.unit == unit)) r.items) rings.now }
+{
+    rings.iter().all(|ring| ring_has_none_of(ring, unit))
+}
+
+/// Whether no post in a row is of this unit.
+fn ring_has_none_of(ring: &HeapCircularBuffer<Posted>, unit: u16) -> bool
+    ensures { result ≡ list_all (λ v. not (v.unit == unit)) ring.now.items }
+{
+    ring.iter().all(|posted| posted.unit() != unit)
 }

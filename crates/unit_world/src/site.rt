@@ -9,7 +9,7 @@ ghost use Rattle.unit_book.specs.Book.{occupancy};
 ghost use Rattle.unit_book.specs.Trace.{is_opening};
 ghost use Rattle.unit_world.specs.Parts.{PartAccepts, PartTakes, next_name_of, opening_part};
 ghost use Rattle.unit_world.specs.PostLists.{list_of};
-ghost use Rattle.unit_world.specs.Sites.{CollectsPost, DeliversAs, IsSite, KeepsSiteLaws, OnPart, OnUnit};
+ghost use Rattle.unit_world.specs.Sites.{MayBegin, CollectsPost, DeliversAs, IsAtRest, IsSite, KeepsSiteLaws, OnPart, OnUnit};
 
 use crate::post_lists::PostLists;
 use crate::unit_side::{UnitSide, send_back};
@@ -73,6 +73,18 @@ impl<D: Device> PlainSite<D> {
         let unit = self.units.len() as u16;
         self.units.push_reserved(side);
         Ok(unit)
+    }
+
+    /// Gives a unit at rest this book in place of its own. So its world begins again: its requests get the numbers from 1 on
+    /// (profile). Never allocates.
+    pub fn renew(&mut self, unit: u16, book: UnitBook<D>)
+        requires begins { MayBegin D.meaning book }
+        requires unit { unit < length self.old.units }
+        requires rest { IsAtRest self.old unit }
+        ensures { OnUnit self.old unit (λ p q. q ≡ opening_part book (length self.old.rows) p.intake_room) self.new }
+    {
+        let side = &mut self.units[usize::from(unit)];
+        side.renew(book);
     }
 
     /// What holds of every site: a list of steps led to the world of each unit, so that unit keeps its requests.

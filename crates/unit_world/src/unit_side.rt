@@ -63,6 +63,15 @@ impl<D: Device> UnitSide<D> {
         }
     }
 
+    /// Has another book in place of its own. Nothing was sent to it then. Nothing is in flight.
+    pub fn renew(&mut self, book: UnitBook<D>)
+        requires { (unit_part self.old).flight ≡ [] }
+        ensures { unit_part self.new ≡ opening_part book (length (unit_part self.old).issued) (unit_part self.old).intake_room }
+    {
+        self.book = book;
+        self.issued.fill(0);
+    }
+
     /// Accepts the next request of a task for this unit.
     pub fn accept(&mut self, request: Request) -> Result<(), Request>
         requires { next_name_of (unit_part self.old).issued request.name.task ≡ Some request.name }

@@ -5,7 +5,7 @@ ghost use Rattle.std.specs.Option.{option_copied};
 ghost use Rattle.unit_book.specs.Trace.{active};
 ghost use Rattle.unit_world.specs.Parts.{IsFinishedPart, active_state, next_name_of};
 ghost use Rattle.unit_world.specs.PostLists.{list_of};
-ghost use Rattle.unit_world.specs.Sites.{OnPart};
+ghost use Rattle.unit_world.specs.Sites.{OnPart, is_collected};
 
 use crate::active::{ActiveState, active_request};
 use crate::site::PlainSite;
@@ -93,6 +93,13 @@ impl<D: Device> PlainSite<D> {
         ensures { option_copied result ≡ slice_get (list_of self.now.rows task) at }
     {
         self.rows.get(task, at)
+    }
+
+    /// Whether no post of a unit waits for its task to collect it. Takes time in the number of posts that wait.
+    pub fn is_collected(&self, unit: u16) -> bool
+        ensures { result ≡ is_collected self.now unit }
+    {
+        self.rows.has_none_of(unit)
     }
 
     /// The active request of a unit, and what it waits for, as [`active_request`] of its book.

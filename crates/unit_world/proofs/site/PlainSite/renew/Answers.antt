@@ -1,0 +1,49 @@
+use Rattle.std.proofs.Common.{◌≡◌, ◌∙◌, ap, length, sym, subst}
+use Rattle.std.proofs.lemmas.List.{length-map}
+use Rattle.unit_world.specs.Parts.{opening_part, unit_part}
+use Rattle.unit_world.specs.Sites.{from_unit, world_at}
+use Rattle.unit_world.specs.States.{IsWorldState}
+use Rattle.unit_world.proofs.Deliveries.{renewed-unit}
+use Rattle.unit_world.proofs.Sites.{UnitPlace, does, keeps, part-at, world-before}
+use Rattle.unit_world.proofs.site.PlainSite.renew.Given.{Over}
+use Rattle.unit_world.proofs.site.PlainSite.renew.Goals.{After-index_mut-side}
+use Rattle.unit_world.proofs.site.PlainSite.renew.Goals as goal
+
+-- the unit that is called
+abbrev called : (g : Over) (c : After-index_mut-side g) → UnitPlace g.D.Device.meaning
+called g c = record {
+  items = c.self.inside.units.items;
+  rows = c.self.inside.rows;
+  place = c.from.result;
+  unit = c.args.unit;
+  side = c.index_mut-side.result.now;
+  old = c.args.self.now;
+  here = c.from.ensures;
+  within = c.requires.unit;
+  is = c.index_mut-side.ensures.value;
+  view_is = c.self.view_is;
+  site = c.self.invariant;
+}
+
+pub renew-requires : goal.renew-requires
+renew-requires g c =
+    let m = g.D.Device.meaning in
+    let k = called g (goal.at.renew-requires g c).After-index_mut-side in
+    (c.requires.rest.finished (unit_part k.side) (part-at m k)).flight
+
+pub invariant_of-self : goal.invariant_of-self
+invariant_of-self g c =
+    let m = g.D.Device.meaning in
+    let k = called g (goal.at.invariant_of-self g c).After-index_mut-side in
+    keeps m k c.renew.new.self
+    (subst (λ p. IsWorldState m (world_at k.old k.unit p)) (sym c.renew.ensures)
+    (renewed-unit m k.old k.unit (unit_part k.side) c.args.book (unit_part k.side).intake_room (world-before m k)
+    c.requires.rest.collected c.requires.begins))
+
+pub returns : goal.returns
+returns g c =
+    let m = g.D.Device.meaning in
+    let k = called g (goal.at.returns g c).After-index_mut-side in
+    does m k c.renew.new.self (λ p q. q ≡ opening_part c.args.book (length k.old.rows) p.intake_room)
+    (c.renew.ensures ∙ ap (λ n. opening_part c.args.book n (unit_part k.side).intake_room)
+    (sym (world-before m k).tasks ∙ length-map k.old.rows (from_unit k.unit)))
