@@ -50,8 +50,6 @@ typedef enum excp_status {
     EXCP_TOO_MANY_DCBS = 10, /* a unit has at most 65,535 DCBs */
     EXCP_BAD_GEOMETRY = 11,  /* the size of a disk, a tape or a printer */
     EXCP_BAD_MEDIUM = 12,    /* what was put is not of the medium, or does not fit it; or the unit has another device */
-    EXCP_BAD_IMAGE = 13,     /* the bytes are no image of a disk or a tape */
-    EXCP_NO_IMAGE = 14,      /* the medium has no image: a printer, or a disk that is no known model */
     EXCP_BAD_EXTENT = 15,    /* an extent is not one of the device, or is not 16 bytes */
     EXCP_AREA_MISALIGNED = 16, /* the base of the storage is not a multiple of 8 */
     EXCP_AREA_TOO_LONG = 17, /* the storage has over 8,192 bytes */
@@ -72,7 +70,7 @@ typedef enum excp_status {
 /* A status in words, without a period at its end. Of another number: "unknown status". */
 const char *excp_message(excp_status status);
 
-/* The version of the library, as "1.2.3". */
+/* The version of the library, as "1.2". */
 const char *excp_version(void);
 
 /* ---- Sites ---------------------------------------------------------------------------------------------------------- */
@@ -111,11 +109,6 @@ excp_status excp_mount_disk(excp_site *site, uint64_t cylinders, uint64_t heads,
                             uint16_t *unit);
 excp_status excp_mount_tape(excp_site *site, uint64_t bytes, const excp_room *room, uint16_t *unit);
 excp_status excp_mount_printer(excp_site *site, uint64_t lines, uint64_t pages, const excp_room *room, uint16_t *unit);
-
-/* Adds a unit with the medium of an image: a CKD_P370 volume, or an AWSTAPE tape of `bytes` bytes, 4 to 4,294,967,296. Uses up the
- * faults alone. */
-excp_status excp_mount_ckd(excp_site *site, const uint8_t *image, size_t length, const excp_room *room, uint16_t *unit);
-excp_status excp_mount_aws(excp_site *site, const uint8_t *image, size_t length, uint64_t bytes, const excp_room *room, uint16_t *unit);
 
 /* ---- DCBs ------------------------------------------------------------------------------------------------------------ */
 
@@ -281,14 +274,10 @@ typedef struct excp_line {
  * than `room`, or there is no such line. EXCP_BAD_MEDIUM: the unit is no printer. */
 excp_status excp_printed_line(excp_site *site, uint16_t unit, uint32_t place, excp_line *line, uint8_t *bytes, size_t room);
 
-/* Texts and images. Each of these calls makes bytes, keeps them in the site in place of those before, and says how many there are.
- * excp_copy_out copies `length` of them, from the place `from` on (EXCP_NO_ROOM: there are not so many). */
-
-/* What happened at a unit, as text: a line for each entry. */
+/* What happened at a unit, as text: a line for each entry. The call makes the text, keeps it in the site in place of the one before,
+ * and says how many bytes it has. excp_copy_out copies `length` of them, from the place `from` on (EXCP_NO_ROOM: there are not so
+ * many). */
 excp_status excp_make_history(excp_site *site, uint16_t unit, size_t *length);
-/* The medium of a unit as it is: a tape as an AWSTAPE image, a disk as a CKD_P370 volume (EXCP_NO_IMAGE: it is no known model; or the
- * unit is a printer). */
-excp_status excp_make_image(excp_site *site, uint16_t unit, size_t *length);
 excp_status excp_copy_out(excp_site *site, size_t from, uint8_t *bytes, size_t length);
 
 /* ---- Long use -------------------------------------------------------------------------------------------------------- */

@@ -1,0 +1,125 @@
+-- WHAT A CALL DID: what the call of the site does (excp_site), or why the site refused it.
+use Rattle.std.specs.Prelude.{◌≡◌, ◌≤◌, ℕ, Option, Some, None, List, slice_get}
+use Rattle.io_area.specs.Storage.{Storage}
+use Rattle.io_images.specs.declared.extent.Extent.{Extent}
+use Rattle.any_device.specs.Devices.{any_device}
+use Rattle.any_device.specs.declared.device.AnyDevice.{AnyDevice}
+use Rattle.request_piece.specs.PostedState.{PostedState}
+use Rattle.request_piece.specs.declared.piece.Name.{Name}
+use Rattle.request_piece.specs.declared.scope.Scope.TheVariants as Scope
+use Rattle.unit_book.specs.Answers.{Adds, InterruptsBook, OpensBook, RunsBook, StartsBook}
+use Rattle.unit_book.specs.Controls.{ClosesBook, PurgesBook}
+use Rattle.unit_book.specs.declared.answer.Closing.{Closing}
+use Rattle.unit_book.specs.declared.answer.Delivery.{Delivery}
+use Rattle.unit_book.specs.declared.answer.Intake.{Intake}
+use Rattle.unit_book.specs.declared.answer.Interruption.{Interruption}
+use Rattle.unit_book.specs.declared.answer.Purging.{Purging}
+use Rattle.unit_book.specs.declared.answer.Running.{Running}
+use Rattle.unit_book.specs.declared.answer.Starting.{Starting}
+use Rattle.unit_book.specs.declared.dcb.ProcessingMethod.{ProcessingMethod}
+use Rattle.unit_book.specs.declared.entry.Entry.TheVariants as Entry
+use Rattle.unit_book.specs.declared.entry.Mode.{Mode}
+use Rattle.unit_book.specs.Settle.{IsIdle}
+use Rattle.unit_world.specs.Parts.{PartTakes}
+use Rattle.unit_world.specs.PostLists.{list_of}
+use Rattle.unit_world.specs.Sites.{CollectsPost, DeliversAs, OnBook, OnPart, OnUnit}
+use Rattle.excp_site.specs.Media.{IsEmpty}
+use Rattle.excp_site.specs.declared.refusal.Refusal.{Refusal}
+use Rattle.excp_site.specs.Serving.{EndsServing, HasSettled}
+use Rattle.excp_site.specs.declared.served.Served.{Served}
+use Rattle.excp_site.specs.Sites.{AddsUnit, IssuesRequest, SiteView, number_of}
+use Rattle.excp_c.specs.Answers.{answer_in_c}
+use Rattle.excp_c.specs.Numbers.{end_number}
+use Rattle.excp_c.specs.declared.events.Served.{Served as Answered}
+use Rattle.excp_c.specs.Statuses.{status_in_c}
+use Rattle.excp_c.specs.declared.answer.Answer.{Answer}
+use Rattle.excp_c.specs.declared.answer.Event.{Event}
+use Rattle.excp_c.specs.declared.handle.Handle.{Handle}
+
+-- the site of the handle was s, is t now, and this holds of s and t
+abbrev pub DidOn : Option SiteView → Option SiteView → (SiteView → SiteView → Type 0) → Type 0
+DidOn (Some s) (Some t) Does = Does s t
+DidOn (Some s) None Does = ⊥
+DidOn None t Does = ⊥
+
+abbrev pub Did : Handle → Handle → (SiteView → SiteView → Type 0) → Type 0
+Did h k Does = DidOn h.slot.value k.slot.value Does
+
+-- the site refused it: its status is that of a reason of which this holds
+abbrev pub Refused : Handle → Handle → ℕ → (SiteView → Refusal → Type 0) → Type 0
+Refused h k status Why = Did h k (λ s t. (e : Refusal) × (status ≡ status_in_c e) × Why s e)
+
+-- an event of the unit was made, and its answer was written out
+abbrev pub Made : {A : Type 0} → (A → Event) → ℕ → (SiteView → A → SiteView → Type 0) → Handle → Handle → Answer → Type 0
+Made {A} event_of unit Does h k answer = Did h k (λ s t. (a : A) × Does s a t × (answer ≡ answer_in_c t unit (event_of a)))
+
+-- only units and tasks differ
+abbrev pub OnlyPlain : SiteView → SiteView → Type 0
+OnlyPlain s t = t ≡ record s { plain = t.plain }
+
+-- only the medium of the next unit differs
+abbrev pub OnlyMedium : SiteView → SiteView → Type 0
+OnlyMedium s t = t ≡ record s { medium = t.medium }
+
+-- THE EVENTS of a unit
+abbrev pub SiteTakes : ℕ → SiteView → Intake → SiteView → Type 0
+SiteTakes unit s a t = OnUnit s.plain unit (λ p q. PartTakes any_device p a q) t.plain × OnlyPlain s t
+
+abbrev pub SiteStarts : ℕ → SiteView → Starting → SiteView → Type 0
+SiteStarts unit s a t = OnBook s.plain unit (λ b c. StartsBook any_device b a c) t.plain × OnlyPlain s t
+
+abbrev pub SiteRuns : ℕ → ℕ → SiteView → Running → SiteView → Type 0
+SiteRuns unit max s a t = OnBook s.plain unit (λ b c. RunsBook any_device b max a c) t.plain × OnlyPlain s t
+
+abbrev pub SiteInterrupts : ℕ → SiteView → Interruption → SiteView → Type 0
+SiteInterrupts unit s a t = OnBook s.plain unit (λ b c. InterruptsBook any_device b a c) t.plain × OnlyPlain s t
+
+abbrev pub SiteDelivers : ℕ → SiteView → Delivery → SiteView → Type 0
+SiteDelivers unit s a t = DeliversAs s.plain unit a t.plain × OnlyPlain s t
+
+-- THE CONTROLS of a unit
+abbrev pub Purges : ℕ → ℕ → Option Mode → SiteView → Purging → SiteView → Type 0
+Purges unit dcb None s a t = ⊥
+Purges unit dcb (Some mode) s a t = OnBook s.plain unit (λ b c. PurgesBook any_device b (Scope.Dcb dcb) mode a c) t.plain × OnlyPlain s t
+
+abbrev pub PurgesTask : ℕ → ℕ → Option Mode → SiteView → Purging → SiteView → Type 0
+PurgesTask unit task None s a t = ⊥
+PurgesTask unit task (Some mode) s a t = OnBook s.plain unit (λ b c. PurgesBook any_device b (Scope.Task task) mode a c) t.plain × OnlyPlain s t
+
+abbrev pub Closes : ℕ → ℕ → SiteView → Closing → SiteView → Type 0
+Closes unit dcb s a t = OnBook s.plain unit (λ b c. ClosesBook any_device b dcb a c) t.plain × OnlyPlain s t
+
+abbrev pub Resets : ℕ → ℕ → SiteView → SiteView → Type 0
+Resets unit dcb s t = OnBook s.plain unit (λ b c. Adds b (Entry.Reset dcb) c) t.plain × OnlyPlain s t
+
+-- A DCB was opened
+abbrev pub SiteOpens : ℕ → Option ProcessingMethod → List Extent → ℕ → SiteView → SiteView → Type 0
+SiteOpens unit None extents dcb s t = ⊥
+SiteOpens unit (Some method) extents dcb s t = OnBook s.plain unit (λ b c. OpensBook any_device b dcb method extents c) t.plain × OnlyPlain s t
+
+-- A UNIT was added, and what was put was used up
+abbrev pub Mounts : AnyDevice → ℕ → ℕ → ℕ → SiteView → SiteView → Type 0
+Mounts device in_flight held unit s t = AddsUnit s device in_flight held unit t × IsEmpty t.medium
+
+-- A REQUEST was issued, and its number was written out
+abbrev pub IssuesAs : ℕ → ℕ → ℕ → ℕ → Storage → ℕ → SiteView → SiteView → Type 0
+IssuesAs task unit dcb iob area number s t =
+    (name : Name) × IssuesRequest s.plain task unit dcb iob area name t.plain × OnlyPlain s t × (number ≡ number_of t unit name)
+
+-- the first post that was delivered to a task
+abbrev pub IsFirstPost : SiteView → ℕ → PostedState → Type 0
+IsFirstPost s task post = slice_get (list_of s.plain.rows task) 0 ≡ Some post
+
+-- A POST was collected
+abbrev pub SiteCollects : ℕ → SiteView → SiteView → Type 0
+SiteCollects task s t = CollectsPost s.plain task t.plain × OnlyPlain s t
+
+-- A UNIT WAS SERVED, and the answer was written out
+abbrev pub Serves : ℕ → ℕ → Answered → SiteView → SiteView → Type 0
+Serves unit max served s t =
+    (answer : Served) × EndsServing t.plain unit answer × (answer.commands ≤ max) × OnlyPlain s t ×
+    (served ≡ record { posts = answer.posts; commands = answer.commands; ended = end_number answer.ended })
+
+-- A UNIT WAS SETTLED
+abbrev pub SiteSettles : ℕ → SiteView → SiteView → Type 0
+SiteSettles unit s t = HasSettled s.plain unit t.plain × OnPart t.plain unit (λ p. IsIdle p.book.trace) × OnlyPlain s t

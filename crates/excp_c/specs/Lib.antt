@@ -1,0 +1,11 @@
+pub mod Answers
+pub mod Buffers
+pub mod Calls
+pub mod Contents
+pub mod Done
+pub mod Lending
+pub mod Looks
+pub mod Numbers
+pub mod Owned
+pub mod Readers
+pub mod Statuses

@@ -1,0 +1,58 @@
+-- THE NUMBERS of c/excp.h: methods, modes, and what a look shows.
+use Rattle.std.specs.Prelude.{ℕ, zero, suc, Bool, true, false, Option, Some, None, min}
+use Rattle.device_port.specs.declared.faults.Fault.{Fault}
+use Rattle.device_port.specs.declared.kind.Kind.{Kind}
+use Rattle.device_port.specs.declared.kind.Kind.TheVariants as kinds
+use Rattle.unit_book.specs.declared.dcb.DcbState.{DcbState}
+use Rattle.unit_book.specs.declared.dcb.DcbState.TheVariants as dcbs
+use Rattle.unit_book.specs.declared.dcb.ProcessingMethod.{ProcessingMethod}
+use Rattle.unit_book.specs.declared.dcb.ProcessingMethod.TheVariants as methods
+use Rattle.unit_book.specs.declared.entry.Mode.{Mode}
+use Rattle.unit_book.specs.declared.entry.Mode.TheVariants as modes
+use Rattle.unit_world.specs.declared.active.ActiveState.{ActiveState}
+use Rattle.unit_world.specs.declared.active.ActiveState.TheVariants as actives
+use Rattle.excp_site.specs.declared.served.ServedEnd.{ServedEnd}
+use Rattle.excp_site.specs.declared.served.ServedEnd.TheVariants as ends
+
+abbrev pub method_from_c : ℕ → Option ProcessingMethod
+method_from_c zero = Some methods.Input
+method_from_c (suc zero) = Some methods.Output
+method_from_c (suc (suc n)) = None
+
+abbrev pub mode_from_c : ℕ → Option Mode
+mode_from_c zero = Some modes.Quiesce
+mode_from_c (suc zero) = Some modes.Halt
+mode_from_c (suc (suc n)) = None
+
+abbrev pub end_number : ServedEnd → ℕ
+end_number ends.All = 0
+end_number ends.RowFull = 1
+end_number ends.Commands = 2
+
+abbrev pub kind_number : Kind → ℕ
+kind_number kinds.Disk = 0
+kind_number kinds.Tape = 1
+kind_number kinds.Printer = 2
+
+abbrev pub active_number : ActiveState → ℕ
+active_number actives.Running = 1
+active_number actives.Pending = 2
+active_number actives.AwaitsRestart = 3
+
+abbrev pub dcb_number : DcbState → ℕ
+dcb_number dcbs.Unknown = 0
+dcb_number dcbs.Open = 1
+dcb_number dcbs.Closing = 2
+dcb_number dcbs.Closed = 3
+
+abbrev pub as_bit : Bool → ℕ
+as_bit false = 0
+as_bit true = 1
+
+-- a count of 32 bits: any larger one is shown as the largest
+abbrev pub count_of : ℕ → ℕ
+count_of n = min n 4294967295
+
+-- the fault of a device's command with these numbers
+abbrev pub fault_from_c : ℕ → ℕ → ℕ → ℕ → Fault
+fault_from_c command unit channel sense = record { ordinal = command; unit = record { 0 = unit }; sub = record { 0 = channel }; sense = sense }

@@ -1,0 +1,39 @@
+-- WHAT A READER WROTE OUT: what the site tells (excp_site), as C sees it.
+use Rattle.std.specs.Prelude.{◌≡◌, ℕ, Some, List, ◌++◌}
+use Rattle.ckd_disk.specs.Record.{Record as OnTrack}
+use Rattle.line_printer.specs.Paper.{Line as Printed}
+use Rattle.request_piece.specs.declared.piece.Name.{Name}
+use Rattle.unit_world.specs.Sites.{OnPart}
+use Rattle.excp_site.specs.Looks.{LineAt, RecordAt, ShowsDcb, ShowsUnit, WaitsAt, device_now}
+use Rattle.excp_site.specs.Sites.{SiteView, number_of}
+use Rattle.excp_site.specs.declared.state.DcbLook.{DcbLook}
+use Rattle.excp_site.specs.declared.state.UnitState.{UnitState as UnitLook}
+use Rattle.excp_c.specs.Buffers.{copied}
+use Rattle.excp_c.specs.Contents.{line_in_c, record_in_c}
+use Rattle.excp_c.specs.Looks.{dcb_state_of, unit_state_of}
+use Rattle.excp_c.specs.declared.contents.Line.{Line}
+use Rattle.excp_c.specs.declared.contents.Record.{Record}
+use Rattle.excp_c.specs.declared.looks.DcbState.{DcbState}
+use Rattle.excp_c.specs.declared.looks.UnitState.{UnitState}
+
+abbrev pub ShowsSite : SiteView → ℕ → UnitState → Type 0
+ShowsSite s unit state = (look : UnitLook) × OnPart s.plain unit (λ p. ShowsUnit p look) × (state ≡ unit_state_of s unit look)
+
+abbrev pub ShowsDcbAs : SiteView → ℕ → ℕ → DcbState → Type 0
+ShowsDcbAs s unit dcb state = (look : DcbLook) × OnPart s.plain unit (λ p. ShowsDcb p dcb look) × (state ≡ dcb_state_of look)
+
+-- the task and the number of the request that waits at a place
+abbrev pub Waits : SiteView → ℕ → ℕ → ℕ → ℕ → Type 0
+Waits s unit place task number =
+    (name : Name) × OnPart s.plain unit (λ p. WaitsAt p place name) × (task ≡ name.task) × (number ≡ number_of s unit name)
+
+-- the record at a place, with its key and its data at the front of the buffer
+abbrev pub ReadsSite : SiteView → ℕ → ℕ → ℕ → ℕ → Record → List ℕ → List ℕ → Type 0
+ReadsSite s unit cylinder head place shown old new =
+    (r : OnTrack) × OnPart s.plain unit (λ p. RecordAt (device_now p.book) cylinder head place (Some r)) × (shown ≡ record_in_c r) ×
+    (new ≡ copied (r.key ++ r.content) old)
+
+-- the line at a place, with its bytes at the front of the buffer
+abbrev pub Prints : SiteView → ℕ → ℕ → Line → List ℕ → List ℕ → Type 0
+Prints s unit place shown old new =
+    (l : Printed) × OnPart s.plain unit (λ p. LineAt (device_now p.book) place (Some l)) × (shown ≡ line_in_c l) × (new ≡ copied l.bytes old)

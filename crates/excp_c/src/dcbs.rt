@@ -1,0 +1,51 @@
+//! DCBs (c/excp.h, "DCBs").
+
+ghost use Rattle.std.specs.Prelude.{◌≡◌, ◌≢◌};
+ghost use Rattle.excp_site.specs.Extents.{extents_in};
+ghost use Rattle.excp_c.specs.Done.{Did, SiteOpens};
+ghost use Rattle.excp_c.specs.Calls.{KeepsSite, TestsSite};
+ghost use Rattle.excp_c.specs.Numbers.{method_from_c};
+
+use crate::handle::Handle;
+use crate::status::{BAD_NUMBER, NO_SITE, give, status_in_c};
+use excp_site::extents;
+use std::alloc::Global;
+use unit_book::ProcessingMethod;
+
+/// The method with this number, `EXCP_INPUT` or `EXCP_OUTPUT`.
+fn method_from_c(number: u8) -> Option<ProcessingMethod>
+    ensures { result ≡ method_from_c number }
+{
+    match number {
+        0 => Some(ProcessingMethod::Input),
+        1 => Some(ProcessingMethod::Output),
+        _ => None,
+    }
+}
+
+/// `excp_open`.
+#[unsafe(no_mangle)]
+pub extern "C" fn excp_call_open(
+    alloc: Global,
+    handle: &mut Handle,
+    unit: u16,
+    method: u8,
+    extent_bytes: &[u8],
+    dcb: &mut u16,
+) -> u32
+    ensures site { TestsSite handle.old result }
+    ensures keeps { KeepsSite handle.old handle.new }
+    ensures done { result ≡ 0 → Did handle.old handle.new (SiteOpens unit (method_from_c method) (extents_in extent_bytes.now) dcb.new) }
+    ensures refused { result ≢ 0 → dcb.new ≡ dcb.old }
+{
+    let Some(site) = handle.site() else {
+        return NO_SITE;
+    };
+    let Some(method) = method_from_c(method) else {
+        return BAD_NUMBER;
+    };
+    match extents(alloc, extent_bytes) {
+        Ok(extents) => give(site.open(unit, method, &extents), dcb),
+        Err(refusal) => status_in_c(refusal),
+    }
+}

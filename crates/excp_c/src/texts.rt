@@ -1,0 +1,37 @@
+//! Bytes that are made and copied out (c/excp.h, "Texts and images").
+
+ghost use Rattle.std.specs.Prelude.{◌≡◌, ◌≢◌, drop, length, take};
+ghost use Rattle.excp_c.specs.Calls.{KeepsSite, SameSite, TestsSite};
+ghost use Rattle.excp_c.specs.Done.{Did};
+
+use crate::handle::Handle;
+use crate::status::{NO_SITE, done, give};
+
+/// `excp_make_history`.
+#[unsafe(no_mangle)]
+pub extern "C" fn excp_call_make_history(handle: &mut Handle, unit: u16, count: &mut usize) -> u32
+    ensures site { TestsSite handle.old result }
+    ensures keeps { KeepsSite handle.old handle.new }
+    ensures done { result ≡ 0 → Did handle.old handle.new (λ s t. (count.new ≡ length t.made) × (t ≡ record s { made = t.made })) }
+    ensures refused { result ≢ 0 → SameSite handle.old handle.new × (count.new ≡ count.old) }
+{
+    let Some(site) = handle.site() else {
+        return NO_SITE;
+    };
+    give(site.make_history(unit), count)
+}
+
+/// `excp_copy_out`.
+#[unsafe(no_mangle)]
+pub extern "C" fn excp_call_copy_out(handle: &mut Handle, from: usize, bytes: &mut [u8]) -> u32
+    ensures site { TestsSite handle.old result }
+    ensures keeps { KeepsSite handle.old handle.new }
+    ensures done { result ≡ 0 → Did handle.old handle.new (λ s _. bytes.new ≡ take (length bytes.old) (drop from s.made)) }
+    ensures refused { result ≢ 0 → bytes.new ≡ bytes.old }
+    ensures same { SameSite handle.old handle.new }
+{
+    let Some(site) = handle.site() else {
+        return NO_SITE;
+    };
+    done(site.copy_out(from, bytes))
+}

@@ -1,0 +1,5 @@
+-- The lemmas of excp_site.
+pub mod Refused
+pub mod Ranges
+pub mod Controls
+pub mod Resting

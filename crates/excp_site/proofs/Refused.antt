@@ -1,0 +1,50 @@
+-- What follows of a `?` that returned.
+use Rattle.std.proofs.Common.{◌≡◌, ◌==◌, ◌+◌, ℕ, Option, ap, inl, inr, refl, subst, sym}
+use Rattle.std.proofs.lemmas.Bool.{cases_Bool}
+use Rattle.request_piece.specs.declared.piece.Name.{Name}
+use Rattle.unit_world.specs.Parts.{next_name_from, next_name_of}
+use Rattle.std.specs.Prelude.{IfErr, Some, None, List, [], ◌∷◌, slice_get}
+use Rattle.std.specs.Result.{IsErrAnd}
+use Rattle.std.specs.declared.result.Result.{Result}
+use Rattle.std.specs.declared.result.Result.TheVariants.{Ok, Err}
+use Rattle.any_device.specs.declared.device.AnyDevice.{AnyDevice}
+use Rattle.unit_book.specs.declared.answer.DcbError.{DcbError}
+use Rattle.unit_book.specs.declared.answer.DcbError.TheVariants as dcbs
+use Rattle.unit_book.specs.Book.{Book}
+use Rattle.unit_world.specs.Sites.{SiteState, OnPart}
+use Rattle.excp_site.specs.Refusals.{DcbCallRefused, of_dcb}
+use Rattle.excp_site.specs.declared.refusal.Refusal.{Refusal}
+use Rattle.excp_site.specs.declared.refusal.Refusal.TheVariants.{NoDcb, NoMemory}
+
+pub refuses : {X : Type 0} (r : Result X Refusal) (e : Refusal) (P : Refusal → Type 0) → IsErrAnd r (λ f. f ≡ e) → P e → IfErr r P
+refuses (Ok x) e P h p = tt
+refuses (Err f) e P h p = subst P (sym h) p
+
+pub dcb-refuses : {X : Type 0} (r : Result X Refusal) (error : DcbError) (s : SiteState AnyDevice) (unit : ℕ)
+    (Refused : Book AnyDevice → DcbError → Type 0) (Lacks : Book AnyDevice → Type 0) → IsErrAnd r (λ f. f ≡ of_dcb error) →
+    OnPart s unit (λ p. Refused p.book error) → OnPart s unit (λ p. error ≡ dcbs.NoMemory → Lacks p.book) →
+    IfErr r (DcbCallRefused s unit Refused Lacks)
+dcb-refuses r dcbs.NoSuchDcb s unit Refused Lacks h refused full = refuses r NoDcb (DcbCallRefused s unit Refused Lacks) h refused
+dcb-refuses r dcbs.NoMemory s unit Refused Lacks h refused full =
+    refuses r NoMemory (DcbCallRefused s unit Refused Lacks) h (λ p at. (refused p at, full p at refl))
+
+-- a list without a first item
+pub no-first : {X : Type 0} (xs : List X) → slice_get xs 0 ≡ None → xs ≡ []
+no-first [] h = refl
+no-first (x ∷ xs) h = absurd cc
+
+some-is : {X : Type 0} (a b : X) → Some a ≡ Some b → a ≡ b
+some-is a b e = cc
+
+-- the next name of a task is one of this task
+pub next-of-task : (issued : List ℕ) (task : ℕ) (name : Name) → next_name_of issued task ≡ Some name →
+    next_name_of issued name.task ≡ Some name
+next-of-task issued task name h = subst (λ t. next_name_of issued t ≡ Some name) (of (slice_get issued task) h) h where
+  of : (count : Option ℕ) → next_name_from task count ≡ Some name → task ≡ name.task
+  of None e = absurd cc
+  of (Some count) e = elim (cases_Bool (count == 4294967295)) [
+    | inl f ↦ let g : None ≡ Some name = rw f at e in absurd cc
+    | inr f ↦
+        let g : Some (record { task = task; seq = count + 1 }) ≡ Some name = rw f at e in
+        ap (λ (n : Name). n.task) (some-is (record { task = task; seq = count + 1 }) name g)
+  ]

@@ -1,0 +1,12 @@
+use Rattle.std.proofs.Common.{subst}
+use Rattle.excp_site.specs.Refusals.{RunRefused}
+use Rattle.excp_site.specs.Sites.{SiteView}
+use Rattle.excp_site.specs.declared.refusal.Refusal.TheVariants.{NoMemory}
+use Rattle.excp_site.proofs.Refused.{refuses}
+use Rattle.excp_site.proofs.site.Site.run.Goals as goal
+
+pub returns-in_err-run-clause-refused : goal.returns-in_err-run-clause-refused
+returns-in_err-run-clause-refused c =
+    refuses c.from_residual-in_err-run.result NoMemory (RunRefused c.args.self.now.plain c.args.unit c.args.max)
+    c.from_residual-in_err-run.ensures.1
+    (subst (λ (s : SiteView). RunRefused s.plain c.args.unit c.args.max NoMemory) c.self.view_is c.in_err-run.ensures.full)

@@ -1,0 +1,59 @@
+-- WHAT A CHECKPOINT LEAVES (profile).
+use Rattle.std.specs.Prelude.{◌≡◌, ◌≤◌, ◌+◌, ◌-◌, ◌^◌, ℕ, Bool, true, false, List, [], length, map, min, slice_set}
+use Rattle.std.specs.List.{filter, range_with_len}
+use Rattle.any_device.specs.Devices.{any_device}
+use Rattle.any_device.specs.declared.device.AnyDevice.{AnyDevice}
+use Rattle.unit_book.specs.Book.{Book}
+use Rattle.unit_book.specs.Dcbs.{flag}
+use Rattle.unit_book.specs.Media.{device}
+use Rattle.unit_book.specs.declared.entry.Entry.{Entry}
+use Rattle.unit_book.specs.declared.entry.Entry.TheVariants.{Opened, Close}
+use Rattle.unit_world.specs.Parts.{UnitPart, issued_by, opening_part}
+use Rattle.unit_world.specs.Sites.{IsAtRest, OnPart, OnUnit}
+use Rattle.excp_site.specs.Sites.{SiteView, earlier_of, held_of}
+use Rattle.excp_site.specs.declared.refusal.Refusal.{Refusal}
+use Rattle.excp_site.specs.declared.refusal.Refusal.TheVariants.{NoMemory, NoUnit, NotIdle, InError}
+
+-- a DCB was opened or closed
+abbrev pub is_control : Entry → Bool
+is_control (Opened dcb method extents) = true
+is_control (Close dcb) = true
+is_control _ = false
+
+-- the openings and closes of a trace
+abbrev pub controls : List Entry → List Entry
+controls H = filter is_control H
+
+-- A BOOK BEGUN AGAIN: it is on the device as it is, its DCBs were opened and closed as before, and nothing else happened
+pub record IsRenewed (old : Book AnyDevice) (held : ℕ) (new : Book AnyDevice) : Type 0 where
+  pub medium : new.mounted ≡ device any_device old.mounted old.trace
+  pub trace : new.trace ≡ controls old.trace
+  pub out : new.out ≡ []
+  pub capacity : new.capacity ≡ held
+
+-- how many requests of a task the unit had so far, up to 2^64 - 1
+abbrev pub count_after : SiteView → ℕ → UnitPart AnyDevice → ℕ → ℕ
+count_after s unit p task = min (earlier_of s unit task + issued_by p.issued task) (2 ^ 64 - 1)
+
+abbrev pub counts_after : SiteView → ℕ → UnitPart AnyDevice → List ℕ
+counts_after s unit p = map (count_after s unit p) (range_with_len 0 (length s.plain.rows))
+
+-- A UNIT BEGINS AGAIN, and the numbers of its requests go on; all else stays as it is
+pub record Checkpoints (old : SiteView) (unit : ℕ) (new : SiteView) : Type 0 where
+  pub unit_is : OnUnit old.plain unit (λ p q. IsRenewed p.book (held_of old unit) q.book
+      × (q ≡ opening_part q.book (length old.plain.rows) p.intake_room)) new.plain
+  pub earlier : OnPart old.plain unit (λ p. new.earlier ≡ slice_set old.earlier unit (counts_after old unit p))
+  pub rest : new ≡ record old { plain = new.plain; earlier = new.earlier }
+
+-- a DCB has the error flag
+pub record IsFlagged (b : Book AnyDevice) : Type 0 where
+  pub dcb : ℕ
+  pub flagged : flag dcb b.trace ≡ true
+
+-- WHY IT DOES NOT
+abbrev pub CheckpointRefused : SiteView → ℕ → Refusal → Type 0
+CheckpointRefused s unit NoUnit = length s.plain.units ≤ unit
+CheckpointRefused s unit NotIdle = IsAtRest s.plain unit → ⊥
+CheckpointRefused s unit InError = IsAtRest s.plain unit × OnPart s.plain unit (λ p. IsFlagged p.book)
+CheckpointRefused s unit NoMemory = IsAtRest s.plain unit
+CheckpointRefused s unit _ = ⊥

@@ -1,0 +1,94 @@
+-- WHAT A SITE TELLS of a unit (profile).
+use Rattle.std.specs.Prelude.{◌≡◌, ◌≤◌, ◌<◌, ◌-◌, ◌↔◌, Bool, IsTrue, ℕ, None, Option, Some, false, length, option_map, slice_get, true}
+use Rattle.any_device.specs.Devices.{any_device}
+use Rattle.any_device.specs.declared.device.AnyDevice.{AnyDevice}
+use Rattle.any_device.specs.declared.device.AnyDevice.TheVariants.{Disk, Printer}
+use Rattle.ckd_disk.specs.Disk.{records_of}
+use Rattle.ckd_disk.specs.Record.{Record}
+use Rattle.line_printer.specs.Paper.{Line}
+use Rattle.request_piece.specs.declared.piece.Name.{Name}
+use Rattle.unit_book.specs.Book.{Book, occupancy}
+use Rattle.unit_book.specs.Dcbs.{dcb_state, flag, mask_of}
+use Rattle.unit_book.specs.Media.{device}
+use Rattle.unit_book.specs.Trace.{active, waiting}
+use Rattle.unit_book.specs.declared.dcb.DcbState.TheVariants.{Unknown}
+use Rattle.unit_world.specs.Parts.{UnitPart, active_state}
+use Rattle.unit_world.specs.Sites.{SiteState, OnPart}
+use Rattle.excp_site.specs.declared.refusal.Refusal.{Refusal}
+use Rattle.excp_site.specs.declared.refusal.Refusal.TheVariants.{BadMedium, NoUnit, NoDcb, NoRoom, NothingThere}
+use Rattle.excp_site.specs.declared.state.DcbLook.{DcbLook}
+use Rattle.excp_site.specs.declared.state.UnitState.{UnitState}
+
+-- the device of a book as it is
+abbrev pub device_now : Book AnyDevice → AnyDevice
+device_now b = device any_device b.mounted b.trace
+
+-- how many lines a printer printed
+abbrev pub printed_by : AnyDevice → ℕ
+printed_by (Printer printer) = length printer.printed
+printed_by _ = 0
+
+-- A UNIT AS IT IS
+pub record ShowsUnit (p : UnitPart AnyDevice) (u : UnitState) : Type 0 where
+  pub kind : u.kind ≡ any_device.kind (device_now p.book)
+  pub active_is : u.active ≡ option_map (λ name. (name, active_state any_device p.book)) (active p.book.trace)
+  pub in_flight : u.in_flight ≡ length p.flight
+  pub in_flight_room : u.in_flight_room ≡ p.intake_room - length p.flight
+  pub waiting_is : u.waiting ≡ length (waiting p.book.trace)
+  pub out : u.out ≡ length p.book.out
+  pub has_room : IsTrue u.has_room ↔ (occupancy p.book < p.book.capacity)
+  pub printed : u.printed ≡ printed_by (device_now p.book)
+
+abbrev pub LookRefused : SiteState AnyDevice → ℕ → Refusal → Type 0
+LookRefused s unit NoUnit = length s.units ≤ unit
+LookRefused s unit _ = ⊥
+
+-- A DCB AS IT IS
+pub record ShowsDcb (p : UnitPart AnyDevice) (dcb : ℕ) (d : DcbLook) : Type 0 where
+  pub state : d.state ≡ dcb_state dcb p.book.trace
+  pub in_error : d.in_error ≡ flag dcb p.book.trace
+  pub file_mask : d.file_mask ≡ mask_of dcb p.book.trace
+
+abbrev pub DcbLookRefused : SiteState AnyDevice → ℕ → ℕ → Refusal → Type 0
+DcbLookRefused s unit dcb NoUnit = length s.units ≤ unit
+DcbLookRefused s unit dcb NoDcb = OnPart s unit (λ p. dcb_state dcb p.book.trace ≡ Unknown)
+DcbLookRefused s unit dcb _ = ⊥
+
+-- WHAT WAITS AT A PLACE
+abbrev pub WaitsAt : UnitPart AnyDevice → ℕ → Name → Type 0
+WaitsAt p place name = option_map (λ r. r.name) (slice_get (waiting p.book.trace) place) ≡ Some name
+
+abbrev pub WaitingRefused : SiteState AnyDevice → ℕ → ℕ → Refusal → Type 0
+WaitingRefused s unit place NoUnit = length s.units ≤ unit
+WaitingRefused s unit place NothingThere = OnPart s unit (λ p. option_map (λ r. r.name) (slice_get (waiting p.book.trace) place) ≡ None)
+WaitingRefused s unit place _ = ⊥
+
+-- THE RECORD AT A PLACE of a track of a disk
+abbrev pub RecordAt : AnyDevice → ℕ → ℕ → ℕ → Option Record → Type 0
+RecordAt (Disk disk) cylinder head place r = slice_get (records_of disk cylinder head) place ≡ r
+RecordAt _ cylinder head place r = ⊥
+
+abbrev pub has_disk : AnyDevice → Bool
+has_disk (Disk disk) = true
+has_disk _ = false
+
+abbrev pub RecordRefused : SiteState AnyDevice → ℕ → ℕ → ℕ → ℕ → Refusal → Type 0
+RecordRefused s unit cylinder head place NoUnit = length s.units ≤ unit
+RecordRefused s unit cylinder head place BadMedium = OnPart s unit (λ p. has_disk (device_now p.book) ≡ false)
+RecordRefused s unit cylinder head place NoRoom = OnPart s unit (λ p. RecordAt (device_now p.book) cylinder head place None)
+RecordRefused s unit cylinder head place _ = ⊥
+
+-- THE LINE AT A PLACE of what a printer printed
+abbrev pub LineAt : AnyDevice → ℕ → Option Line → Type 0
+LineAt (Printer printer) place l = slice_get printer.printed place ≡ l
+LineAt _ place l = ⊥
+
+abbrev pub has_printer : AnyDevice → Bool
+has_printer (Printer printer) = true
+has_printer _ = false
+
+abbrev pub LineRefused : SiteState AnyDevice → ℕ → ℕ → Refusal → Type 0
+LineRefused s unit place NoUnit = length s.units ≤ unit
+LineRefused s unit place BadMedium = OnPart s unit (λ p. has_printer (device_now p.book) ≡ false)
+LineRefused s unit place NoRoom = OnPart s unit (λ p. LineAt (device_now p.book) place None)
+LineRefused s unit place _ = ⊥

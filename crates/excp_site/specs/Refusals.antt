@@ -1,0 +1,109 @@
+-- WHEN A CALL OF A SITE IS REFUSED (profile).
+use Rattle.std.specs.Prelude.{◌≡◌, ◌≢◌, ◌≤◌, ◌<◌, ◌%◌, ℕ, List, [], length}
+use Rattle.io_images.specs.declared.extent.Extent.{Extent}
+use Rattle.device_port.specs.declared.device.MountError.{MountError}
+use Rattle.device_port.specs.declared.device.MountError.TheVariants as mounting
+use Rattle.io_area.specs.declared.error.AreaError.{AreaError}
+use Rattle.io_area.specs.declared.error.AreaError.TheVariants as areas
+use Rattle.request_piece.specs.declared.error.RequestError.{RequestError}
+use Rattle.request_piece.specs.declared.error.RequestError.TheVariants as requests
+use Rattle.unit_book.specs.declared.answer.OpenError.{OpenError}
+use Rattle.unit_book.specs.declared.answer.OpenError.TheVariants as openings
+use Rattle.unit_book.specs.declared.answer.DcbError.{DcbError}
+use Rattle.unit_book.specs.declared.answer.DcbError.TheVariants as dcbs
+use Rattle.any_device.specs.declared.device.AnyDevice.{AnyDevice}
+use Rattle.any_device.specs.Devices.{any_device}
+use Rattle.unit_book.specs.Answers.{OpenRefused}
+use Rattle.unit_book.specs.Book.{Book}
+use Rattle.unit_book.specs.Refusals.{PurgeLacks, RunLacks}
+use Rattle.unit_world.specs.PostLists.{list_of}
+use Rattle.unit_world.specs.Sites.{SiteState, OnPart}
+use Rattle.excp_site.specs.declared.refusal.Refusal.{Refusal}
+use Rattle.excp_site.specs.declared.refusal.Refusal.TheVariants.{NoMemory, BadNumber, NoUnit, NoTask, NoDcb, NoPost, NoRoom, TooManyDcbs, BadGeometry, BadMedium, BadExtent, AreaMisaligned, AreaTooLong, AreaPastTop}
+use Rattle.excp_site.specs.declared.refusal.Refusal.TheVariants.{BadIob, BadEcb, BadProgram, WrongDcb}
+
+-- THE REFUSALS OF THE CRATES BELOW
+abbrev pub of_area : AreaError → Refusal
+of_area areas.Misaligned = AreaMisaligned
+of_area areas.TooLong = AreaTooLong
+of_area areas.PastTop = AreaPastTop
+of_area areas.NoMemory = NoMemory
+
+abbrev pub of_request : RequestError → Refusal
+of_request requests.IobPlace = BadIob
+of_request requests.EcbPlace = BadEcb
+of_request requests.ProgramPlace = BadProgram
+of_request requests.DcbMismatch = WrongDcb
+of_request requests.NoMemory = NoMemory
+
+abbrev pub of_mount : MountError → Refusal
+of_mount mounting.BadGeometry = BadGeometry
+of_mount mounting.BadMedium = BadMedium
+of_mount mounting.NoMemory = NoMemory
+
+abbrev pub of_open : OpenError → Refusal
+of_open openings.TooManyDcbs = TooManyDcbs
+of_open openings.BadExtent = BadExtent
+of_open openings.NoMemory = NoMemory
+
+abbrev pub of_dcb : DcbError → Refusal
+of_dcb dcbs.NoSuchDcb = NoDcb
+of_dcb dcbs.NoMemory = NoMemory
+
+-- A CALL OF A UNIT: there is no such unit, or memory ran out, which can be only if so much is lacking
+abbrev pub UnitRefused : SiteState AnyDevice → ℕ → (Book AnyDevice → Type 0) → Refusal → Type 0
+UnitRefused s unit Lacks NoUnit = length s.units ≤ unit
+UnitRefused s unit Lacks NoMemory = OnPart s unit (λ p. Lacks p.book)
+UnitRefused s unit Lacks _ = ⊥
+
+-- A CALL OF A DCB: there is no such unit, or none such DCB, or memory ran out
+abbrev pub DcbCallRefused : SiteState AnyDevice → ℕ → (Book AnyDevice → DcbError → Type 0) → (Book AnyDevice → Type 0) → Refusal → Type 0
+DcbCallRefused s unit Refused Lacks NoUnit = length s.units ≤ unit
+DcbCallRefused s unit Refused Lacks NoDcb = OnPart s unit (λ p. Refused p.book dcbs.NoSuchDcb)
+DcbCallRefused s unit Refused Lacks NoMemory = OnPart s unit (λ p. Refused p.book dcbs.NoMemory × Lacks p.book)
+DcbCallRefused s unit Refused Lacks _ = ⊥
+
+-- A RUN: or the number of commands is 0
+abbrev pub RunRefused : SiteState AnyDevice → ℕ → ℕ → Refusal → Type 0
+RunRefused s unit max NoUnit = length s.units ≤ unit
+RunRefused s unit max BadNumber = max ≡ 0
+RunRefused s unit max NoMemory = OnPart s unit (λ p. RunLacks any_device p.book)
+RunRefused s unit max _ = ⊥
+
+-- A PURGE OF A TASK: or there is no such task
+abbrev pub TaskPurgeRefused : SiteState AnyDevice → ℕ → ℕ → Refusal → Type 0
+TaskPurgeRefused s unit task NoUnit = length s.units ≤ unit
+TaskPurgeRefused s unit task NoTask = length s.rows ≤ task
+TaskPurgeRefused s unit task NoMemory = OnPart s unit (λ p. PurgeLacks p.book)
+TaskPurgeRefused s unit task _ = ⊥
+
+-- A POST THAT IS NOT GIVEN: there is no such task, or none was delivered to it
+abbrev pub PostRefused : SiteState AnyDevice → ℕ → Refusal → Type 0
+PostRefused s task NoTask = length s.rows ≤ task
+PostRefused s task NoPost = list_of s.rows task ≡ []
+PostRefused s task _ = ⊥
+
+-- AN OPEN: or it is refused as the book of the unit says
+abbrev pub OpenCallRefused : SiteState AnyDevice → ℕ → List Extent → Refusal → Type 0
+OpenCallRefused s unit extents NoUnit = length s.units ≤ unit
+OpenCallRefused s unit extents TooManyDcbs = OnPart s unit (λ p. OpenRefused any_device p.book extents openings.TooManyDcbs)
+OpenCallRefused s unit extents BadExtent = OnPart s unit (λ p. OpenRefused any_device p.book extents openings.BadExtent)
+OpenCallRefused s unit extents NoMemory = OnPart s unit (λ p. OpenRefused any_device p.book extents openings.NoMemory)
+OpenCallRefused s unit extents _ = ⊥
+
+-- BYTES THAT ARE NO EXTENTS
+abbrev pub ExtentsRefused : List ℕ → Refusal → Type 0
+ExtentsRefused bytes BadExtent = length bytes % 16 ≢ 0
+ExtentsRefused bytes NoMemory = length bytes % 16 ≡ 0
+ExtentsRefused bytes _ = ⊥
+
+-- A HISTORY THAT IS NOT MADE
+abbrev pub HistoryRefused : SiteState AnyDevice → ℕ → Refusal → Type 0
+HistoryRefused s unit NoUnit = length s.units ≤ unit
+HistoryRefused s unit NoMemory = Unit {0}
+HistoryRefused s unit _ = ⊥
+
+-- BYTES THAT ARE NOT THERE
+abbrev pub NoRoomFor : ℕ → ℕ → Refusal → Type 0
+NoRoomFor wanted there NoRoom = there < wanted
+NoRoomFor wanted there _ = ⊥

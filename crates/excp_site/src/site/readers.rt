@@ -1,0 +1,81 @@
+//! What a site tells of its units. Each reader copies out, and allocates nothing.
+
+ghost use Rattle.std.specs.Prelude.{◌≡◌, IfErr, IfOk};
+ghost use Rattle.unit_world.specs.Sites.{OnPart};
+ghost use Rattle.excp_site.specs.Looks.{DcbLookRefused, LookRefused, ShowsDcb, ShowsUnit, WaitingRefused, WaitsAt, printed_by};
+
+use crate::refusal::Refusal;
+use crate::site::Site;
+use crate::state::{DcbLook, UnitState};
+use any_device::AnyDevice;
+use device_port::Device;
+use request_piece::Name;
+use unit_book::DcbState;
+
+impl Site {
+    /// A unit as it is.
+    ///
+    /// Error: `NoUnit`.
+    pub fn look(&self, unit: u16) -> Result<UnitState, Refusal>
+        ensures ok { IfOk result (λ u. OnPart self.now.plain unit (λ p. ShowsUnit p u)) }
+        ensures refused { IfErr result (LookRefused self.now.plain unit) }
+    {
+        self.has_unit(unit)?;
+        let book = self.plain.book(unit);
+        let in_flight = self.plain.flight_len(unit);
+        Ok(UnitState {
+            kind: book.device().kind(),
+            active: self.plain.active(unit),
+            in_flight,
+            in_flight_room: self.plain.intake_room(unit).saturating_sub(in_flight),
+            waiting: book.waiting_len(),
+            out: book.out_len(),
+            has_room: book.has_room(),
+            printed: printed(book.device()),
+        })
+    }
+
+    /// A DCB of a unit as it is.
+    ///
+    /// Errors: `NoUnit`, `NoDcb`.
+    pub fn look_dcb(&self, unit: u16, dcb: u16) -> Result<DcbLook, Refusal>
+        ensures ok { IfOk result (λ d. OnPart self.now.plain unit (λ p. ShowsDcb p dcb d)) }
+        ensures refused { IfErr result (DcbLookRefused self.now.plain unit dcb) }
+    {
+        self.has_unit(unit)?;
+        let book = self.plain.book(unit);
+        match book.dcb_state(dcb) {
+            DcbState::Unknown => Err(Refusal::NoDcb),
+            state => Ok(DcbLook {
+                state,
+                in_error: book.dcb_flag(dcb),
+                file_mask: book.mask(dcb),
+            }),
+        }
+    }
+
+    /// The request that waits at a place, counted from 0 in the order in which they are started.
+    ///
+    /// Errors: `NoUnit`, `NothingThere`.
+    pub fn waiting(&self, unit: u16, place: u32) -> Result<Name, Refusal>
+        ensures ok { IfOk result (λ name. OnPart self.now.plain unit (λ p. WaitsAt p place name)) }
+        ensures refused { IfErr result (WaitingRefused self.now.plain unit place) }
+    {
+        self.has_unit(unit)?;
+        let book = self.plain.book(unit);
+        match book.waiting_name(place as usize) {
+            Some(name) => Ok(name),
+            None => Err(Refusal::NothingThere),
+        }
+    }
+}
+
+/// How many lines a printer printed; 0 for other devices.
+fn printed(device: &AnyDevice) -> usize
+    ensures { result ≡ printed_by device.now }
+{
+    match device {
+        AnyDevice::Printer(printer) => printer.printed().len(),
+        _ => 0,
+    }
+}

@@ -1,0 +1,121 @@
+//! Texts, records and printed lines.
+
+ghost use Rattle.std.specs.Prelude.{◌≡◌, ◌≤◌, ◌+◌, Some, drop, length, slice_get, take, IfErr, IfOk, OnErr, OnOk};
+ghost use Rattle.unit_world.specs.Sites.{OnPart};
+ghost use Rattle.excp_site.specs.Looks.{LineAt, LineRefused, RecordAt, RecordRefused, device_now};
+ghost use Rattle.excp_site.specs.Refusals.{HistoryRefused, NoRoomFor};
+
+use crate::refusal::Refusal;
+use crate::site::Site;
+use any_device::AnyDevice;
+use ckd_disk::{Records, Stored};
+use line_printer::PrintedLine;
+use unit_book::{DcbState, UnitBook};
+use unit_history::{OpenDcbs, write_history};
+
+impl Site {
+    /// Makes the history of a unit, a line for each entry, and keeps it in place of what was made before. Returns how many bytes
+    /// it has.
+    ///
+    /// Errors: `NoUnit`, `NoMemory`. What was made before stays then.
+    pub fn make_history(&mut self, unit: u16) -> Result<usize, Refusal>
+        ensures len { IfOk result (λ len. len ≡ length self.new.made) }
+        ensures refused { IfErr result (HistoryRefused self.old.plain unit) }
+        ensures rest { self.new ≡ record self.old { made = self.new.made } }
+        ensures err { OnErr result (self.new ≡ self.old) }
+    {
+        self.has_unit(unit)?;
+        let book = self.plain.book(unit);
+        let mut text = Vec::new(self.alloc);
+        let mut open = OpenDcbs::new(self.alloc, opened(book))?;
+        if write_history(&mut text, usize::from(unit), book, None, &mut open).is_err() {
+            return Err(Refusal::NoMemory);
+        }
+        let len = text.len();
+        self.made = text;
+        Ok(len)
+    }
+
+    /// Copies from the bytes that were made, from the place `from` on.
+    ///
+    /// Error: `NoRoom` if fewer are there.
+    pub fn copy_out(&self, from: usize, bytes: &mut [u8]) -> Result<(), Refusal>
+        ensures ok { OnOk result (bytes.new ≡ take (length bytes.old) (drop from self.now.made)) }
+        ensures room { OnOk result (from + length bytes.old ≤ length self.now.made) }
+        ensures refused { IfErr result (NoRoomFor (from + length bytes.old) (length self.now.made)) }
+        ensures err { OnErr result (bytes.new ≡ bytes.old) }
+    {
+        let made = self.made.as_slice();
+        let Some(rest) = made.get(from..) else {
+            return Err(Refusal::NoRoom);
+        };
+        if rest.len() < bytes.len() {
+            return Err(Refusal::NoRoom);
+        }
+        bytes.copy_from_slice(&rest[..bytes.len()]);
+        Ok(())
+    }
+
+    /// The record at a place of a track of a disk, counted from 0.
+    ///
+    /// Errors: `NoUnit`; `BadMedium` if the unit is no disk; `NoRoom` if the track has no such place.
+    pub fn read_record(
+        &self,
+        unit: u16,
+        cylinder: u16,
+        head: u16,
+        place: usize,
+    ) -> Result<Stored<'_>, Refusal>
+        ensures ok { IfOk result (λ r. OnPart self.now.plain unit (λ p. RecordAt (device_now p.book) cylinder head place (Some r))) }
+        ensures refused { IfErr result (RecordRefused self.now.plain unit cylinder head place) }
+    {
+        self.has_unit(unit)?;
+        let AnyDevice::Disk(disk) = self.plain.book(unit).device() else {
+            return Err(Refusal::BadMedium);
+        };
+        match at(disk.records(cylinder, head), place) {
+            Some(record) => Ok(record),
+            None => Err(Refusal::NoRoom),
+        }
+    }
+
+    /// The line of a printer at a place, counted from 0, the oldest first.
+    ///
+    /// Errors: `NoUnit`; `BadMedium` if the unit is no printer; `NoRoom` if there is no such line.
+    pub fn printed_line(&self, unit: u16, place: usize) -> Result<&PrintedLine, Refusal>
+        ensures ok { IfOk result (λ line. OnPart self.now.plain unit (λ p. LineAt (device_now p.book) place (Some line.now))) }
+        ensures refused { IfErr result (LineRefused self.now.plain unit place) }
+    {
+        self.has_unit(unit)?;
+        let AnyDevice::Printer(printer) = self.plain.book(unit).device() else {
+            return Err(Refusal::BadMedium);
+        };
+        match printer.printed().as_slice().get(place) {
+            Some(line) => Ok(line),
+            None => Err(Refusal::NoRoom),
+        }
+    }
+}
+
+/// The record at a place of a track, if it has one.
+fn at(records: Records<'_>, place: usize) -> Option<Stored<'_>>
+    ensures { result ≡ slice_get records.entry place }
+{
+    let mut rest = records;
+    for _ in 0..place {
+        rest.next()?;
+    }
+    rest.next()
+}
+
+/// How many DCBs were opened.
+fn opened(book: &UnitBook<AnyDevice>) -> usize {
+    let mut count = 0;
+    for dcb in 1..=u16::MAX {
+        if book.dcb_state(dcb) == DcbState::Unknown {
+            break;
+        }
+        count = usize::from(dcb);
+    }
+    count
+}
