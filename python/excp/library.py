@@ -1,0 +1,181 @@
+"""Finds libexcp.so and declares its calls (c/excp.h)."""
+
+from __future__ import annotations
+
+import ctypes
+import functools
+import operator
+import os
+from ctypes import POINTER, Structure, byref, c_char_p, c_int, c_size_t, c_uint8, c_uint16, c_uint32, c_uint64, c_void_p
+from typing import Any, Iterator, List
+
+from .errors import BadNumber, LibraryNotFound, Status, error_of
+
+NAME = "libexcp.so"
+
+
+class Handle(Structure):
+    """EXCP_SITE_INIT, until a site is made."""
+
+    _fields_ = [("mark", c_uint64), ("at", c_void_p)]
+
+
+class Room(Structure):
+    _fields_ = [("in_flight", c_uint32), ("held", c_uint32)]
+
+
+class Answer(Structure):
+    _fields_ = [("number", c_uint64), ("commands", c_uint32), ("task", c_uint16), ("kind", c_uint8), ("code", c_uint8)]
+
+
+class Served(Structure):
+    _fields_ = [("posts", c_uint64), ("commands", c_uint32), ("ended", c_uint32)]
+
+
+class Post(Structure):
+    _fields_ = [
+        ("number", c_uint64),
+        *((it, c_uint32) for it in ("address", "base", "length")),
+        *((it, c_uint16) for it in ("residual", "sense", "unit", "task", "dcb")),
+        *((it, c_uint8) for it in ("code", "unit_status", "channel_status")),
+    ]
+
+
+class UnitState(Structure):
+    _fields_ = [
+        ("active_number", c_uint64),
+        *((it, c_uint32) for it in ("in_flight", "in_flight_room", "waiting", "out", "printed")),
+        ("active_task", c_uint16),
+        *((it, c_uint8) for it in ("active", "kind", "has_room")),
+    ]
+
+
+class DcbState(Structure):
+    _fields_ = [(it, c_uint8) for it in ("state", "in_error", "file_mask")]
+
+
+class Record(Structure):
+    _fields_ = [("cylinder", c_uint16), ("head", c_uint16), ("number", c_uint8), ("key_length", c_uint8), ("data_length", c_uint16)]
+
+
+class Line(Structure):
+    _fields_ = [(it, c_uint16) for it in ("page", "line", "length")]
+
+
+# The numbers that calls take, and the largest of each.
+NUMBERS = {
+    "u8": (c_uint8, 2**8 - 1),
+    "u16": (c_uint16, 2**16 - 1),
+    "u32": (c_uint32, 2**32 - 1),
+    "u64": (c_uint64, 2**64 - 1),
+    "size": (c_size_t, 2 ** (8 * ctypes.sizeof(c_size_t)) - 1),
+}
+
+# The words after the site: numbers, `bytes` and `buffer` with their lengths, and `ref`, a pointer to a structure or a number.
+CALLS = {
+    "site_new": "u16 u32",
+    "site_free": "",
+    "put_record": "u16 u16 u8 bytes bytes",
+    "put_block": "bytes",
+    "put_tape_mark": "",
+    "put_fault": "u64 u8 u8 u16",
+    "clear_medium": "",
+    "mount_disk": "u64 u64 u64 ref ref",
+    "mount_tape": "u64 ref ref",
+    "mount_printer": "u64 u64 ref ref",
+    "open": "u16 u8 bytes ref",
+    "issue": "u16 u16 u16 u32 u32 bytes ref",
+    "take": "u16 ref",
+    "start": "u16 ref",
+    "run": "u16 u32 ref",
+    "interrupt": "u16 ref",
+    "deliver": "u16 ref",
+    "serve": "u16 u32 ref",
+    "settle": "u16",
+    "peek_post": "u16 ref",
+    "next_post": "u16 ref buffer",
+    "purge": "u16 u16 u8 ref",
+    "purge_task": "u16 u16 u8 ref",
+    "close": "u16 u16 ref",
+    "reset": "u16 u16",
+    "look": "u16 ref",
+    "look_dcb": "u16 u16 ref",
+    "waiting": "u16 u32 ref ref",
+    "read_record": "u16 u16 u16 u32 ref buffer",
+    "printed_line": "u16 u32 ref buffer",
+    "make_history": "u16 ref",
+    "copy_out": "size buffer",
+    "checkpoint": "u16",
+}
+
+
+def places() -> Iterator[str]:
+    """Where the library may be: EXCP_LIBRARY, beside the package, or out/library of the repository."""
+    if os.environ.get("EXCP_LIBRARY"):
+        yield os.environ["EXCP_LIBRARY"]
+        return
+    package = os.path.dirname(os.path.realpath(__file__))
+    yield os.path.join(package, NAME)
+    yield os.path.join(os.path.dirname(os.path.dirname(package)), "out", "library", NAME)
+
+
+@functools.lru_cache(maxsize=None)
+def library() -> Any:
+    """The library, with its calls declared."""
+    tried = list(places())
+    place = next((it for it in tried if os.path.exists(it)), None)
+    if place is None:
+        raise LibraryNotFound(f"there is no {' and no '.join(tried)}: build the library, or let EXCP_LIBRARY name it")
+    try:
+        found = ctypes.CDLL(place)
+        declare(found)
+    except (OSError, AttributeError) as error:
+        raise LibraryNotFound(f"{place}: {error}") from error
+    return found
+
+
+def declare(found: Any) -> None:
+    """Declares the types of all calls."""
+    found.excp_message.argtypes, found.excp_message.restype = [c_int], c_char_p
+    found.excp_version.argtypes, found.excp_version.restype = [], c_char_p
+    kinds = {**{it: [NUMBERS[it][0]] for it in NUMBERS}, "bytes": [c_char_p, c_size_t], "buffer": [c_char_p, c_size_t], "ref": [c_void_p]}
+    for name, words in CALLS.items():
+        call = getattr(found, f"excp_{name}")
+        call.argtypes = [POINTER(Handle), *(it for word in words.split() for it in kinds[word])]
+        call.restype = c_int
+
+
+def message(status: int) -> str:
+    """A status in words."""
+    return library().excp_message(status).decode("ascii")
+
+
+def version() -> str:
+    """The version of the library."""
+    return library().excp_version().decode("ascii")
+
+
+def call(name: str, handle: Handle, *values: Any) -> None:
+    """Makes a call on a site. Raises the exception of its status."""
+    given: List[Any] = []
+    for word, value in zip(CALLS[name].split(), values):
+        if word in NUMBERS:
+            given.append(number(value, NUMBERS[word][1]))
+        elif word == "bytes":
+            image = value if isinstance(value, bytes) else bytes(memoryview(value))
+            given += [image, len(image)]
+        elif word == "buffer":
+            given += [value, len(value)]
+        else:
+            given.append(byref(value))
+    status = getattr(library(), f"excp_{name}")(byref(handle), *given)
+    if status:
+        raise error_of(status, message(status))
+
+
+def number(value: Any, most: int) -> int:
+    """A number that the call can be given: ctypes would cut a larger one."""
+    found = operator.index(value)
+    if not 0 <= found <= most:
+        raise BadNumber(Status.BAD_NUMBER, f"{found} is not a number from 0 to {most}")
+    return found

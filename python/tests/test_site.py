@@ -1,0 +1,330 @@
+"""Sites, units and events, by docs/MANUAL.md, docs/SPECIFICATION.md and c/excp.h."""
+
+import re
+import threading
+import unittest
+
+import excp
+from excp import (TAPE_MARK, Active, Answer, Area, Ccw, Code, DcbPhase, Device, Extent, Fault, Flag, Kind, Line, Method, Mode, Name, Op,
+                  Record, Seek, ServedEnd, Site, Status)
+
+TRACK = [Extent.between((0, 0), (0, 0), 1)]
+
+
+def request(*ccws, dcb=1, related=False, record=1, data=b"", space=16):
+    """A request with a program, the ID of a record, data and a buffer."""
+    area = Area(0x1000)
+    area.iob(dcb=dcb, related=related, seek=Seek(record=record))
+    area.ecb()
+    area.program(*ccws)
+    area.data("ID", bytes([0, 0, 0, 0, record]))
+    area.data("DATA", data)
+    area.space("BUFFER", space)
+    return area
+
+
+def read_record(record=1, related=False):
+    """Reads the 4 bytes of a record, as samples/read.script does."""
+    search = Ccw(Op.SIDE, "ID", Flag.CC, 5), Ccw(Op.TIC, "CP")
+    return request(*search, Ccw(Op.RD, "BUFFER", count=4), record=record, related=related)
+
+
+def a_disk(site, faults=()):
+    disk = site.disk(cylinders=1, heads=1, track_bytes=40, records=[Record(0, 0, 1, b"\xC1\xC2\xC3\xC4")], faults=faults)
+    return disk, disk.open(extents=TRACK)
+
+
+class Requests(unittest.TestCase):
+    """What comes of requests."""
+
+    def test_events_of_the_manual(self):
+        """"Scenarios: one event at a time": a purge with halt meets an active program."""
+        with Site() as site:
+            disk, dcb = a_disk(site)
+            area = read_record()
+            self.assertEqual(site.issue(0, dcb, area), Name(0, 0, 1))
+            events = disk.take(), disk.start(), disk.run(1), dcb.purge(Mode.HALT), disk.interrupt(), disk.deliver()
+            answers = ["Took 0 0 1", "Started 0 0 1", "Ran 1", "Active 0 0 1", "Ended 0 0 1 48", "Delivered 0 0 1"]
+            self.assertEqual([str(it) for it in events], answers)
+            post = site.next_post(0)
+            self.assertEqual((str(post), post.at(area["BUFFER"], 4)), ("post 0 0 1 48 001038 0C00 0000 0000", bytes(4)))
+            self.assertIsNone(site.next_post(0))
+
+    def test_post_writes_iob_and_ecb(self):
+        with Site() as site:
+            disk, dcb = a_disk(site)
+            area = read_record()
+            site.issue(0, dcb, area)
+            self.assertEqual(disk.serve(), excp.Served(1, 3, ServedEnd.ALL))
+            post = site.next_post(0)
+            self.assertEqual(str(post), "post 0 0 1 7F 001048 0C00 0000 0000")
+            self.assertEqual((post.code, post.dcb, post.base), (Code.ENDED, 1, 0x1000))
+            iob = excp.Iob.from_bytes(post.at(area["IOB"], 40))
+            self.assertEqual((iob.completion, iob.sense, iob.csw, iob.flags), (0x7F, 0, post.csw, 0x42))
+            self.assertEqual((post.at(area["ECB"], 4), post.at(area["BUFFER"], 4)), (b"\x7F\0\0\0", b"\xC1\xC2\xC3\xC4"))
+
+    def test_tape_of_the_manual(self):
+        with Site() as site:
+            blocks = [it.encode("cp037") for it in ("BLOCK1", "BLOCK22")]
+            tape = site.tape(items=[*blocks, TAPE_MARK], length=100)
+            dcb = tape.open(Method.INPUT)
+            for _ in range(3):
+                site.issue(0, dcb, request(Ccw(Op.RDF, "BUFFER", Flag.SLI, 16)))
+            tape.serve()
+            posts = site.posts(0)
+            ends = ["7F 001038 0C00 000A 0000", "7F 001038 0C00 0009 0000", "41 001038 0D00 0010 0000"]
+            self.assertEqual([str(it) for it in posts], [f"post 0 0 {at} {end}" for at, end in enumerate(ends, 1)])
+            self.assertEqual(posts[1].at(0x1038 + 5, 7), blocks[1])
+
+    def test_printer_of_the_manual(self):
+        with Site() as site:
+            printer = site.printer(lines=100, pages=5)
+            title, word = "TITLE".encode("cp037"), "WORD".encode("cp037")
+            program = Ccw(Op.PRC1, "DATA", Flag.CC | Flag.SLI, 5), Ccw(Op.PR0, "WORD", Flag.SLI, 4)
+            area = request(*program, dcb=printer.open(), data=title)
+            area.data("WORD", word)
+            site.issue(0, printer.dcb(1), area)
+            site.serve()
+            self.assertEqual(site.next_post(0).code, Code.ENDED)
+            self.assertEqual(printer.printed(), [Line(1, 1, title), Line(2, 1, word)])
+            self.assertEqual([it.text for it in printer.printed()], ["TITLE", "WORD"])
+            self.assertEqual((printer.state.device, printer.state.printed), (Device.PRINTER, 2))
+
+    def test_write_is_seen_on_the_disk(self):
+        with Site() as site:
+            disk, dcb = a_disk(site)
+            search = Ccw(Op.SIDE, "ID", Flag.CC, 5), Ccw(Op.TIC, "CP")
+            site.issue(0, dcb, request(*search, Ccw(Op.WD, "DATA", count=4), data=b"NEW."))
+            disk.serve()
+            self.assertEqual(disk.records(0, 0)[1:], [Record(0, 0, 1, b"NEW.")])
+            self.assertEqual(disk.records(0, 0)[0].number, 0)
+
+    def test_data_check_is_tried_again(self):
+        with Site() as site:
+            disk, dcb = a_disk(site, faults=[Fault(1, sense=0x0800)])
+            site.issue(0, dcb, read_record())
+            disk.take()
+            disk.start()
+            self.assertEqual(str(disk.run()), "Ran 1 pending")
+            self.assertEqual(disk.interrupt(), Answer(Kind.AGAIN, Name(0, 0, 1)))
+            self.assertEqual((disk.state.phase, disk.state.active), (Active.AWAITS_RESTART, Name(0, 0, 1)))
+            disk.settle()
+            self.assertEqual((disk.state.phase, disk.state.out), (Active.NONE, 1))
+
+    def test_related_error_until_reset(self):
+        with Site() as site:
+            disk, dcb = a_disk(site)
+            for record in 9, 1:
+                site.issue(0, dcb, read_record(record, related=True))
+            disk.serve()
+            self.assertEqual([it.code for it in site.posts(0)], [Code.PERMANENT_ERROR, Code.PURGED])
+            self.assertTrue(dcb.state.in_error)
+            with self.assertRaises(excp.InError):
+                disk.checkpoint()
+            dcb.reset()
+            self.assertFalse(dcb.state.in_error)
+
+    def test_close(self):
+        with Site() as site:
+            disk, dcb = a_disk(site)
+            self.assertEqual((dcb.state.phase, dcb.state.file_mask), (DcbPhase.OPEN, 0x18))
+            self.assertEqual(str(dcb.close()), "Closed")
+            self.assertEqual(dcb.state.phase, DcbPhase.CLOSED)
+            site.issue(0, dcb, read_record())
+            disk.serve()
+            self.assertEqual(site.next_post(0).code, Code.PURGED)
+            with self.assertRaises(excp.NoDcb):
+                dcb.reset()
+
+    def test_purge_of_a_task(self):
+        with Site(tasks=2) as site:
+            disk, dcb = a_disk(site)
+            for task in 0, 1, 0:
+                site.issue(task, dcb, read_record())
+                disk.take()
+            self.assertEqual([str(it) for it in site.purge_task(0)], ["Quiet"])
+            self.assertEqual(disk.state.waiting, (Name(1, 0, 1),))
+            disk.serve()
+            self.assertEqual([it.code for it in site.posts(0)], [Code.PURGED] * 2)
+            self.assertEqual([it.code for it in site.posts(1)], [Code.ENDED])
+
+    def test_storage_is_issued_again(self):
+        with Site() as site:
+            disk, dcb = a_disk(site)
+            first = read_record()
+            site.issue(0, dcb, first)
+            disk.serve()
+            area = site.next_post(0).area()
+            area.store(first["ECB"], bytes(4))
+            self.assertEqual(site.issue(0, dcb, area, iob=0x1000).number, 2)
+            disk.serve()
+            self.assertEqual(site.next_post(0).code, Code.ENDED)
+
+
+class Rooms(unittest.TestCase):
+    """What does not fit."""
+
+    def test_full_rooms(self):
+        with Site(post_room=1) as site:
+            disk = site.disk(cylinders=1, heads=1, track_bytes=40, in_flight=2, held=1)
+            dcb = disk.open(extents=TRACK)
+            area = request(Ccw(Op.NOP))
+            site.issue(0, dcb, area)
+            site.issue(0, dcb, area)
+            self.assertEqual((disk.state.in_flight, disk.state.in_flight_room), (2, 0))
+            with self.assertRaises(excp.Full):
+                site.issue(0, dcb, area)
+            self.assertEqual([str(disk.take()), str(disk.take())], ["Took 0 0 1", "Held"])
+            self.assertFalse(disk.state.has_room)
+            self.assertEqual(disk.serve().ended, ServedEnd.ROW_FULL)
+            self.assertEqual(str(disk.deliver()), "Full 0 0 2")
+            self.assertEqual(site.next_post(0).name, Name(0, 0, 1))
+            self.assertEqual(disk.serve(), excp.Served(1, 0, ServedEnd.ALL))
+
+    def test_serve_counts_commands(self):
+        with Site() as site:
+            disk, dcb = a_disk(site)
+            site.issue(0, dcb, read_record())
+            self.assertEqual(disk.serve(2), excp.Served(0, 2, ServedEnd.COMMANDS))
+            self.assertEqual(disk.serve(2), excp.Served(1, 1, ServedEnd.ALL))
+
+    def test_checkpoint(self):
+        with Site() as site:
+            disk, dcb = a_disk(site)
+            site.issue(0, dcb, read_record())
+            with self.assertRaises(excp.NotIdle):
+                disk.checkpoint()
+            disk.serve()
+            with self.assertRaises(excp.NotIdle):
+                disk.checkpoint()
+            site.next_post(0)
+            disk.checkpoint()
+            self.assertEqual(site.issue(0, dcb, read_record()), Name(0, 0, 2))
+            disk.serve()
+            self.assertEqual(str(site.next_post(0)), "post 0 0 2 7F 001048 0C00 0000 0000")
+
+
+class Histories(unittest.TestCase):
+    def test_history(self):
+        """The entries of "A job in ten lines"."""
+        with Site() as site:
+            printer = site.printer(lines=100, pages=5)
+            site.issue(0, printer.open(), request(Ccw(Op.PR1, "BUFFER", count=5)))
+            printer.serve()
+            entries = ["DCB 1 opened for output", "task 0 request 1 arrived for DCB 1", "task 0 request 1 started",
+                       "task 0 request 1 ran 1 command", "task 0 request 1 posted 7F, CSW 001038 0C00 0000, sense 0000"]
+            lines = printer.history().splitlines()
+            self.assertEqual([re.sub(r"^#? *\d+ ", "", it) for it in lines if not it.startswith("# unit")], entries)
+
+
+class Mistakes(unittest.TestCase):
+    """What calls reject, and that it changes nothing."""
+
+    def rejected(self, status, kind, call):
+        with self.assertRaises(kind) as caught:
+            call()
+        self.assertEqual((caught.exception.status, type(caught.exception)), (status, kind))
+        self.assertEqual(str(caught.exception), excp.message(status))
+
+    def test_each_status_has_words(self):
+        words = {excp.message(it) for it in Status}
+        self.assertEqual(len(words), len(Status))
+        self.assertEqual([excp.message(it) for it in (-1, 30, 1000)], ["unknown status"] * 3)
+        self.assertFalse([it for it in words if not it or it.endswith(".")])
+
+    def test_version(self):
+        self.assertRegex(excp.version(), r"^\d+\.\d+(\.\d+)?$")
+
+    def test_requests(self):
+        with Site() as site:
+            disk, dcb = a_disk(site)
+            good = bytes(read_record())
+
+            def issue(storage=good, base=0x1000, iob=0x1000, task=0, of=dcb):
+                return lambda: site.issue(task, of, Area(base, storage), iob)
+
+            bad = excp.BadRequest
+            self.rejected(Status.NO_TASK, excp.ExcpError, issue(task=1))
+            self.rejected(Status.WRONG_DCB, bad, issue(of=disk.dcb(2)))
+            self.rejected(Status.AREA_MISALIGNED, bad, issue(base=0x1004))
+            self.rejected(Status.AREA_TOO_LONG, bad, issue(good + bytes(8192)))
+            self.rejected(Status.AREA_PAST_TOP, bad, issue(base=0xFFFFF8))
+            self.rejected(Status.BAD_IOB, bad, issue(iob=0x1002))
+            self.rejected(Status.BAD_IOB, bad, issue(good[:39]))
+            self.rejected(Status.BAD_ECB, bad, issue(good[:7] + b"\x20" + good[8:]))
+            self.rejected(Status.BAD_PROGRAM, bad, issue(good[:19] + b"\x34" + good[20:]))
+            self.assertEqual((disk.state.in_flight, issue()()), (0, Name(0, 0, 1)))
+
+    def test_media(self):
+        with Site() as site:
+            disk = {"cylinders": 1, "heads": 1, "track_bytes": 40}
+            bad = excp.BadMedium
+            self.rejected(Status.BAD_GEOMETRY, bad, lambda: site.disk(**{**disk, "heads": 0}))
+            self.rejected(Status.BAD_GEOMETRY, bad, lambda: site.printer(lines=0, pages=1))
+            self.rejected(Status.BAD_MEDIUM, bad, lambda: site.disk(**disk, records=[Record(0, 0, 1, bytes(17))]))
+            self.rejected(Status.BAD_MEDIUM, bad, lambda: site.tape(items=[b"12345"], length=8))
+            self.rejected(Status.BAD_NUMBER, excp.BadNumber, lambda: site.disk(**disk, held=0))
+            # nothing of these is left over for the next medium
+            self.assertEqual(len(site.disk(**disk).records(0, 0)), 1)
+
+    def test_extents(self):
+        with Site() as site:
+            disk, _ = a_disk(site)
+            tape = site.tape()
+            wrong = [], TRACK * 17, [Extent(0, 0, 0, 1, 2)], [Extent(0, 0, 0, 0, 2)]
+            for unit, extents in [*((disk, it) for it in wrong), (tape, TRACK)]:
+                self.rejected(Status.BAD_EXTENT, excp.ExcpError, lambda u=unit, e=extents: u.open(extents=e))
+            self.assertEqual(disk.open(extents=TRACK).number, 2)
+
+    def test_names(self):
+        with Site() as site:
+            disk, _ = a_disk(site)
+            none = excp.site.Unit(site, 1)
+            self.rejected(Status.NO_UNIT, excp.ExcpError, none.take)
+            self.rejected(Status.NO_TASK, excp.ExcpError, lambda: site.next_post(1))
+            self.rejected(Status.NO_DCB, excp.NoDcb, disk.dcb(2).purge)
+            self.rejected(Status.BAD_NUMBER, excp.BadNumber, lambda: disk.run(0))
+            self.rejected(Status.BAD_MEDIUM, excp.BadMedium, disk.printed)
+
+    def test_numbers_are_not_cut(self):
+        """ctypes would make 0 of 65,536."""
+        with Site() as site:
+            disk, dcb = a_disk(site)
+            calls = lambda: site.issue(65536, dcb, read_record()), lambda: disk.run(2**32), lambda: disk.run(-1), disk.dcb(65537).close
+            for call in calls:
+                with self.assertRaises(excp.BadNumber):
+                    call()
+
+    def test_freed_site(self):
+        site = Site()
+        disk, dcb = a_disk(site)
+        site.close()
+        site.close()
+        for call in (disk.take, dcb.reset, lambda: site.next_post(0), disk.history, lambda: disk.state, lambda: site.tape()):
+            self.rejected(Status.NO_SITE, excp.NoSite, call)
+
+
+class Threads(unittest.TestCase):
+    def test_threads_share_a_site(self):
+        """Each thread has a task, and each serves the unit."""
+        count, tasks = 100, 4
+        with Site(tasks=tasks) as site:
+            disk, dcb = a_disk(site)
+            found = [[] for _ in range(tasks)]
+
+            def work(task):
+                for _ in range(count):
+                    site.issue(task, dcb, read_record())
+                    disk.serve()
+                    found[task].append(site.next_post(task).code)
+
+            threads = [threading.Thread(target=work, args=(it,)) for it in range(tasks)]
+            for it in threads:
+                it.start()
+            for it in threads:
+                it.join()
+            self.assertEqual(found, [[Code.ENDED] * count] * tasks)
+
+
+if __name__ == "__main__":
+    unittest.main()
