@@ -11,6 +11,10 @@ line says what rejects it:
 Kept work is what `rt check` or `rt lib` leaves in crates/CRATE/out. If a crate has none, as after `rt ci` in a new clone,
 the crate is proved first. The crates below have to be built by `rt lib`.
 
+One check tries several mutants, each in the body of another function. The proof of a function reads the body of no other, so
+a complaint at a place inside the function rejects its mutant. tests/batches.py has the rules. A mutant that no such complaint
+rejects is tried alone, and only that decides.
+
 Beside them, a number is changed in each theorem by computation: tests/worked.py says how.
 
 Each mutant that is rejected is a line of a table: crate, mutant, what rejects it, seconds, and for a check where. Any other
@@ -31,6 +35,7 @@ import sys
 import tempfile
 import time
 
+import batches
 import worked
 from harness import FEW, TOP, Case, Failed, Ran, decoded, read, require, run
 
@@ -49,11 +54,17 @@ BUILD_KILLED = (*KILLED, 6)
 # The most characters of what a check says, in a line of the table.
 SHOWN = 90
 
-# The program with no edit, built as those with edits are: with nothing proved, and with AddressSanitizer.
-UNPROVED = f"{TOP}/out/tried/excp_job"
+# The unproved builds: their folders of out/, and the words for tools/prove.py. Cases of costs need the plain one, since under
+# AddressSanitizer their bounds are too slow or too wide.
+BUILDS = {"tried": ["try"], "plain": ["try", "plain"]}
+PLAIN = {"costs": "plain"}
 
-# What a worker keeps of a crate from one mutant to the next: the copy of its kept work.
+# What a worker keeps of a crate from one mutant to the next: the copy of its kept work, and what was rejected side by side.
 KEPT = {}
+REJECTED = {}
+
+# The cases that passed with no edit.
+PASSED = set()
 
 
 def loaded():
@@ -98,15 +109,21 @@ def require_proved(rt, crate, kept):
     require(ran.returncode == 0, f"crates/{crate.name} with no edit is not proved over the copied work: {last[:300]}")
 
 
-def rejected_by_check(name, edit):
+def rejected_by_check(name, edit, edits):
+    """The check of the crate does not prove it: together with others of these edits, or alone."""
     rt = loaded()
     crate = crate_of(rt, name)
     kept = kept_work(rt, crate)
+    if name not in REJECTED:
+        REJECTED[name] = batches.rejected(rt, crate, edits, kept)
+    if edit in REJECTED[name]:
+        seconds, where = REJECTED[name][edit]
+        return seconds, where[:SHOWN]
     begun = time.monotonic()
     kind, text = rt.must_fail(crate, edit, ["--jobs", "1"], kept)
     if kind not in (rt.REFUSED, rt.AT_LIMIT):
         raise Failed(text.partition(": ")[2])
-    return begun, text.partition("as it must be")[2].lstrip(": ")[:SHOWN]
+    return time.monotonic() - begun, text.partition("as it must be")[2].lstrip(": ")[:SHOWN]
 
 
 def rejected_by_test(name, edit, tests, test):
@@ -131,7 +148,7 @@ def rejected_by_test(name, edit, tests, test):
     require(has_run or is_told, f"NOT TRIED: {tests} ended with no error and no test, as if it was killed: run this again", ran)
     require(has_run, f"BAD EDIT: {test} of {tests} did not run", ran)
     require(re.search(rf"^test (\S+::)?{re.escape(test)} \.\.\. FAILED", said, re.M), f"NOT REJECTED: {test} of {tests} passes", ran)
-    return begun, "it does not end" if "no-answer: the program did not end" in said else ""
+    return time.monotonic() - begun, "it does not end" if "no-answer: the program did not end" in said else ""
 
 
 def rejected_by_run(name, edit, group, case):
@@ -140,13 +157,16 @@ def rejected_by_run(name, edit, group, case):
     rt = loaded()
     texts, why = rt.read_edit(edit, f"{TOP}/crates/{name}")
     require(not why, f"BAD EDIT: {why}")
-    built = built_by(["python3", f"{TOP}/tools/prove.py", "try"])
-    require_ended(built, "the build of the program with no edit")
-    require(built.status == 0, "NOT TRIED: the program with no edit is not built", built)
+    way = PLAIN.get(group, "tried")
     words = [f"{TOP}/tests/run", group, "--case", case, "--jobs", "1", "--program"]
-    before = run([*words, UNPROVED], timeout=SECONDS, stdin=subprocess.DEVNULL)
-    passes = before.status == 0 and re.search(r"^[1-9]\d* passed, 0 failed", before.out, re.M)
-    require(passes, f"NOT TRIED: {group}: {case}: does not pass with no edit", before)
+    if (group, case) not in PASSED:
+        built = built_by(["python3", f"{TOP}/tools/prove.py", *BUILDS[way]])
+        require_ended(built, "the build of the program with no edit")
+        require(built.status == 0, "NOT TRIED: the program with no edit is not built", built)
+        before = run([*words, f"{TOP}/out/{way}/excp_job"], timeout=SECONDS, stdin=subprocess.DEVNULL)
+        passes = before.status == 0 and re.search(r"^[1-9]\d* passed, 0 failed", before.out, re.M)
+        require(passes, f"NOT TRIED: {group}: {case}: does not pass with no edit", before)
+        PASSED.add((group, case))
     with tempfile.TemporaryDirectory(prefix="mutants-") as room:
         for file in ("crates.txt", "HANDLES"):
             shutil.copy(f"{TOP}/{file}", room)
@@ -155,13 +175,13 @@ def rejected_by_run(name, edit, group, case):
         for path, text in texts.items():
             with open(f"{room}/crates/{name}/{path}", "w", encoding="utf-8") as it:
                 it.write(text)
-        built = built_by(["python3", f"{room}/tools/prove.py", "try"])
-        built.err += last_lines(f"{room}/out/tried/log")
+        built = built_by(["python3", f"{room}/tools/prove.py", *BUILDS[way]])
+        built.err += last_lines(f"{room}/out/{way}/log")
         require_ended(built, "the build of the program with it")
         require(built.status == 0, "BAD EDIT: the program with it is not built", built)
-        after = run([*words, f"{room}/out/tried/excp_job"], timeout=SECONDS, stdin=subprocess.DEVNULL)
+        after = run([*words, f"{room}/out/{way}/excp_job"], timeout=SECONDS, stdin=subprocess.DEVNULL)
     require(after.status == 1 and f"FAILED: {group}: " in after.out, f"NOT REJECTED: {group}: {case}: passes or is skipped", after)
-    return begun, ""
+    return time.monotonic() - begun, ""
 
 
 def built_by(words, **how):
@@ -194,9 +214,10 @@ def require_ended(built, what, killed=BUILD_KILLED):
 
 
 def tried(name, mutant, by, judge):
-    """The line of the table for a mutant that the judge finds rejected: its seconds are those of the mutant alone."""
-    begun, where = judge()
-    return f"{name:15} {mutant:38} {by:50} {time.monotonic() - begun:5.0f} s  {where}".rstrip()
+    """The line of the table for a mutant that the judge finds rejected: its seconds are those of the mutant alone, or its
+    share of a check of several."""
+    seconds, where = judge()
+    return f"{name:15} {mutant:38} {by:50} {seconds:5.0f} s  {where}".rstrip()
 
 
 def numbers_rejected(name):
@@ -232,7 +253,7 @@ def is_wanted(name, mutant, words):
 def cases_of(name, setup):
     """The cases of a crate, and the names of its mutants."""
     known = set()
-    by_check = 0
+    by_check, with_numbers = [], False
     for edit in sorted(glob.glob(f"{MUTANTS}/{name}/*.edit")):
         mutant = os.path.basename(edit).removesuffix(".edit")
         known |= {mutant, f"{name}/{mutant}"}
@@ -244,9 +265,9 @@ def cases_of(name, setup):
         by = " ".join(first[2:])
         chain = ""
         if first == ["rejected", "by:", "check"]:
-            by_check += 1
+            by_check.append(edit)
             chain = name
-            judge = lambda n=name, e=edit: rejected_by_check(n, e)
+            judge = lambda n=name, e=edit: rejected_by_check(n, e, by_check)
         elif first[:3] == ["rejected", "by:", "test"] and len(first) == 5:
             judge = lambda n=name, e=edit, f=first: rejected_by_test(n, e, f[3], f[4])
         elif first[:3] == ["rejected", "by:", "run"] and len(first) > 4:
@@ -259,9 +280,9 @@ def cases_of(name, setup):
     if worked.files_of(f"{TOP}/crates/{name}"):
         known.add(f"{name}/numbers")
         if is_wanted(name, "numbers", setup.names):
-            by_check += 1
+            with_numbers = True
             yield Case(f"{name} numbers", lambda n=name: numbers_rejected(n), "tests/worked.py", name)
-    if by_check:
+    if by_check or with_numbers:
         yield Case(f"{name}: proved after its mutants", lambda n=name: still_proved(n), "tests/groups/mutants.py", name)
     return known
 
