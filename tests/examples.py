@@ -111,6 +111,7 @@ RUN = {
 NOT_RUN = {
     ("README.md", "./excp --build"): "it proves every crate, which takes half an hour and more",
     ("docs/CLIENT.md", "cd crates/print_tape && rt run"): "`rt ci` proves the program and runs it",
+    ("docs/CLIENT.md", "tools/library.py"): "the group library_clients builds and runs the examples",
     ("docs/MANUAL.md", "./excp describe tape.aws disk.ckd"): "it needs images; the group images runs such commands",
     ("docs/SPEED.md", "cd crates/excp_speed && rt run -- 2000"): "it proves the program and takes minutes",
 }

@@ -1,0 +1,169 @@
+/* Each function of excp.h refuses a null pointer, whichever it is, and a handle without a site; and writes nothing then. */
+#include <excp.h>
+#include <stdio.h>
+#include <string.h>
+
+static int faults;
+
+static void expect(int is_so, const char *what)
+{
+    if (!is_so) {
+        fprintf(stderr, "%s\n", what);
+        faults++;
+    }
+}
+
+#define GIVES(status, call) expect((call) == (status), #call " does not give " #status)
+#define NO_POINTER(call) GIVES(EXCP_NULL_POINTER, call)
+
+static excp_site site = EXCP_SITE_INIT;
+static const uint8_t bytes[16];
+static uint8_t buffer[16];
+static const excp_room room = { 1, 1 };
+static excp_answer answer;
+static excp_served served;
+static excp_post post;
+static excp_unit_state unit_state;
+static excp_dcb_state dcb_state;
+static excp_record record;
+static excp_line line;
+static uint16_t number16;
+static uint64_t number64;
+static size_t length;
+
+static void refuse_null(void)
+{
+    NO_POINTER(excp_site_new(NULL, 1, 1));
+    NO_POINTER(excp_site_free(NULL));
+    NO_POINTER(excp_put_record(NULL, 0, 0, 1, bytes, 1, bytes, 1));
+    NO_POINTER(excp_put_record(&site, 0, 0, 1, NULL, 1, bytes, 1));
+    NO_POINTER(excp_put_record(&site, 0, 0, 1, bytes, 1, NULL, 1));
+    NO_POINTER(excp_put_block(NULL, bytes, 1));
+    NO_POINTER(excp_put_block(&site, NULL, 1));
+    NO_POINTER(excp_put_tape_mark(NULL));
+    NO_POINTER(excp_put_fault(NULL, 1, 0x0E, 0, 0));
+    NO_POINTER(excp_clear_medium(NULL));
+    NO_POINTER(excp_mount_disk(NULL, 1, 1, 40, &room, &number16));
+    NO_POINTER(excp_mount_disk(&site, 1, 1, 40, NULL, &number16));
+    NO_POINTER(excp_mount_disk(&site, 1, 1, 40, &room, NULL));
+    NO_POINTER(excp_mount_tape(NULL, 4, &room, &number16));
+    NO_POINTER(excp_mount_tape(&site, 4, NULL, &number16));
+    NO_POINTER(excp_mount_tape(&site, 4, &room, NULL));
+    NO_POINTER(excp_mount_printer(NULL, 1, 1, &room, &number16));
+    NO_POINTER(excp_mount_printer(&site, 1, 1, NULL, &number16));
+    NO_POINTER(excp_mount_printer(&site, 1, 1, &room, NULL));
+    NO_POINTER(excp_open(NULL, 0, EXCP_INPUT, bytes, 16, &number16));
+    NO_POINTER(excp_open(&site, 0, EXCP_INPUT, NULL, 16, &number16));
+    NO_POINTER(excp_open(&site, 0, EXCP_INPUT, bytes, 16, NULL));
+    NO_POINTER(excp_issue(NULL, 0, 0, 1, 0, 0, bytes, 16, &number64));
+    NO_POINTER(excp_issue(&site, 0, 0, 1, 0, 0, NULL, 16, &number64));
+    NO_POINTER(excp_issue(&site, 0, 0, 1, 0, 0, bytes, 16, NULL));
+    NO_POINTER(excp_take(NULL, 0, &answer));
+    NO_POINTER(excp_take(&site, 0, NULL));
+    NO_POINTER(excp_start(NULL, 0, &answer));
+    NO_POINTER(excp_start(&site, 0, NULL));
+    NO_POINTER(excp_run(NULL, 0, 1, &answer));
+    NO_POINTER(excp_run(&site, 0, 1, NULL));
+    NO_POINTER(excp_interrupt(NULL, 0, &answer));
+    NO_POINTER(excp_interrupt(&site, 0, NULL));
+    NO_POINTER(excp_deliver(NULL, 0, &answer));
+    NO_POINTER(excp_deliver(&site, 0, NULL));
+    NO_POINTER(excp_serve(NULL, 0, 1, &served));
+    NO_POINTER(excp_serve(&site, 0, 1, NULL));
+    NO_POINTER(excp_settle(NULL, 0));
+    NO_POINTER(excp_peek_post(NULL, 0, &post));
+    NO_POINTER(excp_peek_post(&site, 0, NULL));
+    NO_POINTER(excp_next_post(NULL, 0, &post, buffer, 16));
+    NO_POINTER(excp_next_post(&site, 0, NULL, buffer, 16));
+    NO_POINTER(excp_next_post(&site, 0, &post, NULL, 16));
+    NO_POINTER(excp_purge(NULL, 0, 1, EXCP_HALT, &answer));
+    NO_POINTER(excp_purge(&site, 0, 1, EXCP_HALT, NULL));
+    NO_POINTER(excp_purge_task(NULL, 0, 0, EXCP_HALT, &answer));
+    NO_POINTER(excp_purge_task(&site, 0, 0, EXCP_HALT, NULL));
+    NO_POINTER(excp_close(NULL, 0, 1, &answer));
+    NO_POINTER(excp_close(&site, 0, 1, NULL));
+    NO_POINTER(excp_reset(NULL, 0, 1));
+    NO_POINTER(excp_look(NULL, 0, &unit_state));
+    NO_POINTER(excp_look(&site, 0, NULL));
+    NO_POINTER(excp_look_dcb(NULL, 0, 1, &dcb_state));
+    NO_POINTER(excp_look_dcb(&site, 0, 1, NULL));
+    NO_POINTER(excp_waiting(NULL, 0, 0, &number16, &number64));
+    NO_POINTER(excp_waiting(&site, 0, 0, NULL, &number64));
+    NO_POINTER(excp_waiting(&site, 0, 0, &number16, NULL));
+    NO_POINTER(excp_read_record(NULL, 0, 0, 0, 0, &record, buffer, 16));
+    NO_POINTER(excp_read_record(&site, 0, 0, 0, 0, NULL, buffer, 16));
+    NO_POINTER(excp_read_record(&site, 0, 0, 0, 0, &record, NULL, 16));
+    NO_POINTER(excp_printed_line(NULL, 0, 0, &line, buffer, 16));
+    NO_POINTER(excp_printed_line(&site, 0, 0, NULL, buffer, 16));
+    NO_POINTER(excp_printed_line(&site, 0, 0, &line, NULL, 16));
+    NO_POINTER(excp_make_history(NULL, 0, &length));
+    NO_POINTER(excp_make_history(&site, 0, NULL));
+    NO_POINTER(excp_copy_out(NULL, 0, buffer, 16));
+    NO_POINTER(excp_copy_out(&site, 0, NULL, 16));
+    NO_POINTER(excp_checkpoint(NULL, 0));
+}
+
+/* Bytes of length 0 may have no pointer. With these every function gives the same status on such a handle. */
+static void refuse_all(excp_status status)
+{
+    GIVES(status, excp_put_record(&site, 0, 0, 1, NULL, 0, NULL, 0));
+    GIVES(status, excp_put_block(&site, NULL, 0));
+    GIVES(status, excp_put_tape_mark(&site));
+    GIVES(status, excp_put_fault(&site, 1, 0x0E, 0, 0));
+    GIVES(status, excp_clear_medium(&site));
+    GIVES(status, excp_mount_disk(&site, 1, 1, 40, &room, &number16));
+    GIVES(status, excp_mount_tape(&site, 4, &room, &number16));
+    GIVES(status, excp_mount_printer(&site, 1, 1, &room, &number16));
+    GIVES(status, excp_open(&site, 0, EXCP_INPUT, NULL, 0, &number16));
+    GIVES(status, excp_issue(&site, 0, 0, 1, 0, 0, NULL, 0, &number64));
+    GIVES(status, excp_take(&site, 0, &answer));
+    GIVES(status, excp_start(&site, 0, &answer));
+    GIVES(status, excp_run(&site, 0, 1, &answer));
+    GIVES(status, excp_interrupt(&site, 0, &answer));
+    GIVES(status, excp_deliver(&site, 0, &answer));
+    GIVES(status, excp_serve(&site, 0, 1, &served));
+    GIVES(status, excp_settle(&site, 0));
+    GIVES(status, excp_peek_post(&site, 0, &post));
+    GIVES(status, excp_next_post(&site, 0, &post, NULL, 0));
+    GIVES(status, excp_purge(&site, 0, 1, EXCP_HALT, &answer));
+    GIVES(status, excp_purge_task(&site, 0, 0, EXCP_HALT, &answer));
+    GIVES(status, excp_close(&site, 0, 1, &answer));
+    GIVES(status, excp_reset(&site, 0, 1));
+    GIVES(status, excp_look(&site, 0, &unit_state));
+    GIVES(status, excp_look_dcb(&site, 0, 1, &dcb_state));
+    GIVES(status, excp_waiting(&site, 0, 0, &number16, &number64));
+    GIVES(status, excp_read_record(&site, 0, 0, 0, 0, &record, NULL, 0));
+    GIVES(status, excp_printed_line(&site, 0, 0, &line, NULL, 0));
+    GIVES(status, excp_make_history(&site, 0, &length));
+    GIVES(status, excp_copy_out(&site, 0, NULL, 0));
+    GIVES(status, excp_checkpoint(&site, 0));
+    GIVES(status, excp_site_free(&site));
+}
+
+/* Every status has a text of its own, and no other number has. */
+static void tell_statuses(void)
+{
+    const char *unknown = excp_message((excp_status)(EXCP_IN_ERROR + 1));
+    for (int one = EXCP_OK; one <= EXCP_IN_ERROR; one++) {
+        int is_status = one < EXCP_BAD_EXTENT - 2 || one >= EXCP_BAD_EXTENT;
+        expect((strcmp(excp_message((excp_status)one), unknown) != 0) == is_status, "a status has no text, or another number has one");
+        for (int two = EXCP_OK; is_status && two < one; two++)
+            expect(strcmp(excp_message((excp_status)one), excp_message((excp_status)two)) != 0, "two statuses have one text");
+    }
+    expect(strcmp(unknown, "unknown status") == 0, "a number that is no status has a text");
+    expect(strcmp(excp_message((excp_status)-1), "unknown status") == 0, "-1 has a text");
+    expect(strcmp(excp_version(), VERSION) == 0, "the version is another");
+}
+
+int main(void)
+{
+    refuse_null();
+    refuse_all(EXCP_NO_SITE);
+    expect(answer.kind == 0 && number16 == 0 && number64 == 0 && length == 0 && post.number == 0, "a refused call wrote something");
+    GIVES(EXCP_OK, excp_site_new(&site, 1, 1));
+    GIVES(EXCP_SITE_IN_USE, excp_site_new(&site, 1, 1));
+    GIVES(EXCP_OK, excp_site_free(&site));
+    refuse_all(EXCP_NO_SITE);
+    tell_statuses();
+    return faults != 0;
+}

@@ -1,0 +1,166 @@
+"""The library for C: c/excp.h, c/excp.c and crates/excp_c say the same, and programs of C that use what tools/library.py builds.
+
+The functions, structs and statuses of the header are compared with the exports, their structs and their statuses, by name and
+type: both compilers lay a struct out by the order and the types of its fields. tests/cases/c/*.c are linked with each library
+and run; a program that finds a fault prints it and ends with status 1. layout.c has the library fill each struct.
+"""
+
+import os
+import re
+import shutil
+import tempfile
+
+from harness import CASES, TOP, Case, Failed, Skipped, read, require, run
+
+HEADER = f"{TOP}/c/excp.h"
+SOURCE = f"{TOP}/c/excp.c"
+CRATE = f"{TOP}/crates/excp_c"
+LIBRARY = f"{TOP}/out/library"
+
+# The most seconds that the library may take to be built: a call on a proved one takes a second.
+BUILD = 7200
+
+# The types of the header, and those of the exports.
+TYPES = {
+    "uint8_t": "u8",
+    "uint16_t": "u16",
+    "uint32_t": "u32",
+    "uint64_t": "u64",
+    "size_t": "usize",
+}
+
+FUNCTION = re.compile(r"^excp_status (excp_\w+)\(([^)]*)\);", re.M)
+PROTOTYPE = re.compile(r"^uint32_t excp_call_(\w+)\(([^;]*)\);", re.M)
+EXPORT = re.compile(r'#\[unsafe\(no_mangle\)\]\s*pub extern "C" fn excp_call_(\w+)\(([^)]*)\) -> u32\b')
+C_STRUCT = re.compile(r"^typedef struct excp_(\w+) \{\n(.*?)^\} excp_\1;", re.M | re.S)
+C_FIELD = re.compile(r"^    (\w+) (\w+);", re.M)
+STRUCT = re.compile(r"#\[repr\(C\)\]\s*(?:#\[derive\([^)]*\)\]\s*)?pub struct (\w+) \{\n(.*?)^\}", re.M | re.S)
+FIELD = re.compile(r"^    pub (\w+): (\w+),", re.M)
+STATUS = re.compile(r"^    EXCP_(\w+) = (\d+)", re.M)
+REFUSAL = re.compile(r"^status_of refusals\.(\w+) = (\d+)$", re.M)
+
+# The statuses of the exports that no refusal of a site has.
+OWN_STATUSES = {"OK": 0, "NULL_POINTER": 2, "NO_SITE": 3, "SITE_IN_USE": 4}
+
+
+def sources():
+    """The Rattle files of the exports, one behind the other."""
+    return "\n".join(read(f"{CRATE}/src/{name}") for name in sorted(os.listdir(f"{CRATE}/src")))
+
+
+def snake(name):
+    """BadNumber as BAD_NUMBER, UnitState as UNIT_STATE."""
+    return re.sub(r"(?<=[a-z])(?=[A-Z])", "_", name).upper()
+
+
+def of_c(parameters):
+    """The types of a C parameter list, as an export has them: a pointer to bytes and its length are a slice."""
+    parameters = parameters.replace("SITE", "excp_site *site")
+    parameters = re.sub(r"SLICE\((\w+)\)", r"const uint8_t *\1, size_t length", parameters)
+    parameters = re.sub(r"ROOM\((\w+)\)", r"uint8_t *\1, size_t room", parameters)
+    types = []
+    for parameter in re.split(r",\s*", parameters.strip()):
+        kind, name = re.fullmatch(r"(?:const )?(\w+) (\*?\w+)", parameter).groups()
+        is_constant = parameter.startswith("const ")
+        if types and types[-1] in ("bytes", "buffer") and kind == "size_t":
+            types[-1] = "&[u8]" if types[-1] == "bytes" else "&mut [u8]"
+        elif name.startswith("*") and kind == "uint8_t":
+            types.append("bytes" if is_constant else "buffer")
+        elif name.startswith("*"):
+            pointee = TYPES.get(kind) or kind.removeprefix("excp_").title().replace("_", "")
+            types.append(f"&{'' if is_constant else 'mut '}{'Handle' if pointee == 'Site' else pointee}")
+        else:
+            types.append(TYPES[kind])
+    return types
+
+
+def of_export(parameters):
+    """The types of the parameters of an export. An allocator takes no bytes, so C passes none."""
+    types = [it.partition(":")[2].strip() for it in re.split(r",\s*", parameters.strip().rstrip(","))]
+    return [it for it in types if it != "Global"]
+
+
+def differing(one, other):
+    """What two tables say of the names of which they do not say the same."""
+    return {name: (one.get(name), other.get(name)) for name in sorted({*one, *other}) if one.get(name) != other.get(name)}
+
+
+def functions_agree():
+    """Each function of the header has a prototype in excp.c and an export with the same types, and there is no other."""
+    header = {name.removeprefix("excp_"): of_c(parameters) for name, parameters in FUNCTION.findall(read(HEADER))}
+    prototypes = {name: of_c(parameters) for name, parameters in PROTOTYPE.findall(read(SOURCE))}
+    exports = {name: of_export(parameters) for name, parameters in EXPORT.findall(sources())}
+    require(len(header) > 30, f"excp.h: {len(header)} functions")
+    require(header == prototypes, f"excp.c declares other exports than excp.h has functions: {differing(header, prototypes)}")
+    require(header == exports, f"crates/excp_c has other exports than excp.h has functions: {differing(header, exports)}")
+
+
+def structs_agree():
+    """Each struct of the header has the fields of the struct of the exports with its name, in one order and with the same types."""
+    c_structs = {name: C_FIELD.findall(body) for name, body in C_STRUCT.findall(read(HEADER))}
+    structs = {snake(name).lower(): FIELD.findall(body) for name, body in STRUCT.findall(sources())}
+    c_structs = {name: [(field, TYPES.get(kind, kind)) for kind, field in fields] for name, fields in c_structs.items()}
+    require(len(c_structs) > 8, f"{len(c_structs)} structs")
+    for name, fields in c_structs.items():
+        if name != "site":
+            require(structs.get(name) == fields, f"excp_{name}: {fields} in excp.h, {structs.get(name)} in the exports")
+
+
+def statuses_agree():
+    """The statuses of the header have the numbers that the exports give, and there is no other."""
+    header = {name: int(number) for name, number in STATUS.findall(read(HEADER).partition("} excp_status;")[0])}
+    exports = {snake(name): int(number) for name, number in REFUSAL.findall(read(f"{CRATE}/specs/Statuses.antt"))}
+    require(header == {**exports, **OWN_STATUSES}, f"{header} in excp.h, {exports} and {OWN_STATUSES} in the exports")
+
+
+def compiler():
+    """The C compiler; without one no case can be judged that needs it."""
+    found = os.environ.get("CC") or shutil.which("cc") or shutil.which("gcc")
+    if not found:
+        raise Skipped("no C compiler (cc or gcc)")
+    return found
+
+
+def built():
+    """Builds the library, or finds it built."""
+    compiler()
+    ran = run([f"{TOP}/tools/library.py"], cwd=TOP, timeout=BUILD)
+    require(ran.status == 0, "tools/library.py fails", ran)
+
+
+def exports_alone():
+    """The shared library exports the functions of the header, and nothing else."""
+    built()
+    tool = shutil.which("nm")
+    if not tool:
+        raise Skipped("no nm, so the names that libexcp.so exports are not read")
+    ran = run([tool, "-D", "--defined-only", f"{LIBRARY}/libexcp.so"])
+    names = {line.split()[-1] for line in ran.out.splitlines()}
+    header = {name for name, _ in FUNCTION.findall(read(HEADER))} | {"excp_message", "excp_version"}
+    require(names == header, f"libexcp.so exports {sorted(names ^ header)} otherwise than excp.h", ran)
+
+
+def runs(name, linked):
+    """A program of tests/cases/c finds no fault, linked with one of the libraries."""
+    built()
+    version = re.search(r'^pub const VERSION: &str = "(.*)";$', read(f"{TOP}/crates/job_options/src/lib.rt"), re.M)[1]
+    with tempfile.TemporaryDirectory() as folder:
+        words = [compiler(), "-std=c11", "-Wall", "-Wextra", "-Werror", f'-DVERSION="{version}"', f"-I{LIBRARY}", f"{CASES}/c/{name}.c"]
+        words += ["-o", f"{folder}/{name}"]
+        words += [f"{LIBRARY}/libexcp.a"] if linked == "static" else [f"-L{LIBRARY}", "-lexcp", f"-Wl,-rpath,{LIBRARY}"]
+        ran = run(words)
+        require(ran.status == 0, f"tests/cases/c/{name}.c cannot be compiled", ran)
+        ran = run([f"{folder}/{name}"])
+        if ran.status != 0 or ran.out or ran.err:
+            raise Failed(f"tests/cases/c/{name}.c finds faults", ran, None, ran.text())
+
+
+def cases(setup):
+    yield Case("functions", functions_agree, "c/excp.h")
+    yield Case("structs", structs_agree, "c/excp.h")
+    yield Case("statuses", statuses_agree, "c/excp.h")
+    yield Case("names of the shared library", exports_alone, "c/excp.h", "library")
+    for name in sorted(it.removesuffix(".c") for it in os.listdir(f"{CASES}/c") if it.endswith(".c")):
+        for linked in "static", "shared":
+            judge = lambda n=name, how=linked: runs(n, how)
+            yield Case(f"{name}, {linked}", judge, f"tests/cases/c/{name}.c, by c/excp.h and docs/SPECIFICATION.md", "library")

@@ -1,0 +1,329 @@
+"""The library for C and Python: its answers and posts are those of the program; the examples; memory that runs out; calls at random.
+
+`tests/library/driver.py` carries scripts and scenarios out through the Python package. All stored and made scenarios, stored
+scripts, and jobs at random are compared with what the program prints. The programs of examples/c and tests/library are built with
+each C compiler that is there, and run alone, with sanitizers and under valgrind.
+"""
+
+import glob
+import os
+import random
+import re
+import shutil
+import sys
+import tempfile
+
+from groups import random as at_random
+from groups import scenarios
+from harness import SAMPLES, TOP, Case, Failed, Skipped, expect, expect_text, files, multiple, outcome, read, require, run
+
+# The library, what says that its exports were proved, and what `build` found: what lacks, or a run that failed.
+FOLDER = f"{TOP}/out/library"
+PROOF = f"{TOP}/crates/excp_c/out/libexcp_c.proof"
+LIBRARY = {}
+
+# The status of tools/library.py without a C compiler.
+NO_COMPILER = 3
+
+BUILT = f"{TOP}/out/library_clients"
+DRIVER = f"{TOP}/tests/library/driver.py"
+EXAMPLE = f"{TOP}/examples/python/test_channel_program.py"
+UNIT_TESTS = [sys.executable, "-B", "-m", "unittest", "discover", "-q", "-s", "tests", "-t", "."]
+
+# How many jobs at random there are, also in the long form, and how many are one case.
+JOBS = 200
+JOBS_LONG = 10000
+BATCH = 25
+
+# For how many seconds calls are made at random, alone and under a checker of memory.
+SECONDS = 4
+SECONDS_LONG = 600
+
+STRICT = ["-std=c99", "-Wall", "-Wextra", "-Werror", "-pedantic", "-g", "-O1"]
+SANITIZERS = ["-fsanitize=address,undefined", "-fno-sanitize-recover=all", "-fno-omit-frame-pointer"]
+COMPILERS = "gcc", "clang"
+SHARED = [f"-L{FOLDER}", f"-Wl,-rpath,{FOLDER}", "-lexcp"]
+STATIC = [f"{FOLDER}/libexcp.a"]
+VALGRIND = ["valgrind", "-q", "--soname-synonyms=somalloc=nouserintercepts", "--error-exitcode=99", "--leak-check=full",
+            "--show-leak-kinds=definite,indirect,possible", "--errors-for-leak-kinds=definite,indirect,possible"]
+
+# The C programs with their sources, and what they print if that is known.
+PRINTS = {
+    "examples/c/copy_tape": read(f"{TOP}/crates/print_tape/stdout"),
+    "examples/c/threads": "task 0: 1000 requests ended\ntask 1: 1000 requests ended\n",
+}
+OUT_OF_MEMORY, FUZZ, LONG_USE = "tests/library/out_of_memory", "tests/library/fuzz", "tests/library/long_use"
+
+
+def needs(*tools):
+    """Skips a case whose tools are missing, or the library. Fails if the library does not build."""
+    for tool in tools:
+        if not shutil.which(tool):
+            raise Skipped(f"{tool} is not installed")
+    if LIBRARY.get("failed"):
+        raise Failed("tools/library.py does not build the library", LIBRARY["failed"], None, LIBRARY["failed"].text())
+    if LIBRARY.get("lacks"):
+        raise Skipped(LIBRARY["lacks"])
+
+
+def build():
+    """Builds the library of the sources as they are, if its exports are proved: that takes seconds."""
+    LIBRARY.clear()
+    if os.path.exists(PROOF):
+        ran = run([f"{TOP}/tools/library.py"], timeout=3600)
+        if ran.status == NO_COMPILER:
+            LIBRARY["lacks"] = "there is no C compiler"
+        elif ran.status:
+            LIBRARY["failed"] = ran
+    elif not os.path.exists(f"{FOLDER}/libexcp.so"):
+        LIBRARY["lacks"] = "there is no library: tools/library.py proves and builds it"
+
+
+def without_words():
+    """The environment, without what could lead Python elsewhere."""
+    return {key: it for key, it in os.environ.items() if key not in ("EXCP_LIBRARY", "PYTHONPATH", "PYTHONHOME")}
+
+
+# --- scripts and scenarios through the library
+
+
+def driven(word, texts, suffix):
+    """What the driver prints of each text, and its run."""
+    needs()
+    with tempfile.TemporaryDirectory() as folder:
+        names = [f"{folder}/{at}.{suffix}" for at in range(len(texts))]
+        for name, text in zip(names, texts):
+            with open(name, "w", encoding="ascii", newline="") as it:
+                it.write(text)
+        ran = run([sys.executable, "-B", DRIVER, word, *names], timeout=600, env=without_words())
+    if len(texts) == 1:
+        return [ran.out], ran
+    prints = [part.partition("\n")[2] for part in ran.out.split("=== ")[1:]]
+    return prints + [None] * (len(texts) - len(prints)), ran
+
+
+def prints_the_same(setup, word, texts, suffix, *words):
+    """The driver prints of each text what the program prints."""
+    found, through = driven(word, texts, suffix)
+    for text, actual in zip(texts, found):
+        ran = setup.run(word, *words, script=text)
+        require((ran.status, ran.err) == (0, ""), "the program fails", ran)
+        if actual != ran.out:
+            raise Failed("the library gives something else", ran, ran.out, through.text() if actual is None else actual)
+    require(through.status == 0, "the driver fails", through)
+
+
+def posts_are_those_stored(script, wanted):
+    """The driver prints one of some stored texts."""
+    _, ran = driven("run", [script], "script")
+    ran.input = script
+    expect(ran, *((0, it) for it in wanted))
+
+
+def stored_scripts():
+    """The names, scripts and possible posts of the scripts that run: those of samples/ and of tests/cases/scripts."""
+    for file in sorted(glob.glob(f"{SAMPLES}/*.script")):
+        name = file.removesuffix(".script")
+        texts = [read(it) for it in (f"{name}.posts", f"{name}.or.posts") if os.path.exists(it)]
+        yield os.path.relpath(file, TOP), read(file), texts
+    for file in files("scripts", ".posts"):
+        for name, script, wanted, place in multiple(file):
+            if wanted.startswith(("post ", "end ")):
+                yield f"{name}, {place}", script, [wanted]
+
+
+# --- jobs at random
+
+
+def without_races(lines):
+    """A job of the group random whose posts do not depend on a race: each unit has one task, and a task waits before a control."""
+    for line in lines:
+        word, *words = line.split()
+        if word == "wait":
+            yield line
+            continue
+        task = words[0] if word == "purgetask" else str(int(words[1]) % 2)
+        if word != "excp":
+            yield f"wait {task}"
+        words[0] = task
+        if word == "purgetask":
+            words[1] = task
+        yield " ".join([word, *words])
+
+
+def with_events(chance, lines):
+    """A job of the group random as a scenario: some rooms, and events of units and tasks at random between its lines."""
+    rooms = "room intake {}", "room post {}", "room book 0 {}", "room book 1 {}"
+    yield from (it.format(chance.randint(1, 6)) for it in rooms if chance.random() < 0.3)
+    for line in lines:
+        if not line.startswith("wait "):
+            yield line
+        for _ in range(chance.randrange(9)):
+            unit, most = chance.randrange(3), chance.choice([1, 2, 3, 64, 1000])
+            of_unit = f"take {unit}", f"start {unit}", f"run {unit} {most}", f"interrupt {unit}", f"deliver {unit}"
+            yield chance.choice([*of_unit, *of_unit, f"collect {chance.randrange(2)}", f"serve {unit}", f"settle {unit}"])
+    yield "finish"
+
+
+def jobs_are_the_same(setup, seed):
+    """Jobs at random have the same posts, and as scenarios the same answers."""
+    chance = random.Random(seed)
+    jobs = [at_random.job_at_random(chance, at_random.STEPS).lines for _ in range(BATCH)]
+    scripts = ["\n".join([*at_random.SET_UP, *without_races(it), ""]) for it in jobs]
+    prints_the_same(setup, "run", scripts, "script")
+    events = ["\n".join([*at_random.SET_UP, *with_events(chance, it), ""]) for it in jobs]
+    prints_the_same(setup, "step", events, "scenario", "--plain")
+
+
+# --- programs in C
+
+
+def compiled(compiler, program, name, *words, link=SHARED):
+    """A program in C, built against the library."""
+    needs(compiler)
+    os.makedirs(BUILT, exist_ok=True)
+    built = f"{BUILT}/{os.path.basename(program)}-{compiler}-{name}"
+    ran = run([compiler, *STRICT, *words, f"-I{FOLDER}", f"{TOP}/{program}.c", "-o", built, *link, "-pthread"], timeout=300)
+    require((ran.status, ran.out, ran.err) == (0, "", ""), "it does not compile without a warning", ran)
+    return built
+
+
+def ends_well(words, prints=None, seconds=300):
+    """A program ends with status 0 and nothing on standard error, and prints this, or something, which is a note."""
+    ran = run(words, timeout=seconds, env=without_words())
+    if (ran.status, ran.err) != (0, "") or ran.out == "" or (prints and ran.out != prints):
+        raise Failed("another outcome", ran, outcome(0, prints or "(a line)\n"), ran.text())
+    return ran.out.strip() if not prints else ""
+
+
+def runs_in_c(compiler, program, *given, seconds=300):
+    return ends_well([compiled(compiler, program, "plain"), *given], PRINTS.get(program), seconds)
+
+
+def runs_sanitized(compiler, program, *given, seconds=300):
+    ends_well([compiled(compiler, program, "sanitized", *SANITIZERS), *given], PRINTS.get(program), seconds)
+
+
+def runs_static(compiler, program):
+    """It has the library in it."""
+    ends_well([compiled(compiler, program, "static", link=STATIC)], PRINTS.get(program))
+
+
+def exports_its_calls():
+    """The shared library gives names to the calls of the header, and to nothing else."""
+    needs("nm")
+    ran = run(["nm", "-D", "--defined-only", f"{FOLDER}/libexcp.so"])
+    found = sorted(line.split()[-1].partition("@")[0] for line in ran.out.splitlines())
+    calls = sorted(re.findall(r"^(?:excp_status |const char \*)(excp_\w+)\(", read(f"{TOP}/c/excp.h"), re.M))
+    expect_text("other names", ran, "\n".join(calls), "\n".join(found))
+
+
+def runs_in_valgrind(program, *given, seconds=300):
+    needs("valgrind", "gcc")
+    ends_well([*VALGRIND, compiled("gcc", program, "checked"), *given], PRINTS.get(program), seconds)
+
+
+def shares_by_its_lock():
+    """Helgrind finds no access to the shared site without the lock."""
+    needs("valgrind", "gcc")
+    program = "examples/c/threads"
+    ends_well(["valgrind", "-q", "--tool=helgrind", "--error-exitcode=99", compiled("gcc", program, "helgrind")], PRINTS[program])
+
+
+def is_made(compiler):
+    """The Makefile of the examples builds them."""
+    needs(compiler, "make")
+    with tempfile.TemporaryDirectory() as folder:
+        ran = run(["make", "-C", f"{TOP}/examples/c", f"CC={compiler}", f"OUT={folder}"], timeout=300)
+        require((ran.status, ran.err) == (0, ""), "the examples are not made", ran)
+        for program, prints in PRINTS.items():
+            ends_well([f"{folder}/{os.path.basename(program)}"], prints)
+
+
+def is_a_header(compiler, language):
+    """The header compiles alone, as C or as C++."""
+    needs(compiler)
+    ran = run([compiler, "-x", *language, "-Wall", "-Wextra", "-Werror", "-pedantic", "-fsyntax-only", f"{FOLDER}/excp.h"])
+    require((ran.status, ran.out, ran.err) == (0, "", ""), "it does not compile without a warning", ran)
+
+
+# --- Python
+
+
+def unit_tests_pass():
+    needs()
+    ran = run(UNIT_TESTS, cwd=f"{TOP}/python", env=without_words(), timeout=300)
+    require(ran.status == 0 and "\nOK" in ran.err, "a unit test fails", ran)
+
+
+def example_passes():
+    needs()
+    ends_well([sys.executable, "-B", EXAMPLE], "".join(f"{it}: passed\n" for it in re.findall(r"^def (test_\w+)", read(EXAMPLE), re.M)))
+
+
+def is_installed(*how):
+    """pip installs the package without a network in a new environment, and the example runs there."""
+    needs()
+    with tempfile.TemporaryDirectory() as folder:
+        made = run([sys.executable, "-m", "venv", folder], timeout=300)
+        if made.status:
+            raise Skipped("python3 has no venv")
+        python = f"{folder}/bin/python"
+        environment = {**without_words(), "PIP_NO_INDEX": "1", "PIP_DISABLE_PIP_VERSION_CHECK": "1"}
+        ran = run([python, "-m", "pip", "install", *how, f"{TOP}/python"], env=environment, cwd=folder, timeout=300)
+        require(ran.status == 0, "pip does not install it", ran)
+        where = run([python, "-c", "import excp; print(excp.__file__)"], env=environment, cwd=folder)
+        expected = f"{TOP}/python/excp" if how else f"{folder}/lib"
+        require(where.out.startswith(expected), f"the package is not in {expected}", where)
+        shutil.copy(EXAMPLE, folder)
+        ran = run([python, "-B", f"{folder}/{os.path.basename(EXAMPLE)}"], env=environment, cwd=folder)
+        require((ran.status, ran.err) == (0, "") and ran.out.count(": passed\n") == 4, "the example fails", ran)
+
+
+# --- cases
+
+
+def through_python(setup):
+    origin = "the program, by docs/SPECIFICATION.md"
+    for file in scenarios.scenarios():
+        judge = lambda f=file: prints_the_same(setup, "step", [read(f)], "scenario", "--plain")
+        yield Case(f"scenario {os.path.basename(file)}", judge, origin)
+    for name, give in scenarios.made():
+        yield Case(f"scenario {name}", lambda g=give: prints_the_same(setup, "step", g(), "scenario", "--plain"), origin)
+    for name, script, texts in stored_scripts():
+        yield Case(f"script {name}", lambda s=script, t=texts: posts_are_those_stored(s, t), "docs/SPECIFICATION.md")
+    for seed in range((JOBS_LONG if setup.is_long else JOBS) // BATCH):
+        yield Case(f"{BATCH} jobs at random: {seed}", lambda s=seed: jobs_are_the_same(setup, s), origin)
+
+
+def in_c(setup):
+    seconds = SECONDS_LONG if setup.is_long else SECONDS
+    origin = "c/excp.h"
+    for compiler in COMPILERS:
+        yield Case(f"make with {compiler}", lambda c=compiler: is_made(c), "crates/print_tape/stdout and examples/c")
+        for program in *PRINTS, OUT_OF_MEMORY, LONG_USE:
+            yield Case(f"{program} with {compiler}", lambda c=compiler, p=program: runs_in_c(c, p), origin)
+        for program in PRINTS:
+            yield Case(f"{program} with {compiler} and sanitizers", lambda c=compiler, p=program: runs_sanitized(c, p), origin)
+        for seed, call, kind in (1, runs_in_c, "alone"), (2, runs_sanitized, "and sanitizers"):
+            judge = lambda c=compiler, s=seed, f=call: f(c, FUZZ, str(s), str(seconds), seconds=300 + 2 * seconds)
+            yield Case(f"{FUZZ} with {compiler} {kind}", judge, origin)
+    yield Case("the names of libexcp.so", exports_its_calls, origin)
+    for program in *PRINTS, OUT_OF_MEMORY:
+        yield Case(f"{program} with libexcp.a", lambda p=program: runs_static("gcc", p), origin)
+        yield Case(f"{program} under valgrind", lambda p=program: runs_in_valgrind(p), origin)
+    yield Case("examples/c/threads under helgrind", shares_by_its_lock, origin)
+    judge = lambda: runs_in_valgrind(FUZZ, "3", str(seconds), seconds=300 + 2 * seconds)
+    yield Case(f"{FUZZ} under valgrind", judge, origin)
+    for compiler, language in ("gcc", ["c", "-std=c99"]), ("clang", ["c", "-std=c99"]), ("g++", ["c++"]), ("clang++", ["c++"]):
+        yield Case(f"excp.h by {compiler}", lambda c=compiler, l=language: is_a_header(c, l), origin)
+
+
+def cases(setup):
+    build()
+    yield from through_python(setup)
+    yield from in_c(setup)
+    yield Case("the unit tests of the Python package", unit_tests_pass, "docs/MANUAL.md and c/excp.h")
+    yield Case("the example in Python", example_passes, "docs/MANUAL.md")
+    for how in (), ("-e",):
+        yield Case(" ".join(["pip install", *how, "./python"]), lambda h=how: is_installed(*h), "docs/CLIENT.md")
