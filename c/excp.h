@@ -64,7 +64,7 @@ typedef enum excp_status {
     EXCP_NO_ROOM = 26,       /* the caller's buffer is too short, or the place is past the end */
     EXCP_NOTHING_THERE = 27, /* no request waits at that place */
     EXCP_NOT_IDLE = 28,      /* excp_checkpoint: a request is in flight, waits, is active or out, or a post is not collected */
-    EXCP_IN_ERROR = 29       /* excp_checkpoint: a DCB is in error */
+    EXCP_IN_ERROR = 29       /* excp_checkpoint: an open DCB is in error */
 } excp_status;
 
 /* A status in words, without a period at its end. Of another number: "unknown status". */

@@ -18,7 +18,7 @@ impl<T, A: Allocator> Model for Loose<T, A> {
 }
 
 impl<T: Drop, A: Allocator> Loose<T, A> {
-    /// SiteTakes the box over.
+    /// Takes the box over.
     pub(crate) fn of(held: Box<T, A>) -> Loose<T, A>
         ensures { result.value ≡ held.value }
     {

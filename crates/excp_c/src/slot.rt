@@ -36,7 +36,7 @@ impl Slot {
         Slot { at, alloc }
     }
 
-    /// SiteTakes over what a box had.
+    /// Takes over what a box had.
     pub(crate) fn of(loose: Loose<Site, Global>) -> Slot
         ensures { result.value ≡ Some loose.value }
     {

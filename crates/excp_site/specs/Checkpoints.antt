@@ -4,7 +4,8 @@ use Rattle.std.specs.List.{filter, range_with_len}
 use Rattle.any_device.specs.Devices.{any_device}
 use Rattle.any_device.specs.declared.device.AnyDevice.{AnyDevice}
 use Rattle.unit_book.specs.Book.{Book}
-use Rattle.unit_book.specs.Dcbs.{flag}
+use Rattle.unit_book.specs.Dcbs.{dcb_state, flag}
+use Rattle.unit_book.specs.declared.dcb.DcbState.TheVariants.{Open}
 use Rattle.unit_book.specs.Media.{device}
 use Rattle.unit_book.specs.declared.entry.Entry.{Entry}
 use Rattle.unit_book.specs.declared.entry.Entry.TheVariants.{Opened, Close}
@@ -40,14 +41,16 @@ counts_after s unit p = map (count_after s unit p) (range_with_len 0 (length s.p
 
 -- A UNIT BEGINS AGAIN, and the numbers of its requests go on; all else stays as it is
 pub record Checkpoints (old : SiteView) (unit : ℕ) (new : SiteView) : Type 0 where
+  pub at_rest : IsAtRest old.plain unit
   pub unit_is : OnUnit old.plain unit (λ p q. IsRenewed p.book (held_of old unit) q.book
       × (q ≡ opening_part q.book (length old.plain.rows) p.intake_room)) new.plain
   pub earlier : OnPart old.plain unit (λ p. new.earlier ≡ slice_set old.earlier unit (counts_after old unit p))
   pub rest : new ≡ record old { plain = new.plain; earlier = new.earlier }
 
--- a DCB has the error flag
+-- an open DCB has the error flag
 pub record IsFlagged (b : Book AnyDevice) : Type 0 where
   pub dcb : ℕ
+  pub open_is : dcb_state dcb b.trace ≡ Open
   pub flagged : flag dcb b.trace ≡ true
 
 -- WHY IT DOES NOT

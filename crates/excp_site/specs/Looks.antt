@@ -1,5 +1,5 @@
 -- WHAT A SITE TELLS of a unit (profile).
-use Rattle.std.specs.Prelude.{◌≡◌, ◌≤◌, ◌<◌, ◌-◌, ◌↔◌, Bool, IsTrue, ℕ, None, Option, Some, false, length, option_map, slice_get, true}
+use Rattle.std.specs.Prelude.{◌≡◌, ◌≢◌, ◌≤◌, ◌<◌, ◌-◌, ◌↔◌, Bool, IsTrue, ℕ, None, Option, Some, false, length, option_map, slice_get, true}
 use Rattle.any_device.specs.Devices.{any_device}
 use Rattle.any_device.specs.declared.device.AnyDevice.{AnyDevice}
 use Rattle.any_device.specs.declared.device.AnyDevice.TheVariants.{Disk, Printer}
@@ -45,6 +45,7 @@ LookRefused s unit _ = ⊥
 
 -- A DCB AS IT IS
 pub record ShowsDcb (p : UnitPart AnyDevice) (dcb : ℕ) (d : DcbLook) : Type 0 where
+  pub known : d.state ≢ Unknown
   pub state : d.state ≡ dcb_state dcb p.book.trace
   pub in_error : d.in_error ≡ flag dcb p.book.trace
   pub file_mask : d.file_mask ≡ mask_of dcb p.book.trace

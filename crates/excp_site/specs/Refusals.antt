@@ -17,7 +17,8 @@ use Rattle.unit_book.specs.Answers.{OpenRefused}
 use Rattle.unit_book.specs.Book.{Book}
 use Rattle.unit_book.specs.Refusals.{PurgeLacks, RunLacks}
 use Rattle.unit_world.specs.PostLists.{list_of}
-use Rattle.unit_world.specs.Sites.{SiteState, OnPart}
+use Rattle.unit_world.specs.Parts.{GrowsSpare}
+use Rattle.unit_world.specs.Sites.{SiteState, OnBook, OnPart}
 use Rattle.excp_site.specs.declared.refusal.Refusal.{Refusal}
 use Rattle.excp_site.specs.declared.refusal.Refusal.TheVariants.{NoMemory, BadNumber, NoUnit, NoTask, NoDcb, NoPost, NoRoom, TooManyDcbs, BadGeometry, BadMedium, BadExtent, AreaMisaligned, AreaTooLong, AreaPastTop}
 use Rattle.excp_site.specs.declared.refusal.Refusal.TheVariants.{BadIob, BadEcb, BadProgram, WrongDcb}
@@ -90,6 +91,11 @@ OpenCallRefused s unit extents TooManyDcbs = OnPart s unit (λ p. OpenRefused an
 OpenCallRefused s unit extents BadExtent = OnPart s unit (λ p. OpenRefused any_device p.book extents openings.BadExtent)
 OpenCallRefused s unit extents NoMemory = OnPart s unit (λ p. OpenRefused any_device p.book extents openings.NoMemory)
 OpenCallRefused s unit extents _ = ⊥
+
+-- what it leaves: more room for entries, if there is such a unit
+abbrev pub OpenCallLeaves : SiteState AnyDevice → ℕ → SiteState AnyDevice → Refusal → Type 0
+OpenCallLeaves old unit new NoUnit = new ≡ old
+OpenCallLeaves old unit new _ = OnBook old unit (λ b c. GrowsSpare b c) new
 
 -- BYTES THAT ARE NO EXTENTS
 abbrev pub ExtentsRefused : List ℕ → Refusal → Type 0

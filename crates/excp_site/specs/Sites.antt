@@ -1,5 +1,5 @@
 -- WHAT CONTRACTS SEE OF A SITE, and what its calls do (profile).
-use Rattle.std.specs.Prelude.{◌≡◌, ◌≤◌, ◌+◌, ◌^◌, ◌-◌, ◌&&◌, Bool, ℕ, None, Some, List, [], ◌∷◌, ◌++◌, length, min, nat_le, replicate, slice_index_or}
+use Rattle.std.specs.Prelude.{◌≡◌, ◌≤◌, ◌+◌, ◌^◌, ◌-◌, ◌&&◌, Bool, ℕ, None, Some, List, [], ◌∷◌, ◌++◌, length, min, nat_le, replicate, slice_index_or, true}
 use Rattle.io_area.specs.Storage.{Storage}
 use Rattle.io_area.specs.AreaFault.{AreaFault, NoAreaFault}
 use Rattle.io_area.specs.declared.error.AreaError.TheVariants as areas
@@ -35,9 +35,14 @@ held_of s unit = slice_index_or s.held unit 1
 abbrev pub number_of : SiteView → ℕ → Name → ℕ
 number_of s unit name = min (earlier_of s unit name.task + name.seq) (2 ^ 64 - 1)
 
+-- how many requests may be in flight to a unit, and how many its book holds
+abbrev pub is_room : ℕ → ℕ → Bool
+is_room in_flight held = nat_le 1 in_flight && nat_le in_flight 65_536 && nat_le 1 held && nat_le held 65_536
+
 -- A UNIT IS ADDED: one more, with this device, to which nothing was sent
 pub record AddsUnit (old : SiteView) (device : AnyDevice) (in_flight held unit : ℕ) (new : SiteView) : Type 0 where
   pub number : unit ≡ length old.plain.units
+  pub room : is_room in_flight held ≡ true
   pub spare : ℕ
   pub plain : new.plain ≡ record old.plain {
     units = old.plain.units ++ opening_part (record (opening device 0 held) { spare = spare }) (length old.plain.rows) in_flight ∷ [];
@@ -45,10 +50,6 @@ pub record AddsUnit (old : SiteView) (device : AnyDevice) (in_flight held unit :
   pub earlier : new.earlier ≡ old.earlier ++ replicate (length old.plain.rows) 0 ∷ []
   pub held_is : new.held ≡ old.held ++ held ∷ []
   pub made : new.made ≡ old.made
-
--- how many requests may be in flight to a unit, and how many its book holds
-abbrev pub is_room : ℕ → ℕ → Bool
-is_room in_flight held = nat_le 1 in_flight && nat_le in_flight 65_536 && nat_le 1 held && nat_le held 65_536
 
 -- A REQUEST IS ISSUED: it is the next of its task at the unit, on this storage, and in flight
 pub record IssuesRequest (old : SiteState AnyDevice) (task unit dcb iob : ℕ) (area : Storage) (name : Name) (new : SiteState AnyDevice) : Type 0 where

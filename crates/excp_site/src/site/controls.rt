@@ -1,14 +1,15 @@
 //! DCBs, and purges, closes and resets.
 
-ghost use Rattle.std.specs.Prelude.{◌≡◌, IfErr, IfOk, OnErr, OnOk};
+ghost use Rattle.std.specs.Prelude.{◌≡◌, ◌<◌, true, length, IfErr, IfOk, OnErr, OnOk};
+ghost use Rattle.unit_book.specs.Dcbs.{is_open, is_opened};
 ghost use Rattle.any_device.specs.Devices.{any_device};
-ghost use Rattle.excp_site.specs.Refusals.{DcbCallRefused, TaskPurgeRefused, OpenCallRefused};
+ghost use Rattle.excp_site.specs.Refusals.{DcbCallRefused, OpenCallLeaves, OpenCallRefused, TaskPurgeRefused};
 ghost use Rattle.unit_book.specs.Answers.{Adds, OpensBook};
 ghost use Rattle.unit_book.specs.Controls.{ClosesBook, DcbRefused, PurgesBook, ResetRefused};
 ghost use Rattle.unit_book.specs.Refusals.{CloseLacks, PurgeLacks, ResetLacks};
 ghost use Rattle.unit_book.specs.declared.entry.Entry.TheVariants as Entry;
 ghost use Rattle.request_piece.specs.declared.scope.Scope.TheVariants as Scope;
-ghost use Rattle.unit_world.specs.Sites.{OnBook};
+ghost use Rattle.unit_world.specs.Sites.{OnBook, OnPart};
 
 use crate::refusal::Refusal;
 use crate::site::Site;
@@ -27,6 +28,7 @@ impl Site {
     ) -> Result<u16, Refusal>
         ensures ok { IfOk result (λ dcb. OnBook self.old.plain unit (λ b c. OpensBook any_device b dcb method extents.now c) self.new.plain) }
         ensures refused { IfErr result (OpenCallRefused self.old.plain unit extents.now) }
+        ensures err { IfErr result (OpenCallLeaves self.old.plain unit self.new.plain) }
         ensures rest { self.new ≡ record self.old { plain = self.new.plain } }
     {
         self.has_unit(unit)?;
@@ -38,6 +40,7 @@ impl Site {
     /// Errors: `NoUnit`, `NoDcb`, `NoMemory`.
     pub fn purge(&mut self, unit: u16, dcb: u16, mode: Mode) -> Result<Purging, Refusal>
         ensures ok { IfOk result (λ answer. OnBook self.old.plain unit (λ b c. PurgesBook any_device b (Scope.Dcb dcb) mode answer c) self.new.plain) }
+        ensures opened { OnOk result (OnPart self.old.plain unit (λ p. is_opened dcb p.book.trace ≡ true)) }
         ensures refused { IfErr result (DcbCallRefused self.old.plain unit (λ b. DcbRefused b dcb) PurgeLacks) }
         ensures rest { self.new ≡ record self.old { plain = self.new.plain } }
         ensures err { OnErr result (self.new ≡ self.old) }
@@ -51,6 +54,7 @@ impl Site {
     /// Errors: `NoUnit`, `NoTask`, `NoMemory`.
     pub fn purge_task(&mut self, unit: u16, task: u16, mode: Mode) -> Result<Purging, Refusal>
         ensures ok { IfOk result (λ answer. OnBook self.old.plain unit (λ b c. PurgesBook any_device b (Scope.Task task) mode answer c) self.new.plain) }
+        ensures task { OnOk result (task < length self.old.plain.rows) }
         ensures refused { IfErr result (TaskPurgeRefused self.old.plain unit task) }
         ensures rest { self.new ≡ record self.old { plain = self.new.plain } }
         ensures err { OnErr result (self.new ≡ self.old) }
@@ -78,6 +82,7 @@ impl Site {
     /// Errors: `NoUnit`, `NoDcb`, `NoMemory`.
     pub fn reset(&mut self, unit: u16, dcb: u16) -> Result<(), Refusal>
         ensures ok { OnOk result (OnBook self.old.plain unit (λ b c. Adds b (Entry.Reset dcb) c) self.new.plain) }
+        ensures opened { OnOk result (OnPart self.old.plain unit (λ p. is_open dcb p.book.trace ≡ true)) }
         ensures refused { IfErr result (DcbCallRefused self.old.plain unit (λ b. ResetRefused b dcb) ResetLacks) }
         ensures rest { self.new ≡ record self.old { plain = self.new.plain } }
         ensures err { OnErr result (self.new ≡ self.old) }

@@ -1,6 +1,6 @@
 //! The events of a unit: each is a step of its world.
 
-ghost use Rattle.std.specs.Prelude.{◌≡◌, ◌<◌, IfErr, IfOk, OnErr, OnOk};
+ghost use Rattle.std.specs.Prelude.{◌≡◌, ◌<◌, length, IfErr, IfOk, OnErr, OnOk};
 ghost use Rattle.any_device.specs.Devices.{any_device};
 ghost use Rattle.excp_site.specs.Refusals.{RunRefused, UnitRefused};
 ghost use Rattle.excp_site.specs.Sites.{IssuesRequest, IssueCallRefused};
@@ -17,7 +17,7 @@ use request_piece::{Name, Request};
 use unit_book::{Delivery, Intake, Interruption, Running, Starting};
 
 impl Site {
-    /// IssuesRequest a request of a task on a copy of the storage, which lies at `base` and has its IOB at `iob` (DFSMSdfp Advanced
+    /// Issues a request of a task on a copy of the storage, which lies at `base` and has its IOB at `iob` (DFSMSdfp Advanced
     /// Services, EXCP). It is in flight to the unit then. Returns its name.
     ///
     /// Errors, in this order: `NoUnit`, `NoTask`; those of the storage, `AreaMisaligned`, `AreaTooLong`, `AreaPastTop`; `NoNumber`;
@@ -112,6 +112,7 @@ impl Site {
     /// Error: `NoUnit`.
     pub fn deliver(&mut self, unit: u16) -> Result<Delivery, Refusal>
         ensures ok { IfOk result (λ answer. DeliversAs self.old.plain unit answer self.new.plain) }
+        ensures unit { OnOk result (unit < length self.old.plain.units) }
         ensures refused { IfErr result (UnitRefused self.old.plain unit (λ _. ⊥)) }
         ensures rest { self.new ≡ record self.old { plain = self.new.plain } }
         ensures err { OnErr result (self.new ≡ self.old) }

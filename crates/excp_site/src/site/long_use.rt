@@ -22,7 +22,7 @@ impl Site {
     /// forgotten. Numbers of requests go on ([`Site::number`]). A new book copies the medium.
     ///
     /// Errors, in this order: `NoUnit`; `NotIdle` if a request is in flight, waits, is active or out, or a post is not collected;
-    /// `InError` if a DCB is in error; `NoMemory`.
+    /// `InError` if an open DCB is in error; `NoMemory`.
     pub fn checkpoint(&mut self, unit: u16) -> Result<(), Refusal>
         ensures ok { OnOk result (Checkpoints self.old unit self.new) }
         ensures refused { IfErr result (CheckpointRefused self.old unit) }
@@ -100,16 +100,15 @@ impl Site {
     }
 }
 
-/// Whether a DCB of a book is in error.
+/// Whether an open DCB of a book is in error. The flag of a closed one dooms nothing more.
 fn has_error(book: &UnitBook<AnyDevice>) -> bool
     ensures { OnTrue result (IsFlagged book.now) }
 {
     for dcb in 1..=u16::MAX {
-        if book.dcb_state(dcb) == DcbState::Unknown {
-            return false;
-        }
-        if book.dcb_flag(dcb) {
-            return true;
+        match book.dcb_state(dcb) {
+            DcbState::Unknown => return false,
+            DcbState::Open if book.dcb_flag(dcb) => return true,
+            _ => {}
         }
     }
     false

@@ -189,6 +189,7 @@ impl Site {
     /// Adds a unit with this device. What was put is used up.
     fn add(&mut self, device: AnyDevice, room: Room) -> Result<u16, Refusal>
         requires units { length self.old.plain.units < 65_535 }
+        requires room { is_room room.in_flight room.held ≡ true }
         requires some { 1 ≤ room.held }
         requires few { room.held ≤ 65536 }
         ensures ok { IfOk result (λ unit. AddsUnit self.old device room.in_flight room.held unit self.new) }

@@ -1,6 +1,6 @@
 //! What a site tells of its units. Each reader copies out, and allocates nothing.
 
-ghost use Rattle.std.specs.Prelude.{◌≡◌, IfErr, IfOk};
+ghost use Rattle.std.specs.Prelude.{◌≡◌, ◌<◌, IfErr, IfOk, OnOk, length};
 ghost use Rattle.unit_world.specs.Sites.{OnPart};
 ghost use Rattle.excp_site.specs.Looks.{DcbLookRefused, LookRefused, ShowsDcb, ShowsUnit, WaitingRefused, WaitsAt, printed_by};
 
@@ -17,6 +17,7 @@ impl Site {
     ///
     /// Error: `NoUnit`.
     pub fn look(&self, unit: u16) -> Result<UnitState, Refusal>
+        ensures unit { OnOk result (unit < length self.now.plain.units) }
         ensures ok { IfOk result (λ u. OnPart self.now.plain unit (λ p. ShowsUnit p u)) }
         ensures refused { IfErr result (LookRefused self.now.plain unit) }
     {
@@ -39,6 +40,7 @@ impl Site {
     ///
     /// Errors: `NoUnit`, `NoDcb`.
     pub fn look_dcb(&self, unit: u16, dcb: u16) -> Result<DcbLook, Refusal>
+        ensures unit { OnOk result (unit < length self.now.plain.units) }
         ensures ok { IfOk result (λ d. OnPart self.now.plain unit (λ p. ShowsDcb p dcb d)) }
         ensures refused { IfErr result (DcbLookRefused self.now.plain unit dcb) }
     {
@@ -58,6 +60,7 @@ impl Site {
     ///
     /// Errors: `NoUnit`, `NothingThere`.
     pub fn waiting(&self, unit: u16, place: u32) -> Result<Name, Refusal>
+        ensures unit { OnOk result (unit < length self.now.plain.units) }
         ensures ok { IfOk result (λ name. OnPart self.now.plain unit (λ p. WaitsAt p place name)) }
         ensures refused { IfErr result (WaitingRefused self.now.plain unit place) }
     {

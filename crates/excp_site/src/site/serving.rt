@@ -91,6 +91,7 @@ impl Site {
     /// Errors: `NoUnit`; `NoMemory`, and then what was done stays done.
     pub fn settle(&mut self, unit: u16) -> Result<(), Refusal>
         ensures settles { HasSettled self.old.plain unit self.new.plain }
+        ensures unit { OnOk result (unit < length self.old.plain.units) }
         ensures idle { OnOk result (OnPart self.new.plain unit (λ p. IsIdle p.book.trace)) }
         ensures refused { IfErr result (SettleRefused self.old.plain unit self.new.plain) }
         ensures rest { self.new ≡ record self.old { plain = self.new.plain } }

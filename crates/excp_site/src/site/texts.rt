@@ -1,6 +1,6 @@
 //! Texts, records and printed lines.
 
-ghost use Rattle.std.specs.Prelude.{◌≡◌, ◌≤◌, ◌+◌, Some, drop, length, slice_get, take, IfErr, IfOk, OnErr, OnOk};
+ghost use Rattle.std.specs.Prelude.{◌≡◌, ◌<◌, ◌≤◌, ◌+◌, Some, drop, length, slice_get, take, IfErr, IfOk, OnErr, OnOk};
 ghost use Rattle.unit_world.specs.Sites.{OnPart};
 ghost use Rattle.excp_site.specs.Looks.{LineAt, LineRefused, RecordAt, RecordRefused, device_now};
 ghost use Rattle.excp_site.specs.Refusals.{HistoryRefused, NoRoomFor};
@@ -66,6 +66,7 @@ impl Site {
         head: u16,
         place: usize,
     ) -> Result<Stored<'_>, Refusal>
+        ensures unit { OnOk result (unit < length self.now.plain.units) }
         ensures ok { IfOk result (λ r. OnPart self.now.plain unit (λ p. RecordAt (device_now p.book) cylinder head place (Some r))) }
         ensures refused { IfErr result (RecordRefused self.now.plain unit cylinder head place) }
     {
@@ -83,6 +84,7 @@ impl Site {
     ///
     /// Errors: `NoUnit`; `BadMedium` if the unit is no printer; `NoRoom` if there is no such line.
     pub fn printed_line(&self, unit: u16, place: usize) -> Result<&PrintedLine, Refusal>
+        ensures unit { OnOk result (unit < length self.now.plain.units) }
         ensures ok { IfOk result (λ line. OnPart self.now.plain unit (λ p. LineAt (device_now p.book) place (Some line.now))) }
         ensures refused { IfErr result (LineRefused self.now.plain unit place) }
     {

@@ -4,7 +4,7 @@ use Rattle.std.proofs.lemmas.List.{map-set}
 use Rattle.any_device.specs.declared.device.AnyDevice.{AnyDevice}
 use Rattle.unit_book.specs.Book.{Book}
 use Rattle.unit_world.specs.Parts.{UnitPart, opening_part}
-use Rattle.unit_world.specs.Sites.{OnPart}
+use Rattle.unit_world.specs.Sites.{IsAtRest, OnPart}
 use Rattle.excp_site.specs.Checkpoints.{Checkpoints, IsRenewed, counts_after}
 use Rattle.excp_site.specs.Sites.{SiteView, held_of}
 use Rattle.excp_site.proofs.site.Site.checkpoint.Goals as goal
@@ -27,6 +27,7 @@ returns-clause-ok c =
     let new : SiteView = record old { plain = c.renew.new.self; earlier = map (λ e. e.items) (with_item i.earlier c.from.result c.in_ok-counts.counts).items } in
     subst (λ (v : SiteView). Checkpoints v unit new) c.self.view_is
     (record {
+      at_rest = subst (λ (v : SiteView). IsAtRest v.plain unit) (sym c.self.view_is) c.if-not-is_at_rest.ensures.rest;
       unit_is = record { before = r.before; after = r.after; at = r.at; does = (of_new, part_is); is = r.is };
       earlier = λ p at. map-set (λ e. e.items) i.earlier.items c.from.result c.in_ok-counts.counts
           ∙ ap (λ (u : ℕ). set (map (λ e. e.items) i.earlier.items) u c.in_ok-counts.counts.items) c.from.ensures
