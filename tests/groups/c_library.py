@@ -37,7 +37,7 @@ C_FIELD = re.compile(r"^    (\w+) (\w+);", re.M)
 STRUCT = re.compile(r"#\[repr\(C\)\]\s*(?:#\[derive\([^)]*\)\]\s*)?pub struct (\w+) \{\n(.*?)^\}", re.M | re.S)
 FIELD = re.compile(r"^    pub (\w+): (\w+),", re.M)
 STATUS = re.compile(r"^    EXCP_(\w+) = (\d+)", re.M)
-REFUSAL = re.compile(r"^status_of refusals\.(\w+) = (\d+)$", re.M)
+REFUSAL = re.compile(r"^status_in_c refusals\.(\w+) = (\d+)$", re.M)
 
 # The statuses of the exports that no refusal of a site has.
 OWN_STATUSES = {"OK": 0, "NULL_POINTER": 2, "NO_SITE": 3, "SITE_IN_USE": 4}

@@ -15,7 +15,7 @@ import tempfile
 
 from groups import random as at_random
 from groups import scenarios
-from harness import SAMPLES, TOP, Case, Failed, Skipped, expect, expect_text, files, multiple, outcome, read, require, run
+from harness import SAMPLES, TOP, Case, Failed, Skipped, expect, files, multiple, outcome, read, require, run
 
 # The library, what says that its exports were proved, and what `build` found: what lacks, or a run that failed.
 FOLDER = f"{TOP}/out/library"
@@ -209,15 +209,6 @@ def runs_static(compiler, program):
     ends_well([compiled(compiler, program, "static", link=STATIC)], PRINTS.get(program))
 
 
-def exports_its_calls():
-    """The shared library gives names to the calls of the header, and to nothing else."""
-    needs("nm")
-    ran = run(["nm", "-D", "--defined-only", f"{FOLDER}/libexcp.so"])
-    found = sorted(line.split()[-1].partition("@")[0] for line in ran.out.splitlines())
-    calls = sorted(re.findall(r"^(?:excp_status |const char \*)(excp_\w+)\(", read(f"{TOP}/c/excp.h"), re.M))
-    expect_text("other names", ran, "\n".join(calls), "\n".join(found))
-
-
 def runs_in_valgrind(program, *given, seconds=300):
     needs("valgrind", "gcc")
     ends_well([*VALGRIND, compiled("gcc", program, "checked"), *given], PRINTS.get(program), seconds)
@@ -308,7 +299,6 @@ def in_c(setup):
         for seed, call, kind in (1, runs_in_c, "alone"), (2, runs_sanitized, "and sanitizers"):
             judge = lambda c=compiler, s=seed, f=call: f(c, FUZZ, str(s), str(seconds), seconds=300 + 2 * seconds)
             yield Case(f"{FUZZ} with {compiler} {kind}", judge, origin)
-    yield Case("the names of libexcp.so", exports_its_calls, origin)
     for program in *PRINTS, OUT_OF_MEMORY:
         yield Case(f"{program} with libexcp.a", lambda p=program: runs_static("gcc", p), origin)
         yield Case(f"{program} under valgrind", lambda p=program: runs_in_valgrind(p), origin)

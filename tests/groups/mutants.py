@@ -54,6 +54,9 @@ BUILD_KILLED = (*KILLED, 6)
 # The most characters of what a check says, in a line of the table.
 SHOWN = 90
 
+# What a line of the table says of a test or a case that takes too long: on a busy machine it may be slow alone.
+ENDLESS = "it does not end"
+
 # The unproved builds: their folders of out/, and the words for tools/prove.py. Cases of costs need the plain one, since under
 # AddressSanitizer their bounds are too slow or too wide.
 BUILDS = {"tried": ["try"], "plain": ["try", "plain"]}
@@ -148,7 +151,7 @@ def rejected_by_test(name, edit, tests, test):
     require(has_run or is_told, f"NOT TRIED: {tests} ended with no error and no test, as if it was killed: run this again", ran)
     require(has_run, f"BAD EDIT: {test} of {tests} did not run", ran)
     require(re.search(rf"^test (\S+::)?{re.escape(test)} \.\.\. FAILED", said, re.M), f"NOT REJECTED: {test} of {tests} passes", ran)
-    return time.monotonic() - begun, "it does not end" if "no-answer: the program did not end" in said else ""
+    return time.monotonic() - begun, ENDLESS if "no-answer: the program did not end" in said else ""
 
 
 def rejected_by_run(name, edit, group, case):
@@ -181,7 +184,7 @@ def rejected_by_run(name, edit, group, case):
         require(built.status == 0, "BAD EDIT: the program with it is not built", built)
         after = run([*words, f"{room}/out/{way}/excp_job"], timeout=SECONDS, stdin=subprocess.DEVNULL)
     require(after.status == 1 and f"FAILED: {group}: " in after.out, f"NOT REJECTED: {group}: {case}: passes or is skipped", after)
-    return time.monotonic() - begun, ""
+    return time.monotonic() - begun, ENDLESS if "it ran for more than" in after.out else ""
 
 
 def built_by(words, **how):
