@@ -46,8 +46,8 @@ abbrev pub Did : Handle → Handle → (SiteView → SiteView → Type 0) → Ty
 Did h k Does = DidOn h.slot.value k.slot.value Does
 
 -- the site refused it: its status is that of a reason of which this holds
-abbrev pub Refused : Handle → Handle → ℕ → (SiteView → Refusal → Type 0) → Type 0
-Refused h k status Why = Did h k (λ s t. (e : Refusal) × (status ≡ status_in_c e) × Why s e)
+abbrev pub Refused : Handle → Handle → ℕ → (SiteView → SiteView → Refusal → Type 0) → Type 0
+Refused h k status Why = Did h k (λ s t. (e : Refusal) × (status ≡ status_in_c e) × Why s t e)
 
 -- an event of the unit was made, and its answer was written out
 abbrev pub Made : {A : Type 0} → (A → Event) → ℕ → (SiteView → A → SiteView → Type 0) → Handle → Handle → Answer → Type 0

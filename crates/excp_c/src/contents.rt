@@ -2,14 +2,16 @@
 
 ghost use Rattle.std.specs.Prelude.{◌≡◌, ◌≢◌};
 ghost use Rattle.excp_c.specs.Calls.{KeepsSite, SameSite, TestsSite};
-ghost use Rattle.excp_c.specs.Done.{Did};
+ghost use Rattle.excp_site.specs.Looks.{LineRefused, RecordRefused};
+ghost use Rattle.excp_c.specs.Done.{Did, Refused};
 ghost use Rattle.excp_c.specs.Readers.{Prints, ReadsSite};
 ghost use Rattle.excp_c.specs.Contents.{byte_at, halfword_at, line_in_c, record_in_c};
 
 use crate::buffer::{copy_both, copy_to, has_room};
 use crate::handle::Handle;
-use crate::status::{NO_ROOM, NO_SITE, OK, status_in_c};
+use crate::status::{NO_SITE, OK, status_in_c};
 use ckd_disk::Stored;
+use excp_site::Refusal;
 use line_printer::PrintedLine;
 
 /// `excp_record`.
@@ -88,6 +90,7 @@ pub extern "C" fn excp_call_read_record(
     ensures keeps { KeepsSite handle.old handle.new }
     ensures same { SameSite handle.old handle.new }
     ensures done { result ≡ 0 → Did handle.old handle.new (λ s _. ReadsSite s unit cylinder head place shown.new bytes.old bytes.new) }
+    ensures why { result ≢ 0 → result ≢ 3 → result ≢ 26 → Refused handle.old handle.new result (λ s _. RecordRefused s.plain unit cylinder head place) }
     ensures refused { result ≢ 0 → (shown.new ≡ shown.old) × (bytes.new ≡ bytes.old) }
 {
     let Some(site) = handle.site() else {
@@ -96,7 +99,7 @@ pub extern "C" fn excp_call_read_record(
     match site.read_record(unit, cylinder, head, place as usize) {
         Ok(stored) => {
             if !has_room(bytes.len(), stored.key(), stored.content()) {
-                return NO_ROOM;
+                return status_in_c(Refusal::NoRoom);
             }
             copy_both(bytes, stored.key(), stored.content());
             *shown = record_in_c(&stored);
@@ -119,6 +122,7 @@ pub extern "C" fn excp_call_printed_line(
     ensures keeps { KeepsSite handle.old handle.new }
     ensures same { SameSite handle.old handle.new }
     ensures done { result ≡ 0 → Did handle.old handle.new (λ s _. Prints s unit place line.new bytes.old bytes.new) }
+    ensures why { result ≢ 0 → result ≢ 3 → result ≢ 26 → Refused handle.old handle.new result (λ s _. LineRefused s.plain unit place) }
     ensures refused { result ≢ 0 → (line.new ≡ line.old) × (bytes.new ≡ bytes.old) }
 {
     let Some(site) = handle.site() else {
@@ -127,7 +131,7 @@ pub extern "C" fn excp_call_printed_line(
     match site.printed_line(unit, place as usize) {
         Ok(printed) => {
             if printed.bytes().len() > bytes.len() {
-                return NO_ROOM;
+                return status_in_c(Refusal::NoRoom);
             }
             copy_to(bytes, printed.bytes());
             *line = line_in_c(printed);

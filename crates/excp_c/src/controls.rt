@@ -1,17 +1,19 @@
 //! Controls (c/excp.h, "Controls").
 
-ghost use Rattle.std.specs.Prelude.{◌≡◌, ◌≢◌};
+ghost use Rattle.std.specs.Prelude.{◌≡◌, ◌≢◌, None};
 ghost use Rattle.unit_book.specs.Controls.{DcbRefused, ResetRefused};
-ghost use Rattle.unit_book.specs.Refusals.{CloseLacks, ResetLacks};
-ghost use Rattle.excp_site.specs.Refusals.{DcbCallRefused};
+ghost use Rattle.unit_book.specs.Refusals.{CloseLacks, PurgeLacks, ResetLacks};
+ghost use Rattle.excp_site.specs.Refusals.{DcbCallRefused, TaskPurgeRefused};
 ghost use Rattle.excp_c.specs.Answers.{of_closing, of_purging};
+ghost use Rattle.excp_c.specs.declared.handle.TheConstants.{MARK};
 ghost use Rattle.excp_c.specs.Done.{Closes, Did, Made, Purges, PurgesTask, Refused, Resets};
 ghost use Rattle.excp_c.specs.Calls.{KeepsSite, SameSite, TestsSite};
 ghost use Rattle.excp_c.specs.Numbers.{mode_from_c};
 
 use crate::answer::{Answer, Event};
 use crate::handle::Handle;
-use crate::status::{BAD_NUMBER, NO_SITE, OK, done, status_in_c};
+use crate::status::{NO_SITE, OK, done, status_in_c};
+use excp_site::Refusal;
 use unit_book::Mode;
 
 /// The mode with this number, `EXCP_QUIESCE` or `EXCP_HALT`.
@@ -37,13 +39,15 @@ pub extern "C" fn excp_call_purge(
     ensures site { TestsSite handle.old result }
     ensures keeps { KeepsSite handle.old handle.new }
     ensures done { result ≡ 0 → Made of_purging unit (Purges unit dcb (mode_from_c mode)) handle.old handle.new answer.new }
+    ensures number { handle.old.mark ≡ MARK → mode_from_c mode ≡ None → result ≡ 5 }
+    ensures why { result ≢ 0 → result ≢ 3 → result ≢ 5 → Refused handle.old handle.new result (λ s _. DcbCallRefused s.plain unit (λ b. DcbRefused b dcb) PurgeLacks) }
     ensures refused { result ≢ 0 → SameSite handle.old handle.new × (answer.new ≡ answer.old) }
 {
     let Some(site) = handle.site() else {
         return NO_SITE;
     };
     let Some(mode) = mode_from_c(mode) else {
-        return BAD_NUMBER;
+        return status_in_c(Refusal::BadNumber);
     };
     match site.purge(unit, dcb, mode) {
         Ok(purging) => {
@@ -66,13 +70,15 @@ pub extern "C" fn excp_call_purge_task(
     ensures site { TestsSite handle.old result }
     ensures keeps { KeepsSite handle.old handle.new }
     ensures done { result ≡ 0 → Made of_purging unit (PurgesTask unit task (mode_from_c mode)) handle.old handle.new answer.new }
+    ensures number { handle.old.mark ≡ MARK → mode_from_c mode ≡ None → result ≡ 5 }
+    ensures why { result ≢ 0 → result ≢ 3 → result ≢ 5 → Refused handle.old handle.new result (λ s _. TaskPurgeRefused s.plain unit task) }
     ensures refused { result ≢ 0 → SameSite handle.old handle.new × (answer.new ≡ answer.old) }
 {
     let Some(site) = handle.site() else {
         return NO_SITE;
     };
     let Some(mode) = mode_from_c(mode) else {
-        return BAD_NUMBER;
+        return status_in_c(Refusal::BadNumber);
     };
     match site.purge_task(unit, task, mode) {
         Ok(purging) => {
@@ -94,7 +100,7 @@ pub extern "C" fn excp_call_close(
     ensures site { TestsSite handle.old result }
     ensures keeps { KeepsSite handle.old handle.new }
     ensures done { result ≡ 0 → Made of_closing unit (Closes unit dcb) handle.old handle.new answer.new }
-    ensures why { result ≢ 0 → result ≢ 3 → Refused handle.old handle.new result (λ s. DcbCallRefused s.plain unit (λ b. DcbRefused b dcb) (λ b. CloseLacks b dcb)) }
+    ensures why { result ≢ 0 → result ≢ 3 → Refused handle.old handle.new result (λ s _. DcbCallRefused s.plain unit (λ b. DcbRefused b dcb) (λ b. CloseLacks b dcb)) }
     ensures refused { result ≢ 0 → SameSite handle.old handle.new × (answer.new ≡ answer.old) }
 {
     let Some(site) = handle.site() else {
@@ -115,7 +121,7 @@ pub extern "C" fn excp_call_reset(handle: &mut Handle, unit: u16, dcb: u16) -> u
     ensures site { TestsSite handle.old result }
     ensures keeps { KeepsSite handle.old handle.new }
     ensures done { result ≡ 0 → Did handle.old handle.new (Resets unit dcb) }
-    ensures why { result ≢ 0 → result ≢ 3 → Refused handle.old handle.new result (λ s. DcbCallRefused s.plain unit (λ b. ResetRefused b dcb) ResetLacks) }
+    ensures why { result ≢ 0 → result ≢ 3 → Refused handle.old handle.new result (λ s _. DcbCallRefused s.plain unit (λ b. ResetRefused b dcb) ResetLacks) }
     ensures refused { result ≢ 0 → SameSite handle.old handle.new }
 {
     let Some(site) = handle.site() else {

@@ -1,14 +1,16 @@
 //! DCBs (c/excp.h, "DCBs").
 
-ghost use Rattle.std.specs.Prelude.{◌≡◌, ◌≢◌};
+ghost use Rattle.std.specs.Prelude.{◌≡◌, ◌≢◌, ◌⊎◌, None};
 ghost use Rattle.excp_site.specs.Extents.{extents_in};
-ghost use Rattle.excp_c.specs.Done.{Did, SiteOpens};
+ghost use Rattle.excp_site.specs.Refusals.{ExtentsRefused, OpenCallRefused};
+ghost use Rattle.excp_c.specs.declared.handle.TheConstants.{MARK};
+ghost use Rattle.excp_c.specs.Done.{Did, SiteOpens, Refused};
 ghost use Rattle.excp_c.specs.Calls.{KeepsSite, TestsSite};
 ghost use Rattle.excp_c.specs.Numbers.{method_from_c};
 
 use crate::handle::Handle;
-use crate::status::{BAD_NUMBER, NO_SITE, give, status_in_c};
-use excp_site::extents;
+use crate::status::{NO_SITE, give, status_in_c};
+use excp_site::{Refusal, extents};
 use std::alloc::Global;
 use unit_book::ProcessingMethod;
 
@@ -36,13 +38,15 @@ pub extern "C" fn excp_call_open(
     ensures site { TestsSite handle.old result }
     ensures keeps { KeepsSite handle.old handle.new }
     ensures done { result ≡ 0 → Did handle.old handle.new (SiteOpens unit (method_from_c method) (extents_in extent_bytes.now) dcb.new) }
+    ensures number { handle.old.mark ≡ MARK → method_from_c method ≡ None → result ≡ 5 }
+    ensures why { result ≢ 0 → result ≢ 3 → result ≢ 5 → Refused handle.old handle.new result (λ s _ e. ExtentsRefused extent_bytes.now e ⊎ OpenCallRefused s.plain unit (extents_in extent_bytes.now) e) }
     ensures refused { result ≢ 0 → dcb.new ≡ dcb.old }
 {
     let Some(site) = handle.site() else {
         return NO_SITE;
     };
     let Some(method) = method_from_c(method) else {
-        return BAD_NUMBER;
+        return status_in_c(Refusal::BadNumber);
     };
     match extents(alloc, extent_bytes) {
         Ok(extents) => give(site.open(unit, method, &extents), dcb),

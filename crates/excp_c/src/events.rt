@@ -5,6 +5,7 @@ ghost use Rattle.any_device.specs.Devices.{any_device};
 ghost use Rattle.unit_book.specs.Book.{occupancy};
 ghost use Rattle.unit_book.specs.Refusals.{InterruptLacks, StartLacks};
 ghost use Rattle.excp_site.specs.Refusals.{RunRefused, UnitRefused};
+ghost use Rattle.excp_site.specs.Serving.{ServeRefused, SettleRefused};
 ghost use Rattle.excp_site.specs.Sites.{IssueCallRefused};
 ghost use Rattle.excp_c.specs.Answers.{of_delivery, of_intake, of_interruption, of_running, of_starting};
 ghost use Rattle.excp_c.specs.Done.{SiteDelivers, Did, SiteInterrupts, IssuesAs, Made, Refused, SiteRuns, Serves, SiteSettles, SiteStarts, SiteTakes};
@@ -51,7 +52,7 @@ pub extern "C" fn excp_call_issue(
     ensures site { TestsSite handle.old result }
     ensures keeps { KeepsSite handle.old handle.new }
     ensures done { result ≡ 0 → Did handle.old handle.new (IssuesAs task unit dcb iob (record { base = base; bytes = storage.now }) number.new) }
-    ensures why { result ≢ 0 → result ≢ 3 → Refused handle.old handle.new result (λ s. IssueCallRefused s.plain task unit dcb iob (record { base = base; bytes = storage.now })) }
+    ensures why { result ≢ 0 → result ≢ 3 → Refused handle.old handle.new result (λ s _. IssueCallRefused s.plain task unit dcb iob (record { base = base; bytes = storage.now })) }
     ensures refused { result ≢ 0 → SameSite handle.old handle.new × (number.new ≡ number.old) }
 {
     let Some(site) = handle.site() else {
@@ -72,7 +73,7 @@ pub extern "C" fn excp_call_take(handle: &mut Handle, unit: u16, answer: &mut An
     ensures site { TestsSite handle.old result }
     ensures keeps { KeepsSite handle.old handle.new }
     ensures done { result ≡ 0 → Made of_intake unit (SiteTakes unit) handle.old handle.new answer.new }
-    ensures why { result ≢ 0 → result ≢ 3 → Refused handle.old handle.new result (λ s. UnitRefused s.plain unit (λ b. (occupancy b < b.capacity) × (b.spare < 2))) }
+    ensures why { result ≢ 0 → result ≢ 3 → Refused handle.old handle.new result (λ s _. UnitRefused s.plain unit (λ b. (occupancy b < b.capacity) × (b.spare < 2))) }
     ensures refused { result ≢ 0 → SameSite handle.old handle.new × (answer.new ≡ answer.old) }
 {
     let Some(site) = handle.site() else {
@@ -93,7 +94,7 @@ pub extern "C" fn excp_call_start(handle: &mut Handle, unit: u16, answer: &mut A
     ensures site { TestsSite handle.old result }
     ensures keeps { KeepsSite handle.old handle.new }
     ensures done { result ≡ 0 → Made of_starting unit (SiteStarts unit) handle.old handle.new answer.new }
-    ensures why { result ≢ 0 → result ≢ 3 → Refused handle.old handle.new result (λ s. UnitRefused s.plain unit (StartLacks any_device)) }
+    ensures why { result ≢ 0 → result ≢ 3 → Refused handle.old handle.new result (λ s _. UnitRefused s.plain unit (StartLacks any_device)) }
     ensures refused { result ≢ 0 → SameSite handle.old handle.new × (answer.new ≡ answer.old) }
 {
     let Some(site) = handle.site() else {
@@ -119,7 +120,7 @@ pub extern "C" fn excp_call_run(
     ensures site { TestsSite handle.old result }
     ensures keeps { KeepsSite handle.old handle.new }
     ensures done { result ≡ 0 → Made of_running unit (SiteRuns unit max_commands) handle.old handle.new answer.new }
-    ensures why { result ≢ 0 → result ≢ 3 → Refused handle.old handle.new result (λ s. RunRefused s.plain unit max_commands) }
+    ensures why { result ≢ 0 → result ≢ 3 → Refused handle.old handle.new result (λ s _. RunRefused s.plain unit max_commands) }
     ensures refused { result ≢ 0 → SameSite handle.old handle.new × (answer.new ≡ answer.old) }
 {
     let Some(site) = handle.site() else {
@@ -140,7 +141,7 @@ pub extern "C" fn excp_call_interrupt(handle: &mut Handle, unit: u16, answer: &m
     ensures site { TestsSite handle.old result }
     ensures keeps { KeepsSite handle.old handle.new }
     ensures done { result ≡ 0 → Made of_interruption unit (SiteInterrupts unit) handle.old handle.new answer.new }
-    ensures why { result ≢ 0 → result ≢ 3 → Refused handle.old handle.new result (λ s. UnitRefused s.plain unit (InterruptLacks any_device)) }
+    ensures why { result ≢ 0 → result ≢ 3 → Refused handle.old handle.new result (λ s _. UnitRefused s.plain unit (InterruptLacks any_device)) }
     ensures refused { result ≢ 0 → SameSite handle.old handle.new × (answer.new ≡ answer.old) }
 {
     let Some(site) = handle.site() else {
@@ -161,7 +162,7 @@ pub extern "C" fn excp_call_deliver(handle: &mut Handle, unit: u16, answer: &mut
     ensures site { TestsSite handle.old result }
     ensures keeps { KeepsSite handle.old handle.new }
     ensures done { result ≡ 0 → Made of_delivery unit (SiteDelivers unit) handle.old handle.new answer.new }
-    ensures why { result ≢ 0 → result ≢ 3 → Refused handle.old handle.new result (λ s. UnitRefused s.plain unit (λ _. ⊥)) }
+    ensures why { result ≢ 0 → result ≢ 3 → Refused handle.old handle.new result (λ s _. UnitRefused s.plain unit (λ _. ⊥)) }
     ensures refused { result ≢ 0 → SameSite handle.old handle.new × (answer.new ≡ answer.old) }
 {
     let Some(site) = handle.site() else {
@@ -187,6 +188,7 @@ pub extern "C" fn excp_call_serve(
     ensures site { TestsSite handle.old result }
     ensures keeps { KeepsSite handle.old handle.new }
     ensures done { result ≡ 0 → Did handle.old handle.new (λ s t. Serves unit max_commands served.new s t) }
+    ensures why { result ≢ 0 → result ≢ 3 → Refused handle.old handle.new result (λ s _. ServeRefused s.plain unit max_commands) }
     ensures refused { result ≢ 0 → served.new ≡ served.old }
 {
     let Some(site) = handle.site() else {
@@ -211,6 +213,7 @@ pub extern "C" fn excp_call_settle(handle: &mut Handle, unit: u16) -> u32
     ensures site { TestsSite handle.old result }
     ensures keeps { KeepsSite handle.old handle.new }
     ensures done { result ≡ 0 → Did handle.old handle.new (SiteSettles unit) }
+    ensures why { result ≢ 0 → result ≢ 3 → Refused handle.old handle.new result (λ s t. SettleRefused s.plain unit t.plain) }
 {
     let Some(site) = handle.site() else {
         return NO_SITE;

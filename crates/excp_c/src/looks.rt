@@ -2,7 +2,8 @@
 
 ghost use Rattle.std.specs.Prelude.{◌≡◌, ◌≢◌, length};
 ghost use Rattle.excp_c.specs.Calls.{KeepsSite, SameSite, TestsSite};
-ghost use Rattle.excp_c.specs.Done.{Did};
+ghost use Rattle.excp_site.specs.Looks.{DcbLookRefused, LookRefused, WaitingRefused};
+ghost use Rattle.excp_c.specs.Done.{Did, Refused};
 ghost use Rattle.excp_c.specs.Readers.{ShowsSite, ShowsDcbAs, Waits};
 ghost use Rattle.excp_c.specs.Looks.{dcb_state_of, unit_state_of};
 ghost use Rattle.excp_c.specs.Numbers.{active_number, dcb_number, kind_number};
@@ -113,6 +114,7 @@ pub extern "C" fn excp_call_look(handle: &mut Handle, unit: u16, state: &mut Uni
     ensures keeps { KeepsSite handle.old handle.new }
     ensures same { SameSite handle.old handle.new }
     ensures done { result ≡ 0 → Did handle.old handle.new (λ s _. ShowsSite s unit state.new) }
+    ensures why { result ≢ 0 → result ≢ 3 → Refused handle.old handle.new result (λ s _. LookRefused s.plain unit) }
     ensures refused { result ≢ 0 → state.new ≡ state.old }
 {
     let Some(site) = handle.site() else {
@@ -139,6 +141,7 @@ pub extern "C" fn excp_call_look_dcb(
     ensures keeps { KeepsSite handle.old handle.new }
     ensures same { SameSite handle.old handle.new }
     ensures done { result ≡ 0 → Did handle.old handle.new (λ s _. ShowsDcbAs s unit dcb state.new) }
+    ensures why { result ≢ 0 → result ≢ 3 → Refused handle.old handle.new result (λ s _. DcbLookRefused s.plain unit dcb) }
     ensures refused { result ≢ 0 → state.new ≡ state.old }
 {
     let Some(site) = handle.site() else {
@@ -166,6 +169,7 @@ pub extern "C" fn excp_call_waiting(
     ensures keeps { KeepsSite handle.old handle.new }
     ensures same { SameSite handle.old handle.new }
     ensures done { result ≡ 0 → Did handle.old handle.new (λ s _. Waits s unit place task.new number.new) }
+    ensures why { result ≢ 0 → result ≢ 3 → Refused handle.old handle.new result (λ s _. WaitingRefused s.plain unit place) }
     ensures refused { result ≢ 0 → (task.new ≡ task.old) × (number.new ≡ number.old) }
 {
     let Some(site) = handle.site() else {

@@ -8,6 +8,8 @@ ghost use Rattle.tape_unit.specs.Item.{block, tape_mark};
 ghost use Rattle.line_printer.specs.Mount.{opening as opening_printer};
 ghost use Rattle.excp_site.specs.Media.{IsEmpty, PutsItem, PutsRecord};
 ghost use Rattle.excp_site.specs.Mounting.{DiskRefused, PrinterRefused, TapeRefused};
+ghost use Rattle.excp_site.specs.declared.refusal.Refusal.TheVariants as refusals;
+ghost use Rattle.excp_c.specs.Statuses.{status_in_c};
 ghost use Rattle.excp_c.specs.Done.{Did, Mounts, OnlyMedium, Refused};
 ghost use Rattle.excp_c.specs.Numbers.{fault_from_c};
 ghost use Rattle.excp_c.specs.Calls.{KeepsSite, SameSite, TestsSite};
@@ -49,6 +51,7 @@ pub extern "C" fn excp_call_put_record(
     ensures site { TestsSite handle.old result }
     ensures keeps { KeepsSite handle.old handle.new }
     ensures done { result ≡ 0 → Did handle.old handle.new (λ s t. PutsRecord s.medium.records.items cylinder head number key.now content.now t.medium.records.items) }
+    ensures why { result ≢ 0 → result ≢ 3 → result ≡ status_in_c refusals.NoMemory }
 {
     let Some(site) = handle.site() else {
         return NO_SITE;
@@ -62,6 +65,7 @@ pub extern "C" fn excp_call_put_block(handle: &mut Handle, content: &[u8]) -> u3
     ensures site { TestsSite handle.old result }
     ensures keeps { KeepsSite handle.old handle.new }
     ensures done { result ≡ 0 → Did handle.old handle.new (λ s t. PutsItem s.medium.items.items (block content.now) t.medium.items.items) }
+    ensures why { result ≢ 0 → result ≢ 3 → result ≡ status_in_c refusals.NoMemory }
 {
     let Some(site) = handle.site() else {
         return NO_SITE;
@@ -75,6 +79,7 @@ pub extern "C" fn excp_call_put_tape_mark(handle: &mut Handle) -> u32
     ensures site { TestsSite handle.old result }
     ensures keeps { KeepsSite handle.old handle.new }
     ensures done { result ≡ 0 → Did handle.old handle.new (λ s t. PutsItem s.medium.items.items tape_mark t.medium.items.items) }
+    ensures why { result ≢ 0 → result ≢ 3 → result ≡ status_in_c refusals.NoMemory }
 {
     let Some(site) = handle.site() else {
         return NO_SITE;
@@ -94,6 +99,7 @@ pub extern "C" fn excp_call_put_fault(
     ensures site { TestsSite handle.old result }
     ensures keeps { KeepsSite handle.old handle.new }
     ensures done { result ≡ 0 → Did handle.old handle.new (λ s t. t.medium.faults.items ≡ s.medium.faults.items ++ fault_from_c command unit_status channel_status sense ∷ []) }
+    ensures why { result ≢ 0 → result ≢ 3 → result ≡ status_in_c refusals.NoMemory }
 {
     let Some(site) = handle.site() else {
         return NO_SITE;
@@ -112,6 +118,7 @@ pub extern "C" fn excp_call_clear_medium(handle: &mut Handle) -> u32
     ensures site { TestsSite handle.old result }
     ensures keeps { KeepsSite handle.old handle.new }
     ensures done { result ≡ 0 → Did handle.old handle.new (λ s t. IsEmpty t.medium × OnlyMedium s t) }
+    ensures why { result ≢ 0 → result ≡ 3 }
 {
     let Some(site) = handle.site() else {
         return NO_SITE;
@@ -133,7 +140,7 @@ pub extern "C" fn excp_call_mount_disk(
     ensures site { TestsSite handle.old result }
     ensures keeps { KeepsSite handle.old handle.new }
     ensures done { result ≡ 0 → Did handle.old handle.new (λ s t. Mounts (AnyDevice.Disk (opening_disk (record { cylinders = cylinders; heads = heads; track_bytes = track_bytes }) s.medium.records.items s.medium.faults.items)) room.now.in_flight room.now.held unit.new s t) }
-    ensures why { result ≢ 0 → result ≢ 3 → Refused handle.old handle.new result (λ s. DiskRefused s (record { cylinders = cylinders; heads = heads; track_bytes = track_bytes }) room.now.in_flight room.now.held) }
+    ensures why { result ≢ 0 → result ≢ 3 → Refused handle.old handle.new result (λ s _. DiskRefused s (record { cylinders = cylinders; heads = heads; track_bytes = track_bytes }) room.now.in_flight room.now.held) }
     ensures refused { result ≢ 0 → SameSite handle.old handle.new × (unit.new ≡ unit.old) }
 {
     let Some(site) = handle.site() else {
@@ -158,7 +165,7 @@ pub extern "C" fn excp_call_mount_tape(
     ensures site { TestsSite handle.old result }
     ensures keeps { KeepsSite handle.old handle.new }
     ensures done { result ≡ 0 → Did handle.old handle.new (λ s t. Mounts (AnyDevice.Tape (opening_tape bytes s.medium.items.items s.medium.faults.items)) room.now.in_flight room.now.held unit.new s t) }
-    ensures why { result ≢ 0 → result ≢ 3 → Refused handle.old handle.new result (λ s. TapeRefused s bytes room.now.in_flight room.now.held) }
+    ensures why { result ≢ 0 → result ≢ 3 → Refused handle.old handle.new result (λ s _. TapeRefused s bytes room.now.in_flight room.now.held) }
     ensures refused { result ≢ 0 → SameSite handle.old handle.new × (unit.new ≡ unit.old) }
 {
     let Some(site) = handle.site() else {
@@ -179,7 +186,7 @@ pub extern "C" fn excp_call_mount_printer(
     ensures site { TestsSite handle.old result }
     ensures keeps { KeepsSite handle.old handle.new }
     ensures done { result ≡ 0 → Did handle.old handle.new (λ s t. Mounts (AnyDevice.Printer (opening_printer lines pages s.medium.faults.items)) room.now.in_flight room.now.held unit.new s t) }
-    ensures why { result ≢ 0 → result ≢ 3 → Refused handle.old handle.new result (λ s. PrinterRefused s lines pages room.now.in_flight room.now.held) }
+    ensures why { result ≢ 0 → result ≢ 3 → Refused handle.old handle.new result (λ s _. PrinterRefused s lines pages room.now.in_flight room.now.held) }
     ensures refused { result ≢ 0 → SameSite handle.old handle.new × (unit.new ≡ unit.old) }
 {
     let Some(site) = handle.site() else {

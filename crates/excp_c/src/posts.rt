@@ -10,8 +10,8 @@ ghost use Rattle.excp_c.specs.Looks.{post_of};
 
 use crate::buffer::copy_to;
 use crate::handle::Handle;
-use crate::status::{NO_ROOM, NO_SITE, OK, count_of, status_in_c};
-use excp_site::Site;
+use crate::status::{NO_SITE, OK, count_of, status_in_c};
+use excp_site::{Refusal, Site};
 use io_area::Area;
 use request_piece::Posted;
 
@@ -70,7 +70,7 @@ pub extern "C" fn excp_call_peek_post(handle: &mut Handle, task: u16, post: &mut
     ensures site { TestsSite handle.old result }
     ensures keeps { KeepsSite handle.old handle.new }
     ensures done { result ≡ 0 → Did handle.old handle.new (λ s _. (posted : PostedState) × IsFirstPost s task posted × (post.new ≡ post_of s posted)) }
-    ensures why { result ≢ 0 → result ≢ 3 → Refused handle.old handle.new result (λ s. PostRefused s.plain task) }
+    ensures why { result ≢ 0 → result ≢ 3 → Refused handle.old handle.new result (λ s _. PostRefused s.plain task) }
     ensures same { SameSite handle.old handle.new }
     ensures refused { result ≢ 0 → post.new ≡ post.old }
 {
@@ -97,13 +97,14 @@ pub extern "C" fn excp_call_next_post(
     ensures site { TestsSite handle.old result }
     ensures keeps { KeepsSite handle.old handle.new }
     ensures done { result ≡ 0 → Did handle.old handle.new (λ s t. (posted : PostedState) × IsFirstPost s task posted × SiteCollects task s t × (post.new ≡ post_of t posted) × (storage.new ≡ copied posted.area.bytes storage.old)) }
+    ensures why { result ≢ 0 → result ≢ 3 → result ≢ 26 → Refused handle.old handle.new result (λ s _. PostRefused s.plain task) }
     ensures refused { result ≢ 0 → SameSite handle.old handle.new × (post.new ≡ post.old) × (storage.new ≡ storage.old) }
 {
     let Some(site) = handle.site() else {
         return NO_SITE;
     };
     match site.post(task) {
-        Ok(posted) if posted.area().len() > storage.len() => return NO_ROOM,
+        Ok(posted) if posted.area().len() > storage.len() => return status_in_c(Refusal::NoRoom),
         Ok(_) => {}
         Err(refusal) => return status_in_c(refusal),
     }

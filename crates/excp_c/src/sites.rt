@@ -1,12 +1,14 @@
 //! Sites (c/excp.h, "Sites").
 
 ghost use Rattle.std.specs.Prelude.{◌≡◌, ◌≢◌, ◌↔◌, IsSome};
+ghost use Rattle.excp_site.specs.declared.refusal.Refusal.TheVariants as refusals;
+ghost use Rattle.excp_c.specs.Statuses.{status_in_c};
 ghost use Rattle.excp_c.specs.Calls.{SameSite, TestsSite};
 ghost use Rattle.excp_c.specs.declared.handle.TheConstants.{MARK};
 
 use crate::handle::{Handle, MARK, put, take};
-use crate::status::{NO_MEMORY, NO_SITE, OK, SITE_IN_USE, status_in_c};
-use excp_site::Site;
+use crate::status::{NO_SITE, OK, SITE_IN_USE, status_in_c};
+use excp_site::{Refusal, Site};
 use std::alloc::Global;
 
 /// `excp_site_new`.
@@ -19,6 +21,7 @@ pub extern "C" fn excp_call_site_new(
 ) -> u32
     ensures in_use { (result ≡ 4) ↔ (handle.old.mark ≡ MARK) }
     ensures made { result ≡ 0 → (handle.new.mark ≡ MARK) × IsSome handle.new.slot.value }
+    ensures why { result ≢ 0 → result ≢ 4 → result ≡ status_in_c refusals.NoMemory }
     ensures refused { result ≢ 0 → (handle.new.mark ≡ handle.old.mark) × SameSite handle.old handle.new }
 {
     if handle.mark == MARK {
@@ -33,7 +36,7 @@ pub extern "C" fn excp_call_site_new(
             put(handle, site);
             OK
         }
-        Err(_) => NO_MEMORY,
+        Err(_) => status_in_c(Refusal::NoMemory),
     }
 }
 
@@ -42,6 +45,7 @@ pub extern "C" fn excp_call_site_new(
 pub extern "C" fn excp_call_site_free(alloc: Global, handle: &mut Handle) -> u32
     ensures site { TestsSite handle.old result }
     ensures freed { result ≡ 0 → handle.new.mark ≡ 0 }
+    ensures why { result ≢ 0 → result ≡ 3 }
 {
     match take(alloc, handle) {
         Some(site) => {

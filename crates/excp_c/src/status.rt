@@ -8,15 +8,9 @@ use excp_site::Refusal;
 
 pub(crate) const OK: u32 = 0;
 
-pub(crate) const NO_MEMORY: u32 = 1;
-
 pub(crate) const NO_SITE: u32 = 3;
 
 pub(crate) const SITE_IN_USE: u32 = 4;
-
-pub(crate) const BAD_NUMBER: u32 = 5;
-
-pub(crate) const NO_ROOM: u32 = 26;
 
 /// The status of a refusal.
 pub(crate) fn status_in_c(refusal: Refusal) -> u32
@@ -25,8 +19,8 @@ pub(crate) fn status_in_c(refusal: Refusal) -> u32
     ensures site { result ≢ 3 }
 {
     match refusal {
-        Refusal::NoMemory => NO_MEMORY,
-        Refusal::BadNumber => BAD_NUMBER,
+        Refusal::NoMemory => 1,
+        Refusal::BadNumber => 5,
         Refusal::NoUnit => 6,
         Refusal::NoTask => 7,
         Refusal::NoDcb => 8,
@@ -45,7 +39,7 @@ pub(crate) fn status_in_c(refusal: Refusal) -> u32
         Refusal::Full => 23,
         Refusal::NoNumber => 24,
         Refusal::NoPost => 25,
-        Refusal::NoRoom => NO_ROOM,
+        Refusal::NoRoom => 26,
         Refusal::NothingThere => 27,
         Refusal::NotIdle => 28,
         Refusal::InError => 29,

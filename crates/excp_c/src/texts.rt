@@ -1,8 +1,9 @@
 //! Bytes that are made and copied out (c/excp.h, "Texts and images").
 
-ghost use Rattle.std.specs.Prelude.{◌≡◌, ◌≢◌, drop, length, take};
+ghost use Rattle.std.specs.Prelude.{◌≡◌, ◌≢◌, ◌+◌, drop, length, take};
 ghost use Rattle.excp_c.specs.Calls.{KeepsSite, SameSite, TestsSite};
-ghost use Rattle.excp_c.specs.Done.{Did};
+ghost use Rattle.excp_site.specs.Refusals.{HistoryRefused, NoRoomFor};
+ghost use Rattle.excp_c.specs.Done.{Did, Refused};
 
 use crate::handle::Handle;
 use crate::status::{NO_SITE, done, give};
@@ -13,6 +14,7 @@ pub extern "C" fn excp_call_make_history(handle: &mut Handle, unit: u16, count: 
     ensures site { TestsSite handle.old result }
     ensures keeps { KeepsSite handle.old handle.new }
     ensures done { result ≡ 0 → Did handle.old handle.new (λ s t. (count.new ≡ length t.made) × (t ≡ record s { made = t.made })) }
+    ensures why { result ≢ 0 → result ≢ 3 → Refused handle.old handle.new result (λ s _. HistoryRefused s.plain unit) }
     ensures refused { result ≢ 0 → SameSite handle.old handle.new × (count.new ≡ count.old) }
 {
     let Some(site) = handle.site() else {
@@ -27,6 +29,7 @@ pub extern "C" fn excp_call_copy_out(handle: &mut Handle, from: usize, bytes: &m
     ensures site { TestsSite handle.old result }
     ensures keeps { KeepsSite handle.old handle.new }
     ensures done { result ≡ 0 → Did handle.old handle.new (λ s _. bytes.new ≡ take (length bytes.old) (drop from s.made)) }
+    ensures why { result ≢ 0 → result ≢ 3 → Refused handle.old handle.new result (λ s _. NoRoomFor (from + length bytes.old) (length s.made)) }
     ensures refused { result ≢ 0 → bytes.new ≡ bytes.old }
     ensures same { SameSite handle.old handle.new }
 {
