@@ -17,6 +17,8 @@ uint32_t excp_call_clear_medium(SITE);
 uint32_t excp_call_mount_disk(SITE, uint64_t cylinders, uint64_t heads, uint64_t track_bytes, const excp_room *room, uint16_t *unit);
 uint32_t excp_call_mount_tape(SITE, uint64_t bytes, const excp_room *room, uint16_t *unit);
 uint32_t excp_call_mount_printer(SITE, uint64_t lines, uint64_t pages, const excp_room *room, uint16_t *unit);
+uint32_t excp_call_mount_ckd(SITE, SLICE(image), const excp_room *room, uint16_t *unit);
+uint32_t excp_call_mount_aws(SITE, SLICE(image), uint64_t bytes, const excp_room *room, uint16_t *unit);
 uint32_t excp_call_open(SITE, uint16_t unit, uint8_t method, SLICE(extents), uint16_t *dcb);
 uint32_t excp_call_issue(SITE, uint16_t task, uint16_t unit, uint16_t dcb, uint32_t iob, uint32_t base, SLICE(storage), uint64_t *number);
 uint32_t excp_call_take(SITE, uint16_t unit, excp_answer *answer);
@@ -38,6 +40,8 @@ uint32_t excp_call_waiting(SITE, uint16_t unit, uint32_t place, uint16_t *task, 
 uint32_t excp_call_read_record(SITE, uint16_t unit, uint16_t cylinder, uint16_t head, uint32_t place, excp_record *record, ROOM(bytes));
 uint32_t excp_call_printed_line(SITE, uint16_t unit, uint32_t place, excp_line *line, ROOM(bytes));
 uint32_t excp_call_make_history(SITE, uint16_t unit, size_t *length);
+uint32_t excp_call_make_image(SITE, uint16_t unit, size_t *length);
+uint32_t excp_call_made_length(SITE, size_t *length);
 uint32_t excp_call_copy_out(SITE, size_t from, ROOM(bytes));
 uint32_t excp_call_checkpoint(SITE, uint16_t unit);
 
@@ -66,6 +70,8 @@ const char *excp_message(excp_status status)
         [EXCP_TOO_MANY_DCBS] = "a unit has at most 65,535 DCBs",
         [EXCP_BAD_GEOMETRY] = "the size of the disk, the tape or the printer is not one",
         [EXCP_BAD_MEDIUM] = "what was put is not of the medium or does not fit it, or the unit has another device",
+        [EXCP_BAD_IMAGE] = "the image breaks a rule of its format, or has more than the tape",
+        [EXCP_NO_IMAGE] = "no model of a disk has as many heads and bytes a track",
         [EXCP_BAD_EXTENT] = "an extent is not one of the device, or is not 16 bytes",
         [EXCP_AREA_MISALIGNED] = "the base of the storage is not a multiple of 8",
         [EXCP_AREA_TOO_LONG] = "the storage has over 8,192 bytes",
@@ -77,8 +83,8 @@ const char *excp_message(excp_status status)
         [EXCP_FULL] = "as many requests are in flight to the unit as may be",
         [EXCP_NO_NUMBER] = "the task used its last number at the unit",
         [EXCP_NO_POST] = "no post was delivered to the task that it has not collected",
-        [EXCP_NO_ROOM] = "the buffer is too short, or the place is past the end",
-        [EXCP_NOTHING_THERE] = "no request waits at that place",
+        [EXCP_NO_ROOM] = "the buffer is too short, or so many bytes were not made",
+        [EXCP_NOTHING_THERE] = "no request, record or line is at that place",
         [EXCP_NOT_IDLE] = "a request is in flight, waits, is active or out, or a post is not collected",
         [EXCP_IN_ERROR] = "a DCB is in error",
     };
@@ -106,6 +112,10 @@ CALL(mount_disk, (SITE, uint64_t cylinders, uint64_t heads, uint64_t track_bytes
 CALL(mount_tape, (SITE, uint64_t bytes, const excp_room *room, uint16_t *unit), site && room && unit, site, bytes, room, unit)
 CALL(mount_printer, (SITE, uint64_t lines, uint64_t pages, const excp_room *room, uint16_t *unit), site && room && unit, site, lines,
      pages, room, unit)
+CALL(mount_ckd, (SITE, const uint8_t *image, size_t length, const excp_room *room, uint16_t *unit),
+     site && IS_SLICE(image, length) && room && unit, site, BYTES(image, length), room, unit)
+CALL(mount_aws, (SITE, const uint8_t *image, size_t length, uint64_t bytes, const excp_room *room, uint16_t *unit),
+     site && IS_SLICE(image, length) && room && unit, site, BYTES(image, length), bytes, room, unit)
 
 CALL(open, (SITE, uint16_t unit, uint8_t method, const uint8_t *extents, size_t length, uint16_t *dcb),
      site && IS_SLICE(extents, length) && dcb, site, unit, method, BYTES(extents, length), dcb)
@@ -138,6 +148,8 @@ CALL(read_record, (SITE, uint16_t unit, uint16_t cylinder, uint16_t head, uint32
 CALL(printed_line, (SITE, uint16_t unit, uint32_t place, excp_line *line, uint8_t *bytes, size_t room),
      site && line && IS_SLICE(bytes, room), site, unit, place, line, BYTES(bytes, room))
 CALL(make_history, (SITE, uint16_t unit, size_t *length), site && length, site, unit, length)
+CALL(make_image, (SITE, uint16_t unit, size_t *length), site && length, site, unit, length)
+CALL(made_length, (SITE, size_t *length), site && length, site, length)
 CALL(copy_out, (SITE, size_t from, uint8_t *bytes, size_t length), site && IS_SLICE(bytes, length), site, from, BYTES(bytes, length))
 
 CALL(checkpoint, (SITE, uint16_t unit), site, site, unit)

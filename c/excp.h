@@ -42,7 +42,7 @@ typedef enum excp_status {
     EXCP_NULL_POINTER = 2,
     EXCP_NO_SITE = 3,        /* the handle has no site */
     EXCP_SITE_IN_USE = 4,    /* excp_site_new: the handle has a site already */
-    EXCP_BAD_NUMBER = 5,     /* a number is outside its range: a mode, a method, a room, a count of commands */
+    EXCP_BAD_NUMBER = 5,     /* a number is outside its range: a mode, a method, a room, a count of tasks or commands */
     EXCP_NO_UNIT = 6,
     EXCP_NO_TASK = 7,
     EXCP_NO_DCB = 8,         /* no such DCB was opened; for a reset, none is open */
@@ -50,6 +50,8 @@ typedef enum excp_status {
     EXCP_TOO_MANY_DCBS = 10, /* a unit has at most 65,535 DCBs */
     EXCP_BAD_GEOMETRY = 11,  /* the size of a disk, a tape or a printer */
     EXCP_BAD_MEDIUM = 12,    /* what was put is not of the medium, or does not fit it; or the unit has another device */
+    EXCP_BAD_IMAGE = 13,     /* an image breaks a rule of its format, or has more than the tape: excp_copy_out gives the rule in words */
+    EXCP_NO_IMAGE = 14,      /* excp_make_image: no model of a disk has as many heads and bytes a track */
     EXCP_BAD_EXTENT = 15,    /* an extent is not one of the device, or is not 16 bytes */
     EXCP_AREA_MISALIGNED = 16, /* the base of the storage is not a multiple of 8 */
     EXCP_AREA_TOO_LONG = 17, /* the storage has over 8,192 bytes */
@@ -61,8 +63,8 @@ typedef enum excp_status {
     EXCP_FULL = 23,          /* as many requests are in flight to the unit as may be */
     EXCP_NO_NUMBER = 24,     /* the task used its last number at the unit, 4,294,967,295: checkpoint the unit */
     EXCP_NO_POST = 25,       /* no post was delivered to the task that it has not collected */
-    EXCP_NO_ROOM = 26,       /* the caller's buffer is too short, or the place is past the end */
-    EXCP_NOTHING_THERE = 27, /* no request waits at that place */
+    EXCP_NO_ROOM = 26,       /* the caller's buffer is too short; excp_copy_out: it is too long */
+    EXCP_NOTHING_THERE = 27, /* no request, record or line is at that place */
     EXCP_NOT_IDLE = 28,      /* excp_checkpoint: a request is in flight, waits, is active or out, or a post is not collected */
     EXCP_IN_ERROR = 29       /* excp_checkpoint: an open DCB is in error */
 } excp_status;
@@ -75,7 +77,8 @@ const char *excp_version(void);
 
 /* ---- Sites ---------------------------------------------------------------------------------------------------------- */
 
-/* Makes a site with no unit, with `tasks` tasks, numbered from 0. Up to `post_room` posts may be on their way back to a task. */
+/* Makes a site with no unit, with `tasks` tasks, numbered from 0. Up to `post_room` posts may be on their way back to a task. Both
+ * are at least 1. */
 excp_status excp_site_new(excp_site *site, uint16_t tasks, uint32_t post_room);
 
 /* Frees a site. The handle is EXCP_SITE_INIT then. */
@@ -84,7 +87,7 @@ excp_status excp_site_free(excp_site *site);
 /* ---- Media and units ------------------------------------------------------------------------------------------------- */
 
 /* What the medium of the next unit has: records of a disk, or blocks and tape marks of a tape, and the faults that the device is to
- * meet. A mount uses it up. A mount that returns another status than EXCP_OK leaves it. */
+ * meet. The mount tests it and uses it up. A mount that returns another status than EXCP_OK leaves it. */
 excp_status excp_put_record(excp_site *site, uint16_t cylinder, uint16_t head, uint8_t number, const uint8_t *key, size_t key_length,
                             const uint8_t *data, size_t data_length);
 excp_status excp_put_block(excp_site *site, const uint8_t *data, size_t length);
@@ -109,6 +112,11 @@ excp_status excp_mount_disk(excp_site *site, uint64_t cylinders, uint64_t heads,
                             uint16_t *unit);
 excp_status excp_mount_tape(excp_site *site, uint64_t bytes, const excp_room *room, uint16_t *unit);
 excp_status excp_mount_printer(excp_site *site, uint64_t lines, uint64_t pages, const excp_room *room, uint16_t *unit);
+
+/* Adds a unit from an image, with the faults that were put: a disk from a CKD_P370 image, or a tape of `bytes` bytes from an AWSTAPE
+ * image (docs/FORMATS.md). With EXCP_BAD_IMAGE, the rule that the image breaks, in words, is what excp_copy_out copies. */
+excp_status excp_mount_ckd(excp_site *site, const uint8_t *image, size_t length, const excp_room *room, uint16_t *unit);
+excp_status excp_mount_aws(excp_site *site, const uint8_t *image, size_t length, uint64_t bytes, const excp_room *room, uint16_t *unit);
 
 /* ---- DCBs ------------------------------------------------------------------------------------------------------------ */
 
@@ -135,7 +143,7 @@ typedef enum excp_answer_kind {
     EXCP_ENDED = 10,      /* interrupt: the request was posted with `code` */
     EXCP_DELIVERED = 11,  /* deliver: the post of the request is on its way back to its task */
     EXCP_ROW_FULL = 12,   /* deliver: its task has as many posts to collect as it may */
-    EXCP_ACTIVE = 13,     /* purge: the request, which the purge covers, is active */
+    EXCP_ACTIVE = 13,     /* purge: the request, which the purge covers, is active; EXCP_HALT ends it at its next command */
     EXCP_CLOSED = 14,     /* close: no request of the DCB is active */
     EXCP_CLOSING = 15     /* close: this request of the DCB is active */
 } excp_answer_kind;
@@ -260,7 +268,8 @@ typedef struct excp_record {
 } excp_record;
 
 /* The record at a place of a track, counted from 0; that at 0 is R0. Its key and its data go to `bytes`, one behind the other, which
- * has room for `room` bytes. EXCP_NO_ROOM: it has more, or the track has no such place. EXCP_BAD_MEDIUM: the unit is no disk. */
+ * has room for `room` bytes. EXCP_NO_ROOM: it has more. EXCP_NOTHING_THERE: the track has no such place. EXCP_BAD_MEDIUM: the unit
+ * is no disk. */
 excp_status excp_read_record(excp_site *site, uint16_t unit, uint16_t cylinder, uint16_t head, uint32_t place, excp_record *record,
                              uint8_t *bytes, size_t room);
 
@@ -271,13 +280,22 @@ typedef struct excp_line {
 } excp_line;
 
 /* The line of a printer at a place, counted from 0, the oldest first. Its bytes, in EBCDIC, go to `bytes`. EXCP_NO_ROOM: it has more
- * than `room`, or there is no such line. EXCP_BAD_MEDIUM: the unit is no printer. */
+ * than `room`. EXCP_NOTHING_THERE: there is no such line. EXCP_BAD_MEDIUM: the unit is no printer. */
 excp_status excp_printed_line(excp_site *site, uint16_t unit, uint32_t place, excp_line *line, uint8_t *bytes, size_t room);
 
-/* What happened at a unit, as text: a line for each entry. The call makes the text, keeps it in the site in place of the one before,
- * and says how many bytes it has. excp_copy_out copies `length` of them, from the place `from` on (EXCP_NO_ROOM: there are not so
- * many). */
+/* Histories and images. A site keeps the bytes that were made last: each of these calls makes them anew, and says how many there are.
+ * excp_copy_out copies `length` of them, from the place `from` on (EXCP_NO_ROOM: there are not so many). */
+
+/* What happened at a unit since it was mounted, or since its last checkpoint, as text: a line for each entry. Requests have the
+ * numbers that they have there, from 1 on. */
 excp_status excp_make_history(excp_site *site, uint16_t unit, size_t *length);
+
+/* The medium of a unit as an image: a disk as CKD_P370, a tape as AWSTAPE, the paper of a printer as text in UTF-8
+ * (docs/FORMATS.md). What was not written is as in the image that the unit came from. */
+excp_status excp_make_image(excp_site *site, uint16_t unit, size_t *length);
+
+/* How many bytes were made last. */
+excp_status excp_made_length(excp_site *site, size_t *length);
 excp_status excp_copy_out(excp_site *site, size_t from, uint8_t *bytes, size_t length);
 
 /* ---- Long use -------------------------------------------------------------------------------------------------------- */

@@ -135,7 +135,7 @@ static int show(excp_site *site)
             putchar(character(bytes[at]));
         putchar('\n');
     }
-    return status != EXCP_NO_ROOM && failed("paper", status);
+    return status != EXCP_NOTHING_THERE && failed("paper", status);
 }
 
 int main(void)

@@ -9,15 +9,15 @@ docs/CLIENT.md, "From Python", is a tutorial.
 """
 
 from .blocks import Area, Ccw, Code, Csw, Extent, Flag, Iob, Op, Seek
-from .errors import (BadMedium, BadNumber, BadRequest, ExcpError, Full, InError, LibraryNotFound, NoDcb, NoMemory, NoNumber, NoSite, NotIdle,
-                     Status)
+from .errors import (BadImage, BadMedium, BadNumber, BadRequest, ExcpError, Full, InError, LibraryNotFound, NoDcb, NoImage, NoMemory,
+                     NoNumber, NoSite, NotIdle, Status)
 from .library import message, version
 from .site import (TAPE_MARK, Active, Answer, Dcb, DcbPhase, DcbState, Device, Fault, Kind, Line, Method, Mode, Name, Post, Record, Served,
                    ServedEnd, Site, Unit, UnitState)
 
 __all__ = [
-    "TAPE_MARK", "Active", "Answer", "Area", "BadMedium", "BadNumber", "BadRequest", "Ccw", "Code", "Csw", "Dcb", "DcbPhase", "DcbState",
-    "Device", "ExcpError", "Extent", "Fault", "Flag", "Full", "InError", "Iob", "Kind", "LibraryNotFound", "Line", "Method", "Mode", "Name",
-    "NoDcb", "NoMemory", "NoNumber", "NoSite", "NotIdle", "Op", "Post", "Record", "Seek", "Served", "ServedEnd", "Site", "Status", "Unit",
-    "UnitState", "message", "version",
+    "TAPE_MARK", "Active", "Answer", "Area", "BadImage", "BadMedium", "BadNumber", "BadRequest", "Ccw", "Code", "Csw", "Dcb", "DcbPhase",
+    "DcbState", "Device", "ExcpError", "Extent", "Fault", "Flag", "Full", "InError", "Iob", "Kind", "LibraryNotFound", "Line", "Method",
+    "Mode", "Name", "NoDcb", "NoImage", "NoMemory", "NoNumber", "NoSite", "NotIdle", "Op", "Post", "Record", "Seek", "Served", "ServedEnd",
+    "Site", "Status", "Unit", "UnitState", "message", "version",
 ]

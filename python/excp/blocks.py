@@ -218,7 +218,7 @@ class Area:
         if not 0 <= start <= start + len(content) <= len(storage):
             raise ValueError(f"{len(content)} bytes at {at!r} are not in the area")
         storage[start : start + len(content)] = content
-        self._storage, self._pieces = storage, []
+        self._storage = storage
 
     def at(self, at: Address, length: int) -> bytes:
         """Bytes of the storage."""
@@ -234,6 +234,8 @@ class Area:
         for place, piece in self._pieces:
             image = self._with_addresses(piece).to_bytes()
             self._storage[place : place + len(image)] = image
+        # labels keep their addresses, so what is laid out stays
+        self._pieces = []
         return bytes(self._storage)
 
     def _begin(self, label: str, boundary: int) -> int:

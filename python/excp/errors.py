@@ -21,6 +21,8 @@ class Status(enum.IntEnum):
     TOO_MANY_DCBS = 10
     BAD_GEOMETRY = 11
     BAD_MEDIUM = 12
+    BAD_IMAGE = 13
+    NO_IMAGE = 14
     BAD_EXTENT = 15
     AREA_MISALIGNED = 16
     AREA_TOO_LONG = 17
@@ -67,6 +69,14 @@ class BadMedium(ExcpError, ValueError):
     """What was given is no medium: a size, a record, a block or a fault."""
 
 
+class BadImage(BadMedium):
+    """An image breaks a rule of its format, or has more than the tape. The message is that rule, with the byte in the image."""
+
+
+class NoImage(ExcpError):
+    """No image has such a disk: it came from no image, and no model has as many heads and bytes a track."""
+
+
 class NoDcb(ExcpError, LookupError):
     """No such DCB was opened; or none is open, for a reset."""
 
@@ -98,6 +108,8 @@ _CLASSES = {
     Status.NO_DCB: NoDcb,
     Status.BAD_GEOMETRY: BadMedium,
     Status.BAD_MEDIUM: BadMedium,
+    Status.BAD_IMAGE: BadImage,
+    Status.NO_IMAGE: NoImage,
     Status.AREA_MISALIGNED: BadRequest,
     Status.AREA_TOO_LONG: BadRequest,
     Status.AREA_PAST_TOP: BadRequest,

@@ -7,7 +7,7 @@ import functools
 import operator
 import os
 from ctypes import POINTER, Structure, byref, c_char_p, c_int, c_size_t, c_uint8, c_uint16, c_uint32, c_uint64, c_void_p
-from typing import Any, Iterator, List
+from typing import Any, Iterator, List, Tuple
 
 from .errors import BadNumber, LibraryNotFound, Status, error_of
 
@@ -83,6 +83,8 @@ CALLS = {
     "mount_disk": "u64 u64 u64 ref ref",
     "mount_tape": "u64 ref ref",
     "mount_printer": "u64 u64 ref ref",
+    "mount_ckd": "bytes ref ref",
+    "mount_aws": "bytes u64 ref ref",
     "open": "u16 u8 bytes ref",
     "issue": "u16 u16 u16 u32 u32 bytes ref",
     "take": "u16 ref",
@@ -104,6 +106,8 @@ CALLS = {
     "read_record": "u16 u16 u16 u32 ref buffer",
     "printed_line": "u16 u32 ref buffer",
     "make_history": "u16 ref",
+    "make_image": "u16 ref",
+    "made_length": "ref",
     "copy_out": "size buffer",
     "checkpoint": "u16",
 }
@@ -155,10 +159,17 @@ def version() -> str:
     return library().excp_version().decode("ascii")
 
 
+@functools.lru_cache(maxsize=None)
+def planned(name: str) -> Tuple[Any, List[str]]:
+    """A call of the library, and the words of its values."""
+    return getattr(library(), f"excp_{name}"), CALLS[name].split()
+
+
 def call(name: str, handle: Handle, *values: Any) -> None:
     """Makes a call on a site. Raises the exception of its status."""
+    function, words = planned(name)
     given: List[Any] = []
-    for word, value in zip(CALLS[name].split(), values):
+    for word, value in zip(words, values):
         if word in NUMBERS:
             given.append(number(value, NUMBERS[word][1]))
         elif word == "bytes":
@@ -168,7 +179,7 @@ def call(name: str, handle: Handle, *values: Any) -> None:
             given += [value, len(value)]
         else:
             given.append(byref(value))
-    status = getattr(library(), f"excp_{name}")(byref(handle), *given)
+    status = function(byref(handle), *given)
     if status:
         raise error_of(status, message(status))
 

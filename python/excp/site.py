@@ -11,7 +11,7 @@ from typing import Any, Iterable, List, NamedTuple, Optional, Sequence, Tuple, U
 
 from . import library
 from .blocks import Address, Area, Csw, Extent, piece_of
-from .errors import ExcpError, Status
+from .errors import BadImage, ExcpError, Status
 from .library import Handle, call
 
 # How many requests may be in flight to a unit and held by it, and how many posts may be on their way to a task, unless said otherwise.
@@ -283,6 +283,16 @@ class Site:
         """Adds a printer for `lines` lines, on paper of `pages` pages."""
         return self._mount("mount_printer", (lines, pages), (), faults, (in_flight, held))
 
+    def disk_from(self, image: bytes, *, faults: Iterable[Fault] = (), in_flight: int = ROOM, held: int = ROOM) -> Unit:
+        """Adds a disk with the volume of a CKD_P370 image (docs/FORMATS.md). Raises `BadImage`."""
+        return self._mount("mount_ckd", (image,), (), faults, (in_flight, held))
+
+    def tape_from(self, image: bytes, *, length: Optional[int] = None, faults: Iterable[Fault] = (), in_flight: int = ROOM,
+                  held: int = ROOM) -> Unit:
+        """Adds a tape of `length` bytes with the items of an AWSTAPE image. Without a length it has as many bytes as the image.
+        Raises `BadImage`."""
+        return self._mount("mount_aws", (image, len(image) if length is None else length), (), faults, (in_flight, held))
+
     def _mount(self, name: str, values: Tuple[Any, ...], items: Iterable[Any], faults: Iterable[Fault], room: Tuple[int, int]) -> Unit:
         unit, most = ctypes.c_uint16(), 2**32 - 1
         rooms = library.Room(*(library.number(it, most) for it in room))
@@ -293,8 +303,10 @@ class Site:
                 for fault in faults:
                     self._call("put_fault", fault.command, fault.unit_status, fault.channel_status, fault.sense)
                 self._call(name, *values, rooms, unit)
-            except BaseException:
+            except BaseException as error:
                 call("clear_medium", self._handle)
+                if isinstance(error, BadImage):
+                    raise BadImage(error.status, self._made().decode("utf-8")) from None
                 raise
             self.units.append(Unit(self, unit.value))
             return self.units[-1]
@@ -344,6 +356,19 @@ class Site:
         return [unit.purge_task(task, mode) for unit in self.units]
 
     # --- calls
+
+    def _made(self) -> bytes:
+        """The bytes that the site made last."""
+        length = ctypes.c_size_t()
+        self._call("made_length", length)
+        made = ctypes.create_string_buffer(length.value)
+        self._call("copy_out", 0, made)
+        return made.raw
+
+    def _make(self, name: str, unit: int) -> bytes:
+        with self._lock:
+            self._call(name, unit, ctypes.c_size_t())
+            return self._made()
 
     def _call(self, name: str, *values: Any) -> None:
         with self._lock:
@@ -457,20 +482,21 @@ class Unit:
                 try:
                     self.site._call(name, self.number, *where, place, found, data)
                 except ExcpError as error:
-                    if error.status == Status.NO_ROOM:
+                    if error.status == Status.NOTHING_THERE:
                         return
                     raise
                 keep(found, data.raw)
                 place += 1
 
     def history(self) -> str:
-        """What happened at the unit: a line for each entry."""
-        length = ctypes.c_size_t()
-        with self.site._lock:
-            self.site._call("make_history", self.number, length)
-            made = ctypes.create_string_buffer(length.value)
-            self.site._call("copy_out", 0, made)
-        return made.raw.decode("ascii")
+        """What happened at the unit since it was mounted, or since its last checkpoint: a line for each entry. Requests have the
+        numbers that they have there, from 1 on."""
+        return self.site._make("make_history", self.number).decode("ascii")
+
+    def image(self) -> bytes:
+        """The medium as an image: a disk as CKD_P370, a tape as AWSTAPE, the paper of a printer as text in UTF-8 (docs/FORMATS.md).
+        What was not written is as in the image that the unit came from. Raises `NoImage`."""
+        return self.site._make("make_image", self.number)
 
 
 class Dcb:

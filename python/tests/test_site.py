@@ -1,6 +1,7 @@
 """Sites, units and events, by docs/MANUAL.md, docs/SPECIFICATION.md and c/excp.h."""
 
 import re
+import struct
 import threading
 import unittest
 
@@ -202,6 +203,73 @@ class Rooms(unittest.TestCase):
             self.assertEqual(site.issue(0, dcb, read_record()), Name(0, 0, 2))
             disk.serve()
             self.assertEqual(str(site.next_post(0)), "post 0 0 2 7F 001048 0C00 0000 0000")
+
+
+def aws(*items):
+    """The AWSTAPE image of blocks, each in one chunk, and of tape marks (docs/FORMATS.md)."""
+    image, before = b"", 0
+    for item in items:
+        data = b"" if item is TAPE_MARK else item
+        image += struct.pack("<HHBB", len(data), before, 0x40 if item is TAPE_MARK else 0xA0, 0) + data
+        before = len(data)
+    return image
+
+
+def ckd(data):
+    """The CKD_P370 image of one track of 64 bytes with its R0 and a record."""
+    header = b"CKD_P370" + struct.pack("<IIB", 1, 64, 0x90)
+    track = bytes(5) + bytes([0, 0, 0, 0, 0, 0, 0, 8]) + bytes(8) + bytes([0, 0, 0, 0, 1, 0, 0, len(data)]) + data + b"\xFF" * 8
+    return header.ljust(512, b"\0") + track.ljust(64, b"\0")
+
+
+class Images(unittest.TestCase):
+    """Media from images and as images, by docs/FORMATS.md."""
+
+    def test_tape(self):
+        with Site() as site:
+            image = aws(b"FIRST", TAPE_MARK)
+            tape = site.tape_from(image, length=100)
+            self.assertEqual(tape.image(), image)
+            tape.open()
+            for program in [Ccw(Op.RDF, "BUFFER", Flag.SLI, 16)], [Ccw(Op.WR, "DATA", count=6)]:
+                site.issue(0, tape.dcb(1), request(*program, data=b"SECOND"))
+            tape.serve()
+            self.assertEqual([it.code for it in site.posts(0)], [Code.ENDED] * 2)
+            self.assertEqual(tape.image(), aws(b"FIRST", b"SECOND"))
+
+    def test_disk(self):
+        with Site() as site:
+            image = ckd(b"\xC1\xC2\xC3\xC4")
+            disk = site.disk_from(image)
+            self.assertEqual((disk.image(), disk.records(0, 0)[1:]), (image, [Record(0, 0, 1, b"\xC1\xC2\xC3\xC4")]))
+            search = Ccw(Op.SIDE, "ID", Flag.CC, 5), Ccw(Op.TIC, "CP")
+            site.issue(0, disk.open(extents=TRACK), request(*search, Ccw(Op.WD, "DATA", count=4), data=b"NEW."))
+            disk.serve()
+            self.assertEqual(disk.image(), ckd(b"NEW."))
+
+    def test_paper(self):
+        with Site() as site:
+            printer = site.printer(lines=100, pages=5)
+            program = Ccw(Op.PRC1, "DATA", Flag.CC | Flag.SLI, 5), Ccw(Op.PR0, "WORD", Flag.SLI, 4)
+            area = request(*program, dcb=printer.open(), data="TITLE".encode("cp037"))
+            area.data("WORD", "WORD".encode("cp037"))
+            site.issue(0, printer.dcb(1), area)
+            site.serve()
+            self.assertEqual(printer.image(), b"TITLE\nWORD\r")
+
+    def test_mistakes(self):
+        with Site() as site:
+            for call, words in ((lambda: site.tape_from(aws(b"FIRST")[:-1]), r"^byte 0: "), (lambda: site.disk_from(b"CKD_"), r"^byte 4: "),
+                                (lambda: site.tape_from(aws(b"FIRST"), length=8), r"^byte 0: ")):
+                with self.assertRaisesRegex(excp.BadImage, words) as caught:
+                    call()
+                self.assertEqual(caught.exception.status, Status.BAD_IMAGE)
+            with self.assertRaises(excp.BadMedium):
+                site.tape_from(aws(b"FIRST"), length=2**32 + 1)
+            disk, _ = a_disk(site)
+            with self.assertRaises(excp.NoImage):
+                disk.image()
+            self.assertEqual(disk.number, 0)
 
 
 class Histories(unittest.TestCase):

@@ -1,7 +1,8 @@
 """The library for C and Python: its answers and posts are those of the program; the examples; memory that runs out; calls at random.
 
 `tests/library/driver.py` carries scripts and scenarios out through the Python package. All stored and made scenarios, stored
-scripts, and jobs at random are compared with what the program prints. The programs of examples/c and tests/library are built with
+scripts, and jobs at random are compared with what the program prints, and media with what it saves. Images at fault are judged as
+tests/formats.py judges them. The programs of examples/c and tests/library are built with
 each C compiler that is there, and run alone, with sanitizers and under valgrind.
 """
 
@@ -13,6 +14,7 @@ import shutil
 import sys
 import tempfile
 
+from groups import images
 from groups import random as at_random
 from groups import scenarios
 from harness import SAMPLES, TOP, Case, Failed, Skipped, expect, files, multiple, outcome, read, require, run
@@ -39,6 +41,10 @@ BATCH = 25
 SECONDS = 4
 SECONDS_LONG = 600
 
+# How many requests a site serves, and after how many a checkpoint comes.
+USES = "100000", "100"
+USES_LONG = "100000000", "1000000"
+
 STRICT = ["-std=c99", "-Wall", "-Wextra", "-Werror", "-pedantic", "-g", "-O1"]
 SANITIZERS = ["-fsanitize=address,undefined", "-fno-sanitize-recover=all", "-fno-omit-frame-pointer"]
 COMPILERS = "gcc", "clang"
@@ -53,6 +59,10 @@ PRINTS = {
     "examples/c/threads": "task 0: 1000 requests ended\ntask 1: 1000 requests ended\n",
 }
 OUT_OF_MEMORY, FUZZ, LONG_USE = "tests/library/out_of_memory", "tests/library/fuzz", "tests/library/long_use"
+REQUESTS = "tests/library/requests"
+
+# How many times the instructions of the same calls in Rattle, a site cycle of excp_speed, a request from C takes at most.
+MOST_TIMES = 1.15
 
 
 def needs(*tools):
@@ -175,6 +185,73 @@ def jobs_are_the_same(setup, seed):
     prints_the_same(setup, "step", events, "scenario", "--plain")
 
 
+# --- images
+
+
+def are_loaded(name_of, texts):
+    """The library keeps each image, or says its first fault with its byte."""
+    needs()
+    with tempfile.TemporaryDirectory(dir=images.in_memory(sum(map(len, texts)))) as folder:
+        for number, image in enumerate(texts):
+            images.write(f"{folder}/{number}", image)
+        ran = run([sys.executable, "-B", DRIVER, "load", *map(str, range(len(texts)))], cwd=folder, timeout=600, env=without_words())
+        said = dict(re.findall(r"(?m)^(\d+): (.*)$", ran.out))
+        require((ran.status, ran.err, len(said)) == (0, "", len(texts)), f"{name_of}: an image is not judged", ran)
+        for number, image in enumerate(texts):
+            is_kept = said[str(number)] == "kept"
+            images.is_right(number, image, None if is_kept else said[str(number)], is_kept)
+
+
+def are_saved(setup, script, *loaded):
+    """The library prints the posts of a script, and makes the images, that the program prints and saves. `loaded` are images by
+    the numbers of their units; a unit without one is unit 0."""
+    needs()
+    with tempfile.TemporaryDirectory() as folder:
+        for number, image in enumerate(loaded):
+            images.write(f"{folder}/{number}", image)
+        images.write(f"{folder}/script", script.encode("ascii"))
+        units = range(max(1, len(loaded)))
+        words = [word for it in range(len(loaded)) for word in ("--load", f"{it}={it}")]
+        words += [word for it in units for word in ("--save", f"{it}=program{it}")]
+        saved = run([setup.program, "report", "--posts", *words, "script"], cwd=folder, timeout=300)
+        require((saved.status, saved.err) == (0, ""), "the program fails", saved)
+        pairs = [f"{it}={it}" for it in range(len(loaded))] + [f"library{it}={it}" for it in units]
+        ran = run([sys.executable, "-B", DRIVER, "run", *pairs, "script"], cwd=folder, timeout=300, env=without_words())
+        if (ran.status, ran.out, ran.err) != (0, saved.out, ""):
+            raise Failed("the library gives something else", saved, saved.out, ran.text())
+        for unit in units:
+            one, other = (images.bytes_of(f"{folder}/{it}{unit}") for it in ("program", "library"))
+            require(one == other, f"unit {unit}: the library makes another image than the program")
+
+
+def block_is_rewritten(setup):
+    """The job of tests/groups/images.py that rewrites a block of a data set."""
+    with tempfile.TemporaryDirectory() as folder:
+        images.loaded_volume(folder)
+        are_saved(setup, images.script_of(setup, "vtoc.symbolic", folder), images.bytes_of(f"{folder}/old"))
+
+
+def data_set_is_appended(setup):
+    with tempfile.TemporaryDirectory() as folder:
+        items = images.tape_with_labels()
+        chunks = [[27, 53] if number == 4 else [len(it or b"")] for number, it in enumerate(items)]
+        image = images.formats.image_of(images.formats.Tape(items, chunks))
+        are_saved(setup, images.script_of(setup, "append.symbolic", folder), image)
+
+
+def of_images(setup):
+    origin = "tests/formats.py, by docs/FORMATS.md"
+    for name, texts in images.hostile():
+        for number, part in enumerate(images.parted(texts), 1):
+            yield Case(f"images: {name}, {number}", lambda n=name, p=part: are_loaded(n, p), origin)
+    for name in "w.aws", "wnc.het", "load2311.img":
+        yield Case(f"images: {name}", lambda n=name: are_loaded(n, [images.bytes_of(f"{images.STORED}/{n}")]), origin)
+    origin = "the program, by docs/FORMATS.md"
+    yield Case("images: a block of a data set is rewritten", lambda: block_is_rewritten(setup), origin)
+    yield Case("images: a data set is appended to a tape", lambda: data_set_is_appended(setup), origin)
+    yield Case("images: a paper", lambda: are_saved(setup, read(f"{SAMPLES}/print-pages.script")), origin)
+
+
 # --- programs in C
 
 
@@ -238,6 +315,35 @@ def is_a_header(compiler, language):
     require((ran.status, ran.out, ran.err) == (0, "", ""), "it does not compile without a warning", ran)
 
 
+# --- cost
+
+
+def instructions(words_for):
+    """How many instructions a program takes for one request, by the difference of two runs. It has these words for a count."""
+    counts = []
+    for count in 200, 600:
+        words = ["valgrind", "--tool=callgrind", "--callgrind-out-file=/dev/null", *words_for(str(count))]
+        ran = run(words, timeout=300, env=without_words())
+        found = re.search(r"Collected : (\d+)", ran.err)
+        require(ran.status == 0 and found, "no instructions are counted", ran)
+        counts.append(int(found[1]))
+    return (counts[1] - counts[0]) / 400
+
+
+def costs_little():
+    """A request from C takes little more than the same calls in Rattle."""
+    needs("valgrind", "gcc")
+    speed = f"{TOP}/crates/excp_speed/out/excp_speed"
+    if not os.path.exists(speed):
+        raise Skipped("excp_speed is not built: `rt run` in crates/excp_speed")
+    built = compiled("gcc", REQUESTS, "measured", "-O2")
+    book, site = (instructions(lambda count, it=it: [speed, count, f"{it} cycles"]) for it in ("book", "site"))
+    events, served = (instructions(lambda count, it=it: [built, it, count]) for it in ("events", "serve"))
+    text = f"instructions of a request: {events:.0f} by events, {served:.0f} by excp_serve; a site cycle has {site:.0f}, a book cycle {book:.0f}"
+    require(max(events, served) <= MOST_TIMES * site, f"{text}; at most {MOST_TIMES} times those of a site")
+    return text
+
+
 # --- Python
 
 
@@ -288,12 +394,13 @@ def through_python(setup):
 
 
 def in_c(setup):
-    seconds = SECONDS_LONG if setup.is_long else SECONDS
+    seconds, uses = (SECONDS_LONG, USES_LONG) if setup.is_long else (SECONDS, USES)
     origin = "c/excp.h"
     for compiler in COMPILERS:
         yield Case(f"make with {compiler}", lambda c=compiler: is_made(c), "crates/print_tape/stdout and examples/c")
-        for program in *PRINTS, OUT_OF_MEMORY, LONG_USE:
+        for program in *PRINTS, OUT_OF_MEMORY:
             yield Case(f"{program} with {compiler}", lambda c=compiler, p=program: runs_in_c(c, p), origin)
+        yield Case(f"{LONG_USE} with {compiler}", lambda c=compiler: runs_in_c(c, LONG_USE, *uses, seconds=3600), origin)
         for program in PRINTS:
             yield Case(f"{program} with {compiler} and sanitizers", lambda c=compiler, p=program: runs_sanitized(c, p), origin)
         for seed, call, kind in (1, runs_in_c, "alone"), (2, runs_sanitized, "and sanitizers"):
@@ -303,6 +410,7 @@ def in_c(setup):
         yield Case(f"{program} with libexcp.a", lambda p=program: runs_static("gcc", p), origin)
         yield Case(f"{program} under valgrind", lambda p=program: runs_in_valgrind(p), origin)
     yield Case("examples/c/threads under helgrind", shares_by_its_lock, origin)
+    yield Case("the cost of a request", costs_little, "the aim of docs/SPEED.md")
     judge = lambda: runs_in_valgrind(FUZZ, "3", str(seconds), seconds=300 + 2 * seconds)
     yield Case(f"{FUZZ} under valgrind", judge, origin)
     for compiler, language in ("gcc", ["c", "-std=c99"]), ("clang", ["c", "-std=c99"]), ("g++", ["c++"]), ("clang++", ["c++"]):
@@ -312,6 +420,7 @@ def in_c(setup):
 def cases(setup):
     build()
     yield from through_python(setup)
+    yield from of_images(setup)
     yield from in_c(setup)
     yield Case("the unit tests of the Python package", unit_tests_pass, "docs/MANUAL.md and c/excp.h")
     yield Case("the example in Python", example_passes, "docs/MANUAL.md")

@@ -3,8 +3,9 @@
 
     tests/library/driver.py run [FILE ..]     the posts of a script, as `excp_job run`
     tests/library/driver.py step [FILE ..]    the answers of a scenario, as `excp_job step`
+    tests/library/driver.py load [FILE ..]    of each image a line `FILE: kept`, or its fault
 
-Without a file it reads standard input. Of several files, a line `=== FILE` comes before what each prints. The files are valid:
+Words `U=IMAGE` before the files load unit U from an image, and `IMAGE=U` saves its medium, as `--load` and `--save`. Without a file it reads standard input. Of several files, a line `=== FILE` comes before what each prints. The files are valid:
 `excp_job check` says so. `run` does the lines of all tasks in their order, and serves the units at each `wait` and at the end.
 So it prints what the program prints if the posts of the script do not depend on how its tasks and workers race.
 """
@@ -14,7 +15,7 @@ import sys
 
 sys.path.insert(0, os.path.join(os.path.dirname(os.path.realpath(__file__)), "..", "..", "python"))
 
-from excp import (TAPE_MARK, Area, ExcpError, Fault, Full, Kind, Method, Mode, NoDcb, NoNumber, Record, Site, Status)
+from excp import (TAPE_MARK, Area, BadImage, ExcpError, Fault, Full, Kind, Method, Mode, NoDcb, NoNumber, Record, Site, Status)
 
 # The rooms that no line gives (docs/SPECIFICATION.md, 12.27), and how many requests a task of a run has under way (12.7).
 ROOM = 36157
@@ -25,6 +26,10 @@ TO_THE_END = 65535
 
 METHODS = {"in": Method.INPUT, "out": Method.OUTPUT}
 MODES = {"halt": Mode.HALT, "quiesce": Mode.QUIESCE}
+
+
+# The images that units are loaded from and saved to, by their numbers.
+LOADED, SAVED = {}, {}
 
 
 def content(digits):
@@ -44,7 +49,7 @@ class Job:
         if word == "tasks":
             self.tasks = int(rest[0])
         elif word in ("disk", "tape", "printer"):
-            self.units.append({"kind": word, "sizes": [int(it) for it in rest[2:]], "items": [], "faults": [], "openings": []})
+            self.units.append({"kind": word, "sizes": [None if it == "-" else int(it) for it in rest[2:]], "items": [], "faults": [], "openings": []})
         elif word == "rec":
             cylinder, head, number = map(int, rest[1:4])
             self.of(rest)["items"].append(Record(cylinder, head, number, content(rest[5]), content(rest[4])))
@@ -70,17 +75,29 @@ class Job:
         self.site = Site(self.tasks, self.rooms.get("post", ROOM))
         for number, unit in enumerate(self.units):
             room = {"in_flight": self.rooms.get("intake", ROOM), "held": self.rooms.get(f"book {number}", ROOM)}
-            made = self.mount(unit, {**room, "faults": unit["faults"]})
+            made = self.mount(number, unit, {**room, "faults": unit["faults"]})
             for words in unit["openings"]:
                 self.open(made, *words)
 
-    def mount(self, unit, rest):
+    def mount(self, number, unit, rest):
         sizes, items = unit["sizes"], unit["items"]
+        if number in LOADED:
+            with open(LOADED[number], "rb") as it:
+                image = it.read()
+            is_tape = unit["kind"] == "tape"
+            return self.site.tape_from(image, length=sizes[0], **rest) if is_tape else self.site.disk_from(image, **rest)
         if unit["kind"] == "disk":
             return self.site.disk(cylinders=sizes[0], heads=sizes[1], track_bytes=sizes[2], records=items, **rest)
         if unit["kind"] == "tape":
             return self.site.tape(length=sizes[0], items=items, **rest)
         return self.site.printer(lines=sizes[0], pages=sizes[1], **rest)
+
+    def close(self):
+        """Saves the media that are wanted, and frees the site."""
+        for number, name in SAVED.items():
+            with open(name, "wb") as it:
+                it.write(self.site.units[number].image())
+        self.site.close()
 
     def open(self, unit, method, *extents):
         return unit.open_images(METHODS[method], [bytes.fromhex(it) for it in extents])
@@ -197,7 +214,7 @@ def step(text, out):
             answers = job.answer(words)
             out.write("".join(f"{' '.join(words)}: {it}\n" for it in answers))
     if job.site is not None:
-        job.site.close()
+        job.close()
     return missed
 
 
@@ -263,8 +280,26 @@ def run(text, out):
         job.serve()
     job.posts.sort(key=lambda it: it.name)
     out.write("".join(f"{job.line(it)}\n" for it in job.posts) + f"end {len(job.posts)}\n")
-    job.site.close()
+    job.close()
     return 0
+
+
+# --- images
+
+
+def load(name, out):
+    """Loads an image. Whether its medium has the same image."""
+    with open(name, "rb") as it:
+        image = it.read()
+    with Site() as site:
+        try:
+            unit = site.disk_from(image) if image[:4] == b"CKD_" else site.tape_from(image, length=2**32)
+        except BadImage as error:
+            out.write(f"{name}: {error}\n")
+            return 0
+        is_kept = unit.image() == image
+    out.write(f"{name}: {'kept' if is_kept else 'another image'}\n")
+    return 0 if is_kept else 1
 
 
 def numbered(text):
@@ -276,6 +311,15 @@ def numbered(text):
 
 
 def main(word, *files):
+    if word == "load":
+        return 1 if sum(load(it, sys.stdout) for it in files) else 0
+    for file in files:
+        first, equals, second = file.partition("=")
+        if equals and first.isdigit():
+            LOADED[int(first)] = second
+        elif equals:
+            SAVED[int(second)] = first
+    files = [it for it in files if "=" not in it]
     carry_out, missed = {"run": run, "step": step}[word], 0
     for file in files or ("/dev/stdin",):
         with open(file, encoding="ascii", errors="replace") as it:
@@ -287,6 +331,6 @@ def main(word, *files):
 
 
 if __name__ == "__main__":
-    if len(sys.argv) < 2 or sys.argv[1] not in ("run", "step"):
+    if len(sys.argv) < 2 or sys.argv[1] not in ("run", "step", "load"):
         sys.exit(__doc__)
     sys.exit(main(*sys.argv[1:]))

@@ -1,9 +1,11 @@
 /* Makes calls at random, many with wrong arguments, wrong handles or NULL pointers:  fuzz SEED SECONDS
  *
  * Tested of each call: its status is one of excp.h; if a pointer that it needs is NULL, or the handle has no site, it does not
- * succeed; if it does not succeed, it writes nothing; and, of some of those calls, all that can be seen of the site is as before.
+ * succeed; if it does not succeed, it writes nothing; and, of some of those calls, all that can be seen of the site is as before, but
+ * for the words on an image at fault.
  * What is given has just its length, so a checker of memory finds a read or a write past it. */
 #define _POSIX_C_SOURCE 199309L
+#include "images.h"
 #include "seen.h"
 
 #include <time.h>
@@ -133,15 +135,46 @@ static void *bytes_at(void *real, size_t length)
     return NULL;
 }
 
+/* An image of a tape or of a disk, at times with a byte changed or cut short. */
+static block image_of(int is_disk)
+{
+    block made_of = block_of(is_disk ? DISK_IMAGE : sizeof TAPE_IMAGE);
+    if (is_disk)
+        put_disk_image(made_of.bytes);
+    else
+        memcpy(made_of.bytes, TAPE_IMAGE, sizeof TAPE_IMAGE);
+    if (chance(3) == 0)
+        made_of.bytes[chance(chance(2) ? 40 : (uint32_t)made_of.length) % made_of.length] = (uint8_t)chance(256);
+    if (rarely()) {
+        block cut = block_of(chance((uint32_t)made_of.length));
+        memcpy(cut.bytes, made_of.bytes, cut.length);
+        free(made_of.bytes);
+        return cut;
+    }
+    return made_of;
+}
+
+static excp_status mount_image(excp_site *site, const excp_room *room, uint16_t *unit)
+{
+    int is_disk = chance(2) == 0;
+    block image = image_of(is_disk);
+    const void *bytes = bytes_at(image.bytes, image.length);
+    excp_status status = is_disk ? excp_mount_ckd(site, bytes, image.length, room, unit)
+                                 : excp_mount_aws(site, bytes, image.length, long_number(chance(200)), room, unit);
+    free(image.bytes);
+    return status;
+}
+
 static excp_status mount(excp_site *site, written *to)
 {
     excp_room room = { 1 + number(6), 1 + number(6) };
     const excp_room *given = pointer(&room);
     uint16_t *unit = pointer(&to->short_number);
-    switch (chance(3)) {
+    switch (chance(5)) {
     case 0: return excp_mount_disk(site, long_number(1 + chance(2)), long_number(1 + chance(2)), long_number(40 + chance(60)), given, unit);
     case 1: return excp_mount_tape(site, long_number(chance(4) ? 100 + chance(400) : chance(8)), given, unit);
-    default: return excp_mount_printer(site, long_number(1 + chance(9)), long_number(1 + chance(3)), given, unit);
+    case 2: return excp_mount_printer(site, long_number(1 + chance(9)), long_number(1 + chance(3)), given, unit);
+    default: return mount_image(site, given, unit);
     }
 }
 
@@ -201,7 +234,7 @@ static excp_status made_call(excp_site *site, written *to)
     uint8_t mode = (uint8_t)(rarely() ? chance(256) : chance(2));
     uint32_t most = number(70), place = number(5);
     size_t room = rarely() ? sizeof to->bytes : chance(400), from = rarely() ? SIZE_MAX - chance(9) : chance(200);
-    switch (chance(36)) {
+    switch (chance(38)) {
     case 0: case 1: case 2: case 3: return put_medium(site);
     case 4: case 5: return mount(site, to);
     case 6: case 7: return open_dcb(site, to);
@@ -226,6 +259,8 @@ static excp_status made_call(excp_site *site, written *to)
                                 room);
     case 33: return excp_printed_line(site, unit, place, pointer(&to->line), bytes_at(to->bytes, room), room);
     case 34: return excp_make_history(site, unit, pointer(&to->length));
+    case 35: return excp_make_image(site, unit, pointer(&to->length));
+    case 36: return excp_made_length(site, pointer(&to->length));
     default: return chance(2) ? excp_copy_out(site, from, bytes_at(to->bytes, room), room) : excp_checkpoint(site, unit);
     }
 }
@@ -267,7 +302,7 @@ static void test_call(excp_site *site)
         wrong("on a site that is there, with memory", status);
     if (status != EXCP_OK && memcmp(&to, &before, sizeof to) != 0)
         wrong("it wrote without success", status);
-    if (status != EXCP_OK && looks && (!is_kept(site) || seen(site, 1) != sum))
+    if (status != EXCP_OK && looks && ((status != EXCP_BAD_IMAGE && !is_kept(site)) || seen(site, 1) != sum))
         wrong("it changed the site without success", status);
 }
 

@@ -1,12 +1,13 @@
-/* Issues and serves many requests, with a checkpoint after each hundred: the memory in use stays as it is, and numbers of requests go
- * on. Without checkpoints it grows, which shows that the measure sees it. */
+/* Issues and serves many requests, with a checkpoint after each so many: `long_use 100000 100`. The memory in use stays as it was after
+ * the first checkpoint, and numbers of requests go on. Without checkpoints it grows, which shows that the measure sees it. */
 #include "excp.h"
 
 #include <malloc.h>
 #include <stdio.h>
+#include <stdlib.h>
 #include <string.h>
 
-enum { REQUESTS = 100000, FEW = 2000, STEP = 100, BASE = 0x1000, LENGTH = 0x68, MOST_GROWTH = 65536 };
+enum { FEW = 2000, BASE = 0x1000, LENGTH = 0x68, MOST_GROWTH = 65536 };
 
 /* A request of DCB 1 with a no-operation. */
 static void put_request(uint8_t *storage)
@@ -33,8 +34,8 @@ static size_t in_use(void)
     return all.uordblks + all.hblkhd;
 }
 
-/* Issues some requests one after another, and collects each. */
-static int serve(excp_site *site, uint64_t from, uint64_t count, int forgets)
+/* Issues some requests one after another, and collects each, with a checkpoint after each `step`, or none if that is 0. */
+static int serve(excp_site *site, uint64_t from, uint64_t count, uint64_t step)
 {
     uint8_t storage[LENGTH], left[LENGTH];
     excp_served served;
@@ -48,35 +49,36 @@ static int serve(excp_site *site, uint64_t from, uint64_t count, int forgets)
             return wrong("it is not served", at);
         if (excp_next_post(site, 0, &post, left, LENGTH) != EXCP_OK || post.number != at || post.code != 0x7F)
             return wrong("it has no post", at);
-        if (forgets && at % STEP == 0 && excp_checkpoint(site, 0) != EXCP_OK)
+        if (step && at % step == 0 && excp_checkpoint(site, 0) != EXCP_OK)
             return wrong("no checkpoint after it", at);
     }
     return 0;
 }
 
-int main(void)
+int main(int count, char **words)
 {
+    const uint64_t requests = count == 3 ? strtoull(words[1], NULL, 10) : 0, step = count == 3 ? strtoull(words[2], NULL, 10) : 0;
     excp_site site = EXCP_SITE_INIT;
     excp_room room = { 1, 1 };
     uint16_t unit, dcb;
     size_t begun, ended, grown;
-    if (excp_site_new(&site, 1, 1) != EXCP_OK || excp_mount_printer(&site, 1, 1, &room, &unit) != EXCP_OK
-        || excp_open(&site, unit, EXCP_OUTPUT, NULL, 0, &dcb) != EXCP_OK || serve(&site, 1, FEW, 1))
+    if (requests == 0 || step == 0 || excp_site_new(&site, 1, 1) != EXCP_OK || excp_mount_printer(&site, 1, 1, &room, &unit) != EXCP_OK
+        || excp_open(&site, unit, EXCP_OUTPUT, NULL, 0, &dcb) != EXCP_OK || serve(&site, 1, step, step))
         return 1;
     begun = in_use();
-    if (serve(&site, FEW + 1, REQUESTS, 1))
+    if (serve(&site, step + 1, requests, step))
         return 1;
     ended = in_use();
     if (ended > begun + MOST_GROWTH)
-        return wrong("the memory in use has grown in spite of checkpoints", FEW + REQUESTS);
-    if (serve(&site, FEW + REQUESTS + 1, FEW, 0))
+        return wrong("the memory in use has grown in spite of checkpoints", step + requests);
+    if (serve(&site, step + requests + 1, FEW, 0))
         return 1;
     grown = in_use();
     if (grown < ended + FEW * (size_t)LENGTH)
-        return wrong("without checkpoints the memory in use does not grow, so this measures nothing", FEW + REQUESTS + FEW);
+        return wrong("without checkpoints the memory in use does not grow, so this measures nothing", step + requests + FEW);
     if (excp_site_free(&site) != EXCP_OK)
         return wrong("the site is not freed", 0);
-    printf("%d requests with checkpoints take %ld bytes more, %d without take %lu\n", REQUESTS, (long)(ended - begun), FEW,
-           (unsigned long)(grown - ended));
+    printf("%llu requests with checkpoints take %ld bytes more, %d without take %lu\n", (unsigned long long)requests, (long)(ended - begun),
+           FEW, (unsigned long)(grown - ended));
     return 0;
 }

@@ -5,6 +5,7 @@
  * until it succeeds. A call that returns EXCP_NO_MEMORY leaves all as it was (but excp_serve and excp_settle, which keep what they
  * did), and the call that succeeds leaves what was noted. In the end no block is left. */
 #define _GNU_SOURCE
+#include "images.h"
 #include "seen.h"
 
 #include <errno.h>
@@ -127,6 +128,7 @@ static int call(excp_site *site, int number, written *to, int *kind)
     static const uint8_t block[] = { 0xC1, 0xC2, 0xC3, 0xC4 };
     static const uint8_t extent[16] = { 0x18, [15] = 1 };
     static const excp_room room = { 8, 8 };
+    static uint8_t disk[DISK_IMAGE];
     *kind = number == FIRST_SERVE || number == 36 || number == 37 ? SERVES : CHANGES_NOTHING;
     switch (number) {
     case 0: return excp_site_new(site, 2, 8);
@@ -184,13 +186,18 @@ static int call(excp_site *site, int number, written *to, int *kind)
     case 52: return excp_checkpoint(site, 0);
     case 53: return excp_checkpoint(site, 1);
     case 54: return issue(site, 0, 0, 1, 0, to);
+    case 55: return excp_mount_aws(site, TAPE_IMAGE, sizeof TAPE_IMAGE, 100, &room, &to->short_number);
+    case 56: put_disk_image(disk); return excp_mount_ckd(site, disk, sizeof disk, &room, &to->short_number);
+    case 57: return excp_make_image(site, 2, &to->length);
+    case 58: return excp_make_image(site, 3, &to->length);
+    case 59: return excp_make_image(site, 4, &to->length);
     default: return EXCP_BAD_NUMBER;
     }
 }
 
 /* --- the test */
 
-enum { CALLS = 55 };
+enum { CALLS = 60 };
 
 /* How an attempt ended: the call succeeded, it ran out of memory and left all as it was, or something is wrong. */
 enum { DONE, REFUSED, WRONG };

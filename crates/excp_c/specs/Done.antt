@@ -1,5 +1,5 @@
 -- WHAT A CALL DID: what the call of the site does (excp_site), or why the site refused it.
-use Rattle.std.specs.Prelude.{◌≡◌, ◌≤◌, ℕ, Option, Some, None, List, slice_get}
+use Rattle.std.specs.Prelude.{◌≡◌, ◌≤◌, ◌<◌, ◌⊎◌, ℕ, Option, Some, None, List, length, slice_get}
 use Rattle.io_area.specs.Storage.{Storage}
 use Rattle.io_images.specs.declared.extent.Extent.{Extent}
 use Rattle.any_device.specs.Devices.{any_device}
@@ -23,11 +23,13 @@ use Rattle.unit_book.specs.Settle.{IsIdle}
 use Rattle.unit_world.specs.Parts.{PartTakes}
 use Rattle.unit_world.specs.PostLists.{list_of}
 use Rattle.unit_world.specs.Sites.{CollectsPost, DeliversAs, OnBook, OnPart, OnUnit}
+use Rattle.excp_site.specs.Imaging.{LeavesMade}
 use Rattle.excp_site.specs.Media.{IsEmpty}
 use Rattle.excp_site.specs.declared.refusal.Refusal.{Refusal}
+use Rattle.excp_site.specs.declared.refusal.Refusal.TheVariants.{NoMemory}
 use Rattle.excp_site.specs.Serving.{EndsServing, HasSettled}
 use Rattle.excp_site.specs.declared.served.Served.{Served}
-use Rattle.excp_site.specs.Sites.{AddsUnit, IssuesRequest, SiteView, number_of}
+use Rattle.excp_site.specs.Sites.{AddsUnit, IssuesRequest, NewRefused, SiteView, number_of}
 use Rattle.excp_c.specs.Answers.{answer_in_c}
 use Rattle.excp_c.specs.Numbers.{end_number}
 use Rattle.excp_c.specs.declared.events.Served.{Served as Answered}
@@ -48,6 +50,11 @@ Did h k Does = DidOn h.slot.value k.slot.value Does
 -- the site refused it: its status is that of a reason of which this holds
 abbrev pub Refused : Handle → Handle → ℕ → (SiteView → SiteView → Refusal → Type 0) → Type 0
 Refused h k status Why = Did h k (λ s t. (e : Refusal) × (status ≡ status_in_c e) × Why s t e)
+
+-- why a site was not made: there was no memory for the block that holds it, or the site says why
+abbrev pub NotMade : ℕ → ℕ → ℕ → Type 0
+NotMade status tasks post_room =
+    (status ≡ status_in_c NoMemory) ⊎ ((e : Refusal) × (status ≡ status_in_c e) × NewRefused tasks post_room e)
 
 -- an event of the unit was made, and its answer was written out
 abbrev pub Made : {A : Type 0} → (A → Event) → ℕ → (SiteView → A → SiteView → Type 0) → Handle → Handle → Answer → Type 0
@@ -99,7 +106,11 @@ SiteOpens unit (Some method) extents dcb s t = OnBook s.plain unit (λ b c. Open
 
 -- A UNIT was added, and what was put was used up
 abbrev pub Mounts : AnyDevice → ℕ → ℕ → ℕ → SiteView → SiteView → Type 0
-Mounts device in_flight held unit s t = AddsUnit s device in_flight held unit t × IsEmpty t.medium
+Mounts device in_flight held unit s t = AddsUnit s device None in_flight held unit t × IsEmpty t.medium
+
+-- an image was refused, for a reason of which this holds
+abbrev pub ImageRefusedAs : Handle → Handle → ℕ → (SiteView → Refusal → Type 0) → Type 0
+ImageRefusedAs h k status Why = Refused h k status (λ s t e. Why s e × LeavesMade s t e)
 
 -- A REQUEST was issued, and its number was written out
 abbrev pub IssuesAs : ℕ → ℕ → ℕ → ℕ → Storage → ℕ → SiteView → SiteView → Type 0
@@ -109,6 +120,10 @@ IssuesAs task unit dcb iob area number s t =
 -- the first post that was delivered to a task
 abbrev pub IsFirstPost : SiteView → ℕ → PostedState → Type 0
 IsFirstPost s task post = slice_get (list_of s.plain.rows task) 0 ≡ Some post
+
+-- its storage does not fit into this buffer
+abbrev pub StorageIsLonger : SiteView → ℕ → ℕ → Type 0
+StorageIsLonger s task room = (post : PostedState) × IsFirstPost s task post × (room < length post.area.bytes)
 
 -- A POST was collected
 abbrev pub SiteCollects : ℕ → SiteView → SiteView → Type 0

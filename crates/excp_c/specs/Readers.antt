@@ -1,5 +1,5 @@
 -- WHAT A READER WROTE OUT: what the site tells (excp_site), as C sees it.
-use Rattle.std.specs.Prelude.{◌≡◌, ℕ, Some, List, ◌++◌}
+use Rattle.std.specs.Prelude.{◌≡◌, ◌<◌, ◌+◌, ℕ, Some, List, ◌++◌, length}
 use Rattle.ckd_disk.specs.Record.{Record as OnTrack}
 use Rattle.line_printer.specs.Paper.{Line as Printed}
 use Rattle.request_piece.specs.declared.piece.Name.{Name}
@@ -33,7 +33,18 @@ ReadsSite s unit cylinder head place shown old new =
     (r : OnTrack) × OnPart s.plain unit (λ p. RecordAt (device_now p.book) cylinder head place (Some r)) × (shown ≡ record_in_c r) ×
     (new ≡ copied (r.key ++ r.content) old)
 
+-- the record at a place does not fit into this buffer
+abbrev pub RecordIsLonger : SiteView → ℕ → ℕ → ℕ → ℕ → ℕ → Type 0
+RecordIsLonger s unit cylinder head place room =
+    (r : OnTrack) × OnPart s.plain unit (λ p. RecordAt (device_now p.book) cylinder head place (Some r)) ×
+    (room < length r.key + length r.content)
+
 -- the line at a place, with its bytes at the front of the buffer
 abbrev pub Prints : SiteView → ℕ → ℕ → Line → List ℕ → List ℕ → Type 0
 Prints s unit place shown old new =
     (l : Printed) × OnPart s.plain unit (λ p. LineAt (device_now p.book) place (Some l)) × (shown ≡ line_in_c l) × (new ≡ copied l.bytes old)
+
+-- the line at a place does not fit into this buffer
+abbrev pub LineIsLonger : SiteView → ℕ → ℕ → ℕ → Type 0
+LineIsLonger s unit place room =
+    (l : Printed) × OnPart s.plain unit (λ p. LineAt (device_now p.book) place (Some l)) × (room < length l.bytes)

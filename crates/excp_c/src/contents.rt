@@ -1,10 +1,10 @@
 //! Records of a disk, and lines of a printer (c/excp.h, "What there is").
 
-ghost use Rattle.std.specs.Prelude.{◌≡◌, ◌≢◌};
+ghost use Rattle.std.specs.Prelude.{◌≡◌, ◌≢◌, length};
 ghost use Rattle.excp_c.specs.Calls.{KeepsSite, SameSite, TestsSite};
 ghost use Rattle.excp_site.specs.Looks.{LineRefused, RecordRefused};
 ghost use Rattle.excp_c.specs.Done.{Did, Refused};
-ghost use Rattle.excp_c.specs.Readers.{Prints, ReadsSite};
+ghost use Rattle.excp_c.specs.Readers.{LineIsLonger, Prints, ReadsSite, RecordIsLonger};
 ghost use Rattle.excp_c.specs.Contents.{byte_at, halfword_at, line_in_c, record_in_c};
 
 use crate::buffer::{copy_both, copy_to, has_room};
@@ -91,6 +91,7 @@ pub extern "C" fn excp_call_read_record(
     ensures same { SameSite handle.old handle.new }
     ensures done { result ≡ 0 → Did handle.old handle.new (λ s _. ReadsSite s unit cylinder head place shown.new bytes.old bytes.new) }
     ensures why { result ≢ 0 → result ≢ 3 → result ≢ 26 → Refused handle.old handle.new result (λ s _. RecordRefused s.plain unit cylinder head place) }
+    ensures room { result ≡ 26 → Did handle.old handle.new (λ s _. RecordIsLonger s unit cylinder head place (length bytes.old)) }
     ensures refused { result ≢ 0 → (shown.new ≡ shown.old) × (bytes.new ≡ bytes.old) }
 {
     let Some(site) = handle.site() else {
@@ -123,6 +124,7 @@ pub extern "C" fn excp_call_printed_line(
     ensures same { SameSite handle.old handle.new }
     ensures done { result ≡ 0 → Did handle.old handle.new (λ s _. Prints s unit place line.new bytes.old bytes.new) }
     ensures why { result ≢ 0 → result ≢ 3 → result ≢ 26 → Refused handle.old handle.new result (λ s _. LineRefused s.plain unit place) }
+    ensures room { result ≡ 26 → Did handle.old handle.new (λ s _. LineIsLonger s unit place (length bytes.old)) }
     ensures refused { result ≢ 0 → (line.new ≡ line.old) × (bytes.new ≡ bytes.old) }
 {
     let Some(site) = handle.site() else {

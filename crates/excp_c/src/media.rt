@@ -6,11 +6,12 @@ ghost use Rattle.ckd_disk.specs.Mount.{opening as opening_disk};
 ghost use Rattle.tape_unit.specs.Mount.{opening as opening_tape};
 ghost use Rattle.tape_unit.specs.Item.{block, tape_mark};
 ghost use Rattle.line_printer.specs.Mount.{opening as opening_printer};
+ghost use Rattle.excp_site.specs.Imaging.{AwsRefused, CkdRefused, MountsAws, MountsCkd};
 ghost use Rattle.excp_site.specs.Media.{IsEmpty, PutsItem, PutsRecord};
 ghost use Rattle.excp_site.specs.Mounting.{DiskRefused, PrinterRefused, TapeRefused};
 ghost use Rattle.excp_site.specs.declared.refusal.Refusal.TheVariants as refusals;
 ghost use Rattle.excp_c.specs.Statuses.{status_in_c};
-ghost use Rattle.excp_c.specs.Done.{Did, Mounts, OnlyMedium, Refused};
+ghost use Rattle.excp_c.specs.Done.{Did, ImageRefusedAs, Mounts, OnlyMedium, Refused};
 ghost use Rattle.excp_c.specs.Numbers.{fault_from_c};
 ghost use Rattle.excp_c.specs.Calls.{KeepsSite, SameSite, TestsSite};
 
@@ -193,4 +194,47 @@ pub extern "C" fn excp_call_mount_printer(
         return NO_SITE;
     };
     give(site.mount_printer(lines, pages, room_of(room)), unit)
+}
+
+/// `excp_mount_ckd`.
+#[unsafe(no_mangle)]
+pub extern "C" fn excp_call_mount_ckd(
+    handle: &mut Handle,
+    image: &[u8],
+    room: &Room,
+    unit: &mut u16,
+) -> u32
+    ensures site { TestsSite handle.old result }
+    ensures keeps { KeepsSite handle.old handle.new }
+    ensures done { result ≡ 0 → Did handle.old handle.new (λ s t. MountsCkd s image.now room.now.in_flight room.now.held unit.new t × IsEmpty t.medium) }
+    ensures why { result ≢ 0 → result ≢ 3 → ImageRefusedAs handle.old handle.new result (λ s. CkdRefused s image.now room.now.in_flight room.now.held) }
+    ensures refused { result ≢ 0 → unit.new ≡ unit.old }
+    ensures none { result ≡ 3 → SameSite handle.old handle.new }
+{
+    let Some(site) = handle.site() else {
+        return NO_SITE;
+    };
+    give(site.mount_ckd(image, room_of(room)), unit)
+}
+
+/// `excp_mount_aws`.
+#[unsafe(no_mangle)]
+pub extern "C" fn excp_call_mount_aws(
+    handle: &mut Handle,
+    image: &[u8],
+    bytes: u64,
+    room: &Room,
+    unit: &mut u16,
+) -> u32
+    ensures site { TestsSite handle.old result }
+    ensures keeps { KeepsSite handle.old handle.new }
+    ensures done { result ≡ 0 → Did handle.old handle.new (λ s t. MountsAws s image.now bytes room.now.in_flight room.now.held unit.new t × IsEmpty t.medium) }
+    ensures why { result ≢ 0 → result ≢ 3 → ImageRefusedAs handle.old handle.new result (λ s. AwsRefused s image.now bytes room.now.in_flight room.now.held) }
+    ensures refused { result ≢ 0 → unit.new ≡ unit.old }
+    ensures none { result ≡ 3 → SameSite handle.old handle.new }
+{
+    let Some(site) = handle.site() else {
+        return NO_SITE;
+    };
+    give(site.mount_aws(image, bytes, room_of(room)), unit)
 }

@@ -4,7 +4,7 @@ ghost use Rattle.std.specs.Prelude.{◌≡◌, ◌≢◌, ◌≤◌, length};
 ghost use Rattle.request_piece.specs.PostedState.{PostedState};
 ghost use Rattle.excp_site.specs.Refusals.{PostRefused};
 ghost use Rattle.excp_c.specs.Buffers.{copied};
-ghost use Rattle.excp_c.specs.Done.{SiteCollects, Did, IsFirstPost, Refused};
+ghost use Rattle.excp_c.specs.Done.{SiteCollects, Did, IsFirstPost, Refused, StorageIsLonger};
 ghost use Rattle.excp_c.specs.Calls.{KeepsSite, SameSite, TestsSite};
 ghost use Rattle.excp_c.specs.Looks.{post_of};
 
@@ -98,6 +98,7 @@ pub extern "C" fn excp_call_next_post(
     ensures keeps { KeepsSite handle.old handle.new }
     ensures done { result ≡ 0 → Did handle.old handle.new (λ s t. (posted : PostedState) × IsFirstPost s task posted × SiteCollects task s t × (post.new ≡ post_of t posted) × (storage.new ≡ copied posted.area.bytes storage.old)) }
     ensures why { result ≢ 0 → result ≢ 3 → result ≢ 26 → Refused handle.old handle.new result (λ s _. PostRefused s.plain task) }
+    ensures room { result ≡ 26 → Did handle.old handle.new (λ s _. StorageIsLonger s task (length storage.old)) }
     ensures refused { result ≢ 0 → SameSite handle.old handle.new × (post.new ≡ post.old) × (storage.new ≡ storage.old) }
 {
     let Some(site) = handle.site() else {

@@ -1,9 +1,8 @@
 //! Sites (c/excp.h, "Sites").
 
 ghost use Rattle.std.specs.Prelude.{◌≡◌, ◌≢◌, ◌↔◌, IsSome};
-ghost use Rattle.excp_site.specs.declared.refusal.Refusal.TheVariants as refusals;
-ghost use Rattle.excp_c.specs.Statuses.{status_in_c};
 ghost use Rattle.excp_c.specs.Calls.{SameSite, TestsSite};
+ghost use Rattle.excp_c.specs.Done.{NotMade};
 ghost use Rattle.excp_c.specs.declared.handle.TheConstants.{MARK};
 
 use crate::handle::{Handle, MARK, put, take};
@@ -21,7 +20,7 @@ pub extern "C" fn excp_call_site_new(
 ) -> u32
     ensures in_use { (result ≡ 4) ↔ (handle.old.mark ≡ MARK) }
     ensures made { result ≡ 0 → (handle.new.mark ≡ MARK) × IsSome handle.new.slot.value }
-    ensures why { result ≢ 0 → result ≢ 4 → result ≡ status_in_c refusals.NoMemory }
+    ensures why { result ≢ 0 → result ≢ 4 → NotMade result tasks post_room }
     ensures refused { result ≢ 0 → (handle.new.mark ≡ handle.old.mark) × SameSite handle.old handle.new }
 {
     if handle.mark == MARK {

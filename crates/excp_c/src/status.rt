@@ -28,6 +28,8 @@ pub(crate) fn status_in_c(refusal: Refusal) -> u32
         Refusal::TooManyDcbs => 10,
         Refusal::BadGeometry => 11,
         Refusal::BadMedium => 12,
+        Refusal::BadImage => 13,
+        Refusal::NoImage => 14,
         Refusal::BadExtent => 15,
         Refusal::AreaMisaligned => 16,
         Refusal::AreaTooLong => 17,

@@ -4,8 +4,9 @@ use crate::images::{failed, load, no_memory};
 use crate::screen::Screen;
 use any_device::AnyDevice;
 use image_report::describe;
-use job_media::{Image, MediaError, Size};
+use job_media::{MediaError, device_from};
 use job_script::{JobError, Medium, UnitSetup};
+use medium_image::{Image, Size};
 use std::alloc::Global;
 use std::cell::Cell;
 use std::io;
@@ -61,8 +62,8 @@ pub fn loaded(rt: &HostRuntime, name: &str) -> Result<LoadedImage, u8> {
         Image::Tape(_) => "tape image, AWSTAPE",
     };
     let unit = unit_of(rt.alloc(), image.size());
-    match image.mounted(rt.alloc(), &unit) {
-        Ok((device, _)) => Ok(LoadedImage {
+    match device_from(rt.alloc(), image, &unit) {
+        Ok(device) => Ok(LoadedImage {
             format,
             unit,
             device,

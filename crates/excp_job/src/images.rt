@@ -3,9 +3,9 @@
 use crate::progress::Progress;
 use crate::replacement::{BESIDE, ReplaceError, target_of};
 use aws_tape::AwsError;
-use job_media::{Image, ImageError};
 use job_options::{MediaFiles, UnitFile};
 use job_script::JobError;
+use medium_image::{Image, ImageError};
 use std::alloc::Global;
 use std::fmt::Display;
 use std::fs::File;

@@ -2,7 +2,7 @@
 //! After an error the old file is as it was.
 
 use ckd_image::{DiskModel, MODELS};
-use job_media::SaveError;
+use medium_image::SaveError;
 use std::alloc::AllocError;
 use std::fmt::{Display, Formatter};
 use std::fs::{File, OpenOptions};

@@ -5,9 +5,9 @@ use crate::progress::Progress;
 use crate::replacement::{ReplaceError, Replacement};
 use any_device::AnyDevice;
 use ckd_image::Kept;
-use job_media::save;
 use job_options::MediaFiles;
 use job_script::UnitSetup;
+use medium_image::save;
 use std::io::{BufWriter, Write};
 
 /// The bytes that are written at a time.
@@ -21,7 +21,7 @@ const REJECTED: u8 = 1;
 pub struct Medium<'a> {
     pub mounted: &'a AnyDevice,
     pub now: &'a AnyDevice,
-    pub kept: Option<&'a job_media::Kept>,
+    pub kept: Option<&'a medium_image::Kept>,
 }
 
 /// The new files of the media that were written so far, each beside the file that it replaces.

@@ -1,9 +1,10 @@
 -- What follows of a `?` that returned.
 use Rattle.std.proofs.Common.{◌≡◌, ◌==◌, ◌+◌, ℕ, Option, ap, inl, inr, refl, subst, sym}
 use Rattle.std.proofs.lemmas.Bool.{cases_Bool}
+use Rattle.medium_image.specs.declared.image.Kept.{Kept}
 use Rattle.request_piece.specs.declared.piece.Name.{Name}
 use Rattle.unit_world.specs.Parts.{next_name_from, next_name_of}
-use Rattle.std.specs.Prelude.{IfErr, Some, None, List, [], ◌∷◌, slice_get}
+use Rattle.std.specs.Prelude.{IfErr, OnErr, Some, None, List, [], ◌∷◌, slice_get}
 use Rattle.std.specs.Result.{IsErrAnd}
 use Rattle.std.specs.declared.result.Result.{Result}
 use Rattle.std.specs.declared.result.Result.TheVariants.{Ok, Err}
@@ -13,6 +14,7 @@ use Rattle.unit_book.specs.declared.answer.DcbError.TheVariants as dcbs
 use Rattle.unit_book.specs.Book.{Book}
 use Rattle.unit_world.specs.Sites.{SiteState, OnPart}
 use Rattle.excp_site.specs.Refusals.{DcbCallRefused, of_dcb}
+use Rattle.excp_site.specs.Sites.{SiteView}
 use Rattle.excp_site.specs.declared.refusal.Refusal.{Refusal}
 use Rattle.excp_site.specs.declared.refusal.Refusal.TheVariants.{NoDcb, NoMemory}
 
@@ -48,3 +50,13 @@ next-of-task issued task name h = subst (λ t. next_name_of issued t ≡ Some na
         let g : Some (record { task = task; seq = count + 1 }) ≡ Some name = rw f at e in
         ap (λ (n : Name). n.task) (some-is (record { task = task; seq = count + 1 }) name g)
   ]
+
+-- what an error leaves
+pub errs : {X E : Type 0} (r : Result X E) (P : Type 0) → P → OnErr r P
+errs (Ok x) P p = tt
+errs (Err e) P p = p
+
+-- a site whose lists by unit have the same items
+pub same-lists : (s : SiteView) (earlier : List (List ℕ)) (held : List ℕ) (beside : List (Option Kept)) → earlier ≡ s.earlier →
+    held ≡ s.held → beside ≡ s.beside → record s { earlier = earlier; held = held; beside = beside } ≡ s
+same-lists s earlier held beside e h b = rw (e, h, b) refl

@@ -7,3 +7,4 @@ pub mod Mounting
 pub mod Serving
 pub mod Checkpoints
 pub mod Looks
+pub mod Imaging

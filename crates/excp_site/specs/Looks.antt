@@ -15,7 +15,7 @@ use Rattle.unit_book.specs.declared.dcb.DcbState.TheVariants.{Unknown}
 use Rattle.unit_world.specs.Parts.{UnitPart, active_state}
 use Rattle.unit_world.specs.Sites.{SiteState, OnPart}
 use Rattle.excp_site.specs.declared.refusal.Refusal.{Refusal}
-use Rattle.excp_site.specs.declared.refusal.Refusal.TheVariants.{BadMedium, NoUnit, NoDcb, NoRoom, NothingThere}
+use Rattle.excp_site.specs.declared.refusal.Refusal.TheVariants.{BadMedium, NoUnit, NoDcb, NothingThere}
 use Rattle.excp_site.specs.declared.state.DcbLook.{DcbLook}
 use Rattle.excp_site.specs.declared.state.UnitState.{UnitState}
 
@@ -76,7 +76,7 @@ has_disk _ = false
 abbrev pub RecordRefused : SiteState AnyDevice → ℕ → ℕ → ℕ → ℕ → Refusal → Type 0
 RecordRefused s unit cylinder head place NoUnit = length s.units ≤ unit
 RecordRefused s unit cylinder head place BadMedium = OnPart s unit (λ p. has_disk (device_now p.book) ≡ false)
-RecordRefused s unit cylinder head place NoRoom = OnPart s unit (λ p. RecordAt (device_now p.book) cylinder head place None)
+RecordRefused s unit cylinder head place NothingThere = OnPart s unit (λ p. RecordAt (device_now p.book) cylinder head place None)
 RecordRefused s unit cylinder head place _ = ⊥
 
 -- THE LINE AT A PLACE of what a printer printed
@@ -91,5 +91,5 @@ has_printer _ = false
 abbrev pub LineRefused : SiteState AnyDevice → ℕ → ℕ → Refusal → Type 0
 LineRefused s unit place NoUnit = length s.units ≤ unit
 LineRefused s unit place BadMedium = OnPart s unit (λ p. has_printer (device_now p.book) ≡ false)
-LineRefused s unit place NoRoom = OnPart s unit (λ p. LineAt (device_now p.book) place None)
+LineRefused s unit place NothingThere = OnPart s unit (λ p. LineAt (device_now p.book) place None)
 LineRefused s unit place _ = ⊥

@@ -2,8 +2,8 @@
 //! that issue requests to them. Each call tests its numbers, and returns the first refusal that applies.
 //!
 //! What the calls do to units and tasks are the steps of `unit_world`, on the devices of `any_device`. This crate adds what a
-//! caller outside Rattle needs: media put together record by record, storage from bytes, texts, and a checkpoint, after
-//! which a unit's memory is as it was when it was mounted.
+//! caller outside Rattle needs: media put together record by record or taken from images, storage from bytes, and texts. After a
+//! checkpoint a unit's memory is as it was when it was mounted.
 //!
 //! Tests: tests/groups/library_clients.py, tests/mutants/excp_site.
 #![tactic(auto)]

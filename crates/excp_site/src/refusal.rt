@@ -32,6 +32,10 @@ pub enum Refusal {
     BadGeometry,
     #[error("what was put is not of the medium, or does not fit it; or the unit has another device")]
     BadMedium,
+    #[error("the image breaks a rule of its format, or does not fit the tape")]
+    BadImage,
+    #[error("no image has such a disk")]
+    NoImage,
     #[error("an extent is not one of the device, or is not 16 bytes")]
     BadExtent,
     #[error("the base of the storage is not a multiple of 8")]
@@ -54,9 +58,9 @@ pub enum Refusal {
     NoNumber,
     #[error("no post was delivered to the task that it has not collected")]
     NoPost,
-    #[error("the buffer is too short, or the place is past the end")]
+    #[error("the buffer is too short, or so many bytes were not made")]
     NoRoom,
-    #[error("no request waits at that place")]
+    #[error("no request, record or line is at that place")]
     NothingThere,
     #[error("a request is in flight, waits, is active or out, or a post is not collected")]
     NotIdle,

@@ -2,6 +2,7 @@
 
 mod controls;
 mod events;
+mod images;
 mod long_use;
 mod media;
 mod posts;
@@ -12,12 +13,13 @@ mod texts;
 ghost use Rattle.std.specs.Prelude.{◌≡◌, ◌≤◌, ◌<◌, [], length, replicate, IfErr, IfOk, OnErr, OnOk};
 ghost use Rattle.excp_site.specs.declared.refusal.Refusal.TheVariants as Refusal;
 ghost use Rattle.excp_site.specs.Media.{IsEmpty};
-ghost use Rattle.excp_site.specs.Sites.{earlier_of, number_of};
+ghost use Rattle.excp_site.specs.Sites.{NewRefused, earlier_of, number_of};
 
 use crate::medium::Medium;
 use crate::refusal::Refusal;
 use any_device::AnyDevice;
 pub use media::Room;
+use medium_image::Kept;
 use request_piece::Name;
 use std::alloc::Global;
 use std::marker::Model;
@@ -36,6 +38,8 @@ pub struct Site {
     earlier: Vec<Vec<u64>>,
     /// By unit: how many requests its book holds at a time.
     held: Vec<u32>,
+    /// By unit: what the image that it came from has beside its medium.
+    beside: Vec<Option<Kept>>,
     /// The bytes that were made last.
     made: Vec<u8>,
 }
@@ -46,24 +50,29 @@ impl Model for Site {
 
     ghost Value = { SiteView };
 
-    ghost view = { λ s. record { plain = s.plain; medium = s.medium; earlier = map (λ e. e.items) s.earlier.items; held = s.held.items; made = s.made.items } };
+    ghost view = { λ s. record { plain = s.plain; medium = s.medium; earlier = map (λ e. e.items) s.earlier.items; held = s.held.items; beside = s.beside.items; made = s.made.items } };
 
     ghost invariant = { λ s. (length s.plain.units ≤ 65_535) × (length s.earlier.items ≡ length s.plain.units)
-        × (length s.held.items ≡ length s.plain.units) × All (λ h. (1 ≤ h) × (h ≤ 65_536)) s.held.items };
+        × (length s.held.items ≡ length s.plain.units) × (length s.beside.items ≡ length s.plain.units)
+        × All (λ h. (1 ≤ h) × (h ≤ 65_536)) s.held.items };
 }
 
 impl Site {
     /// A site without a unit, with `tasks` tasks, numbered from 0. Up to `post_room` posts may be on their way back to a task.
     ///
-    /// Error: `NoMemory`.
+    /// Errors, in this order: `BadNumber` if `tasks` or `post_room` is 0; `NoMemory`.
     pub fn new(alloc: Global, tasks: u16, post_room: usize) -> Result<Site, Refusal>
         ensures plain { IfOk result (λ s. s.plain ≡ record { units = []; post_room = post_room; rows = replicate tasks [] }) }
         ensures medium { IfOk result (λ s. IsEmpty s.medium) }
         ensures earlier { IfOk result (λ s. s.earlier ≡ []) }
         ensures held { IfOk result (λ s. s.held ≡ []) }
+        ensures beside { IfOk result (λ s. s.beside ≡ []) }
         ensures made { IfOk result (λ s. s.made ≡ []) }
-        ensures refused { IfErr result (λ e. e ≡ Refusal.NoMemory) }
+        ensures refused { IfErr result (NewRefused tasks post_room) }
     {
+        if tasks == 0 || post_room == 0 {
+            return Err(Refusal::BadNumber);
+        }
         let plain = PlainSite::new(alloc, tasks, post_room)?;
         Ok(Site {
             alloc,
@@ -71,6 +80,7 @@ impl Site {
             medium: Medium::new(alloc),
             earlier: Vec::new(alloc),
             held: Vec::new(alloc),
+            beside: Vec::new(alloc),
             made: Vec::new(alloc),
         })
     }

@@ -13,7 +13,7 @@ use std::marker::Model;
 use unit_book::{Entry, ProcessingMethod, UnitBook};
 
 /// An unrelated IOB, its ECB, and search, transfer back and read data, from X'1000' on.
-const IMAGE: [u8; 104] = [
+pub const IMAGE: [u8; 104] = [
     0x42, 0, 0, 0, 0, 0, 0x10, 0x28, 0, 0, 0, 0, 0, 0, 0, 0, 0, 0, 0x10, 0x30, 0, 0, 0, 1, 0, 0, 0,
     0, 0, 0, 0, 1, 0, 0, 0, 0, 0, 0, 0, 0, 0, 0, 0, 0, 0, 0, 0, 0, 0x31, 0, 0x10, 0x50, 0x40, 0, 0,
     5, 0x08, 0, 0x10, 0x30, 0, 0, 0, 0, 0x06, 0, 0x10, 0x60, 0, 0, 0, 4, 0, 0, 0, 0, 0, 0, 0, 0, 0,
@@ -21,7 +21,7 @@ const IMAGE: [u8; 104] = [
 ];
 
 /// An extent of the one track of the disk.
-const EXTENT: [u8; 16] = [0x18, 0, 0, 0, 0, 0, 0, 0, 0, 0, 0, 0, 0, 0, 0, 1];
+pub const EXTENT: [u8; 16] = [0x18, 0, 0, 0, 0, 0, 0, 0, 0, 0, 0, 0, 0, 0, 0, 1];
 
 /// A book with an open DCB, and the storage that each request is a copy of.
 #[derive(Drop)]

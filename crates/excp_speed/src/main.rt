@@ -1,4 +1,4 @@
-//! Measures command steps, starts and book cycles on a model disk.
+//! Measures command steps, starts, and cycles of a book and of a site, on a model disk.
 //!
 //! - `excp_speed` does one round and prints the counts.
 //! - `excp_speed ROUNDS` does this many rounds, and also prints the rounds in a second and the time of each.
@@ -10,11 +10,13 @@
 mod channel;
 mod cycles;
 mod report;
+mod sites;
 mod workload;
 
 use cycles::Cycles;
 use report::Arguments;
 use std::io;
+use std::io::ErrorKind;
 use std::process::ExitCode;
 use std::time::Instant;
 use workload::Workload;
@@ -36,6 +38,9 @@ fn measure(rt: &HostRuntime) -> io::Result<()> {
     }
     if arguments.wants("book cycles") {
         measure_book(rt, &arguments)?;
+    }
+    if arguments.wants("site cycles") {
+        measure_site(rt, &arguments)?;
     }
     Ok(())
 }
@@ -60,4 +65,16 @@ fn measure_book(rt: &HostRuntime, arguments: &Arguments) -> io::Result<()> {
     let begin = Instant::now(rt)?;
     let done = cycles.run(rt.alloc(), arguments.rounds())?;
     arguments.print(rt, "book cycles", done, &begin)
+}
+
+/// Does a cycle of a site a round.
+fn measure_site(rt: &HostRuntime, arguments: &Arguments) -> io::Result<()> {
+    let Ok(mut site) = sites::site(rt.alloc()) else {
+        return Err(io::Error::from(ErrorKind::Other));
+    };
+    let begin = Instant::now(rt)?;
+    let Ok(done) = sites::cycles(&mut site, arguments.rounds()) else {
+        return Err(io::Error::from(ErrorKind::Other));
+    };
+    arguments.print(rt, "site cycles", done, &begin)
 }

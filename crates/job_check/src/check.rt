@@ -11,12 +11,13 @@ use crate::races::Races;
 use crate::requests::why_rejected;
 use crate::suggestion::meant_in_script;
 use crate::telling::{Found, Source, write_findings};
-use job_media::{Image, sizes_of, with_sizes};
+use job_media::{sizes_of, with_sizes};
 use job_scenario::begins_event;
 use job_script::{
     Action, BYTE_ORDER_MARK, Cause, Command, DcbName, ExcpLine, FaultName, JobError, LIMIT, Line,
     Message, Refusal, SetUp, begins_line, first_unprintable, is_symbolic, late, read_script,
 };
+use medium_image::Image;
 use script_words::{Words, next_word};
 use std::alloc::{AllocError, Global};
 use std::io::{Read, Write};

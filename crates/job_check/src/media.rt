@@ -5,10 +5,11 @@ use crate::finding::{Finding, tell};
 use any_device::AnyDevice;
 use ckd_disk::{Geometry, GeometryRefusal, InitialRecord, RecordRefusal, first_overfull};
 use device_port::{Fault, Kind, MountError, is_script};
-use job_media::{Image, Kept, MediaError, MediaRefusal};
+use job_media::{MediaError, MediaRefusal, device_from};
 use job_mount::mounted;
 use job_script::{Cause, FaultName, Medium, UnitSetup};
 use line_printer::{PaperRefusal, paper_refusal};
+use medium_image::{Image, Kept};
 use std::alloc::{AllocError, Global};
 use tape_unit::{InitialItem, overrun_of};
 use unit_book::{ExtentRefusal, ExtentsRefusal, extents_refusal};
@@ -64,7 +65,7 @@ pub fn check_unit_on(
     for line in &unit.content_lines {
         tell(findings, *line, MediaRefusal::Content.cause())?;
     }
-    let device = match image.device(alloc, unit) {
+    let device = match device_from(alloc, image, unit) {
         Ok(device) => Some(device),
         Err(error) => {
             tell_unmounted(error, before, findings)?;

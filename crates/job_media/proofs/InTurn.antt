@@ -6,10 +6,10 @@ use Rattle.std.proofs.lemmas.List.{map-append}
 use Rattle.aws_tape.specs.Steps.{◌>>=◌}
 use Rattle.any_device.specs.declared.device.AnyDevice.{AnyDevice}
 use Rattle.job_script.specs.declared.set_up.UnitSetup.{UnitSetup}
-use Rattle.job_media.specs.declared.image.Image.{Image}
-use Rattle.job_media.specs.declared.image.Kept.{Kept}
-use Rattle.job_media.specs.declared.image.MediaError.{MediaError}
-use Rattle.job_media.specs.declared.image.MediaError.TheVariants.{Line, NoMemory}
+use Rattle.medium_image.specs.declared.image.Image.{Image}
+use Rattle.medium_image.specs.declared.image.Kept.{Kept}
+use Rattle.job_media.specs.declared.mounting.MediaError.{MediaError}
+use Rattle.job_media.specs.declared.mounting.MediaError.TheVariants.{Line, NoMemory}
 use Rattle.job_media.specs.declared.units.MountedImages.{MountedImages}
 use Rattle.job_media.specs.Mounting.{AnswersMounting, AreListed, MountsAll, PerUnit, unit_has, units_have}
 

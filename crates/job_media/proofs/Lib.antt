@@ -1,5 +1,3 @@
--- Lemmas on texts with the sizes of images, on loading and mounting images, and on the text of a printer.
+-- Lemmas on texts with the sizes of images, and on mounting images.
 pub mod Lines
-pub mod Loads
-pub mod Papers
 pub mod InTurn

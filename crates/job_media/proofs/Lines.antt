@@ -2,7 +2,7 @@
 use Rattle.std.proofs.Common.{◌≡◌, ℕ, List, [], ◌∷◌, ◌++◌, map, Option, Some, None, sym, ap, ◌∙◌, append_assoc, append-nil}
 use Rattle.std.specs.List.{join_with_byte}
 use Rattle.script_words.specs.Text.{lines, lines_left}
-use Rattle.job_media.specs.declared.sizes.Size.{Size}
+use Rattle.medium_image.specs.declared.image.Size.{Size}
 use Rattle.job_media.specs.Sizes.{sized_line, text_with_sizes}
 
 -- lines, each after a line feed

@@ -1,7 +1,3 @@
--- The definitions of job_media: the sizes of images in the lines of units, and how images are loaded, mounted and saved.
+-- The definitions of job_media: the sizes of images in the lines of units, and how images are mounted as these lines say.
 pub mod Sizes
-pub mod Images
 pub mod Mounting
-pub mod Loading
-pub mod Paper
-pub mod Saving

@@ -18,17 +18,17 @@ use Rattle.job_script.specs.declared.fault.JobError.TheVariants as errors
 use Rattle.job_script.specs.declared.set_up.Medium.{Medium}
 use Rattle.job_script.specs.declared.set_up.Medium.TheVariants as medium
 use Rattle.job_script.specs.declared.set_up.UnitSetup.{UnitSetup}
-use Rattle.job_media.specs.declared.image.Image.{Image}
-use Rattle.job_media.specs.declared.image.Image.TheVariants.{Disk, Tape}
-use Rattle.job_media.specs.declared.image.Kept.{Kept}
-use Rattle.job_media.specs.declared.image.Kept.TheVariants as kept
-use Rattle.job_media.specs.declared.image.MediaError.{MediaError}
-use Rattle.job_media.specs.declared.image.MediaError.TheVariants.{Line, NoMemory}
-use Rattle.job_media.specs.declared.image.MediaRefusal.{MediaRefusal}
-use Rattle.job_media.specs.declared.image.MediaRefusal.TheVariants as refusal
+use Rattle.medium_image.specs.declared.image.Image.{Image}
+use Rattle.medium_image.specs.declared.image.Image.TheVariants.{Disk, Tape}
+use Rattle.medium_image.specs.declared.image.Kept.{Kept}
+use Rattle.medium_image.specs.declared.image.Kept.TheVariants as kept
+use Rattle.job_media.specs.declared.mounting.MediaError.{MediaError}
+use Rattle.job_media.specs.declared.mounting.MediaError.TheVariants.{Line, NoMemory}
+use Rattle.job_media.specs.declared.mounting.MediaRefusal.{MediaRefusal}
+use Rattle.job_media.specs.declared.mounting.MediaRefusal.TheVariants as refusal
 use Rattle.aws_tape.specs.Steps.{◌>>=◌}
 use Rattle.job_media.specs.declared.units.MountedImages.{MountedImages}
-use Rattle.job_media.specs.Images.{geometry_of}
+use Rattle.medium_image.specs.Images.{geometry_of}
 
 -- a device with its medium, and what its image has beside it
 abbrev pub Mounted : Type 0

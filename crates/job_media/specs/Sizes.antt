@@ -6,8 +6,8 @@ use Rattle.std.specs.List.{join_with_byte}
 use Rattle.std.specs.Str.{bytes_eq}
 use Rattle.script_words.specs.Forms.{decimal_in}
 use Rattle.script_words.specs.Text.{lines, words}
-use Rattle.job_media.specs.declared.sizes.Size.{Size}
-use Rattle.job_media.specs.declared.sizes.Size.TheVariants.{Disk, Tape}
+use Rattle.medium_image.specs.declared.image.Size.{Size}
+use Rattle.medium_image.specs.declared.image.Size.TheVariants.{Disk, Tape}
 
 -- a word of a line is a hyphen
 abbrev pub is_hyphen : ℕ → List (List ℕ) → Bool

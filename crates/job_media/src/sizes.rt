@@ -5,18 +5,10 @@ ghost use Rattle.std.specs.Fmt.{decimal};
 ghost use Rattle.script_words.specs.Text.{words};
 ghost use Rattle.job_media.specs.Sizes.{is_hyphen, leaves_disk, leaves_size, leaves_tape, numbers, size_of_line, sized, sized_line, text_with_sizes, with_blank};
 
-use ckd_disk::Geometry;
 use digits::put_decimal;
+use medium_image::Size;
 use script_words::{Words, decimal_in, is_word};
 use std::alloc::{AllocError, Global};
-
-/// The size of a medium, as the line of its unit says it.
-#[derive(Clone, Copy)]
-pub enum Size {
-    Disk(Geometry),
-    /// The bytes of a tape.
-    Tape(u64),
-}
 
 /// The text of a script, in which the lines of units have the sizes of their images in place of hyphens: `tape U ISC -`,
 /// and `disk U ISC -` or `disk U ISC - - -`. `sizes` has the size of each unit's image by the number of the unit. Such a

@@ -2,13 +2,13 @@
 
 ghost use Rattle.std.specs.Prelude.{◌≡◌, ◌++◌, ◌∷◌, [], IfOk, OnOk, IfErr, map, option_map};
 ghost use Rattle.std.specs.List.{zip};
-ghost use Rattle.job_media.specs.Images.{image_size};
+ghost use Rattle.medium_image.specs.Images.{image_size};
 ghost use Rattle.job_media.specs.Mounting.{AnswersMounting, MountsAll, unit_has, units_have};
 
-use crate::image::{Image, Kept, MediaError};
-use crate::sizes::Size;
+use crate::mounting::{MediaError, mounted};
 use any_device::AnyDevice;
 use job_script::UnitSetup;
+use medium_image::{Image, Kept, Size};
 use std::alloc::{AllocError, Global};
 
 /// The devices that units are given, and what the files of their images have beside, by the numbers of the units.
@@ -69,7 +69,7 @@ fn mounted_if_any(
     let Some(image) = image else {
         return Ok((None, None));
     };
-    match image.mounted(alloc, unit) {
+    match mounted(alloc, image, unit) {
         Ok((device, kept)) => Ok((Some(device), Some(kept))),
         Err(error) => Err(error),
     }

@@ -12,9 +12,10 @@ use crate::stepper::Stepper;
 use crate::unmade::Unmade;
 use crate::view::{View, Views};
 use job_check::{Source, mount_faults_but};
-use job_media::{Image, sizes_of};
+use job_media::sizes_of;
 use job_scenario::{Event, ScenarioLine};
 use job_script::{JobError, LIMIT};
+use medium_image::Image;
 use std::alloc::Global;
 use std::io::{Read, Write, sink};
 

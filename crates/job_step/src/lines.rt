@@ -4,8 +4,9 @@
 ghost use Rattle.std.specs.Prelude.{IfErr};
 ghost use Rattle.job_step.specs.Faults.{IsStepFault};
 
-use job_media::{Size, with_sizes};
+use job_media::with_sizes;
 use job_script::{JobError, LIMIT};
+use medium_image::Size;
 use std::alloc::{AllocError, Global};
 use std::io::{BufRead, BufReader, ErrorKind, Read, Take};
 

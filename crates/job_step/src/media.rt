@@ -1,8 +1,8 @@
 //! The media of units, before the first event and at the end of a scenario.
 
 use any_device::AnyDevice;
-use job_media::Kept;
 use job_script::UnitSetup;
+use medium_image::Kept;
 use unit_book::UnitBook;
 
 /// Takes over the medium of each unit at the end of a scenario.

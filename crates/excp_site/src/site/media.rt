@@ -1,6 +1,6 @@
 //! Media and units.
 
-ghost use Rattle.std.specs.Prelude.{◌≡◌, ◌≤◌, ◌<◌, [], ◌∷◌, ◌++◌, length, replicate, true, IfErr, IfOk, OnErr, OnOk};
+ghost use Rattle.std.specs.Prelude.{◌≡◌, ◌≤◌, ◌<◌, [], ◌∷◌, ◌++◌, length, replicate, true, None, IfErr, IfOk, OnErr, OnOk};
 ghost use Rattle.std.specs.Bool.{OnTrue};
 ghost use Rattle.any_device.specs.declared.device.AnyDevice.TheVariants as AnyDevice;
 ghost use Rattle.ckd_disk.specs.Mount.{opening as opening_disk};
@@ -19,6 +19,7 @@ use any_device::AnyDevice;
 use ckd_disk::{Disk, Geometry};
 use device_port::Fault;
 use line_printer::Printer;
+use medium_image::Kept;
 use tape_unit::Tape;
 use unit_book::UnitBook;
 
@@ -116,7 +117,7 @@ impl Site {
     /// Errors, in this order: `BadNumber` if the room is outside its range; `TooManyUnits`; `BadMedium` if an item of a tape was put;
     /// those of [`Disk::mount`]; `NoMemory`. What was put stays then.
     pub fn mount_disk(&mut self, geometry: Geometry, room: Room) -> Result<u16, Refusal>
-        ensures ok { IfOk result (λ unit. AddsUnit self.old (AnyDevice.Disk (opening_disk geometry self.old.medium.records.items self.old.medium.faults.items)) room.in_flight room.held unit self.new) }
+        ensures ok { IfOk result (λ unit. AddsUnit self.old (AnyDevice.Disk (opening_disk geometry self.old.medium.records.items self.old.medium.faults.items)) None room.in_flight room.held unit self.new) }
         ensures used { OnOk result (IsEmpty self.new.medium) }
         ensures refused { IfErr result (DiskRefused self.old geometry room.in_flight room.held) }
         ensures err { OnErr result (self.new ≡ self.old) }
@@ -127,7 +128,7 @@ impl Site {
         }
         let medium = &self.medium;
         let disk = Disk::mount(self.alloc, geometry, &medium.records, &medium.faults)?;
-        self.add(AnyDevice::Disk(disk), room)
+        self.add(AnyDevice::Disk(disk), None, room)
     }
 
     /// Adds a tape of `bytes` bytes with the items and faults that were put, and returns the number of its unit. They are used up.
@@ -135,7 +136,7 @@ impl Site {
     /// Errors, in this order: `BadNumber` if the room is outside its range; `TooManyUnits`; `BadMedium` if a record of a disk was put;
     /// those of [`Tape::mount`]; `NoMemory`. What was put stays then.
     pub fn mount_tape(&mut self, bytes: u64, room: Room) -> Result<u16, Refusal>
-        ensures ok { IfOk result (λ unit. AddsUnit self.old (AnyDevice.Tape (opening_tape bytes self.old.medium.items.items self.old.medium.faults.items)) room.in_flight room.held unit self.new) }
+        ensures ok { IfOk result (λ unit. AddsUnit self.old (AnyDevice.Tape (opening_tape bytes self.old.medium.items.items self.old.medium.faults.items)) None room.in_flight room.held unit self.new) }
         ensures used { OnOk result (IsEmpty self.new.medium) }
         ensures refused { IfErr result (TapeRefused self.old bytes room.in_flight room.held) }
         ensures err { OnErr result (self.new ≡ self.old) }
@@ -146,7 +147,7 @@ impl Site {
         }
         let medium = &self.medium;
         let tape = Tape::mount(self.alloc, &medium.items, bytes, &medium.faults)?;
-        self.add(AnyDevice::Tape(tape), room)
+        self.add(AnyDevice::Tape(tape), None, room)
     }
 
     /// Adds a printer for `lines` lines on paper of `pages` pages, with the faults that were put, and returns the number of its
@@ -155,7 +156,7 @@ impl Site {
     /// Errors, in this order: `BadNumber` if the room is outside its range; `TooManyUnits`; `BadMedium` if a record or an item was
     /// put; those of [`Printer::mount`]; `NoMemory`. What was put stays then.
     pub fn mount_printer(&mut self, lines: u64, pages: u64, room: Room) -> Result<u16, Refusal>
-        ensures ok { IfOk result (λ unit. AddsUnit self.old (AnyDevice.Printer (opening_printer lines pages self.old.medium.faults.items)) room.in_flight room.held unit self.new) }
+        ensures ok { IfOk result (λ unit. AddsUnit self.old (AnyDevice.Printer (opening_printer lines pages self.old.medium.faults.items)) None room.in_flight room.held unit self.new) }
         ensures used { OnOk result (IsEmpty self.new.medium) }
         ensures refused { IfErr result (PrinterRefused self.old lines pages room.in_flight room.held) }
         ensures err { OnErr result (self.new ≡ self.old) }
@@ -166,11 +167,11 @@ impl Site {
             return Err(Refusal::BadMedium);
         }
         let printer = Printer::mount(self.alloc, lines, pages, &medium.faults)?;
-        self.add(AnyDevice::Printer(printer), room)
+        self.add(AnyDevice::Printer(printer), None, room)
     }
 
     /// Tests that a unit with this room can be added.
-    fn can_add(&self, room: Room) -> Result<(), Refusal>
+    pub(super) fn can_add(&self, room: Room) -> Result<(), Refusal>
         ensures some { OnOk result (1 ≤ room.held) }
         ensures few { OnOk result (room.held ≤ 65536) }
         ensures is_room { OnOk result (is_room room.in_flight room.held ≡ true) }
@@ -186,13 +187,18 @@ impl Site {
         Ok(())
     }
 
-    /// Adds a unit with this device. What was put is used up.
-    fn add(&mut self, device: AnyDevice, room: Room) -> Result<u16, Refusal>
+    /// Adds a unit with this device, and what its image has beside the medium. What was put is used up.
+    pub(super) fn add(
+        &mut self,
+        device: AnyDevice,
+        beside: Option<Kept>,
+        room: Room,
+    ) -> Result<u16, Refusal>
         requires units { length self.old.plain.units < 65_535 }
         requires room { is_room room.in_flight room.held ≡ true }
         requires some { 1 ≤ room.held }
         requires few { room.held ≤ 65536 }
-        ensures ok { IfOk result (λ unit. AddsUnit self.old device room.in_flight room.held unit self.new) }
+        ensures ok { IfOk result (λ unit. AddsUnit self.old device beside room.in_flight room.held unit self.new) }
         ensures used { OnOk result (IsEmpty self.new.medium) }
         ensures refused { IfErr result (λ e. e ≡ Refusal.NoMemory) }
         ensures err { OnErr result (self.new ≡ self.old) }
@@ -204,10 +210,12 @@ impl Site {
         let none = vec![in self.alloc; 0; tasks]?;
         self.earlier.reserve(1)?;
         self.held.reserve(1)?;
+        self.beside.reserve(1)?;
         match self.plain.add_unit(book, room.in_flight as usize) {
             Ok(unit) => {
                 self.earlier.push_reserved(none);
                 self.held.push_reserved(room.held);
+                self.beside.push_reserved(beside);
                 self.medium = Medium::new(self.alloc);
                 Ok(unit)
             }

@@ -58,7 +58,7 @@ impl Site {
 
     /// The record at a place of a track of a disk, counted from 0.
     ///
-    /// Errors: `NoUnit`; `BadMedium` if the unit is no disk; `NoRoom` if the track has no such place.
+    /// Errors: `NoUnit`; `BadMedium` if the unit is no disk; `NothingThere` if the track has no such place.
     pub fn read_record(
         &self,
         unit: u16,
@@ -76,13 +76,13 @@ impl Site {
         };
         match at(disk.records(cylinder, head), place) {
             Some(record) => Ok(record),
-            None => Err(Refusal::NoRoom),
+            None => Err(Refusal::NothingThere),
         }
     }
 
     /// The line of a printer at a place, counted from 0, the oldest first.
     ///
-    /// Errors: `NoUnit`; `BadMedium` if the unit is no printer; `NoRoom` if there is no such line.
+    /// Errors: `NoUnit`; `BadMedium` if the unit is no printer; `NothingThere` if there is no such line.
     pub fn printed_line(&self, unit: u16, place: usize) -> Result<&PrintedLine, Refusal>
         ensures unit { OnOk result (unit < length self.now.plain.units) }
         ensures ok { IfOk result (λ line. OnPart self.now.plain unit (λ p. LineAt (device_now p.book) place (Some line.now))) }
@@ -94,7 +94,7 @@ impl Site {
         };
         match printer.printed().as_slice().get(place) {
             Some(line) => Ok(line),
-            None => Err(Refusal::NoRoom),
+            None => Err(Refusal::NothingThere),
         }
     }
 }

@@ -1,6 +1,6 @@
 use Rattle.std.proofs.Common.{◌≡◌, map, take}
 use Rattle.std.specs.Prelude.{option_map}
-use Rattle.job_media.specs.Images.{image_size}
+use Rattle.medium_image.specs.Images.{image_size}
 use Rattle.job_media.proofs.units.sizes_of.Given as goal
 
 abbrev pub invariant-loop-image : goal.invariant-loop-image

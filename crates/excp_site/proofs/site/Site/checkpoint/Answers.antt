@@ -13,7 +13,7 @@ pub returns-clause-ok : goal.returns-clause-ok
 returns-clause-ok c =
     let i = c.self.inside in
     let r = c.renew.ensures in
-    let old : SiteView = record { plain = i.plain; medium = i.medium; earlier = map (λ e. e.items) i.earlier.items; held = i.held.items; made = i.made.items } in
+    let old : SiteView = record { plain = i.plain; medium = i.medium; earlier = map (λ e. e.items) i.earlier.items; held = i.held.items; beside = i.beside.items; made = i.made.items } in
     let unit = c.args.unit in
     let book_is : r.after.book ≡ c.in_ok-renewed.renewed = ap (λ (p : UnitPart AnyDevice). p.book) r.does in
     let held_is : c.held_of.result ≡ held_of old unit = c.held_of.ensures.value ∙ ap (λ (v : SiteView). held_of v unit) (sym c.self.view_is) in

@@ -1,0 +1,3 @@
+-- Lemmas on loading images, and on the text of a printer.
+pub mod Loads
+pub mod Papers
