@@ -231,7 +231,7 @@ class Images(unittest.TestCase):
             tape = site.tape_from(image, length=100)
             self.assertEqual(tape.image(), image)
             tape.open()
-            for program in [Ccw(Op.RDF, "BUFFER", Flag.SLI, 16)], [Ccw(Op.WR, "DATA", count=6)]:
+            for program in [Ccw(Op.RDF, "BUFFER", Flag.SLI, 16)], [Ccw(Op.WRT, "DATA", count=6)]:
                 site.issue(0, tape.dcb(1), request(*program, data=b"SECOND"))
             tape.serve()
             self.assertEqual([it.code for it in site.posts(0)], [Code.ENDED] * 2)
@@ -255,7 +255,7 @@ class Images(unittest.TestCase):
             area.data("WORD", "WORD".encode("cp037"))
             site.issue(0, printer.dcb(1), area)
             site.serve()
-            self.assertEqual(printer.image(), b"TITLE\nWORD\r")
+            self.assertEqual(printer.image(), b"TITLE\fWORD\r")
 
     def test_mistakes(self):
         with Site() as site:

@@ -293,7 +293,7 @@ def load(name, out):
         image = it.read()
     with Site() as site:
         try:
-            unit = site.disk_from(image) if image[:4] == b"CKD_" else site.tape_from(image, length=2**32)
+            unit = site.disk_from(image) if image[:4] == b"CKD_" else site.tape_from(image)
         except BadImage as error:
             out.write(f"{name}: {error}\n")
             return 0
