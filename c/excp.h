@@ -143,7 +143,7 @@ typedef enum excp_answer_kind {
     EXCP_ENDED = 10,      /* interrupt: the request was posted with `code` */
     EXCP_DELIVERED = 11,  /* deliver: the post of the request is on its way back to its task */
     EXCP_ROW_FULL = 12,   /* deliver: its task has as many posts to collect as it may */
-    EXCP_ACTIVE = 13,     /* purge: the request, which the purge covers, is active; EXCP_HALT ends it at its next command */
+    EXCP_ACTIVE = 13,     /* purge: the request, which the purge covers, is active; after EXCP_HALT the next excp_interrupt posts it */
     EXCP_CLOSED = 14,     /* close: no request of the DCB is active */
     EXCP_CLOSING = 15     /* close: this request of the DCB is active */
 } excp_answer_kind;
@@ -291,7 +291,8 @@ excp_status excp_printed_line(excp_site *site, uint16_t unit, uint32_t place, ex
 excp_status excp_make_history(excp_site *site, uint16_t unit, size_t *length);
 
 /* The medium of a unit as an image: a disk as CKD_P370, a tape as AWSTAPE, the paper of a printer as text in UTF-8
- * (docs/FORMATS.md). What was not written is as in the image that the unit came from. */
+ * (docs/FORMATS.md). What was not written is as in the image that the unit came from. What was written before a checkpoint may
+ * have flags, bytes behind its end or chunks of that image. */
 excp_status excp_make_image(excp_site *site, uint16_t unit, size_t *length);
 
 /* How many bytes were made last. */
@@ -301,7 +302,7 @@ excp_status excp_copy_out(excp_site *site, size_t from, uint8_t *bytes, size_t l
 /* ---- Long use -------------------------------------------------------------------------------------------------------- */
 
 /* Forgets what happened at an idle unit, so that its memory does not grow with each request. The device, its medium and the DCBs
- * stay as they are, and numbers of requests go on. While it runs, it takes twice the memory of the medium beside what the unit has.
+ * stay as they are, but for the error flag of a closed one. Numbers of requests go on. While it runs, it takes twice the memory of the medium beside what the unit has.
  * EXCP_NOT_IDLE and EXCP_IN_ERROR say what has to be done first. */
 excp_status excp_checkpoint(excp_site *site, uint16_t unit);
 

@@ -104,8 +104,9 @@ def rejected(ran, path):
 
 
 def files_of(folder):
-    """The files of a crate with theorems by computation."""
+    """The files of a crate with theorems by computation. A Lib.antt only lists files."""
     files = sorted(glob.glob(f"{folder}/proofs/**/*.antt", recursive=True))
+    files = [it for it in files if os.path.basename(it) != "Lib.antt"]
     return [os.path.relpath(it, folder) for it in files if read(it).startswith("-- Worked ")]
 
 

@@ -182,12 +182,16 @@ def tape_with_labels():
     return [*first, text("THE ONLY LINE"), None, text("EOF1FIRST.FILE"), text("EOF2F0008000080"), None, None]
 
 
+def labelled_chunks(items):
+    """The chunks of that tape: the one line is in two."""
+    return [[27, 53] if number == 4 else [len(it or b"")] for number, it in enumerate(items)]
+
+
 def appends_a_file(setup):
     """A job appends a data set to a labelled tape; tapemap and hetmap read the result."""
     with tempfile.TemporaryDirectory(prefix="images-") as folder:
         items = tape_with_labels()
-        # the one line is in two chunks
-        chunks = [[27, 53] if number == 4 else [len(it or b"")] for number, it in enumerate(items)]
+        chunks = labelled_chunks(items)
         write(f"{folder}/old", formats.image_of(formats.Tape(items, chunks)))
         script = script_of(setup, "append.symbolic", folder)
         ran = program(setup, folder, "report", "--posts", "--load", "0=old", "--save", "0=new", script=script)

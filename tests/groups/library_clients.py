@@ -234,8 +234,7 @@ def block_is_rewritten(setup):
 def data_set_is_appended(setup):
     with tempfile.TemporaryDirectory() as folder:
         items = images.tape_with_labels()
-        chunks = [[27, 53] if number == 4 else [len(it or b"")] for number, it in enumerate(items)]
-        image = images.formats.image_of(images.formats.Tape(items, chunks))
+        image = images.formats.image_of(images.formats.Tape(items, images.labelled_chunks(items)))
         are_saved(setup, images.script_of(setup, "append.symbolic", folder), image)
 
 
