@@ -291,8 +291,7 @@ excp_status excp_printed_line(excp_site *site, uint16_t unit, uint32_t place, ex
 excp_status excp_make_history(excp_site *site, uint16_t unit, size_t *length);
 
 /* The medium of a unit as an image: a disk as CKD_P370, a tape as AWSTAPE, the paper of a printer as text in UTF-8
- * (docs/FORMATS.md). What was not written is as in the image that the unit came from. What was written before a checkpoint may
- * have flags, bytes behind its end or chunks of that image. */
+ * (docs/FORMATS.md). What was not written is as in the image that the unit came from. A checkpoint leaves the image as it is. */
 excp_status excp_make_image(excp_site *site, uint16_t unit, size_t *length);
 
 /* How many bytes were made last. */
@@ -301,9 +300,9 @@ excp_status excp_copy_out(excp_site *site, size_t from, uint8_t *bytes, size_t l
 
 /* ---- Long use -------------------------------------------------------------------------------------------------------- */
 
-/* Forgets what happened at an idle unit, so that its memory does not grow with each request. The device, its medium and the DCBs
- * stay as they are, but for the error flag of a closed one. Numbers of requests go on. While it runs, it takes twice the memory of the medium beside what the unit has.
- * EXCP_NOT_IDLE and EXCP_IN_ERROR say what has to be done first. */
+/* Forgets what happened at an idle unit, so that its memory does not grow with each request. The device, its medium, its image and
+ * the DCBs stay as they are, but for the error flag of a closed one. Numbers of requests go on. While it runs, it takes twice the
+ * memory of the medium beside what the unit has. EXCP_NOT_IDLE and EXCP_IN_ERROR say what has to be done first. */
 excp_status excp_checkpoint(excp_site *site, uint16_t unit);
 
 #ifdef __cplusplus

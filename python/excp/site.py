@@ -495,8 +495,7 @@ class Unit:
 
     def image(self) -> bytes:
         """The medium as an image: a disk as CKD_P370, a tape as AWSTAPE, the paper of a printer as text in UTF-8 (docs/FORMATS.md).
-        What was not written is as in the image that the unit came from; what was written before a checkpoint may have flags, bytes
-        behind its end or chunks of that image. Raises `NoImage`."""
+        What was not written is as in the image that the unit came from. Raises `NoImage`."""
         return self.site._make("make_image", self.number)
 
 

@@ -348,7 +348,7 @@ is_image layout items image l =
 
 -- ---- a tape that was not written
 
-all_common : (items : List Item) → common items items ≡ length items
+pub all_common : (items : List Item) → common items items ≡ length items
 unfolding common
 all_common [] = refl
 all_common (x ∷ items) =

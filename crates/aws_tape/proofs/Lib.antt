@@ -8,3 +8,4 @@ pub mod FirstChunk
 pub mod Layouts
 pub mod Kept
 pub mod Untouched
+pub mod Forgotten

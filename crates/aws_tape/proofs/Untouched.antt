@@ -18,7 +18,7 @@ use Rattle.aws_tape.proofs.Kept.{is_image, saved_itself}
 
 -- ---- what two tapes have in common
 
-one_more : (b : Bool) (n m : ℕ) → n ≤ m → cond b (1 + n) 0 ≤ suc m
+pub one_more : (b : Bool) (n m : ℕ) → n ≤ m → cond b (1 + n) 0 ≤ suc m
 one_more true n m le = omega (arith, le)
 one_more false n m le = omega arith
 

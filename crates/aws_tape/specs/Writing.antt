@@ -56,10 +56,14 @@ common [] ys = 0
 common (x ∷ xs) [] = 0
 common (x ∷ xs) (y ∷ ys) = if bytes_eq (content_of x) (content_of y) then 1 + common xs ys else 0
 
+-- the chunks of what a tape has in common with the tape that was mounted
+abbrev pub common_parts : List Part → List Item → List Item → List Part
+common_parts layout mounted now = take (count_before (common mounted now) layout) layout
+
 -- THE IMAGE of a tape: what it has in common with the tape that was mounted is in the chunks of the layout, and the rest
 -- in one chunk for each block
 abbrev pub saved : List Part → List Item → List Item → List ℕ
-saved layout mounted now = items_image (take (count_before (common mounted now) layout) layout) 0 0 now
+saved layout mounted now = items_image (common_parts layout mounted now) 0 0 now
 
 -- WHAT IS WRITTEN IS READ BACK: each tape that has room for the items loads them from the image, with some layout
 abbrev pub IsReadBack : List Item → List ℕ → Type 0

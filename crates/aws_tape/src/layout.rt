@@ -1,9 +1,12 @@
 //! What an image of a tape has and the tape has not: in which chunks its blocks are.
 
 ghost use Rattle.std.specs.Prelude.{◌≡◌, ◌++◌, ◌∷◌, [], if◌then◌else◌, is_ok};
+ghost use Rattle.aws_tape.specs.Writing.{common_parts, saved};
 
+use crate::writer::{common, count_before};
 use std::alloc::{AllocError, Global};
 use std::marker::Model;
+use tape_unit::Tape;
 
 /// A chunk of a block that has several.
 #[derive(Clone, Copy, Debug, PartialEq, Eq)]
@@ -37,6 +40,16 @@ impl Layout {
         Layout {
             parts: Vec::new(alloc),
         }
+    }
+
+    /// Forgets the chunks of what a tape does not have in common with the tape that was mounted. So its image stays the same
+    /// if `now` is the one that was mounted from here on.
+    pub fn forget_written(&mut self, mounted: &Tape, now: &Tape)
+        ensures parts { self.new ≡ common_parts self.old mounted.now.reel.items now.now.reel.items }
+        ensures image { saved self.new now.now.reel.items now.now.reel.items ≡ saved self.old mounted.now.reel.items now.now.reel.items }
+    {
+        let count = count_before(&self.parts, common(mounted, now));
+        self.parts.truncate(count);
     }
 
     /// Adds a chunk. If memory runs out, it stays as it is.

@@ -37,7 +37,7 @@ pub fn save<W: Write>(writer: &mut W, layout: &Layout, mounted: &Tape, now: &Tap
 }
 
 /// How many items two tapes have in common from their load points on.
-fn common(mounted: &Tape, now: &Tape) -> usize
+pub(crate) fn common(mounted: &Tape, now: &Tape) -> usize
     ensures { result ≡ common mounted.now.reel.items now.now.reel.items }
 {
     let most = mounted.len();
@@ -61,7 +61,7 @@ fn is_same(item: &Stored<'_>, other: &Stored<'_>) -> bool
 }
 
 /// How many chunks are of the items before a place, if they are in order.
-fn count_before(parts: &[Part], place: usize) -> usize
+pub(crate) fn count_before(parts: &[Part], place: usize) -> usize
     ensures { result ≡ count_before place parts.now }
 {
     parts

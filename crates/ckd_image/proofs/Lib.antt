@@ -5,3 +5,4 @@ pub mod Reading
 pub mod Writing
 pub mod Records
 pub mod Unique
+pub mod Forgotten

@@ -185,7 +185,7 @@ size_of_each size (t ∷ ts) (suc n) each lt = size_of_each size ts n each.1 (om
 
 -- ---- THE LAW: what was read and not written on is saved as it was
 
-kept_same : (kept : KeptState) (mounted tracks : List TrackState) (i : ℕ) → mounted ≡ tracks → i < length tracks →
+pub kept_same : (kept : KeptState) (mounted tracks : List TrackState) (i : ℕ) → mounted ≡ tracks → i < length tracks →
     kept_now kept mounted tracks i ≡ kept_at kept.tracks i
 kept_same kept mounted tracks i same lt =
     let there : nat_lt i (length tracks) ≡ true = grind (arith, nat_tests, lt) in

@@ -1,5 +1,5 @@
 -- What saving a disk to an image writes.
-use Rattle.std.specs.Prelude.{◌≡◌, ℕ, ◌+◌, ◌-◌, ◌&&◌, nat_lt, true, List, ◌∷◌, ◌++◌, length, Option, Ok, if◌then◌else◌}
+use Rattle.std.specs.Prelude.{◌≡◌, ◌<◌, ℕ, ◌+◌, ◌-◌, Bool, ◌&&◌, nat_lt, true, List, ◌∷◌, ◌++◌, length, Option, Ok, if◌then◌else◌}
 use Rattle.std.specs.Io.KnownBytes.{Keeps}
 use Rattle.std.specs.Str.{bytes_eq}
 use Rattle.device_port.specs.Moves.{padded}
@@ -23,12 +23,13 @@ abbrev pub track_bytes_with : ℕ → ℕ → List ℕ → List ℕ → List ℕ
 track_bytes_with bytes flag address records tail =
     flag ∷ (address ++ (records ++ (end_mark ++ padded (bytes - 13 - length records) tail)))
 
+-- whether these are the packed records of a track of the mounted disk
+abbrev pub is_as_mounted : List TrackState → List ℕ → ℕ → Bool
+is_as_mounted mounted records number = nat_lt number (length mounted) && bytes_eq (image_of ckd (track_of mounted number).records) records
+
 -- WHAT A TRACK HAS BESIDE ITS RECORDS: what was kept, as long as these are the records of the mounted disk
 abbrev pub kept_with : KeptState → List TrackState → List ℕ → ℕ → KeptTrackState
-kept_with kept mounted records number =
-    if nat_lt number (length mounted) && bytes_eq (image_of ckd (track_of mounted number).records) records
-    then kept_at kept.tracks number
-    else plain
+kept_with kept mounted records number = if is_as_mounted mounted records number then kept_at kept.tracks number else plain
 
 abbrev pub kept_now : KeptState → List TrackState → List TrackState → ℕ → KeptTrackState
 kept_now kept mounted tracks number = kept_with kept mounted (image_of ckd (track_of tracks number).records) number
@@ -37,6 +38,14 @@ kept_now kept mounted tracks number = kept_with kept mounted (image_of ckd (trac
 abbrev pub image_on : KeptState → DiskState → DiskState → List ℕ
 image_on kept mounted disk =
     kept.header ++ tracks_file (format_on disk) (kept_now kept mounted.tracks disk.tracks) 0 disk.tracks
+
+-- WHAT IS KEPT OF A DISK AS IT IS: what each of its tracks has beside its records now, so that its image stays the same if this is
+-- the mounted disk from here on
+pub record ForgetsWritten (old : KeptState) (mounted now : DiskState) (new : KeptState) : Type 0 where
+  pub header : new.header ≡ old.header
+  pub count : length new.tracks ≡ length old.tracks
+  pub each : (number : ℕ) → number < length now.tracks → kept_at new.tracks number ≡ kept_now old mounted.tracks now.tracks number
+  pub image : image_on new now now ≡ image_on old mounted now
 
 -- the volume that a disk is now
 abbrev pub volume_on : DiskState → VolumeState

@@ -3,13 +3,16 @@
 ghost use Rattle.std.specs.Prelude.{◌≡◌, ◌+◌, ◌<◌, ◌≤◌, Ok, IfOk, [], length};
 ghost use Rattle.std.specs.Bool.{Decides, OnTrue};
 ghost use Rattle.ckd_image.specs.Header.{format_of};
-ghost use Rattle.ckd_image.specs.Image.{kept_at};
+ghost use Rattle.ckd_image.specs.Image.{kept_at, plain};
+ghost use Rattle.ckd_image.specs.Saving.{ForgetsWritten};
 
 use crate::fault::SaveError;
 use crate::format::{BESIDE, Format, HEADER};
 use crate::models::device_type;
+use crate::saver::is_as_mounted;
 use byteorder::{ByteOrder, LittleEndian};
-use ckd_disk::Volume;
+use ckd_disk::{Disk, Volume};
+use device_port::Device;
 use std::alloc::Global;
 use std::marker::Model;
 
@@ -57,6 +60,14 @@ impl KeptTrack {
         ensures { result ≡ record { flag = flag; tail = tail.items } }
     {
         KeptTrack { flag, tail }
+    }
+
+    /// Has flag 00 and zeros from here on.
+    fn forget(&mut self)
+        ensures { self.new ≡ plain }
+    {
+        self.flag = 0;
+        self.tail.clear();
     }
 }
 
@@ -115,6 +126,19 @@ impl Kept {
         ensures long { length result.now ≡ 512 }
     {
         &self.header
+    }
+
+    /// Forgets what it has of the tracks whose records are not those of the disk as it was mounted. So the image of the disk stays
+    /// the same if `disk` is the mounted one from here on.
+    pub fn forget_written(&mut self, mounted: &Disk, disk: &Disk)
+        ensures { ForgetsWritten self.old mounted.now disk.now self.new }
+    {
+        let count = self.tracks.len().min(disk.tracks());
+        for number in 0..count {
+            if !is_as_mounted(mounted, disk.track_image(number), number) {
+                self.tracks[number].forget();
+            }
+        }
     }
 
     /// The flag of a track; 0 of one that is not kept.

@@ -5,7 +5,7 @@ ghost use Rattle.std.specs.Io.KnownBytes.{Appends};
 ghost use Rattle.ckd_image.specs.Image.{file_of, IsImage};
 ghost use Rattle.ckd_image.specs.declared.format.Format.{Format};
 ghost use Rattle.ckd_disk.specs.Volume.{VolumeState};
-ghost use Rattle.ckd_image.specs.Saving.{track_bytes_with, kept_with, image_on, volume_on, IsAsRead, RefusesSaving};
+ghost use Rattle.ckd_image.specs.Saving.{track_bytes_with, is_as_mounted, kept_with, image_on, volume_on, IsAsRead, RefusesSaving};
 
 use crate::fault::SaveError;
 use crate::format::BESIDE;
@@ -87,10 +87,17 @@ fn kept_with<'a>(kept: &'a Kept, mounted: &Disk, records: &[u8], number: usize) 
     ensures flag { result.0 ≡ (kept_with kept.now mounted.now.tracks records.now number).flag }
     ensures tail { result.1.now ≡ (kept_with kept.now mounted.now.tracks records.now number).tail }
 {
-    if number < mounted.tracks() && mounted.track_image(number) == records {
+    if is_as_mounted(mounted, records, number) {
         return (kept.flag(number), kept.tail(number));
     }
     (0, &[])
+}
+
+/// Whether these are the records of a track of the mounted disk.
+pub(crate) fn is_as_mounted(mounted: &Disk, records: &[u8], number: usize) -> bool
+    ensures { result ≡ is_as_mounted mounted.now.tracks records.now number }
+{
+    number < mounted.tracks() && mounted.track_image(number) == records
 }
 
 /// Puts the bytes of a track into a buffer.

@@ -1,5 +1,5 @@
 -- WHAT A CALL DID: what the call of the site does (excp_site), or why the site refused it.
-use Rattle.std.specs.Prelude.{◌≡◌, ◌≤◌, ◌<◌, ◌⊎◌, ℕ, Option, Some, None, List, length, slice_get}
+use Rattle.std.specs.Prelude.{◌≡◌, ◌≤◌, ◌<◌, ◌⊎◌, ℕ, MatchOption, Option, Some, None, List, length, slice_get}
 use Rattle.io_area.specs.Storage.{Storage}
 use Rattle.io_images.specs.declared.extent.Extent.{Extent}
 use Rattle.any_device.specs.Devices.{any_device}
@@ -22,14 +22,16 @@ use Rattle.unit_book.specs.declared.entry.Mode.{Mode}
 use Rattle.unit_book.specs.Settle.{IsIdle}
 use Rattle.unit_world.specs.Parts.{PartTakes}
 use Rattle.unit_world.specs.PostLists.{list_of}
-use Rattle.unit_world.specs.Sites.{CollectsPost, DeliversAs, OnBook, OnPart, OnUnit}
+use Rattle.unit_world.specs.Sites.{CollectsPost, DeliversAs, OnBook, OnUnit}
 use Rattle.excp_site.specs.Imaging.{LeavesMade}
 use Rattle.excp_site.specs.Media.{IsEmpty}
 use Rattle.excp_site.specs.declared.refusal.Refusal.{Refusal}
 use Rattle.excp_site.specs.declared.refusal.Refusal.TheVariants.{NoMemory}
 use Rattle.excp_site.specs.Serving.{EndsServing, HasSettled}
 use Rattle.excp_site.specs.declared.served.Served.{Served}
-use Rattle.excp_site.specs.Sites.{AddsUnit, IssuesRequest, NewRefused, SiteView, number_of}
+use Rattle.excp_site.specs.Extents.{extents_in}
+use Rattle.excp_site.specs.Refusals.{ExtentsRefused, OpenCallLeaves, OpenCallRefused}
+use Rattle.excp_site.specs.Sites.{AddsUnit, HasPart, IssuesRequest, MakesSite, NewRefused, SiteView, number_of}
 use Rattle.excp_c.specs.Answers.{answer_in_c}
 use Rattle.excp_c.specs.Numbers.{end_number}
 use Rattle.excp_c.specs.declared.events.Served.{Served as Answered}
@@ -37,6 +39,7 @@ use Rattle.excp_c.specs.Statuses.{status_in_c}
 use Rattle.excp_c.specs.declared.answer.Answer.{Answer}
 use Rattle.excp_c.specs.declared.answer.Event.{Event}
 use Rattle.excp_c.specs.declared.handle.Handle.{Handle}
+use Rattle.excp_c.specs.declared.handle.TheConstants.{MARK}
 
 -- the site of the handle was s, is t now, and this holds of s and t
 abbrev pub DidOn : Option SiteView → Option SiteView → (SiteView → SiteView → Type 0) → Type 0
@@ -51,10 +54,13 @@ Did h k Does = DidOn h.slot.value k.slot.value Does
 abbrev pub Refused : Handle → Handle → ℕ → (SiteView → SiteView → Refusal → Type 0) → Type 0
 Refused h k status Why = Did h k (λ s t. (e : Refusal) × (status ≡ status_in_c e) × Why s t e)
 
--- why a site was not made: there was no memory for the block that holds it, or the site says why
+-- A SITE was made, and it is the handle's
+abbrev pub MadeSite : Handle → ℕ → ℕ → Type 0
+MadeSite h tasks post_room = (h.mark ≡ MARK) × MatchOption h.slot.value ⊥ (MakesSite tasks post_room)
+
+-- why it was not
 abbrev pub NotMade : ℕ → ℕ → ℕ → Type 0
-NotMade status tasks post_room =
-    (status ≡ status_in_c NoMemory) ⊎ ((e : Refusal) × (status ≡ status_in_c e) × NewRefused tasks post_room e)
+NotMade status tasks post_room = (e : Refusal) × (status ≡ status_in_c e) × NewRefused tasks post_room e
 
 -- an event of the unit was made, and its answer was written out
 abbrev pub Made : {A : Type 0} → (A → Event) → ℕ → (SiteView → A → SiteView → Type 0) → Handle → Handle → Answer → Type 0
@@ -67,6 +73,31 @@ OnlyPlain s t = t ≡ record s { plain = t.plain }
 -- only the medium of the next unit differs
 abbrev pub OnlyMedium : SiteView → SiteView → Type 0
 OnlyMedium s t = t ≡ record s { medium = t.medium }
+
+-- only its records differ, or its items, or its faults
+abbrev pub OnlyRecords : SiteView → SiteView → Type 0
+OnlyRecords s t = (t.medium ≡ record s.medium { records = t.medium.records }) × OnlyMedium s t
+
+abbrev pub OnlyItems : SiteView → SiteView → Type 0
+OnlyItems s t = (t.medium ≡ record s.medium { items = t.medium.items }) × OnlyMedium s t
+
+abbrev pub OnlyFaults : SiteView → SiteView → Type 0
+OnlyFaults s t = (t.medium ≡ record s.medium { faults = t.medium.faults }) × OnlyMedium s t
+
+-- nothing was put, since there was no memory
+abbrev pub KeepsRecords : SiteView → SiteView → Refusal → Type 0
+KeepsRecords s t e = (e ≡ NoMemory) × (t.medium.records.items ≡ s.medium.records.items) × OnlyRecords s t
+
+abbrev pub KeepsItems : SiteView → SiteView → Refusal → Type 0
+KeepsItems s t e = (e ≡ NoMemory) × (t.medium.items.items ≡ s.medium.items.items) × OnlyItems s t
+
+abbrev pub KeepsFaults : SiteView → SiteView → Refusal → Type 0
+KeepsFaults s t e = (e ≡ NoMemory) × (t.medium.faults.items ≡ s.medium.faults.items) × OnlyFaults s t
+
+-- a DCB is not opened: its extents are none, or the site says why, and what it leaves
+abbrev pub NotOpened : SiteView → SiteView → ℕ → List ℕ → Refusal → Type 0
+NotOpened s t unit bytes e = (ExtentsRefused bytes e × (t ≡ s))
+    ⊎ (OpenCallRefused s.plain unit (extents_in bytes) e × OpenCallLeaves s.plain unit t.plain e × OnlyPlain s t)
 
 -- THE EVENTS of a unit
 abbrev pub SiteTakes : ℕ → SiteView → Intake → SiteView → Type 0
@@ -137,4 +168,4 @@ Serves unit max served s t =
 
 -- A UNIT WAS SETTLED
 abbrev pub SiteSettles : ℕ → SiteView → SiteView → Type 0
-SiteSettles unit s t = HasSettled s.plain unit t.plain × OnPart t.plain unit (λ p. IsIdle p.book.trace) × OnlyPlain s t
+SiteSettles unit s t = HasSettled s.plain unit t.plain × HasPart t.plain unit (λ p. IsIdle p.book.trace) × OnlyPlain s t

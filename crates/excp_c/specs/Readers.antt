@@ -3,9 +3,8 @@ use Rattle.std.specs.Prelude.{◌≡◌, ◌<◌, ◌+◌, ℕ, Some, List, ◌+
 use Rattle.ckd_disk.specs.Record.{Record as OnTrack}
 use Rattle.line_printer.specs.Paper.{Line as Printed}
 use Rattle.request_piece.specs.declared.piece.Name.{Name}
-use Rattle.unit_world.specs.Sites.{OnPart}
 use Rattle.excp_site.specs.Looks.{LineAt, RecordAt, ShowsDcb, ShowsUnit, WaitsAt, device_now}
-use Rattle.excp_site.specs.Sites.{SiteView, number_of}
+use Rattle.excp_site.specs.Sites.{HasPart, SiteView, number_of}
 use Rattle.excp_site.specs.declared.state.DcbLook.{DcbLook}
 use Rattle.excp_site.specs.declared.state.UnitState.{UnitState as UnitLook}
 use Rattle.excp_c.specs.Buffers.{copied}
@@ -17,34 +16,34 @@ use Rattle.excp_c.specs.declared.looks.DcbState.{DcbState}
 use Rattle.excp_c.specs.declared.looks.UnitState.{UnitState}
 
 abbrev pub ShowsSite : SiteView → ℕ → UnitState → Type 0
-ShowsSite s unit state = (look : UnitLook) × OnPart s.plain unit (λ p. ShowsUnit p look) × (state ≡ unit_state_of s unit look)
+ShowsSite s unit state = (look : UnitLook) × HasPart s.plain unit (λ p. ShowsUnit p look) × (state ≡ unit_state_of s unit look)
 
 abbrev pub ShowsDcbAs : SiteView → ℕ → ℕ → DcbState → Type 0
-ShowsDcbAs s unit dcb state = (look : DcbLook) × OnPart s.plain unit (λ p. ShowsDcb p dcb look) × (state ≡ dcb_state_of look)
+ShowsDcbAs s unit dcb state = (look : DcbLook) × HasPart s.plain unit (λ p. ShowsDcb p dcb look) × (state ≡ dcb_state_of look)
 
 -- the task and the number of the request that waits at a place
 abbrev pub Waits : SiteView → ℕ → ℕ → ℕ → ℕ → Type 0
 Waits s unit place task number =
-    (name : Name) × OnPart s.plain unit (λ p. WaitsAt p place name) × (task ≡ name.task) × (number ≡ number_of s unit name)
+    (name : Name) × HasPart s.plain unit (λ p. WaitsAt p place name) × (task ≡ name.task) × (number ≡ number_of s unit name)
 
 -- the record at a place, with its key and its data at the front of the buffer
 abbrev pub ReadsSite : SiteView → ℕ → ℕ → ℕ → ℕ → Record → List ℕ → List ℕ → Type 0
 ReadsSite s unit cylinder head place shown old new =
-    (r : OnTrack) × OnPart s.plain unit (λ p. RecordAt (device_now p.book) cylinder head place (Some r)) × (shown ≡ record_in_c r) ×
+    (r : OnTrack) × HasPart s.plain unit (λ p. RecordAt (device_now p.book) cylinder head place (Some r)) × (shown ≡ record_in_c r) ×
     (new ≡ copied (r.key ++ r.content) old)
 
 -- the record at a place does not fit into this buffer
 abbrev pub RecordIsLonger : SiteView → ℕ → ℕ → ℕ → ℕ → ℕ → Type 0
 RecordIsLonger s unit cylinder head place room =
-    (r : OnTrack) × OnPart s.plain unit (λ p. RecordAt (device_now p.book) cylinder head place (Some r)) ×
+    (r : OnTrack) × HasPart s.plain unit (λ p. RecordAt (device_now p.book) cylinder head place (Some r)) ×
     (room < length r.key + length r.content)
 
 -- the line at a place, with its bytes at the front of the buffer
 abbrev pub Prints : SiteView → ℕ → ℕ → Line → List ℕ → List ℕ → Type 0
 Prints s unit place shown old new =
-    (l : Printed) × OnPart s.plain unit (λ p. LineAt (device_now p.book) place (Some l)) × (shown ≡ line_in_c l) × (new ≡ copied l.bytes old)
+    (l : Printed) × HasPart s.plain unit (λ p. LineAt (device_now p.book) place (Some l)) × (shown ≡ line_in_c l) × (new ≡ copied l.bytes old)
 
 -- the line at a place does not fit into this buffer
 abbrev pub LineIsLonger : SiteView → ℕ → ℕ → ℕ → Type 0
 LineIsLonger s unit place room =
-    (l : Printed) × OnPart s.plain unit (λ p. LineAt (device_now p.book) place (Some l)) × (room < length l.bytes)
+    (l : Printed) × HasPart s.plain unit (λ p. LineAt (device_now p.book) place (Some l)) × (room < length l.bytes)

@@ -2,10 +2,9 @@
 
 ghost use Rattle.std.specs.Prelude.{◌≡◌, ◌≢◌, ◌⊎◌, None};
 ghost use Rattle.excp_site.specs.Extents.{extents_in};
-ghost use Rattle.excp_site.specs.Refusals.{ExtentsRefused, OpenCallRefused};
 ghost use Rattle.excp_c.specs.declared.handle.TheConstants.{MARK};
-ghost use Rattle.excp_c.specs.Done.{Did, SiteOpens, Refused};
-ghost use Rattle.excp_c.specs.Calls.{KeepsSite, TestsSite};
+ghost use Rattle.excp_c.specs.Done.{Did, NotOpened, SiteOpens, Refused};
+ghost use Rattle.excp_c.specs.Calls.{KeepsSite, SameSite, TestsSite};
 ghost use Rattle.excp_c.specs.Numbers.{method_from_c};
 
 use crate::handle::Handle;
@@ -39,7 +38,8 @@ pub extern "C" fn excp_call_open(
     ensures keeps { KeepsSite handle.old handle.new }
     ensures done { result ≡ 0 → Did handle.old handle.new (SiteOpens unit (method_from_c method) (extents_in extent_bytes.now) dcb.new) }
     ensures number { handle.old.mark ≡ MARK → method_from_c method ≡ None → result ≡ 5 }
-    ensures why { result ≢ 0 → result ≢ 3 → result ≢ 5 → Refused handle.old handle.new result (λ s _ e. ExtentsRefused extent_bytes.now e ⊎ OpenCallRefused s.plain unit (extents_in extent_bytes.now) e) }
+    ensures why { result ≢ 0 → result ≢ 3 → result ≢ 5 → Refused handle.old handle.new result (λ s t. NotOpened s t unit extent_bytes.now) }
+    ensures same { (result ≡ 3) ⊎ (result ≡ 5) → SameSite handle.old handle.new }
     ensures refused { result ≢ 0 → dcb.new ≡ dcb.old }
 {
     let Some(site) = handle.site() else {

@@ -8,7 +8,7 @@ ghost use Rattle.excp_site.specs.Refusals.{RunRefused, UnitRefused};
 ghost use Rattle.excp_site.specs.Serving.{ServeRefused, SettleRefused};
 ghost use Rattle.excp_site.specs.Sites.{IssueCallRefused};
 ghost use Rattle.excp_c.specs.Answers.{of_delivery, of_intake, of_interruption, of_running, of_starting};
-ghost use Rattle.excp_c.specs.Done.{SiteDelivers, Did, SiteInterrupts, IssuesAs, Made, Refused, SiteRuns, Serves, SiteSettles, SiteStarts, SiteTakes};
+ghost use Rattle.excp_c.specs.Done.{SiteDelivers, Did, SiteInterrupts, IssuesAs, Made, OnlyPlain, Refused, SiteRuns, Serves, SiteSettles, SiteStarts, SiteTakes};
 ghost use Rattle.excp_c.specs.Calls.{KeepsSite, SameSite, TestsSite};
 ghost use Rattle.excp_c.specs.Numbers.{end_number};
 
@@ -188,7 +188,8 @@ pub extern "C" fn excp_call_serve(
     ensures site { TestsSite handle.old result }
     ensures keeps { KeepsSite handle.old handle.new }
     ensures done { result ≡ 0 → Did handle.old handle.new (λ s t. Serves unit max_commands served.new s t) }
-    ensures why { result ≢ 0 → result ≢ 3 → Refused handle.old handle.new result (λ s _. ServeRefused s.plain unit max_commands) }
+    ensures why { result ≢ 0 → result ≢ 3 → Refused handle.old handle.new result (λ s t e. ServeRefused s.plain unit max_commands t.plain e × OnlyPlain s t) }
+    ensures none { result ≡ 3 → SameSite handle.old handle.new }
     ensures refused { result ≢ 0 → served.new ≡ served.old }
 {
     let Some(site) = handle.site() else {
@@ -213,7 +214,8 @@ pub extern "C" fn excp_call_settle(handle: &mut Handle, unit: u16) -> u32
     ensures site { TestsSite handle.old result }
     ensures keeps { KeepsSite handle.old handle.new }
     ensures done { result ≡ 0 → Did handle.old handle.new (SiteSettles unit) }
-    ensures why { result ≢ 0 → result ≢ 3 → Refused handle.old handle.new result (λ s t. SettleRefused s.plain unit t.plain) }
+    ensures why { result ≢ 0 → result ≢ 3 → Refused handle.old handle.new result (λ s t e. SettleRefused s.plain unit t.plain e × OnlyPlain s t) }
+    ensures none { result ≡ 3 → SameSite handle.old handle.new }
 {
     let Some(site) = handle.site() else {
         return NO_SITE;

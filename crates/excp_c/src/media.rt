@@ -9,9 +9,7 @@ ghost use Rattle.line_printer.specs.Mount.{opening as opening_printer};
 ghost use Rattle.excp_site.specs.Imaging.{AwsRefused, CkdRefused, MountsAws, MountsCkd};
 ghost use Rattle.excp_site.specs.Media.{IsEmpty, PutsItem, PutsRecord};
 ghost use Rattle.excp_site.specs.Mounting.{DiskRefused, PrinterRefused, TapeRefused};
-ghost use Rattle.excp_site.specs.declared.refusal.Refusal.TheVariants as refusals;
-ghost use Rattle.excp_c.specs.Statuses.{status_in_c};
-ghost use Rattle.excp_c.specs.Done.{Did, ImageRefusedAs, Mounts, OnlyMedium, Refused};
+ghost use Rattle.excp_c.specs.Done.{Did, ImageRefusedAs, KeepsFaults, KeepsItems, KeepsRecords, Mounts, OnlyFaults, OnlyItems, OnlyMedium, OnlyRecords, Refused};
 ghost use Rattle.excp_c.specs.Numbers.{fault_from_c};
 ghost use Rattle.excp_c.specs.Calls.{KeepsSite, SameSite, TestsSite};
 
@@ -51,8 +49,9 @@ pub extern "C" fn excp_call_put_record(
 ) -> u32
     ensures site { TestsSite handle.old result }
     ensures keeps { KeepsSite handle.old handle.new }
-    ensures done { result ≡ 0 → Did handle.old handle.new (λ s t. PutsRecord s.medium.records.items cylinder head number key.now content.now t.medium.records.items) }
-    ensures why { result ≢ 0 → result ≢ 3 → result ≡ status_in_c refusals.NoMemory }
+    ensures done { result ≡ 0 → Did handle.old handle.new (λ s t. PutsRecord s.medium.records.items cylinder head number key.now content.now t.medium.records.items × OnlyRecords s t) }
+    ensures why { result ≢ 0 → result ≢ 3 → Refused handle.old handle.new result KeepsRecords }
+    ensures none { result ≡ 3 → SameSite handle.old handle.new }
 {
     let Some(site) = handle.site() else {
         return NO_SITE;
@@ -65,8 +64,9 @@ pub extern "C" fn excp_call_put_record(
 pub extern "C" fn excp_call_put_block(handle: &mut Handle, content: &[u8]) -> u32
     ensures site { TestsSite handle.old result }
     ensures keeps { KeepsSite handle.old handle.new }
-    ensures done { result ≡ 0 → Did handle.old handle.new (λ s t. PutsItem s.medium.items.items (block content.now) t.medium.items.items) }
-    ensures why { result ≢ 0 → result ≢ 3 → result ≡ status_in_c refusals.NoMemory }
+    ensures done { result ≡ 0 → Did handle.old handle.new (λ s t. PutsItem s.medium.items.items (block content.now) t.medium.items.items × OnlyItems s t) }
+    ensures why { result ≢ 0 → result ≢ 3 → Refused handle.old handle.new result KeepsItems }
+    ensures none { result ≡ 3 → SameSite handle.old handle.new }
 {
     let Some(site) = handle.site() else {
         return NO_SITE;
@@ -79,8 +79,9 @@ pub extern "C" fn excp_call_put_block(handle: &mut Handle, content: &[u8]) -> u3
 pub extern "C" fn excp_call_put_tape_mark(handle: &mut Handle) -> u32
     ensures site { TestsSite handle.old result }
     ensures keeps { KeepsSite handle.old handle.new }
-    ensures done { result ≡ 0 → Did handle.old handle.new (λ s t. PutsItem s.medium.items.items tape_mark t.medium.items.items) }
-    ensures why { result ≢ 0 → result ≢ 3 → result ≡ status_in_c refusals.NoMemory }
+    ensures done { result ≡ 0 → Did handle.old handle.new (λ s t. PutsItem s.medium.items.items tape_mark t.medium.items.items × OnlyItems s t) }
+    ensures why { result ≢ 0 → result ≢ 3 → Refused handle.old handle.new result KeepsItems }
+    ensures none { result ≡ 3 → SameSite handle.old handle.new }
 {
     let Some(site) = handle.site() else {
         return NO_SITE;
@@ -99,8 +100,9 @@ pub extern "C" fn excp_call_put_fault(
 ) -> u32
     ensures site { TestsSite handle.old result }
     ensures keeps { KeepsSite handle.old handle.new }
-    ensures done { result ≡ 0 → Did handle.old handle.new (λ s t. t.medium.faults.items ≡ s.medium.faults.items ++ fault_from_c command unit_status channel_status sense ∷ []) }
-    ensures why { result ≢ 0 → result ≢ 3 → result ≡ status_in_c refusals.NoMemory }
+    ensures done { result ≡ 0 → Did handle.old handle.new (λ s t. (t.medium.faults.items ≡ s.medium.faults.items ++ fault_from_c command unit_status channel_status sense ∷ []) × OnlyFaults s t) }
+    ensures why { result ≢ 0 → result ≢ 3 → Refused handle.old handle.new result KeepsFaults }
+    ensures none { result ≡ 3 → SameSite handle.old handle.new }
 {
     let Some(site) = handle.site() else {
         return NO_SITE;
@@ -120,6 +122,7 @@ pub extern "C" fn excp_call_clear_medium(handle: &mut Handle) -> u32
     ensures keeps { KeepsSite handle.old handle.new }
     ensures done { result ≡ 0 → Did handle.old handle.new (λ s t. IsEmpty t.medium × OnlyMedium s t) }
     ensures why { result ≢ 0 → result ≡ 3 }
+    ensures none { result ≡ 3 → SameSite handle.old handle.new }
 {
     let Some(site) = handle.site() else {
         return NO_SITE;

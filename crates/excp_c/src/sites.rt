@@ -1,8 +1,8 @@
 //! Sites (c/excp.h, "Sites").
 
-ghost use Rattle.std.specs.Prelude.{◌≡◌, ◌≢◌, ◌↔◌, IsSome};
+ghost use Rattle.std.specs.Prelude.{◌≡◌, ◌≢◌, ◌↔◌};
 ghost use Rattle.excp_c.specs.Calls.{SameSite, TestsSite};
-ghost use Rattle.excp_c.specs.Done.{NotMade};
+ghost use Rattle.excp_c.specs.Done.{MadeSite, NotMade};
 ghost use Rattle.excp_c.specs.declared.handle.TheConstants.{MARK};
 
 use crate::handle::{Handle, MARK, put, take};
@@ -19,7 +19,7 @@ pub extern "C" fn excp_call_site_new(
     post_room: u32,
 ) -> u32
     ensures in_use { (result ≡ 4) ↔ (handle.old.mark ≡ MARK) }
-    ensures made { result ≡ 0 → (handle.new.mark ≡ MARK) × IsSome handle.new.slot.value }
+    ensures made { result ≡ 0 → MadeSite handle.new tasks post_room }
     ensures why { result ≢ 0 → result ≢ 4 → NotMade result tasks post_room }
     ensures refused { result ≢ 0 → (handle.new.mark ≡ handle.old.mark) × SameSite handle.old handle.new }
 {

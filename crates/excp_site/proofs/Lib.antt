@@ -3,3 +3,4 @@ pub mod Refused
 pub mod Ranges
 pub mod Controls
 pub mod Resting
+pub mod Flagged

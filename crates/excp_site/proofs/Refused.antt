@@ -1,5 +1,5 @@
 -- What follows of a `?` that returned.
-use Rattle.std.proofs.Common.{◌≡◌, ◌==◌, ◌+◌, ℕ, Option, ap, inl, inr, refl, subst, sym}
+use Rattle.std.proofs.Common.{◌≡◌, ◌==◌, ◌<◌, ◌+◌, length, ℕ, Option, ap, inl, inr, refl, subst, sym}
 use Rattle.std.proofs.lemmas.Bool.{cases_Bool}
 use Rattle.medium_image.specs.declared.image.Kept.{Kept}
 use Rattle.request_piece.specs.declared.piece.Name.{Name}
@@ -24,11 +24,12 @@ refuses (Err f) e P h p = subst P (sym h) p
 
 pub dcb-refuses : {X : Type 0} (r : Result X Refusal) (error : DcbError) (s : SiteState AnyDevice) (unit : ℕ)
     (Refused : Book AnyDevice → DcbError → Type 0) (Lacks : Book AnyDevice → Type 0) → IsErrAnd r (λ f. f ≡ of_dcb error) →
-    OnPart s unit (λ p. Refused p.book error) → OnPart s unit (λ p. error ≡ dcbs.NoMemory → Lacks p.book) →
+    unit < length s.units → OnPart s unit (λ p. Refused p.book error) → OnPart s unit (λ p. error ≡ dcbs.NoMemory → Lacks p.book) →
     IfErr r (DcbCallRefused s unit Refused Lacks)
-dcb-refuses r dcbs.NoSuchDcb s unit Refused Lacks h refused full = refuses r NoDcb (DcbCallRefused s unit Refused Lacks) h refused
-dcb-refuses r dcbs.NoMemory s unit Refused Lacks h refused full =
-    refuses r NoMemory (DcbCallRefused s unit Refused Lacks) h (λ p at. (refused p at, full p at refl))
+dcb-refuses r dcbs.NoSuchDcb s unit Refused Lacks h there refused full =
+    refuses r NoDcb (DcbCallRefused s unit Refused Lacks) h (there, refused)
+dcb-refuses r dcbs.NoMemory s unit Refused Lacks h there refused full =
+    refuses r NoMemory (DcbCallRefused s unit Refused Lacks) h (there, λ p at. (refused p at, full p at refl))
 
 -- a list without a first item
 pub no-first : {X : Type 0} (xs : List X) → slice_get xs 0 ≡ None → xs ≡ []

@@ -1,8 +1,10 @@
 -- WHAT A CHECKPOINT LEAVES (profile).
-use Rattle.std.specs.Prelude.{◌≡◌, ◌≤◌, ◌+◌, ◌-◌, ◌^◌, ℕ, Bool, true, false, List, [], length, map, min, slice_set}
+use Rattle.std.specs.Prelude.{◌≡◌, ◌≤◌, ◌<◌, ◌+◌, ◌-◌, ◌^◌, ℕ, None, Option, Some, Bool, true, false, List, [], length, map, min, slice_set}
 use Rattle.std.specs.List.{filter, range_with_len}
 use Rattle.any_device.specs.Devices.{any_device}
 use Rattle.any_device.specs.declared.device.AnyDevice.{AnyDevice}
+use Rattle.medium_image.specs.Saving.{Forgets}
+use Rattle.medium_image.specs.declared.image.Kept.{Kept}
 use Rattle.unit_book.specs.Book.{Book}
 use Rattle.unit_book.specs.Dcbs.{dcb_state, flag}
 use Rattle.unit_book.specs.declared.dcb.DcbState.TheVariants.{Open}
@@ -11,7 +13,8 @@ use Rattle.unit_book.specs.declared.entry.Entry.{Entry}
 use Rattle.unit_book.specs.declared.entry.Entry.TheVariants.{Opened, Close}
 use Rattle.unit_world.specs.Parts.{UnitPart, issued_by, opening_part}
 use Rattle.unit_world.specs.Sites.{IsAtRest, OnPart, OnUnit}
-use Rattle.excp_site.specs.Sites.{SiteView, earlier_of, held_of}
+use Rattle.excp_site.specs.Looks.{device_now}
+use Rattle.excp_site.specs.Sites.{HasPart, SiteView, beside_of, earlier_of, held_of}
 use Rattle.excp_site.specs.declared.refusal.Refusal.{Refusal}
 use Rattle.excp_site.specs.declared.refusal.Refusal.TheVariants.{NoMemory, NoUnit, NotIdle, InError}
 
@@ -31,6 +34,7 @@ pub record IsRenewed (old : Book AnyDevice) (held : ℕ) (new : Book AnyDevice) 
   pub trace : new.trace ≡ controls old.trace
   pub out : new.out ≡ []
   pub capacity : new.capacity ≡ held
+  pub isc : new.isc ≡ old.isc
 
 -- how many requests of a task the unit had so far, up to 2^64 - 1
 abbrev pub count_after : SiteView → ℕ → UnitPart AnyDevice → ℕ → ℕ
@@ -39,24 +43,33 @@ count_after s unit p task = min (earlier_of s unit task + issued_by p.issued tas
 abbrev pub counts_after : SiteView → ℕ → UnitPart AnyDevice → List ℕ
 counts_after s unit p = map (count_after s unit p) (range_with_len 0 (length s.plain.rows))
 
--- A UNIT BEGINS AGAIN, and the numbers of its requests go on; all else stays as it is
-pub record Checkpoints (old : SiteView) (unit : ℕ) (new : SiteView) : Type 0 where
-  pub at_rest : IsAtRest old.plain unit
-  pub unit_is : OnUnit old.plain unit (λ p q. IsRenewed p.book (held_of old unit) q.book
-      × (q ≡ opening_part q.book (length old.plain.rows) p.intake_room)) new.plain
-  pub earlier : OnPart old.plain unit (λ p. new.earlier ≡ slice_set old.earlier unit (counts_after old unit p))
-  pub rest : new ≡ record old { plain = new.plain; earlier = new.earlier }
-
 -- an open DCB has the error flag
 pub record IsFlagged (b : Book AnyDevice) : Type 0 where
   pub dcb : ℕ
   pub open_is : dcb_state dcb b.trace ≡ Open
   pub flagged : flag dcb b.trace ≡ true
 
+-- what the image that a unit came from has beside its medium as it is now, if it came from one
+abbrev pub ForgetsWritten : Option Kept → AnyDevice → AnyDevice → Option Kept → Type 0
+ForgetsWritten None mounted now None = Unit {0}
+ForgetsWritten (Some old) mounted now (Some new) = Forgets old mounted now new
+ForgetsWritten _ mounted now _ = ⊥
+
+-- A UNIT BEGINS AGAIN: the numbers of its requests go on, and the image of its medium stays the same; all else stays as it is
+pub record Checkpoints (old : SiteView) (unit : ℕ) (new : SiteView) : Type 0 where
+  pub at_rest : IsAtRest old.plain unit
+  pub no_error : OnPart old.plain unit (λ p. IsFlagged p.book → ⊥)
+  pub unit_is : OnUnit old.plain unit (λ p q. IsRenewed p.book (held_of old unit) q.book
+      × (q ≡ opening_part q.book (length old.plain.rows) p.intake_room)) new.plain
+  pub earlier : OnPart old.plain unit (λ p. new.earlier ≡ slice_set old.earlier unit (counts_after old unit p))
+  pub image : OnPart old.plain unit (λ p. ForgetsWritten (beside_of old unit) p.book.mounted (device_now p.book) (beside_of new unit))
+  pub beside : new.beside ≡ slice_set old.beside unit (beside_of new unit)
+  pub rest : new ≡ record old { plain = new.plain; earlier = new.earlier; beside = new.beside }
+
 -- WHY IT DOES NOT
 abbrev pub CheckpointRefused : SiteView → ℕ → Refusal → Type 0
 CheckpointRefused s unit NoUnit = length s.plain.units ≤ unit
-CheckpointRefused s unit NotIdle = IsAtRest s.plain unit → ⊥
-CheckpointRefused s unit InError = IsAtRest s.plain unit × OnPart s.plain unit (λ p. IsFlagged p.book)
-CheckpointRefused s unit NoMemory = IsAtRest s.plain unit
+CheckpointRefused s unit NotIdle = (unit < length s.plain.units) × (IsAtRest s.plain unit → ⊥)
+CheckpointRefused s unit InError = IsAtRest s.plain unit × HasPart s.plain unit (λ p. IsFlagged p.book)
+CheckpointRefused s unit NoMemory = IsAtRest s.plain unit × HasPart s.plain unit (λ p. IsFlagged p.book → ⊥)
 CheckpointRefused s unit _ = ⊥

@@ -1,5 +1,5 @@
 -- UNITS FROM IMAGES, and their media as images (profile).
-use Rattle.std.specs.Prelude.{◌≡◌, ◌≤◌, ◌⊎◌, ℕ, Some, Option, List, [], Ok, Err, length, true, false}
+use Rattle.std.specs.Prelude.{◌≡◌, ◌≤◌, ◌<◌, ◌⊎◌, ℕ, Some, Option, List, [], Ok, Err, length, true, false}
 use Rattle.device_port.specs.Faults.{is_script}
 use Rattle.ckd_disk.specs.Volume.{mounted_volume}
 use Rattle.ckd_image.specs.Loading.{FailsImage, IsFault, Loaded}
@@ -14,10 +14,10 @@ use Rattle.any_device.specs.declared.device.AnyDevice.{AnyDevice}
 use Rattle.any_device.specs.declared.device.AnyDevice.TheVariants as device
 use Rattle.medium_image.specs.Saving.{IsNoModel, LoadsAgain, SavesMedium}
 use Rattle.medium_image.specs.declared.image.Kept.TheVariants as kept
-use Rattle.unit_world.specs.Sites.{SiteState, OnPart}
+use Rattle.unit_world.specs.Sites.{OnPart}
 use Rattle.excp_site.specs.Looks.{device_now}
 use Rattle.excp_site.specs.Mounting.{AddRefused, CanAdd, has_no_items, has_no_records}
-use Rattle.excp_site.specs.Sites.{SiteView, AddsUnit, beside_of}
+use Rattle.excp_site.specs.Sites.{SiteView, AddsUnit, HasPart, beside_of}
 use Rattle.excp_site.specs.declared.refusal.Refusal.{Refusal}
 use Rattle.excp_site.specs.declared.refusal.Refusal.TheVariants.{NoMemory, BadGeometry, BadImage, BadMedium, NoImage, NoUnit}
 
@@ -80,6 +80,7 @@ AwsRefused s bytes size in_flight held e = AddRefused s in_flight held e
 
 -- THE MEDIUM OF A UNIT IS MADE as an image, or the paper of a printer as text; what was made of a tape loads again
 pub record MakesImage (old : SiteView) (unit : ℕ) (new : SiteView) : Type 0 where
+  pub there : unit < length old.plain.units
   pub saved : OnPart old.plain unit (λ p. SavesMedium (Some []) (Some new.made) (beside_of old unit) p.book.mounted (device_now p.book))
   pub read_back : OnPart old.plain unit (λ p. LoadsAgain (beside_of old unit) p.book.mounted (device_now p.book))
   pub rest : new ≡ record old { made = new.made }
@@ -87,6 +88,6 @@ pub record MakesImage (old : SiteView) (unit : ℕ) (new : SiteView) : Type 0 wh
 -- WHY IT IS NOT: no model of a disk is as this one, which came from no image
 abbrev pub ImageRefused : SiteView → ℕ → Refusal → Type 0
 ImageRefused s unit NoUnit = length s.plain.units ≤ unit
-ImageRefused s unit NoImage = OnPart s.plain unit (λ p. (heads : ℕ) × (track_bytes : ℕ) × IsNoModel (beside_of s unit) (device_now p.book) heads track_bytes)
-ImageRefused s unit NoMemory = Unit {0}
+ImageRefused s unit NoImage = HasPart s.plain unit (λ p. (heads : ℕ) × (track_bytes : ℕ) × IsNoModel (beside_of s unit) (device_now p.book) heads track_bytes)
+ImageRefused s unit NoMemory = unit < length s.plain.units
 ImageRefused s unit _ = ⊥

@@ -13,7 +13,8 @@ use Rattle.unit_book.specs.Media.{device}
 use Rattle.unit_book.specs.Trace.{active, waiting}
 use Rattle.unit_book.specs.declared.dcb.DcbState.TheVariants.{Unknown}
 use Rattle.unit_world.specs.Parts.{UnitPart, active_state}
-use Rattle.unit_world.specs.Sites.{SiteState, OnPart}
+use Rattle.unit_world.specs.Sites.{SiteState}
+use Rattle.excp_site.specs.Sites.{HasPart}
 use Rattle.excp_site.specs.declared.refusal.Refusal.{Refusal}
 use Rattle.excp_site.specs.declared.refusal.Refusal.TheVariants.{BadMedium, NoUnit, NoDcb, NothingThere}
 use Rattle.excp_site.specs.declared.state.DcbLook.{DcbLook}
@@ -52,7 +53,7 @@ pub record ShowsDcb (p : UnitPart AnyDevice) (dcb : ℕ) (d : DcbLook) : Type 0 
 
 abbrev pub DcbLookRefused : SiteState AnyDevice → ℕ → ℕ → Refusal → Type 0
 DcbLookRefused s unit dcb NoUnit = length s.units ≤ unit
-DcbLookRefused s unit dcb NoDcb = OnPart s unit (λ p. dcb_state dcb p.book.trace ≡ Unknown)
+DcbLookRefused s unit dcb NoDcb = HasPart s unit (λ p. dcb_state dcb p.book.trace ≡ Unknown)
 DcbLookRefused s unit dcb _ = ⊥
 
 -- WHAT WAITS AT A PLACE
@@ -61,7 +62,7 @@ WaitsAt p place name = option_map (λ r. r.name) (slice_get (waiting p.book.trac
 
 abbrev pub WaitingRefused : SiteState AnyDevice → ℕ → ℕ → Refusal → Type 0
 WaitingRefused s unit place NoUnit = length s.units ≤ unit
-WaitingRefused s unit place NothingThere = OnPart s unit (λ p. option_map (λ r. r.name) (slice_get (waiting p.book.trace) place) ≡ None)
+WaitingRefused s unit place NothingThere = HasPart s unit (λ p. option_map (λ r. r.name) (slice_get (waiting p.book.trace) place) ≡ None)
 WaitingRefused s unit place _ = ⊥
 
 -- THE RECORD AT A PLACE of a track of a disk
@@ -75,8 +76,8 @@ has_disk _ = false
 
 abbrev pub RecordRefused : SiteState AnyDevice → ℕ → ℕ → ℕ → ℕ → Refusal → Type 0
 RecordRefused s unit cylinder head place NoUnit = length s.units ≤ unit
-RecordRefused s unit cylinder head place BadMedium = OnPart s unit (λ p. has_disk (device_now p.book) ≡ false)
-RecordRefused s unit cylinder head place NothingThere = OnPart s unit (λ p. RecordAt (device_now p.book) cylinder head place None)
+RecordRefused s unit cylinder head place BadMedium = HasPart s unit (λ p. has_disk (device_now p.book) ≡ false)
+RecordRefused s unit cylinder head place NothingThere = HasPart s unit (λ p. RecordAt (device_now p.book) cylinder head place None)
 RecordRefused s unit cylinder head place _ = ⊥
 
 -- THE LINE AT A PLACE of what a printer printed
@@ -90,6 +91,6 @@ has_printer _ = false
 
 abbrev pub LineRefused : SiteState AnyDevice → ℕ → ℕ → Refusal → Type 0
 LineRefused s unit place NoUnit = length s.units ≤ unit
-LineRefused s unit place BadMedium = OnPart s unit (λ p. has_printer (device_now p.book) ≡ false)
-LineRefused s unit place NothingThere = OnPart s unit (λ p. LineAt (device_now p.book) place None)
+LineRefused s unit place BadMedium = HasPart s unit (λ p. has_printer (device_now p.book) ≡ false)
+LineRefused s unit place NothingThere = HasPart s unit (λ p. LineAt (device_now p.book) place None)
 LineRefused s unit place _ = ⊥

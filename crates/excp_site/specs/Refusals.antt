@@ -18,7 +18,8 @@ use Rattle.unit_book.specs.Book.{Book}
 use Rattle.unit_book.specs.Refusals.{PurgeLacks, RunLacks}
 use Rattle.unit_world.specs.PostLists.{list_of}
 use Rattle.unit_world.specs.Parts.{GrowsSpare}
-use Rattle.unit_world.specs.Sites.{SiteState, OnBook, OnPart}
+use Rattle.unit_world.specs.Sites.{SiteState, OnBook}
+use Rattle.excp_site.specs.Sites.{HasPart}
 use Rattle.excp_site.specs.declared.refusal.Refusal.{Refusal}
 use Rattle.excp_site.specs.declared.refusal.Refusal.TheVariants.{NoMemory, BadNumber, NoUnit, NoTask, NoDcb, NoPost, NoRoom, TooManyDcbs, BadGeometry, BadMedium, BadExtent, AreaMisaligned, AreaTooLong, AreaPastTop}
 use Rattle.excp_site.specs.declared.refusal.Refusal.TheVariants.{BadIob, BadEcb, BadProgram, WrongDcb}
@@ -51,31 +52,31 @@ abbrev pub of_dcb : DcbError → Refusal
 of_dcb dcbs.NoSuchDcb = NoDcb
 of_dcb dcbs.NoMemory = NoMemory
 
--- A CALL OF A UNIT: there is no such unit, or memory ran out, which can be only if so much is lacking
+-- A CALL OF A UNIT: there is no such unit, or memory ran out, which can be only if it lacks as much
 abbrev pub UnitRefused : SiteState AnyDevice → ℕ → (Book AnyDevice → Type 0) → Refusal → Type 0
 UnitRefused s unit Lacks NoUnit = length s.units ≤ unit
-UnitRefused s unit Lacks NoMemory = OnPart s unit (λ p. Lacks p.book)
+UnitRefused s unit Lacks NoMemory = HasPart s unit (λ p. Lacks p.book)
 UnitRefused s unit Lacks _ = ⊥
 
--- A CALL OF A DCB: there is no such unit, or none such DCB, or memory ran out
+-- A CALL OF A DCB: there is no such unit, or no such DCB, or memory ran out
 abbrev pub DcbCallRefused : SiteState AnyDevice → ℕ → (Book AnyDevice → DcbError → Type 0) → (Book AnyDevice → Type 0) → Refusal → Type 0
 DcbCallRefused s unit Refused Lacks NoUnit = length s.units ≤ unit
-DcbCallRefused s unit Refused Lacks NoDcb = OnPart s unit (λ p. Refused p.book dcbs.NoSuchDcb)
-DcbCallRefused s unit Refused Lacks NoMemory = OnPart s unit (λ p. Refused p.book dcbs.NoMemory × Lacks p.book)
+DcbCallRefused s unit Refused Lacks NoDcb = HasPart s unit (λ p. Refused p.book dcbs.NoSuchDcb)
+DcbCallRefused s unit Refused Lacks NoMemory = HasPart s unit (λ p. Refused p.book dcbs.NoMemory × Lacks p.book)
 DcbCallRefused s unit Refused Lacks _ = ⊥
 
 -- A RUN: or the number of commands is 0
 abbrev pub RunRefused : SiteState AnyDevice → ℕ → ℕ → Refusal → Type 0
 RunRefused s unit max NoUnit = length s.units ≤ unit
 RunRefused s unit max BadNumber = max ≡ 0
-RunRefused s unit max NoMemory = OnPart s unit (λ p. RunLacks any_device p.book)
+RunRefused s unit max NoMemory = HasPart s unit (λ p. RunLacks any_device p.book)
 RunRefused s unit max _ = ⊥
 
 -- A PURGE OF A TASK: or there is no such task
 abbrev pub TaskPurgeRefused : SiteState AnyDevice → ℕ → ℕ → Refusal → Type 0
 TaskPurgeRefused s unit task NoUnit = length s.units ≤ unit
 TaskPurgeRefused s unit task NoTask = length s.rows ≤ task
-TaskPurgeRefused s unit task NoMemory = OnPart s unit (λ p. PurgeLacks p.book)
+TaskPurgeRefused s unit task NoMemory = HasPart s unit (λ p. PurgeLacks p.book)
 TaskPurgeRefused s unit task _ = ⊥
 
 -- A POST THAT IS NOT GIVEN: there is no such task, or none was delivered to it
@@ -87,9 +88,9 @@ PostRefused s task _ = ⊥
 -- AN OPEN: or it is refused as the book of the unit says
 abbrev pub OpenCallRefused : SiteState AnyDevice → ℕ → List Extent → Refusal → Type 0
 OpenCallRefused s unit extents NoUnit = length s.units ≤ unit
-OpenCallRefused s unit extents TooManyDcbs = OnPart s unit (λ p. OpenRefused any_device p.book extents openings.TooManyDcbs)
-OpenCallRefused s unit extents BadExtent = OnPart s unit (λ p. OpenRefused any_device p.book extents openings.BadExtent)
-OpenCallRefused s unit extents NoMemory = OnPart s unit (λ p. OpenRefused any_device p.book extents openings.NoMemory)
+OpenCallRefused s unit extents TooManyDcbs = HasPart s unit (λ p. OpenRefused any_device p.book extents openings.TooManyDcbs)
+OpenCallRefused s unit extents BadExtent = HasPart s unit (λ p. OpenRefused any_device p.book extents openings.BadExtent)
+OpenCallRefused s unit extents NoMemory = HasPart s unit (λ p. OpenRefused any_device p.book extents openings.NoMemory)
 OpenCallRefused s unit extents _ = ⊥
 
 -- what it leaves: more room for entries, if there is such a unit
@@ -106,7 +107,7 @@ ExtentsRefused bytes _ = ⊥
 -- A HISTORY THAT IS NOT MADE
 abbrev pub HistoryRefused : SiteState AnyDevice → ℕ → Refusal → Type 0
 HistoryRefused s unit NoUnit = length s.units ≤ unit
-HistoryRefused s unit NoMemory = Unit {0}
+HistoryRefused s unit NoMemory = unit < length s.units
 HistoryRefused s unit _ = ⊥
 
 -- BYTES THAT ARE NOT THERE

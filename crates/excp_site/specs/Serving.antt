@@ -9,6 +9,7 @@ use Rattle.unit_book.specs.declared.answer.Delivery.TheVariants as delivery
 use Rattle.unit_world.specs.Parts.{IsFinishedPart}
 use Rattle.unit_world.specs.PostLists.{list_of}
 use Rattle.unit_world.specs.Sites.{SiteState, IsFirstOut, OnBook, OnPart, SettlesBook}
+use Rattle.excp_site.specs.Sites.{HasPart}
 use Rattle.excp_site.specs.declared.refusal.Refusal.{Refusal}
 use Rattle.excp_site.specs.declared.refusal.Refusal.TheVariants.{NoMemory, BadNumber, NoUnit}
 use Rattle.excp_site.specs.declared.served.Served.{Served}
@@ -36,19 +37,19 @@ abbrev pub EndsServing : SiteState AnyDevice → ℕ → Served → Type 0
 EndsServing s unit served = EndsServe s unit served.ended
 
 -- WHY IT IS REFUSED
-abbrev pub ServeRefused : SiteState AnyDevice → ℕ → ℕ → Refusal → Type 0
-ServeRefused s unit max NoUnit = length s.units ≤ unit
-ServeRefused s unit max BadNumber = max ≡ 0
-ServeRefused s unit max NoMemory = Unit {0}
-ServeRefused s unit max _ = ⊥
+abbrev pub ServeRefused : SiteState AnyDevice → ℕ → ℕ → SiteState AnyDevice → Refusal → Type 0
+ServeRefused old unit max new NoUnit = (length old.units ≤ unit) × (new ≡ old)
+ServeRefused old unit max new BadNumber = (unit < length old.units) × (max ≡ 0) × (new ≡ old)
+ServeRefused old unit max new NoMemory = (unit < length old.units) × (1 ≤ max)
+ServeRefused old unit max new _ = ⊥
 
 -- A unit is settled, if there is one
 abbrev pub HasSettled : SiteState AnyDevice → ℕ → SiteState AnyDevice → Type 0
 HasSettled old unit new = unit < length old.units → OnBook old unit (λ b c. SettlesBook any_device b c) new
 
 abbrev pub SettleRefused : SiteState AnyDevice → ℕ → SiteState AnyDevice → Refusal → Type 0
-SettleRefused old unit new NoUnit = length old.units ≤ unit
-SettleRefused old unit new NoMemory = OnPart new unit (λ p. SettleLacks any_device p.book)
+SettleRefused old unit new NoUnit = (length old.units ≤ unit) × (new ≡ old)
+SettleRefused old unit new NoMemory = HasPart new unit (λ p. SettleLacks any_device p.book)
 SettleRefused old unit new _ = ⊥
 
 -- what a delivery left

@@ -9,8 +9,9 @@ use Rattle.request_piece.specs.Requests.{RequestFault, NoFault, request_of}
 use Rattle.request_piece.specs.declared.error.RequestError.TheVariants as requests
 use Rattle.request_piece.specs.declared.piece.Name.{Name}
 use Rattle.unit_book.specs.Book.{opening}
-use Rattle.unit_world.specs.Parts.{PartAccepts, next_name_of, opening_part}
+use Rattle.unit_world.specs.Parts.{UnitPart, PartAccepts, next_name_of, opening_part}
 use Rattle.unit_world.specs.Sites.{SiteState, OnPart, OnUnit}
+use Rattle.excp_site.specs.Media.{IsEmpty}
 use Rattle.excp_site.specs.declared.medium.Medium.{Medium}
 use Rattle.excp_site.specs.declared.refusal.Refusal.{Refusal}
 use Rattle.excp_site.specs.declared.refusal.Refusal.TheVariants.{NoMemory, BadNumber, NoUnit, NoTask, AreaMisaligned, AreaTooLong}
@@ -41,11 +42,25 @@ beside_of s unit = slice_index_or s.beside unit None
 abbrev pub number_of : SiteView → ℕ → Name → ℕ
 number_of s unit name = min (earlier_of s unit name.task + name.seq) (2 ^ 64 - 1)
 
+-- the unit is there, and this holds of it
+abbrev pub HasPart : SiteState AnyDevice → ℕ → (UnitPart AnyDevice → Type 0) → Type 0
+HasPart s unit P = (unit < length s.units) × OnPart s unit P
+
 -- WHY A SITE IS NOT MADE: it has no task, or no room for a post
 abbrev pub NewRefused : ℕ → ℕ → Refusal → Type 0
 NewRefused tasks post_room BadNumber = (tasks ≡ 0) ⊎ (post_room ≡ 0)
 NewRefused tasks post_room NoMemory = (1 ≤ tasks) × (1 ≤ post_room)
 NewRefused tasks post_room _ = ⊥
+
+-- A SITE IS MADE: it has no units, and nothing was put or made
+pub record MakesSite (tasks post_room : ℕ) (s : SiteView) : Type 0 where
+  pub some : (1 ≤ tasks) × (1 ≤ post_room)
+  pub plain : s.plain ≡ record { units = []; post_room = post_room; rows = replicate tasks [] }
+  pub medium : IsEmpty s.medium
+  pub earlier : s.earlier ≡ []
+  pub held : s.held ≡ []
+  pub beside : s.beside ≡ []
+  pub made : s.made ≡ []
 
 -- how many requests may be in flight to a unit, and how many its book holds
 abbrev pub is_room : ℕ → ℕ → Bool

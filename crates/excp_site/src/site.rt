@@ -12,8 +12,7 @@ mod texts;
 
 ghost use Rattle.std.specs.Prelude.{◌≡◌, ◌≤◌, ◌<◌, [], length, replicate, IfErr, IfOk, OnErr, OnOk};
 ghost use Rattle.excp_site.specs.declared.refusal.Refusal.TheVariants as Refusal;
-ghost use Rattle.excp_site.specs.Media.{IsEmpty};
-ghost use Rattle.excp_site.specs.Sites.{NewRefused, earlier_of, number_of};
+ghost use Rattle.excp_site.specs.Sites.{MakesSite, NewRefused, earlier_of, number_of};
 
 use crate::medium::Medium;
 use crate::refusal::Refusal;
@@ -62,12 +61,7 @@ impl Site {
     ///
     /// Errors, in this order: `BadNumber` if `tasks` or `post_room` is 0; `NoMemory`.
     pub fn new(alloc: Global, tasks: u16, post_room: usize) -> Result<Site, Refusal>
-        ensures plain { IfOk result (λ s. s.plain ≡ record { units = []; post_room = post_room; rows = replicate tasks [] }) }
-        ensures medium { IfOk result (λ s. IsEmpty s.medium) }
-        ensures earlier { IfOk result (λ s. s.earlier ≡ []) }
-        ensures held { IfOk result (λ s. s.held ≡ []) }
-        ensures beside { IfOk result (λ s. s.beside ≡ []) }
-        ensures made { IfOk result (λ s. s.made ≡ []) }
+        ensures made { IfOk result (MakesSite tasks post_room) }
         ensures refused { IfErr result (NewRefused tasks post_room) }
     {
         if tasks == 0 || post_room == 0 {

@@ -5,11 +5,11 @@ use Rattle.ckd_disk.specs.Disk.{DiskState, track_of}
 use Rattle.ckd_disk.specs.Volume.{VolumeState}
 use Rattle.ckd_image.specs.Header.{format_of}
 use Rattle.ckd_image.specs.Image.{KeptState, IsImage, file_of}
-use Rattle.ckd_image.specs.Saving.{format_on, image_on, volume_on, IsAsRead}
+use Rattle.ckd_image.specs.Saving.{format_on, image_on, volume_on, ForgetsWritten, IsAsRead}
 use Rattle.ckd_image.specs.declared.format.Format.{Format}
 use Rattle.tape_unit.specs.Tape.{TapeState}
 use Rattle.aws_tape.specs.declared.layout.Part.{Part}
-use Rattle.aws_tape.specs.Writing.{IsLoaded, IsReadBack, IsUntouched, saved}
+use Rattle.aws_tape.specs.Writing.{IsLoaded, IsReadBack, IsUntouched, common_parts, saved}
 use Rattle.any_device.specs.declared.device.AnyDevice.{AnyDevice}
 use Rattle.any_device.specs.declared.device.AnyDevice.TheVariants.{Disk, Printer, Tape}
 use Rattle.medium_image.specs.declared.image.Kept.{Kept}
@@ -90,6 +90,18 @@ KeepsItems of_image (Tape mounted) (Tape now) =
     IsUntouched (layout_of of_image) mounted.reel.items now.reel.items
     (saved (layout_of of_image) mounted.reel.items now.reel.items)
 KeepsItems _ _ _ = Unit {0}
+
+-- what is kept of a tape as it is: the chunks of what it has in common with the mounted one, so that its image stays the same if this
+-- is the mounted tape from here on
+pub record ForgetsChunks (old : List Part) (mounted now : TapeState) (new : List Part) : Type 0 where
+  pub parts : new ≡ common_parts old mounted.reel.items now.reel.items
+  pub image : saved new now.reel.items now.reel.items ≡ saved old mounted.reel.items now.reel.items
+
+-- WHAT WAS WRITTEN IS FORGOTTEN: what the file of an image has beside the medium as it is now, so that its image stays the same
+abbrev pub Forgets : Kept → AnyDevice → AnyDevice → Kept → Type 0
+Forgets (kept.Disk old) (Disk mounted) (Disk now) (kept.Disk new) = ForgetsWritten old mounted now new
+Forgets (kept.Tape old) (Tape mounted) (Tape now) (kept.Tape new) = ForgetsChunks old mounted now new
+Forgets old _ _ new = new ≡ old
 
 -- a disk that no model is: it came from no image, and has these heads and these bytes on its first track
 abbrev pub IsNoModel : Option Kept → AnyDevice → ℕ → ℕ → Type 0

@@ -3,7 +3,9 @@
 ghost use Rattle.std.specs.Prelude.{◌≡◌, ◌↔◌, IsTrue, bytes_eq, codes};
 ghost use Rattle.medium_image.specs.Images.{geometry_of, image_size};
 ghost use Rattle.medium_image.specs.Loading.{LoadsImage, RunsOut};
+ghost use Rattle.medium_image.specs.Saving.{Forgets};
 
+use any_device::AnyDevice;
 use aws_tape::{AwsError, AwsFault, Layout};
 use ckd_disk::Geometry;
 use ckd_image::{CkdError, CkdFault};
@@ -58,6 +60,23 @@ impl ImageError {
             ImageError::Disk(error) => error.fault == CkdFault::NoMemory,
             ImageError::Tape(error) => error.fault == AwsFault::NoMemory,
             ImageError::Unreadable => false,
+        }
+    }
+}
+
+impl Kept {
+    /// Forgets what it has of the tracks and the blocks that were written since the medium was mounted. So the image of the medium
+    /// stays the same if `now` is the mounted device from here on.
+    pub fn forget_written(&mut self, mounted: &AnyDevice, now: &AnyDevice)
+        ensures { Forgets self.old mounted.now now.now self.new }
+    {
+        match (self, mounted, now) {
+            (Kept::Disk(kept), AnyDevice::Disk(mounted), AnyDevice::Disk(now)) =>
+                kept.forget_written(mounted, now),
+            (Kept::Tape(layout), AnyDevice::Tape(mounted), AnyDevice::Tape(now)) =>
+                layout.forget_written(mounted, now),
+            // no unit comes to this: its device stays of one kind
+            _ => {}
         }
     }
 }

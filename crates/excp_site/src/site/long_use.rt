@@ -1,13 +1,16 @@
 //! A checkpoint: a unit gets a new book on its medium as it is, so that its memory does not grow with each request.
 
-ghost use Rattle.std.specs.Prelude.{◌≡◌, ◌++◌, ◌+◌, ◌-◌, ◌^◌, ◌<◌, ◌≤◌, ◌∷◌, [], false, true, length, map, min, IfErr, IfOk, OnErr, OnOk};
+ghost use Rattle.std.specs.Prelude.{◌≡◌, ◌++◌, ◌+◌, ◌-◌, ◌^◌, ◌<◌, ◌≤◌, ◌∷◌, [], false, true, length, map, min, slice_set, IfErr, IfOk, OnErr, OnOk};
 ghost use Rattle.std.specs.Bool.{OnFalse, OnTrue};
 ghost use Rattle.std.specs.List.{list_all, range_with_len};
 ghost use Rattle.any_device.specs.Devices.{any_device};
+ghost use Rattle.unit_book.specs.Dcbs.{dcb_state, flag};
+ghost use Rattle.unit_book.specs.declared.dcb.DcbState.TheVariants as DcbState;
 ghost use Rattle.unit_book.specs.declared.entry.Entry.TheVariants as Entry;
 ghost use Rattle.unit_world.specs.Sites.{MayBegin, IsAtRest, OnPart};
-ghost use Rattle.excp_site.specs.Checkpoints.{CheckpointRefused, Checkpoints, IsFlagged, IsRenewed, controls, count_after, counts_after, is_control};
-ghost use Rattle.excp_site.specs.Sites.{held_of};
+ghost use Rattle.excp_site.specs.Checkpoints.{CheckpointRefused, Checkpoints, ForgetsWritten, IsFlagged, IsRenewed, controls, count_after, counts_after, is_control};
+ghost use Rattle.excp_site.specs.Looks.{device_now};
+ghost use Rattle.excp_site.specs.Sites.{beside_of, held_of};
 ghost use Rattle.excp_site.specs.declared.refusal.Refusal.TheVariants as Refusal;
 
 use crate::refusal::Refusal;
@@ -38,9 +41,23 @@ impl Site {
         }
         let renewed = renewed(self.alloc, book, self.held_of(unit))?;
         let counts = self.counts_after(unit)?;
+        self.forget_written(unit);
         self.plain.renew(unit, renewed);
         self.earlier[usize::from(unit)] = counts;
         Ok(())
+    }
+
+    /// Forgets what the image of a unit has of what was written since its medium was mounted.
+    fn forget_written(&mut self, unit: u16)
+        requires unit { unit < length self.old.plain.units }
+        ensures image { OnPart self.old.plain unit (λ p. ForgetsWritten (beside_of self.old unit) p.book.mounted (device_now p.book) (beside_of self.new unit)) }
+        ensures beside { self.new.beside ≡ slice_set self.old.beside unit (beside_of self.new unit) }
+        ensures rest { self.new ≡ record self.old { beside = self.new.beside } }
+    {
+        let book = self.plain.book(unit);
+        if let Some(kept) = &mut self.beside[usize::from(unit)] {
+            kept.forget_written(book.mounted(), book.device());
+        }
     }
 
     /// Whether nothing of a unit is with anybody.
@@ -102,16 +119,25 @@ impl Site {
 
 /// Whether an open DCB of a book is in error. The flag of a closed one dooms nothing more.
 fn has_error(book: &UnitBook<AnyDevice>) -> bool
-    ensures { OnTrue result (IsFlagged book.now) }
+    ensures some { OnTrue result (IsFlagged book.now) }
+    ensures none { OnFalse result (IsFlagged book.now → ⊥) }
 {
-    for dcb in 1..=u16::MAX {
-        match book.dcb_state(dcb) {
-            DcbState::Unknown => return false,
-            DcbState::Open if book.dcb_flag(dcb) => return true,
-            _ => {}
+    for entry in book.trace() {
+        if let Entry::Opened(dcb, _, _) = entry {
+            if is_flagged(book, *dcb) {
+                return true;
+            }
         }
     }
     false
+}
+
+/// Whether a DCB is open and in error.
+fn is_flagged(book: &UnitBook<AnyDevice>, dcb: u16) -> bool
+    ensures yes { OnTrue result (IsFlagged book.now) }
+    ensures no { OnFalse result (dcb_state dcb book.now.trace ≡ DcbState.Open → flag dcb book.now.trace ≡ true → ⊥) }
+{
+    book.dcb_state(dcb) == DcbState::Open && book.dcb_flag(dcb)
 }
 
 /// A new book on the device of a book as it is, with its DCBs opened and closed as before.
@@ -144,6 +170,7 @@ fn again(book: &mut UnitBook<AnyDevice>, entry: &Entry) -> Result<(), AllocError
     ensures trace { OnOk result (book.new.trace ≡ controls (entry.now ∷ []) ++ book.old.trace) }
     ensures mounted { OnOk result (book.new.mounted ≡ book.old.mounted) }
     ensures capacity { OnOk result (book.new.capacity ≡ book.old.capacity) }
+    ensures isc { OnOk result (book.new.isc ≡ book.old.isc) }
     ensures begins { OnOk result (MayBegin any_device book.new) }
 {
     match entry {
@@ -164,6 +191,7 @@ fn close_again(book: &mut UnitBook<AnyDevice>, dcb: u16) -> Result<(), AllocErro
     ensures trace { OnOk result (book.new.trace ≡ Entry.Close dcb ∷ book.old.trace) }
     ensures mounted { OnOk result (book.new.mounted ≡ book.old.mounted) }
     ensures capacity { OnOk result (book.new.capacity ≡ book.old.capacity) }
+    ensures isc { OnOk result (book.new.isc ≡ book.old.isc) }
     ensures begins { OnOk result (MayBegin any_device book.new) }
 {
     match book.dcb_state(dcb) {

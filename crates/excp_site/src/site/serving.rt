@@ -29,7 +29,7 @@ impl Site {
     pub fn serve(&mut self, unit: u16, max: u32) -> Result<Served, Refusal>
         ensures ends { IfOk result (λ served. EndsServing self.new.plain unit served) }
         ensures most { IfOk result (λ served. served.commands ≤ max) }
-        ensures refused { IfErr result (ServeRefused self.old.plain unit max) }
+        ensures refused { IfErr result (ServeRefused self.old.plain unit max self.new.plain) }
         ensures rest { self.new ≡ record self.old { plain = self.new.plain } }
     {
         self.has_unit(unit)?;

@@ -12,6 +12,7 @@ returns-in_err-close-clause-refused c =
     let error = c.in_err-close.field-0.0 in
     dcb-refuses c.from_residual-in_err-close.result error c.args.self.now.plain c.args.unit (λ b. DcbRefused b c.args.dcb)
     (λ b. CloseLacks b c.args.dcb) c.from_residual-in_err-close.ensures.1
+    c.in_ok-has_unit.ensures.there
     (subst (λ (s : SiteView). OnPart s.plain c.args.unit (λ p. DcbRefused p.book c.args.dcb error)) c.self.view_is c.in_err-close.ensures.refused)
     (subst (λ (s : SiteView). OnPart s.plain c.args.unit (λ p. error ≡ dcbs.NoMemory → CloseLacks p.book c.args.dcb)) c.self.view_is
     c.in_err-close.ensures.full)

@@ -26,6 +26,12 @@ returns-in-Ok-clause-capacity c =
     let is_open = state-open c.args.dcb b.trace (sym c.dcb_state.ensures ∙ c.in-Open.is) in
     ap (λ (x : Book AnyDevice). x.capacity) (subst (λ (o : Bool). ClosesBy any_device o b c.args.dcb c.close.new.self) is_open c.in-Ok.ensures.ok.closes)
 
+pub returns-in-Ok-clause-isc : goal.returns-in-Ok-clause-isc
+returns-in-Ok-clause-isc c =
+    let b = c.args.book.now in
+    let is_open = state-open c.args.dcb b.trace (sym c.dcb_state.ensures ∙ c.in-Open.is) in
+    ap (λ (x : Book AnyDevice). x.isc) (subst (λ (o : Bool). ClosesBy any_device o b c.args.dcb c.close.new.self) is_open c.in-Ok.ensures.ok.closes)
+
 pub returns-in-Ok-clause-begins : goal.returns-in-Ok-clause-begins
 returns-in-Ok-clause-begins c =
     closed-begins any_device c.args.book.now c.close.new.self c.args.dcb c.in-Ok.field-0 c.in-Ok.ensures.ok c.requires.begins

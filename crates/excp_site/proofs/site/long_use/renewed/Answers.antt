@@ -18,6 +18,7 @@ loop-entry-init c =
       search rules,
       search rules,
       search rules,
+      search rules,
       opened-begins any_device c.in-Ok.renewed c.holds.ensures.legal
           (subst (λ (H : List Entry). list_all is_opening H ≡ true) (sym trace) refl) c.holds.ensures.given,
     )
@@ -41,4 +42,5 @@ returns-clause-renewed c =
       trace = trace;
       out = nothing-after (given any_device b) b.out (c.holds-2.ensures.given ∙ none-posted any_device b.mounted b.trace are);
       capacity = c.loop-entry.invariant.2;
+      isc = c.loop-entry.invariant.3;
     }

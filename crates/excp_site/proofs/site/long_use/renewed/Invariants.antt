@@ -9,4 +9,5 @@ abbrev pub invariant-loop-entry : goal.invariant-loop-entry
 invariant-loop-entry l =
     (l.renewed.trace ≡ controls (reverse (take l.entry-index l.entry-items)))
     × (l.renewed.mounted ≡ device any_device l.book.mounted l.book.trace) × (l.renewed.capacity ≡ l.held)
+    × (l.renewed.isc ≡ l.book.isc)
     × (reverse l.entry-items ≡ l.book.trace) × MayBegin any_device l.renewed

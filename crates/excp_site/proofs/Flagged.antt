@@ -1,0 +1,51 @@
+-- DCBs in error.
+use Rattle.std.proofs.Common.{◌≡◌, ◌∙◌, ◌==◌, ◌&&◌, not, ℕ, Bool, true, false, List, ◌∷◌, ap, inl, inr, refl, subst, sym}
+use Rattle.std.proofs.lemmas.Bool.{cases_Bool, eqb-true}
+use Rattle.io_images.specs.declared.extent.Extent.{Extent}
+use Rattle.any_device.specs.declared.device.AnyDevice.{AnyDevice}
+use Rattle.unit_book.specs.Book.{Book}
+use Rattle.unit_book.specs.Dcbs.{dcb_state, flag, is_closed, is_opened}
+use Rattle.unit_book.specs.Trace.{opens}
+use Rattle.unit_book.specs.declared.dcb.DcbState.TheVariants.{Open}
+use Rattle.unit_book.specs.declared.dcb.ProcessingMethod.{ProcessingMethod}
+use Rattle.unit_book.specs.declared.entry.Entry.{Entry}
+use Rattle.unit_book.specs.declared.entry.Entry.TheVariants.{Opened}
+use Rattle.excp_site.specs.Checkpoints.{IsFlagged}
+use Rattle.excp_site.proofs.Controls.{state-open}
+
+-- this DCB is not open, or not in error
+abbrev pub Unflagged : Book AnyDevice → ℕ → Type 0
+Unflagged b dcb = dcb_state dcb b.trace ≡ Open → flag dcb b.trace ≡ true → ⊥
+
+-- nor is any that these entries open
+abbrev pub AllUnflagged : Book AnyDevice → List Entry → Type 0
+AllUnflagged b H = (dcb : ℕ) → is_opened dcb H ≡ true → Unflagged b dcb
+
+pub one-more : (b : Book AnyDevice) (e : Entry) (H : List Entry) → ((dcb : ℕ) → opens dcb e ≡ true → Unflagged b dcb) → AllUnflagged b H
+    → AllUnflagged b (e ∷ H)
+one-more b e H one others dcb is = elim (cases_Bool (opens dcb e)) [
+  | inl y ↦ one dcb y
+  | inr n ↦ let g : is_opened dcb H ≡ true = rw n at is in others dcb g
+]
+
+first : (a b : Bool) → (a && b) ≡ true → a ≡ true
+first true b e = refl
+first false b e = absurd cc
+
+pub none-flagged : (b : Book AnyDevice) → AllUnflagged b b.trace → IsFlagged b → ⊥
+none-flagged b all is =
+    all is.dcb (first (is_opened is.dcb b.trace) (not (is_closed is.dcb b.trace)) (state-open is.dcb b.trace is.open_is)) is.open_is is.flagged
+
+-- a DCB that an entry opens
+pub opened-is : (b : Book AnyDevice) (e : Entry) (n : ℕ) (method : ProcessingMethod) (extents : List Extent) → e ≡ Opened n method extents
+    → Unflagged b n → (dcb : ℕ) → opens dcb e ≡ true → Unflagged b dcb
+opened-is b e n method extents is not dcb opens-it =
+    let same : (n == dcb) ≡ true = sym (ap (opens dcb) is) ∙ opens-it in
+    subst (λ (d : ℕ). Unflagged b d) (eqb-true n dcb same) not
+
+-- an entry that opens none
+pub opens-none : (b : Book AnyDevice) (e : Entry)
+    → ((n : ℕ) (method : ProcessingMethod) (extents : List Extent) → e ≡ Opened n method extents → ⊥)
+    → (dcb : ℕ) → opens dcb e ≡ true → Unflagged b dcb
+opens-none b (Opened n method extents) not dcb opens-it = absurd (not n method extents refl)
+opens-none b (_) not dcb opens-it = absurd cc
