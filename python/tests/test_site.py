@@ -247,6 +247,25 @@ class Images(unittest.TestCase):
             disk.serve()
             self.assertEqual(disk.image(), ckd(b"NEW."))
 
+    def test_checkpoint(self):
+        """A track and a block that are written lose their flag and their chunks, and a checkpoint brings neither back."""
+        split = struct.pack("<HHBB", 3, 0, 0x80, 0) + b"FIR" + struct.pack("<HHBB", 2, 3, 0x20, 0) + b"ST"
+        flagged = ckd(b"\xC1\xC2\xC3\xC4")
+        flagged = flagged[:512] + b"\1" + flagged[513:]
+        search = Ccw(Op.SIDE, "ID", Flag.CC, 5), Ccw(Op.TIC, "CP")
+        with Site() as site:
+            tape, disk = site.tape_from(split, length=100), site.disk_from(flagged)
+            for unit in tape, disk:
+                unit.checkpoint()
+            self.assertEqual((tape.image(), disk.image()), (split, flagged))
+            site.issue(0, tape.open(), request(Ccw(Op.WRT, "DATA", count=5), data=b"OTHER"))
+            site.issue(0, disk.open(extents=TRACK), request(*search, Ccw(Op.WD, "DATA", count=4), data=b"NEW."))
+            site.serve()
+            self.assertEqual([it.code for it in site.posts(0)], [Code.ENDED] * 2)
+            for unit in tape, disk:
+                unit.checkpoint()
+            self.assertEqual((tape.image(), disk.image()), (aws(b"OTHER"), ckd(b"NEW.")))
+
     def test_paper(self):
         with Site() as site:
             printer = site.printer(lines=100, pages=5)

@@ -85,14 +85,14 @@ abbrev pub OnlyFaults : SiteView → SiteView → Type 0
 OnlyFaults s t = (t.medium ≡ record s.medium { faults = t.medium.faults }) × OnlyMedium s t
 
 -- nothing was put, since there was no memory
-abbrev pub KeepsRecords : SiteView → SiteView → Refusal → Type 0
-KeepsRecords s t e = (e ≡ NoMemory) × (t.medium.records.items ≡ s.medium.records.items) × OnlyRecords s t
+abbrev pub PutsNoRecord : SiteView → SiteView → Refusal → Type 0
+PutsNoRecord s t e = (e ≡ NoMemory) × (t.medium.records.items ≡ s.medium.records.items) × OnlyRecords s t
 
-abbrev pub KeepsItems : SiteView → SiteView → Refusal → Type 0
-KeepsItems s t e = (e ≡ NoMemory) × (t.medium.items.items ≡ s.medium.items.items) × OnlyItems s t
+abbrev pub PutsNoItem : SiteView → SiteView → Refusal → Type 0
+PutsNoItem s t e = (e ≡ NoMemory) × (t.medium.items.items ≡ s.medium.items.items) × OnlyItems s t
 
-abbrev pub KeepsFaults : SiteView → SiteView → Refusal → Type 0
-KeepsFaults s t e = (e ≡ NoMemory) × (t.medium.faults.items ≡ s.medium.faults.items) × OnlyFaults s t
+abbrev pub PutsNoFault : SiteView → SiteView → Refusal → Type 0
+PutsNoFault s t e = (e ≡ NoMemory) × (t.medium.faults.items ≡ s.medium.faults.items) × OnlyFaults s t
 
 -- a DCB is not opened: its extents are none, or the site says why, and what it leaves
 abbrev pub NotOpened : SiteView → SiteView → ℕ → List ℕ → Refusal → Type 0

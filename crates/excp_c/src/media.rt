@@ -9,7 +9,7 @@ ghost use Rattle.line_printer.specs.Mount.{opening as opening_printer};
 ghost use Rattle.excp_site.specs.Imaging.{AwsRefused, CkdRefused, MountsAws, MountsCkd};
 ghost use Rattle.excp_site.specs.Media.{IsEmpty, PutsItem, PutsRecord};
 ghost use Rattle.excp_site.specs.Mounting.{DiskRefused, PrinterRefused, TapeRefused};
-ghost use Rattle.excp_c.specs.Done.{Did, ImageRefusedAs, KeepsFaults, KeepsItems, KeepsRecords, Mounts, OnlyFaults, OnlyItems, OnlyMedium, OnlyRecords, Refused};
+ghost use Rattle.excp_c.specs.Done.{Did, ImageRefusedAs, PutsNoFault, PutsNoItem, PutsNoRecord, Mounts, OnlyFaults, OnlyItems, OnlyMedium, OnlyRecords, Refused};
 ghost use Rattle.excp_c.specs.Numbers.{fault_from_c};
 ghost use Rattle.excp_c.specs.Calls.{KeepsSite, SameSite, TestsSite};
 
@@ -50,7 +50,7 @@ pub extern "C" fn excp_call_put_record(
     ensures site { TestsSite handle.old result }
     ensures keeps { KeepsSite handle.old handle.new }
     ensures done { result ≡ 0 → Did handle.old handle.new (λ s t. PutsRecord s.medium.records.items cylinder head number key.now content.now t.medium.records.items × OnlyRecords s t) }
-    ensures why { result ≢ 0 → result ≢ 3 → Refused handle.old handle.new result KeepsRecords }
+    ensures why { result ≢ 0 → result ≢ 3 → Refused handle.old handle.new result PutsNoRecord }
     ensures none { result ≡ 3 → SameSite handle.old handle.new }
 {
     let Some(site) = handle.site() else {
@@ -65,7 +65,7 @@ pub extern "C" fn excp_call_put_block(handle: &mut Handle, content: &[u8]) -> u3
     ensures site { TestsSite handle.old result }
     ensures keeps { KeepsSite handle.old handle.new }
     ensures done { result ≡ 0 → Did handle.old handle.new (λ s t. PutsItem s.medium.items.items (block content.now) t.medium.items.items × OnlyItems s t) }
-    ensures why { result ≢ 0 → result ≢ 3 → Refused handle.old handle.new result KeepsItems }
+    ensures why { result ≢ 0 → result ≢ 3 → Refused handle.old handle.new result PutsNoItem }
     ensures none { result ≡ 3 → SameSite handle.old handle.new }
 {
     let Some(site) = handle.site() else {
@@ -80,7 +80,7 @@ pub extern "C" fn excp_call_put_tape_mark(handle: &mut Handle) -> u32
     ensures site { TestsSite handle.old result }
     ensures keeps { KeepsSite handle.old handle.new }
     ensures done { result ≡ 0 → Did handle.old handle.new (λ s t. PutsItem s.medium.items.items tape_mark t.medium.items.items × OnlyItems s t) }
-    ensures why { result ≢ 0 → result ≢ 3 → Refused handle.old handle.new result KeepsItems }
+    ensures why { result ≢ 0 → result ≢ 3 → Refused handle.old handle.new result PutsNoItem }
     ensures none { result ≡ 3 → SameSite handle.old handle.new }
 {
     let Some(site) = handle.site() else {
@@ -101,7 +101,7 @@ pub extern "C" fn excp_call_put_fault(
     ensures site { TestsSite handle.old result }
     ensures keeps { KeepsSite handle.old handle.new }
     ensures done { result ≡ 0 → Did handle.old handle.new (λ s t. (t.medium.faults.items ≡ s.medium.faults.items ++ fault_from_c command unit_status channel_status sense ∷ []) × OnlyFaults s t) }
-    ensures why { result ≢ 0 → result ≢ 3 → Refused handle.old handle.new result KeepsFaults }
+    ensures why { result ≢ 0 → result ≢ 3 → Refused handle.old handle.new result PutsNoFault }
     ensures none { result ≡ 3 → SameSite handle.old handle.new }
 {
     let Some(site) = handle.site() else {

@@ -50,10 +50,10 @@ pub record IsFlagged (b : Book AnyDevice) : Type 0 where
   pub flagged : flag dcb b.trace ≡ true
 
 -- what the image that a unit came from has beside its medium as it is now, if it came from one
-abbrev pub ForgetsWritten : Option Kept → AnyDevice → AnyDevice → Option Kept → Type 0
-ForgetsWritten None mounted now None = Unit {0}
-ForgetsWritten (Some old) mounted now (Some new) = Forgets old mounted now new
-ForgetsWritten _ mounted now _ = ⊥
+abbrev pub BesideAfter : Option Kept → AnyDevice → AnyDevice → Option Kept → Type 0
+BesideAfter None mounted now None = Unit {0}
+BesideAfter (Some old) mounted now (Some new) = Forgets old mounted now new
+BesideAfter _ mounted now _ = ⊥
 
 -- A UNIT BEGINS AGAIN: the numbers of its requests go on, and the image of its medium stays the same; all else stays as it is
 pub record Checkpoints (old : SiteView) (unit : ℕ) (new : SiteView) : Type 0 where
@@ -62,7 +62,7 @@ pub record Checkpoints (old : SiteView) (unit : ℕ) (new : SiteView) : Type 0 w
   pub unit_is : OnUnit old.plain unit (λ p q. IsRenewed p.book (held_of old unit) q.book
       × (q ≡ opening_part q.book (length old.plain.rows) p.intake_room)) new.plain
   pub earlier : OnPart old.plain unit (λ p. new.earlier ≡ slice_set old.earlier unit (counts_after old unit p))
-  pub image : OnPart old.plain unit (λ p. ForgetsWritten (beside_of old unit) p.book.mounted (device_now p.book) (beside_of new unit))
+  pub image : OnPart old.plain unit (λ p. BesideAfter (beside_of old unit) p.book.mounted (device_now p.book) (beside_of new unit))
   pub beside : new.beside ≡ slice_set old.beside unit (beside_of new unit)
   pub rest : new ≡ record old { plain = new.plain; earlier = new.earlier; beside = new.beside }
 

@@ -8,7 +8,7 @@ ghost use Rattle.unit_book.specs.Dcbs.{dcb_state, flag};
 ghost use Rattle.unit_book.specs.declared.dcb.DcbState.TheVariants as DcbState;
 ghost use Rattle.unit_book.specs.declared.entry.Entry.TheVariants as Entry;
 ghost use Rattle.unit_world.specs.Sites.{MayBegin, IsAtRest, OnPart};
-ghost use Rattle.excp_site.specs.Checkpoints.{CheckpointRefused, Checkpoints, ForgetsWritten, IsFlagged, IsRenewed, controls, count_after, counts_after, is_control};
+ghost use Rattle.excp_site.specs.Checkpoints.{CheckpointRefused, Checkpoints, BesideAfter, IsFlagged, IsRenewed, controls, count_after, counts_after, is_control};
 ghost use Rattle.excp_site.specs.Looks.{device_now};
 ghost use Rattle.excp_site.specs.Sites.{beside_of, held_of};
 ghost use Rattle.excp_site.specs.declared.refusal.Refusal.TheVariants as Refusal;
@@ -50,7 +50,7 @@ impl Site {
     /// Forgets what the image of a unit has of what was written since its medium was mounted.
     fn forget_written(&mut self, unit: u16)
         requires unit { unit < length self.old.plain.units }
-        ensures image { OnPart self.old.plain unit (λ p. ForgetsWritten (beside_of self.old unit) p.book.mounted (device_now p.book) (beside_of self.new unit)) }
+        ensures image { OnPart self.old.plain unit (λ p. BesideAfter (beside_of self.old unit) p.book.mounted (device_now p.book) (beside_of self.new unit)) }
         ensures beside { self.new.beside ≡ slice_set self.old.beside unit (beside_of self.new unit) }
         ensures rest { self.new ≡ record self.old { beside = self.new.beside } }
     {

@@ -8,7 +8,7 @@ use Rattle.medium_image.specs.declared.image.Kept.{Kept}
 use Rattle.unit_book.specs.Book.{Book}
 use Rattle.unit_world.specs.Parts.{UnitPart, opening_part}
 use Rattle.unit_world.specs.Sites.{IsAtRest, OnPart, SiteState}
-use Rattle.excp_site.specs.Checkpoints.{CheckpointRefused, Checkpoints, ForgetsWritten, IsFlagged, IsRenewed, counts_after}
+use Rattle.excp_site.specs.Checkpoints.{CheckpointRefused, Checkpoints, BesideAfter, IsFlagged, IsRenewed, counts_after}
 use Rattle.excp_site.specs.Looks.{device_now}
 use Rattle.excp_site.specs.Sites.{SiteView, beside_of, held_of}
 use Rattle.excp_site.specs.declared.refusal.Refusal.TheVariants.{NoMemory}
@@ -38,7 +38,7 @@ returns-clause-ok c =
     let counts = subst (λ (v : SiteView). OnPart v.plain unit (λ p. c.in_ok-counts.counts.items ≡ counts_after v unit p)) (sym same)
     c.in_ok-counts.ensures in
     let beside_is : i.beside.items ≡ pruned.beside = ap (λ (v : SiteView). v.beside) c.self-2.view_is in
-    let image = subst (λ (v : SiteView). OnPart v.plain unit (λ p. ForgetsWritten (beside_of v unit) p.book.mounted (device_now p.book) (beside_of pruned unit)))
+    let image = subst (λ (v : SiteView). OnPart v.plain unit (λ p. BesideAfter (beside_of v unit) p.book.mounted (device_now p.book) (beside_of pruned unit)))
     (sym same) c.forget_written.ensures.image in
     let new : SiteView = record now { plain = c.renew.new.self; earlier = map (λ e. e.items) (with_item i.earlier c.from.result c.in_ok-counts.counts).items } in
     subst (λ (v : SiteView). Checkpoints v unit new) same
@@ -50,7 +50,7 @@ returns-clause-ok c =
       earlier = λ p here. map-set (λ e. e.items) i.earlier.items c.from.result c.in_ok-counts.counts
           ∙ ap (λ (u : ℕ). set (map (λ e. e.items) i.earlier.items) u c.in_ok-counts.counts.items) c.from.ensures
           ∙ ap (λ (xs : List ℕ). set (map (λ e. e.items) i.earlier.items) unit xs) (counts p here);
-      image = subst (λ (l : List (Option Kept)). OnPart i.plain unit (λ p. ForgetsWritten (beside_of old unit) p.book.mounted (device_now p.book) (slice_index_or l unit None)))
+      image = subst (λ (l : List (Option Kept)). OnPart i.plain unit (λ p. BesideAfter (beside_of old unit) p.book.mounted (device_now p.book) (slice_index_or l unit None)))
           (sym beside_is) image;
       beside = subst (λ (l : List (Option Kept)). l ≡ slice_set s.beside unit (slice_index_or l unit None)) (sym beside_is)
           c.forget_written.ensures.beside;
