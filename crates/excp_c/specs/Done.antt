@@ -1,5 +1,5 @@
 -- WHAT A CALL DID: what the call of the site does (excp_site), or why the site refused it.
-use Rattle.std.specs.Prelude.{◌≡◌, ◌≤◌, ◌<◌, ◌⊎◌, ℕ, MatchOption, Option, Some, None, List, length, slice_get}
+use Rattle.std.specs.Prelude.{◌≡◌, ◌<◌, ◌⊎◌, ℕ, MatchOption, Option, Some, None, List, length, slice_get}
 use Rattle.io_area.specs.Storage.{Storage}
 use Rattle.io_images.specs.declared.extent.Extent.{Extent}
 use Rattle.any_device.specs.Devices.{any_device}
@@ -27,7 +27,7 @@ use Rattle.excp_site.specs.Imaging.{LeavesMade}
 use Rattle.excp_site.specs.Media.{IsEmpty}
 use Rattle.excp_site.specs.declared.refusal.Refusal.{Refusal}
 use Rattle.excp_site.specs.declared.refusal.Refusal.TheVariants.{NoMemory}
-use Rattle.excp_site.specs.Serving.{EndsServing, HasSettled}
+use Rattle.excp_site.specs.Serving.{HasSettled, IsServedFor}
 use Rattle.excp_site.specs.declared.served.Served.{Served}
 use Rattle.excp_site.specs.Extents.{extents_in}
 use Rattle.excp_site.specs.Refusals.{ExtentsRefused, OpenCallLeaves, OpenCallRefused}
@@ -161,9 +161,9 @@ abbrev pub SiteCollects : ℕ → SiteView → SiteView → Type 0
 SiteCollects task s t = CollectsPost s.plain task t.plain × OnlyPlain s t
 
 -- A UNIT WAS SERVED, and the answer was written out
-abbrev pub Serves : ℕ → ℕ → Answered → SiteView → SiteView → Type 0
-Serves unit max served s t =
-    (answer : Served) × EndsServing t.plain unit answer × (answer.commands ≤ max) × OnlyPlain s t ×
+abbrev pub SiteServes : ℕ → ℕ → Answered → SiteView → SiteView → Type 0
+SiteServes unit max served s t =
+    (answer : Served) × IsServedFor s.plain unit max answer t.plain × OnlyPlain s t ×
     (served ≡ record { posts = answer.posts; commands = answer.commands; ended = end_number answer.ended })
 
 -- A UNIT WAS SETTLED

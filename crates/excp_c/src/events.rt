@@ -8,7 +8,7 @@ ghost use Rattle.excp_site.specs.Refusals.{RunRefused, UnitRefused};
 ghost use Rattle.excp_site.specs.Serving.{ServeRefused, SettleRefused};
 ghost use Rattle.excp_site.specs.Sites.{IssueCallRefused};
 ghost use Rattle.excp_c.specs.Answers.{of_delivery, of_intake, of_interruption, of_running, of_starting};
-ghost use Rattle.excp_c.specs.Done.{SiteDelivers, Did, SiteInterrupts, IssuesAs, Made, OnlyPlain, Refused, SiteRuns, Serves, SiteSettles, SiteStarts, SiteTakes};
+ghost use Rattle.excp_c.specs.Done.{SiteDelivers, Did, SiteInterrupts, IssuesAs, Made, OnlyPlain, Refused, SiteRuns, SiteServes, SiteSettles, SiteStarts, SiteTakes};
 ghost use Rattle.excp_c.specs.Calls.{KeepsSite, SameSite, TestsSite};
 ghost use Rattle.excp_c.specs.Numbers.{end_number};
 
@@ -187,7 +187,7 @@ pub extern "C" fn excp_call_serve(
 ) -> u32
     ensures site { TestsSite handle.old result }
     ensures keeps { KeepsSite handle.old handle.new }
-    ensures done { result ≡ 0 → Did handle.old handle.new (λ s t. Serves unit max_commands served.new s t) }
+    ensures done { result ≡ 0 → Did handle.old handle.new (SiteServes unit max_commands served.new) }
     ensures why { result ≢ 0 → result ≢ 3 → Refused handle.old handle.new result (λ s t e. ServeRefused s.plain unit max_commands t.plain e × OnlyPlain s t) }
     ensures none { result ≡ 3 → SameSite handle.old handle.new }
     ensures refused { result ≢ 0 → served.new ≡ served.old }

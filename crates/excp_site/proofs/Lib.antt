@@ -4,3 +4,4 @@ pub mod Ranges
 pub mod Controls
 pub mod Resting
 pub mod Flagged
+pub mod Serving

@@ -1,14 +1,20 @@
 -- WHAT SERVING A UNIT LEAVES (profile).
-use Rattle.std.specs.Prelude.{◌≡◌, ◌≤◌, ◌<◌, ℕ, [], length}
+use Rattle.std.specs.Prelude.{◌≡◌, ◌≤◌, ◌<◌, ◌+◌, ◌-◌, ℕ, [], length}
 use Rattle.any_device.specs.Devices.{any_device}
 use Rattle.any_device.specs.declared.device.AnyDevice.{AnyDevice}
 use Rattle.request_piece.specs.declared.piece.Name.{Name}
+use Rattle.unit_book.specs.Answers.{InterruptsBook, RunsBook, StartsBook}
 use Rattle.unit_book.specs.Refusals.{SettleLacks}
 use Rattle.unit_book.specs.declared.answer.Delivery.{Delivery}
 use Rattle.unit_book.specs.declared.answer.Delivery.TheVariants as delivery
-use Rattle.unit_world.specs.Parts.{IsFinishedPart}
+use Rattle.unit_book.specs.declared.answer.Intake.{Intake}
+use Rattle.unit_book.specs.declared.answer.Interruption.{Interruption}
+use Rattle.unit_book.specs.declared.answer.Running.{Running}
+use Rattle.unit_book.specs.declared.answer.Running.TheVariants as running
+use Rattle.unit_book.specs.declared.answer.Starting.{Starting}
+use Rattle.unit_world.specs.Parts.{IsFinishedPart, PartTakes}
 use Rattle.unit_world.specs.PostLists.{list_of}
-use Rattle.unit_world.specs.Sites.{SiteState, IsFirstOut, OnBook, OnPart, SettlesBook}
+use Rattle.unit_world.specs.Sites.{SiteState, DeliversAs, IsFirstOut, OnBook, OnPart, OnUnit, SettlesBook}
 use Rattle.excp_site.specs.Sites.{HasPart}
 use Rattle.excp_site.specs.declared.refusal.Refusal.{Refusal}
 use Rattle.excp_site.specs.declared.refusal.Refusal.TheVariants.{NoMemory, BadNumber, NoUnit}
@@ -27,20 +33,55 @@ pub record IsServed (s : SiteState AnyDevice) (unit : ℕ) : Type 0 where
   pub finished : OnPart s unit IsFinishedPart
   pub out : OnPart s unit (λ p. p.book.out ≡ [])
 
--- WHY SERVING ENDED
-abbrev pub EndsServe : SiteState AnyDevice → ℕ → ServedEnd → Type 0
-EndsServe s unit ended.All = IsServed s unit
-EndsServe s unit ended.RowFull = IsHeldUp s unit
-EndsServe s unit ended.Commands = Unit {0}
+-- how many posts a delivery sends back, and how many commands a run does
+abbrev pub posts_of : Delivery → ℕ
+posts_of (delivery.Delivered name) = 1
+posts_of _ = 0
 
-abbrev pub EndsServing : SiteState AnyDevice → ℕ → Served → Type 0
-EndsServing s unit served = EndsServe s unit served.ended
+abbrev pub commands_of : Running → ℕ
+commands_of running.Quiet = 0
+commands_of (running.Ran commands pending) = commands
+
+-- WHAT SERVING DOES: takes, starts, runs, interruptions and deliveries of a unit, one after another, which come to so many posts and
+-- commands
+pub data Serves (old : SiteState AnyDevice) (unit : ℕ) : ℕ → ℕ → SiteState AnyDevice → Type 0 where
+  Begins : Serves old unit 0 0 old
+  Takes : {posts commands : ℕ} {mid new : SiteState AnyDevice} → Serves old unit posts commands mid →
+      (answer : Intake) → OnUnit mid unit (λ p q. PartTakes any_device p answer q) new → Serves old unit posts commands new
+  Starts : {posts commands : ℕ} {mid new : SiteState AnyDevice} → Serves old unit posts commands mid →
+      (answer : Starting) → OnBook mid unit (λ b c. StartsBook any_device b answer c) new → Serves old unit posts commands new
+  Runs : {posts commands : ℕ} {mid new : SiteState AnyDevice} → Serves old unit posts commands mid → (max : ℕ) → 1 ≤ max →
+      (answer : Running) → OnBook mid unit (λ b c. RunsBook any_device b max answer c) new →
+      Serves old unit posts (commands + commands_of answer) new
+  Interrupts : {posts commands : ℕ} {mid new : SiteState AnyDevice} → Serves old unit posts commands mid →
+      (answer : Interruption) → OnBook mid unit (λ b c. InterruptsBook any_device b answer c) new → Serves old unit posts commands new
+  Delivers : {posts commands : ℕ} {mid new : SiteState AnyDevice} → Serves old unit posts commands mid →
+      (answer : Delivery) → DeliversAs mid unit answer new → Serves old unit (posts + posts_of answer) commands new
+
+-- WHY IT ENDS: nothing is left, a row is full, or as many commands were done as may be
+abbrev pub EndsServe : SiteState AnyDevice → ℕ → ℕ → ServedEnd → Type 0
+EndsServe s unit left ended.All = IsServed s unit
+EndsServe s unit left ended.RowFull = IsHeldUp s unit
+EndsServe s unit left ended.Commands = left ≡ 0
+
+-- A UNIT IS SERVED for at most so many commands
+pub record IsServedFor (old : SiteState AnyDevice) (unit max : ℕ) (served : Served) (new : SiteState AnyDevice) : Type 0 where
+  pub serves : Serves old unit served.posts served.commands new
+  pub most : served.commands ≤ max
+  pub ends : EndsServe new unit (max - served.commands) served.ended
+
+-- memory ran out in the midst
+pub record StopsServing (old : SiteState AnyDevice) (unit max : ℕ) (new : SiteState AnyDevice) : Type 0 where
+  pub posts : ℕ
+  pub commands : ℕ
+  pub serves : Serves old unit posts commands new
+  pub most : commands ≤ max
 
 -- WHY IT IS REFUSED
 abbrev pub ServeRefused : SiteState AnyDevice → ℕ → ℕ → SiteState AnyDevice → Refusal → Type 0
 ServeRefused old unit max new NoUnit = (length old.units ≤ unit) × (new ≡ old)
 ServeRefused old unit max new BadNumber = (unit < length old.units) × (max ≡ 0) × (new ≡ old)
-ServeRefused old unit max new NoMemory = (unit < length old.units) × (1 ≤ max)
+ServeRefused old unit max new NoMemory = (unit < length old.units) × (1 ≤ max) × StopsServing old unit max new
 ServeRefused old unit max new _ = ⊥
 
 -- A unit is settled, if there is one

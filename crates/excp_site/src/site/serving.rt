@@ -1,15 +1,17 @@
 //! Serving a unit: all of its events, one after another.
 
-ghost use Rattle.std.specs.Prelude.{◌≡◌, ◌<◌, ◌≤◌, IfErr, IfOk, OnOk, length};
+ghost use Rattle.std.specs.Prelude.{◌≡◌, ◌<◌, ◌≤◌, IfErr, IfNone, IfOk, IfSome, OnErr, OnOk, length};
 ghost use Rattle.unit_book.specs.Settle.{IsIdle};
 ghost use Rattle.unit_world.specs.Sites.{OnPart};
-ghost use Rattle.excp_site.specs.Serving.{EndsServing, HasSettled, OnDelivery, ServeRefused, SettleRefused};
+ghost use Rattle.excp_site.specs.Serving.{EndsServe, HasSettled, IsServedFor, OnDelivery, ServeRefused, Serves, SettleRefused, StopsServing, commands_of, posts_of};
 
 use crate::refusal::Refusal;
 use crate::served::{Served, ServedEnd};
 use crate::site::Site;
+use any_device::AnyDevice;
 use std::alloc::AllocError;
 use unit_book::{Delivery, Intake, Interruption, Running, Starting};
+use unit_world::PlainSite;
 
 /// What one turn of a unit did.
 #[derive(Clone, Copy)]
@@ -27,8 +29,7 @@ impl Site {
     ///
     /// Errors, in this order: `NoUnit`; `BadNumber` if `max` is 0; `NoMemory`. What was done stays done.
     pub fn serve(&mut self, unit: u16, max: u32) -> Result<Served, Refusal>
-        ensures ends { IfOk result (λ served. EndsServing self.new.plain unit served) }
-        ensures most { IfOk result (λ served. served.commands ≤ max) }
+        ensures ok { IfOk result (λ served. IsServedFor self.old.plain unit max served self.new.plain) }
         ensures refused { IfErr result (ServeRefused self.old.plain unit max self.new.plain) }
         ensures rest { self.new ≡ record self.old { plain = self.new.plain } }
     {
@@ -36,54 +37,42 @@ impl Site {
         if max == 0 {
             return Err(Refusal::BadNumber);
         }
-        let mut posts: u64 = 0;
-        let mut commands = 0;
+        let mut posts = 0;
+        let mut left = max;
         for _ in 0..u64::MAX {
-            let turn = self.turn(unit, max - commands)?;
-            commands += turn.commands;
-            match turn.delivery {
-                Delivery::Delivered(_) => posts = posts.saturating_add(1),
-                Delivery::Full(_) if !turn.has_moved => {
-                    return Ok(served(posts, commands, ServedEnd::RowFull));
-                }
-                Delivery::Quiet if !turn.has_moved && self.plain.is_finished(unit) => {
-                    return Ok(served(posts, commands, ServedEnd::All));
-                }
-                _ => {}
-            }
-            if commands == max {
-                break;
+            let turn = take_turn(&mut self.plain, unit, left)?;
+            posts += posts_of(turn.delivery);
+            left -= turn.commands;
+            if let Some(ended) = self.ended(unit, turn, left) {
+                return Ok(Served {
+                    posts,
+                    commands: max - left,
+                    ended,
+                });
             }
         }
-        Ok(served(posts, commands, ServedEnd::Commands))
+        // no unit has as many turns
+        Err(Refusal::NoMemory)
     }
 
-    /// Takes, starts, runs for at most `max` commands, interrupts and delivers, each once.
-    fn turn(&mut self, unit: u16, max: u32) -> Result<Turn, AllocError>
-        requires unit { unit < length self.old.plain.units }
-        requires some { 1 ≤ max }
-        ensures most { IfOk result (λ turn. turn.commands ≤ max) }
-        ensures delivery { IfOk result (λ turn. OnDelivery self.new.plain unit turn.delivery) }
-        ensures units { length self.new.plain.units ≡ length self.old.plain.units }
-        ensures rest { self.new ≡ record self.old { plain = self.new.plain } }
+    /// Why serving a unit ends after a turn, with so many commands left to do.
+    fn ended(&self, unit: u16, turn: Turn, left: u32) -> Option<ServedEnd>
+        requires unit { unit < length self.now.plain.units }
+        requires delivery { OnDelivery self.now.plain unit turn.delivery }
+        ensures why { IfSome result (EndsServe self.now.plain unit left) }
+        ensures none { IfNone result (1 ≤ left) }
     {
-        let taken = self.plain.take(unit)?;
-        let started = self.plain.start(unit)?;
-        let running = self.plain.run(unit, max)?;
-        let interruption = self.plain.interrupt(unit)?;
-        let has_started = matches!(started, Starting::Started(_) | Starting::Violated(_));
-        let commands = match running {
-            Running::Ran { commands, .. } => commands,
-            Running::Quiet => 0,
-        };
-        Ok(Turn {
-            has_moved: matches!(taken, Intake::Took(_))
-                || has_started
-                || running != Running::Quiet
-                || interruption != Interruption::Quiet,
-            commands,
-            delivery: self.plain.deliver(unit),
-        })
+        if !turn.has_moved {
+            match turn.delivery {
+                Delivery::Full(_) => return Some(ServedEnd::RowFull),
+                Delivery::Quiet if self.plain.is_finished(unit) => return Some(ServedEnd::All),
+                _ => {}
+            }
+        }
+        if left == 0 {
+            return Some(ServedEnd::Commands);
+        }
+        None
     }
 
     /// Starts, runs and interrupts until nothing waits or is active at a unit.
@@ -101,13 +90,48 @@ impl Site {
     }
 }
 
-/// An answer of `serve`.
-fn served(posts: u64, commands: u32, ended: ServedEnd) -> Served
-    ensures { result ≡ record { posts = posts; commands = commands; ended = ended } }
+/// Takes, starts, runs for at most `max` commands, interrupts and delivers, each once.
+fn take_turn(plain: &mut PlainSite<AnyDevice>, unit: u16, max: u32) -> Result<Turn, AllocError>
+    requires unit { unit < length plain.old.units }
+    requires some { 1 ≤ max }
+    ensures serves { IfOk result (λ turn. Serves plain.old unit (posts_of turn.delivery) turn.commands plain.new) }
+    ensures most { IfOk result (λ turn. turn.commands ≤ max) }
+    ensures delivery { IfOk result (λ turn. OnDelivery plain.new unit turn.delivery) }
+    ensures units { length plain.new.units ≡ length plain.old.units }
+    ensures stops { OnErr result (StopsServing plain.old unit max plain.new) }
 {
-    Served {
-        posts,
-        commands,
-        ended,
+    let taken = plain.take(unit)?;
+    let started = plain.start(unit)?;
+    let running = plain.run(unit, max)?;
+    let interruption = plain.interrupt(unit)?;
+    let has_started = matches!(started, Starting::Started(_) | Starting::Violated(_));
+    Ok(Turn {
+        has_moved: matches!(taken, Intake::Took(_))
+            || has_started
+            || running != Running::Quiet
+            || interruption != Interruption::Quiet,
+        commands: commands_of(running),
+        delivery: plain.deliver(unit),
+    })
+}
+
+/// How many commands a run did.
+fn commands_of(running: Running) -> u32
+    ensures { result ≡ commands_of running }
+{
+    match running {
+        Running::Ran { commands, .. } => commands,
+        Running::Quiet => 0,
+    }
+}
+
+/// How many posts a delivery sent back.
+fn posts_of(delivery: Delivery) -> u64
+    ensures value { result ≡ posts_of delivery }
+    ensures few { result ≤ 1 }
+{
+    match delivery {
+        Delivery::Delivered(_) => 1,
+        _ => 0,
     }
 }
