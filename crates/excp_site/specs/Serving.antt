@@ -34,16 +34,16 @@ pub record IsServed (s : SiteState AnyDevice) (unit : ℕ) : Type 0 where
   pub out : OnPart s unit (λ p. p.book.out ≡ [])
 
 -- how many posts a delivery sends back, and how many commands a run does
-abbrev pub posts_of : Delivery → ℕ
-posts_of (delivery.Delivered name) = 1
-posts_of _ = 0
+abbrev pub posts_sent : Delivery → ℕ
+posts_sent (delivery.Delivered name) = 1
+posts_sent _ = 0
 
-abbrev pub commands_of : Running → ℕ
-commands_of running.Quiet = 0
-commands_of (running.Ran commands pending) = commands
+abbrev pub commands_done : Running → ℕ
+commands_done running.Quiet = 0
+commands_done (running.Ran commands pending) = commands
 
--- WHAT SERVING DOES: takes, starts, runs, interruptions and deliveries of a unit, one after another, which come to so many posts and
--- commands
+-- WHAT SERVING DOES: takes, starts, runs, interruptions and deliveries of a unit, one after another, and how many posts and commands
+-- they come to
 pub data Serves (old : SiteState AnyDevice) (unit : ℕ) : ℕ → ℕ → SiteState AnyDevice → Type 0 where
   Begins : Serves old unit 0 0 old
   Takes : {posts commands : ℕ} {mid new : SiteState AnyDevice} → Serves old unit posts commands mid →
@@ -52,11 +52,11 @@ pub data Serves (old : SiteState AnyDevice) (unit : ℕ) : ℕ → ℕ → SiteS
       (answer : Starting) → OnBook mid unit (λ b c. StartsBook any_device b answer c) new → Serves old unit posts commands new
   Runs : {posts commands : ℕ} {mid new : SiteState AnyDevice} → Serves old unit posts commands mid → (max : ℕ) → 1 ≤ max →
       (answer : Running) → OnBook mid unit (λ b c. RunsBook any_device b max answer c) new →
-      Serves old unit posts (commands + commands_of answer) new
+      Serves old unit posts (commands + commands_done answer) new
   Interrupts : {posts commands : ℕ} {mid new : SiteState AnyDevice} → Serves old unit posts commands mid →
       (answer : Interruption) → OnBook mid unit (λ b c. InterruptsBook any_device b answer c) new → Serves old unit posts commands new
   Delivers : {posts commands : ℕ} {mid new : SiteState AnyDevice} → Serves old unit posts commands mid →
-      (answer : Delivery) → DeliversAs mid unit answer new → Serves old unit (posts + posts_of answer) commands new
+      (answer : Delivery) → DeliversAs mid unit answer new → Serves old unit (posts + posts_sent answer) commands new
 
 -- WHY IT ENDS: nothing is left, a row is full, or as many commands were done as may be
 abbrev pub EndsServe : SiteState AnyDevice → ℕ → ℕ → ServedEnd → Type 0
@@ -64,7 +64,7 @@ EndsServe s unit left ended.All = IsServed s unit
 EndsServe s unit left ended.RowFull = IsHeldUp s unit
 EndsServe s unit left ended.Commands = left ≡ 0
 
--- A UNIT IS SERVED for at most so many commands
+-- A UNIT IS SERVED, for at most `max` commands
 pub record IsServedFor (old : SiteState AnyDevice) (unit max : ℕ) (served : Served) (new : SiteState AnyDevice) : Type 0 where
   pub serves : Serves old unit served.posts served.commands new
   pub most : served.commands ≤ max

@@ -3,7 +3,7 @@
 ghost use Rattle.std.specs.Prelude.{◌≡◌, ◌<◌, ◌≤◌, IfErr, IfNone, IfOk, IfSome, OnErr, OnOk, length};
 ghost use Rattle.unit_book.specs.Settle.{IsIdle};
 ghost use Rattle.unit_world.specs.Sites.{OnPart};
-ghost use Rattle.excp_site.specs.Serving.{EndsServe, HasSettled, IsServedFor, OnDelivery, ServeRefused, Serves, SettleRefused, StopsServing, commands_of, posts_of};
+ghost use Rattle.excp_site.specs.Serving.{EndsServe, HasSettled, IsServedFor, OnDelivery, ServeRefused, Serves, SettleRefused, StopsServing, commands_done, posts_sent};
 
 use crate::refusal::Refusal;
 use crate::served::{Served, ServedEnd};
@@ -41,7 +41,7 @@ impl Site {
         let mut left = max;
         for _ in 0..u64::MAX {
             let turn = take_turn(&mut self.plain, unit, left)?;
-            posts += posts_of(turn.delivery);
+            posts += posts_sent(turn.delivery);
             left -= turn.commands;
             if let Some(ended) = self.ended(unit, turn, left) {
                 return Ok(Served {
@@ -55,7 +55,7 @@ impl Site {
         Err(Refusal::NoMemory)
     }
 
-    /// Why serving a unit ends after a turn, with so many commands left to do.
+    /// Why serving a unit ends after a turn, if it does. `left` commands may still be done.
     fn ended(&self, unit: u16, turn: Turn, left: u32) -> Option<ServedEnd>
         requires unit { unit < length self.now.plain.units }
         requires delivery { OnDelivery self.now.plain unit turn.delivery }
@@ -94,7 +94,7 @@ impl Site {
 fn take_turn(plain: &mut PlainSite<AnyDevice>, unit: u16, max: u32) -> Result<Turn, AllocError>
     requires unit { unit < length plain.old.units }
     requires some { 1 ≤ max }
-    ensures serves { IfOk result (λ turn. Serves plain.old unit (posts_of turn.delivery) turn.commands plain.new) }
+    ensures serves { IfOk result (λ turn. Serves plain.old unit (posts_sent turn.delivery) turn.commands plain.new) }
     ensures most { IfOk result (λ turn. turn.commands ≤ max) }
     ensures delivery { IfOk result (λ turn. OnDelivery plain.new unit turn.delivery) }
     ensures units { length plain.new.units ≡ length plain.old.units }
@@ -110,14 +110,14 @@ fn take_turn(plain: &mut PlainSite<AnyDevice>, unit: u16, max: u32) -> Result<Tu
             || has_started
             || running != Running::Quiet
             || interruption != Interruption::Quiet,
-        commands: commands_of(running),
+        commands: commands_done(running),
         delivery: plain.deliver(unit),
     })
 }
 
 /// How many commands a run did.
-fn commands_of(running: Running) -> u32
-    ensures { result ≡ commands_of running }
+fn commands_done(running: Running) -> u32
+    ensures { result ≡ commands_done running }
 {
     match running {
         Running::Ran { commands, .. } => commands,
@@ -126,8 +126,8 @@ fn commands_of(running: Running) -> u32
 }
 
 /// How many posts a delivery sent back.
-fn posts_of(delivery: Delivery) -> u64
-    ensures value { result ≡ posts_of delivery }
+fn posts_sent(delivery: Delivery) -> u64
+    ensures value { result ≡ posts_sent delivery }
     ensures few { result ≤ 1 }
 {
     match delivery {

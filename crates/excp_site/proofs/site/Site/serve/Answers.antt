@@ -1,7 +1,7 @@
 use Rattle.std.proofs.Common.{◌≡◌, ◌∙◌, ◌+◌, ◌-◌, ◌≤◌, ℕ, ap, arith, length, refl, subst, sym}
 use Rattle.any_device.specs.declared.device.AnyDevice.{AnyDevice}
 use Rattle.unit_world.specs.Sites.{SiteState}
-use Rattle.excp_site.specs.Serving.{Begins, EndsServe, ServeRefused, Serves, StopsServing, posts_of}
+use Rattle.excp_site.specs.Serving.{Begins, EndsServe, ServeRefused, Serves, StopsServing, posts_sent}
 use Rattle.excp_site.specs.Sites.{SiteView}
 use Rattle.excp_site.specs.declared.refusal.Refusal.TheVariants.{NoMemory}
 use Rattle.excp_site.proofs.Refused.{refuses}
@@ -43,11 +43,11 @@ returns-in-Some-clause-ok c =
     let i = c.loop.invariant in
     let left = c.loop.left - turn.commands in
     let plain_is : c.self.inside.plain ≡ c.loop.self.plain = ap (λ (v : SiteView). v.plain) c.self.view_is in
-    let did = subst (λ (p : SiteState AnyDevice). Serves p unit (posts_of turn.delivery) turn.commands new) plain_is c.in_ok-turn.ensures.serves in
+    let did = subst (λ (p : SiteState AnyDevice). Serves p unit (posts_sent turn.delivery) turn.commands new) plain_is c.in_ok-turn.ensures.serves in
     let left_is : left ≡ max - (max - left) = omega (arith, i.most) in
     record {
-      serves = turned s c.loop.self.plain new unit max c.loop.left c.loop.posts c.posts_of-posts.result turn.commands turn.delivery i.most
-          c.in_ok-turn.ensures.most c.posts_of-posts.ensures.value i.serves did;
+      serves = turned s c.loop.self.plain new unit max c.loop.left c.loop.posts c.posts_sent-posts.result turn.commands turn.delivery i.most
+          c.in_ok-turn.ensures.most c.posts_sent-posts.ensures.value i.serves did;
       most = omega arith;
       ends = subst (λ (n : ℕ). EndsServe new unit n c.in-Some.ended) left_is c.in-Some.ensures.why;
     }
@@ -61,13 +61,13 @@ loop-preserved c =
     let turn = c.in_ok-turn.turn in
     let i = c.loop.invariant in
     let plain_is : c.self.inside.plain ≡ c.loop.self.plain = ap (λ (v : SiteView). v.plain) c.self.view_is in
-    let did = subst (λ (p : SiteState AnyDevice). Serves p unit (posts_of turn.delivery) turn.commands new) plain_is c.in_ok-turn.ensures.serves in
+    let did = subst (λ (p : SiteState AnyDevice). Serves p unit (posts_sent turn.delivery) turn.commands new) plain_is c.in_ok-turn.ensures.serves in
     record {
       some = c.in_default.ensures.none;
       most = omega (arith, i.most);
-      few = omega (arith, i.few, c.posts_of-posts.ensures.few);
+      few = omega (arith, i.few, c.posts_sent-posts.ensures.few);
       there = omega (arith, c.in_ok-turn.ensures.units, i.there, ap (λ (p : SiteState AnyDevice). length p.units) plain_is);
-      serves = turned s c.loop.self.plain new unit max c.loop.left c.loop.posts c.posts_of-posts.result turn.commands turn.delivery i.most
-          c.in_ok-turn.ensures.most c.posts_of-posts.ensures.value i.serves did;
+      serves = turned s c.loop.self.plain new unit max c.loop.left c.loop.posts c.posts_sent-posts.result turn.commands turn.delivery i.most
+          c.in_ok-turn.ensures.most c.posts_sent-posts.ensures.value i.serves did;
       rest = ap (λ (v : SiteView). record v { plain = new }) (c.self.view_is ∙ i.rest);
     }

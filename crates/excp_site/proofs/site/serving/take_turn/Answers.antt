@@ -1,5 +1,5 @@
 use Rattle.std.proofs.Common.{◌+◌, ◌≤◌, ℕ, arith, sym}
-use Rattle.excp_site.specs.Serving.{Serves, Begins, Takes, Starts, Runs, Interrupts, Delivers, StopsServing, commands_of, posts_of}
+use Rattle.excp_site.specs.Serving.{Serves, Begins, Takes, Starts, Runs, Interrupts, Delivers, StopsServing, commands_done, posts_sent}
 use Rattle.excp_site.proofs.Refused.{errs}
 use Rattle.excp_site.proofs.Serving.{counted, few-commands, stops}
 use Rattle.excp_site.proofs.site.serving.take_turn.Goals as goal
@@ -38,10 +38,10 @@ returns-in_err-interruption-clause-stops c =
     let running = c.in_ok-running.running in
     let started = Starts (Takes Begins c.in_ok-taken.taken c.in_ok-taken.ensures.ok) c.in_ok-started.started c.in_ok-started.ensures.ok in
     let ran = Runs started max c.requires.some running c.in_ok-running.ensures.ok in
-    let few : 0 + commands_of running ≤ max =
+    let few : 0 + commands_done running ≤ max =
     omega (arith, few-commands c.start.new.self unit max running c.run.new.self c.in_ok-running.ensures.ok) in
     errs c.from_residual-in_err-interruption.result (StopsServing old unit max c.interrupt.new.self)
-    (stops old unit max 0 (0 + commands_of running) c.run.new.self c.interrupt.new.self ran c.in_err-interruption.ensures.err few)
+    (stops old unit max 0 (0 + commands_done running) c.run.new.self c.interrupt.new.self ran c.in_err-interruption.ensures.err few)
 
 pub returns-clause-serves : goal.returns-clause-serves
 returns-clause-serves c =
@@ -50,9 +50,9 @@ returns-clause-serves c =
     let ran = Runs started c.args.max c.requires.some running c.in_ok-running.ensures.ok in
     let interrupted = Interrupts ran c.in_ok-interruption.interruption c.in_ok-interruption.ensures.ok in
     let delivered = Delivers interrupted c.deliver.result c.deliver.ensures.answer in
-    counted c.args.plain.now c.args.unit (0 + posts_of c.deliver.result) (0 + commands_of running) (posts_of c.deliver.result)
-    c.commands_of.result c.deliver.new.self (omega arith) (omega (arith, c.commands_of.ensures)) delivered
+    counted c.args.plain.now c.args.unit (0 + posts_sent c.deliver.result) (0 + commands_done running) (posts_sent c.deliver.result)
+    c.commands_done.result c.deliver.new.self (omega arith) (omega (arith, c.commands_done.ensures)) delivered
 
 pub returns-clause-most : goal.returns-clause-most
 returns-clause-most c =
-    omega (arith, c.commands_of.ensures, few-commands c.start.new.self c.args.unit c.args.max c.in_ok-running.running c.run.new.self c.in_ok-running.ensures.ok)
+    omega (arith, c.commands_done.ensures, few-commands c.start.new.self c.args.unit c.args.max c.in_ok-running.running c.run.new.self c.in_ok-running.ensures.ok)
