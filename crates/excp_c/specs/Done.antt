@@ -1,5 +1,5 @@
 -- WHAT A CALL DID: what the call of the site does (excp_site), or why the site refused it.
-use Rattle.std.specs.Prelude.{◌≡◌, ◌<◌, ◌⊎◌, ℕ, MatchOption, Option, Some, None, List, length, slice_get}
+use Rattle.std.specs.Prelude.{◌≡◌, ◌≤◌, ◌<◌, ◌⊎◌, ℕ, MatchOption, Option, Some, None, List, length, slice_get}
 use Rattle.io_area.specs.Storage.{Storage}
 use Rattle.io_images.specs.declared.extent.Extent.{Extent}
 use Rattle.any_device.specs.Devices.{any_device}
@@ -107,13 +107,13 @@ abbrev pub SiteStarts : ℕ → SiteView → Starting → SiteView → Type 0
 SiteStarts unit s a t = OnBook s.plain unit (λ b c. StartsBook any_device b a c) t.plain × OnlyPlain s t
 
 abbrev pub SiteRuns : ℕ → ℕ → SiteView → Running → SiteView → Type 0
-SiteRuns unit max s a t = OnBook s.plain unit (λ b c. RunsBook any_device b max a c) t.plain × OnlyPlain s t
+SiteRuns unit max s a t = (1 ≤ max) × OnBook s.plain unit (λ b c. RunsBook any_device b max a c) t.plain × OnlyPlain s t
 
 abbrev pub SiteInterrupts : ℕ → SiteView → Interruption → SiteView → Type 0
 SiteInterrupts unit s a t = OnBook s.plain unit (λ b c. InterruptsBook any_device b a c) t.plain × OnlyPlain s t
 
 abbrev pub SiteDelivers : ℕ → SiteView → Delivery → SiteView → Type 0
-SiteDelivers unit s a t = DeliversAs s.plain unit a t.plain × OnlyPlain s t
+SiteDelivers unit s a t = (unit < length s.plain.units) × DeliversAs s.plain unit a t.plain × OnlyPlain s t
 
 -- THE CONTROLS of a unit
 abbrev pub Purges : ℕ → ℕ → Option Mode → SiteView → Purging → SiteView → Type 0

@@ -1,6 +1,6 @@
 //! Controls (c/excp.h, "Controls").
 
-ghost use Rattle.std.specs.Prelude.{◌≡◌, ◌≢◌, None};
+ghost use Rattle.std.specs.Prelude.{◌≡◌, ◌≢◌, ◌↔◌, None};
 ghost use Rattle.unit_book.specs.Controls.{DcbRefused, ResetRefused};
 ghost use Rattle.unit_book.specs.Refusals.{CloseLacks, PurgeLacks, ResetLacks};
 ghost use Rattle.excp_site.specs.Refusals.{DcbCallRefused, TaskPurgeRefused};
@@ -39,7 +39,7 @@ pub extern "C" fn excp_call_purge(
     ensures site { TestsSite handle.old result }
     ensures keeps { KeepsSite handle.old handle.new }
     ensures done { result ≡ 0 → Made of_purging unit (Purges unit dcb (mode_from_c mode)) handle.old handle.new answer.new }
-    ensures number { handle.old.mark ≡ MARK → mode_from_c mode ≡ None → result ≡ 5 }
+    ensures number { (result ≡ 5) ↔ ((handle.old.mark ≡ MARK) × (mode_from_c mode ≡ None)) }
     ensures why { result ≢ 0 → result ≢ 3 → result ≢ 5 → Refused handle.old handle.new result (λ s _. DcbCallRefused s.plain unit (λ b. DcbRefused b dcb) PurgeLacks) }
     ensures refused { result ≢ 0 → SameSite handle.old handle.new × (answer.new ≡ answer.old) }
 {
@@ -70,7 +70,7 @@ pub extern "C" fn excp_call_purge_task(
     ensures site { TestsSite handle.old result }
     ensures keeps { KeepsSite handle.old handle.new }
     ensures done { result ≡ 0 → Made of_purging unit (PurgesTask unit task (mode_from_c mode)) handle.old handle.new answer.new }
-    ensures number { handle.old.mark ≡ MARK → mode_from_c mode ≡ None → result ≡ 5 }
+    ensures number { (result ≡ 5) ↔ ((handle.old.mark ≡ MARK) × (mode_from_c mode ≡ None)) }
     ensures why { result ≢ 0 → result ≢ 3 → result ≢ 5 → Refused handle.old handle.new result (λ s _. TaskPurgeRefused s.plain unit task) }
     ensures refused { result ≢ 0 → SameSite handle.old handle.new × (answer.new ≡ answer.old) }
 {

@@ -1,6 +1,6 @@
 //! DCBs (c/excp.h, "DCBs").
 
-ghost use Rattle.std.specs.Prelude.{◌≡◌, ◌≢◌, ◌⊎◌, None};
+ghost use Rattle.std.specs.Prelude.{◌≡◌, ◌≢◌, ◌⊎◌, ◌↔◌, ◌%◌, None, length};
 ghost use Rattle.excp_site.specs.Extents.{extents_in};
 ghost use Rattle.excp_c.specs.declared.handle.TheConstants.{MARK};
 ghost use Rattle.excp_c.specs.Done.{Did, NotOpened, SiteOpens, Refused};
@@ -36,8 +36,8 @@ pub extern "C" fn excp_call_open(
 ) -> u32
     ensures site { TestsSite handle.old result }
     ensures keeps { KeepsSite handle.old handle.new }
-    ensures done { result ≡ 0 → Did handle.old handle.new (SiteOpens unit (method_from_c method) (extents_in extent_bytes.now) dcb.new) }
-    ensures number { handle.old.mark ≡ MARK → method_from_c method ≡ None → result ≡ 5 }
+    ensures done { result ≡ 0 → Did handle.old handle.new (λ s t. SiteOpens unit (method_from_c method) (extents_in extent_bytes.now) dcb.new s t × (length extent_bytes.now % 16 ≡ 0)) }
+    ensures number { (result ≡ 5) ↔ ((handle.old.mark ≡ MARK) × (method_from_c method ≡ None)) }
     ensures why { result ≢ 0 → result ≢ 3 → result ≢ 5 → Refused handle.old handle.new result (λ s t. NotOpened s t unit extent_bytes.now) }
     ensures same { (result ≡ 3) ⊎ (result ≡ 5) → SameSite handle.old handle.new }
     ensures refused { result ≢ 0 → dcb.new ≡ dcb.old }

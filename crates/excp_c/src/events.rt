@@ -5,7 +5,7 @@ ghost use Rattle.any_device.specs.Devices.{any_device};
 ghost use Rattle.unit_book.specs.Book.{occupancy};
 ghost use Rattle.unit_book.specs.Refusals.{InterruptLacks, StartLacks};
 ghost use Rattle.excp_site.specs.Refusals.{RunRefused, UnitRefused};
-ghost use Rattle.excp_site.specs.Serving.{ServeRefused, SettleRefused};
+ghost use Rattle.excp_site.specs.Serving.{HasSettled, ServeRefused, SettleRefused};
 ghost use Rattle.excp_site.specs.Sites.{IssueCallRefused};
 ghost use Rattle.excp_c.specs.Answers.{of_delivery, of_intake, of_interruption, of_running, of_starting};
 ghost use Rattle.excp_c.specs.Done.{SiteDelivers, Did, SiteInterrupts, IssuesAs, Made, OnlyPlain, Refused, SiteRuns, SiteServes, SiteSettles, SiteStarts, SiteTakes};
@@ -214,7 +214,7 @@ pub extern "C" fn excp_call_settle(handle: &mut Handle, unit: u16) -> u32
     ensures site { TestsSite handle.old result }
     ensures keeps { KeepsSite handle.old handle.new }
     ensures done { result ≡ 0 → Did handle.old handle.new (SiteSettles unit) }
-    ensures why { result ≢ 0 → result ≢ 3 → Refused handle.old handle.new result (λ s t e. SettleRefused s.plain unit t.plain e × OnlyPlain s t) }
+    ensures why { result ≢ 0 → result ≢ 3 → Refused handle.old handle.new result (λ s t e. HasSettled s.plain unit t.plain × SettleRefused s.plain unit t.plain e × OnlyPlain s t) }
     ensures none { result ≡ 3 → SameSite handle.old handle.new }
 {
     let Some(site) = handle.site() else {

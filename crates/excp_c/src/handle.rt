@@ -26,7 +26,7 @@ pub struct Handle {
 /// Takes the site out, if the handle has one. It has none then.
 pub(crate) fn take(alloc: Global, handle: &mut Handle) -> Option<Box<Site>>
     ensures none { IsNone result ↔ (handle.old.mark ≢ MARK) }
-    ensures site { MatchOption result (handle.new ≡ handle.old) (λ site. (handle.old.slot.value ≡ Some site.value) × (handle.new.mark ≡ 0)) }
+    ensures site { MatchOption result (handle.new ≡ handle.old) (λ site. (handle.old.slot.value ≡ Some site.value) × (handle.new.mark ≡ 0) × IsNone handle.new.slot.value) }
 {
     if handle.mark != MARK {
         return None;

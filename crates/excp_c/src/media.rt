@@ -8,7 +8,7 @@ ghost use Rattle.tape_unit.specs.Item.{block, tape_mark};
 ghost use Rattle.line_printer.specs.Mount.{opening as opening_printer};
 ghost use Rattle.excp_site.specs.Imaging.{AwsRefused, CkdRefused, MountsAws, MountsCkd};
 ghost use Rattle.excp_site.specs.Media.{IsEmpty, PutsItem, PutsRecord};
-ghost use Rattle.excp_site.specs.Mounting.{DiskRefused, PrinterRefused, TapeRefused};
+ghost use Rattle.excp_site.specs.Mounting.{DiskRefused, DiskTaken, PrinterRefused, PrinterTaken, TapeRefused, TapeTaken};
 ghost use Rattle.excp_c.specs.Done.{Did, ImageRefusedAs, PutsNoFault, PutsNoItem, PutsNoRecord, Mounts, OnlyFaults, OnlyItems, OnlyMedium, OnlyRecords, Refused};
 ghost use Rattle.excp_c.specs.Numbers.{fault_from_c};
 ghost use Rattle.excp_c.specs.Calls.{KeepsSite, SameSite, TestsSite};
@@ -143,7 +143,7 @@ pub extern "C" fn excp_call_mount_disk(
 ) -> u32
     ensures site { TestsSite handle.old result }
     ensures keeps { KeepsSite handle.old handle.new }
-    ensures done { result ≡ 0 → Did handle.old handle.new (λ s t. Mounts (AnyDevice.Disk (opening_disk (record { cylinders = cylinders; heads = heads; track_bytes = track_bytes }) s.medium.records.items s.medium.faults.items)) room.now.in_flight room.now.held unit.new s t) }
+    ensures done { result ≡ 0 → Did handle.old handle.new (λ s t. Mounts (AnyDevice.Disk (opening_disk (record { cylinders = cylinders; heads = heads; track_bytes = track_bytes }) s.medium.records.items s.medium.faults.items)) room.now.in_flight room.now.held unit.new s t × DiskTaken s (record { cylinders = cylinders; heads = heads; track_bytes = track_bytes })) }
     ensures why { result ≢ 0 → result ≢ 3 → Refused handle.old handle.new result (λ s _. DiskRefused s (record { cylinders = cylinders; heads = heads; track_bytes = track_bytes }) room.now.in_flight room.now.held) }
     ensures refused { result ≢ 0 → SameSite handle.old handle.new × (unit.new ≡ unit.old) }
 {
@@ -168,7 +168,7 @@ pub extern "C" fn excp_call_mount_tape(
 ) -> u32
     ensures site { TestsSite handle.old result }
     ensures keeps { KeepsSite handle.old handle.new }
-    ensures done { result ≡ 0 → Did handle.old handle.new (λ s t. Mounts (AnyDevice.Tape (opening_tape bytes s.medium.items.items s.medium.faults.items)) room.now.in_flight room.now.held unit.new s t) }
+    ensures done { result ≡ 0 → Did handle.old handle.new (λ s t. Mounts (AnyDevice.Tape (opening_tape bytes s.medium.items.items s.medium.faults.items)) room.now.in_flight room.now.held unit.new s t × TapeTaken s bytes) }
     ensures why { result ≢ 0 → result ≢ 3 → Refused handle.old handle.new result (λ s _. TapeRefused s bytes room.now.in_flight room.now.held) }
     ensures refused { result ≢ 0 → SameSite handle.old handle.new × (unit.new ≡ unit.old) }
 {
@@ -189,7 +189,7 @@ pub extern "C" fn excp_call_mount_printer(
 ) -> u32
     ensures site { TestsSite handle.old result }
     ensures keeps { KeepsSite handle.old handle.new }
-    ensures done { result ≡ 0 → Did handle.old handle.new (λ s t. Mounts (AnyDevice.Printer (opening_printer lines pages s.medium.faults.items)) room.now.in_flight room.now.held unit.new s t) }
+    ensures done { result ≡ 0 → Did handle.old handle.new (λ s t. Mounts (AnyDevice.Printer (opening_printer lines pages s.medium.faults.items)) room.now.in_flight room.now.held unit.new s t × PrinterTaken s lines pages) }
     ensures why { result ≢ 0 → result ≢ 3 → Refused handle.old handle.new result (λ s _. PrinterRefused s lines pages room.now.in_flight room.now.held) }
     ensures refused { result ≢ 0 → SameSite handle.old handle.new × (unit.new ≡ unit.old) }
 {

@@ -1,6 +1,6 @@
 //! Sites (c/excp.h, "Sites").
 
-ghost use Rattle.std.specs.Prelude.{◌≡◌, ◌≢◌, ◌↔◌};
+ghost use Rattle.std.specs.Prelude.{◌≡◌, ◌≢◌, ◌↔◌, IsNone};
 ghost use Rattle.excp_c.specs.Calls.{SameSite, TestsSite};
 ghost use Rattle.excp_c.specs.Done.{MadeSite, NotMade};
 ghost use Rattle.excp_c.specs.declared.handle.TheConstants.{MARK};
@@ -43,8 +43,9 @@ pub extern "C" fn excp_call_site_new(
 #[unsafe(no_mangle)]
 pub extern "C" fn excp_call_site_free(alloc: Global, handle: &mut Handle) -> u32
     ensures site { TestsSite handle.old result }
-    ensures freed { result ≡ 0 → handle.new.mark ≡ 0 }
+    ensures freed { result ≡ 0 → (handle.new.mark ≡ 0) × IsNone handle.new.slot.value }
     ensures why { result ≢ 0 → result ≡ 3 }
+    ensures none { result ≡ 3 → (handle.new.mark ≡ handle.old.mark) × SameSite handle.old handle.new }
 {
     match take(alloc, handle) {
         Some(site) => {

@@ -1,6 +1,6 @@
 //! Bytes that are made and copied out (c/excp.h, "Histories and images").
 
-ghost use Rattle.std.specs.Prelude.{◌≡◌, ◌≢◌, ◌+◌, drop, length, take};
+ghost use Rattle.std.specs.Prelude.{◌≡◌, ◌≢◌, ◌<◌, ◌+◌, drop, length, take};
 ghost use Rattle.excp_c.specs.Calls.{KeepsSite, SameSite, TestsSite};
 ghost use Rattle.excp_site.specs.Imaging.{ImageRefused, MakesImage};
 ghost use Rattle.excp_site.specs.Refusals.{HistoryRefused, NoRoomFor};
@@ -14,7 +14,7 @@ use crate::status::{NO_SITE, OK, done, give};
 pub extern "C" fn excp_call_make_history(handle: &mut Handle, unit: u16, count: &mut usize) -> u32
     ensures site { TestsSite handle.old result }
     ensures keeps { KeepsSite handle.old handle.new }
-    ensures done { result ≡ 0 → Did handle.old handle.new (λ s t. (count.new ≡ length t.made) × (t ≡ record s { made = t.made })) }
+    ensures done { result ≡ 0 → Did handle.old handle.new (λ s t. (unit < length s.plain.units) × (count.new ≡ length t.made) × (t ≡ record s { made = t.made })) }
     ensures why { result ≢ 0 → result ≢ 3 → Refused handle.old handle.new result (λ s _. HistoryRefused s.plain unit) }
     ensures refused { result ≢ 0 → SameSite handle.old handle.new × (count.new ≡ count.old) }
 {

@@ -4,7 +4,7 @@ use Rattle.std.proofs.lemmas.Bool.{cases_Bool}
 use Rattle.medium_image.specs.declared.image.Kept.{Kept}
 use Rattle.request_piece.specs.declared.piece.Name.{Name}
 use Rattle.unit_world.specs.Parts.{next_name_from, next_name_of}
-use Rattle.std.specs.Prelude.{IfErr, OnErr, Some, None, List, [], ◌∷◌, slice_get}
+use Rattle.std.specs.Prelude.{IfErr, OnErr, OnOk, Some, None, List, [], ◌∷◌, slice_get}
 use Rattle.std.specs.Result.{IsErrAnd}
 use Rattle.std.specs.declared.result.Result.{Result}
 use Rattle.std.specs.declared.result.Result.TheVariants.{Ok, Err}
@@ -61,3 +61,8 @@ errs (Err e) P p = p
 pub same-lists : (s : SiteView) (earlier : List (List ℕ)) (held : List ℕ) (beside : List (Option Kept)) → earlier ≡ s.earlier →
     held ≡ s.held → beside ≡ s.beside → record s { earlier = earlier; held = held; beside = beside } ≡ s
 same-lists s earlier held beside e h b = rw (e, h, b) refl
+
+-- what a success says
+pub oks : {X E : Type 0} (r : Result X E) (P : Type 0) → P → OnOk r P
+oks (Ok x) P p = p
+oks (Err e) P p = tt

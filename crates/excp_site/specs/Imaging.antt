@@ -29,12 +29,17 @@ IsCkd bytes image = (left : Option (List ℕ)) × Loaded (Some bytes) left image
 pub record MountsCkd (old : SiteView) (bytes : List ℕ) (in_flight held unit : ℕ) (new : SiteView) : Type 0 where
   pub image : DiskImage
   pub loaded : IsCkd bytes image
+  pub alone : (has_no_records old ≡ true) × (has_no_items old ≡ true)
+  pub script : is_script old.medium.faults.items ≡ true
   pub adds : AddsUnit old (device.Disk (mounted_volume image.volume old.medium.faults.items)) (Some (kept.Disk image.kept)) in_flight held unit new
 
 -- A TAPE of this size FROM AN IMAGE
 pub record MountsAws (old : SiteView) (bytes : List ℕ) (size in_flight held unit : ℕ) (new : SiteView) : Type 0 where
   pub image : TapeImage
   pub loaded : read_image size bytes ≡ Ok image
+  pub size_is : is_recordable size ≡ true
+  pub alone : (has_no_records old ≡ true) × (has_no_items old ≡ true)
+  pub script : is_script old.medium.faults.items ≡ true
   pub adds : AddsUnit old (device.Tape (wound image.tape old.medium.faults.items)) (Some (kept.Tape image.layout)) in_flight held unit new
 
 -- the bytes break a rule of the format

@@ -35,6 +35,19 @@ has_no_records s = length s.medium.records.items == 0
 abbrev pub has_no_items : SiteView → Bool
 has_no_items s = length s.medium.items.items == 0
 
+-- WHAT A MOUNT TAKES: nothing of another device was put, the size is one, and what was put is such a medium
+abbrev pub CanMount : Bool → Bool → Bool → Type 0
+CanMount is_alone is_size is_medium = (is_alone ≡ true) × (is_size ≡ true) × (is_medium ≡ true)
+
+abbrev pub DiskTaken : SiteView → Geometry → Type 0
+DiskTaken s g = CanMount (has_no_items s) (is_geometry g) (is_disk_medium g s.medium.records.items s.medium.faults.items)
+
+abbrev pub TapeTaken : SiteView → ℕ → Type 0
+TapeTaken s bytes = CanMount (has_no_records s) (is_size bytes) (is_tape_medium bytes s.medium.items.items s.medium.faults.items)
+
+abbrev pub PrinterTaken : SiteView → ℕ → ℕ → Type 0
+PrinterTaken s lines pages = CanMount (has_no_records s && has_no_items s) (is_paper lines pages) (is_script s.medium.faults.items)
+
 abbrev pub DiskRefused : SiteView → Geometry → ℕ → ℕ → Refusal → Type 0
 DiskRefused s g in_flight held e =
     MountRefused s (has_no_items s) (is_geometry g) (is_disk_medium g s.medium.records.items s.medium.faults.items) in_flight held e

@@ -82,7 +82,7 @@ TaskPurgeRefused s unit task _ = ⊥
 -- A POST THAT IS NOT GIVEN: there is no such task, or none was delivered to it
 abbrev pub PostRefused : SiteState AnyDevice → ℕ → Refusal → Type 0
 PostRefused s task NoTask = length s.rows ≤ task
-PostRefused s task NoPost = list_of s.rows task ≡ []
+PostRefused s task NoPost = (task < length s.rows) × (list_of s.rows task ≡ [])
 PostRefused s task _ = ⊥
 
 -- AN OPEN: or it is refused as the book of the unit says

@@ -66,6 +66,8 @@ EndsServe s unit left ended.Commands = left ≡ 0
 
 -- A UNIT IS SERVED, for at most `max` commands
 pub record IsServedFor (old : SiteState AnyDevice) (unit max : ℕ) (served : Served) (new : SiteState AnyDevice) : Type 0 where
+  pub there : unit < length old.units
+  pub some : 1 ≤ max
   pub serves : Serves old unit served.posts served.commands new
   pub most : served.commands ≤ max
   pub ends : EndsServe new unit (max - served.commands) served.ended

@@ -1,6 +1,6 @@
 //! Extents, read from bytes.
 
-ghost use Rattle.std.specs.Prelude.{◌≡◌, ◌≢◌, ◌%◌, IfErr, IfOk, length};
+ghost use Rattle.std.specs.Prelude.{◌≡◌, ◌≢◌, ◌%◌, IfErr, IfOk, OnOk, length};
 ghost use Rattle.excp_site.specs.Extents.{extents_in};
 ghost use Rattle.excp_site.specs.Refusals.{ExtentsRefused};
 
@@ -16,6 +16,7 @@ const EXTENT: usize = 16;
 /// Errors: `BadExtent` if the number of bytes is no multiple of 16; `NoMemory`.
 pub fn extents(alloc: Global, bytes: &[u8]) -> Result<Vec<Extent>, Refusal>
     ensures ok { IfOk result (λ v. v.items ≡ extents_in bytes.now) }
+    ensures whole { OnOk result (length bytes.now % 16 ≡ 0) }
     ensures refused { IfErr result (ExtentsRefused bytes.now) }
 {
     if bytes.len() % EXTENT != 0 {

@@ -1,6 +1,6 @@
 //! The events of a unit: each is a step of its world.
 
-ghost use Rattle.std.specs.Prelude.{◌≡◌, ◌<◌, length, IfErr, IfOk, OnErr, OnOk};
+ghost use Rattle.std.specs.Prelude.{◌≡◌, ◌<◌, ◌≤◌, length, IfErr, IfOk, OnErr, OnOk};
 ghost use Rattle.any_device.specs.Devices.{any_device};
 ghost use Rattle.excp_site.specs.Refusals.{RunRefused, UnitRefused};
 ghost use Rattle.excp_site.specs.Sites.{IssuesRequest, IssueCallRefused};
@@ -83,6 +83,7 @@ impl Site {
     /// Errors, in this order: `NoUnit`; `BadNumber` if `max` is 0; `NoMemory`.
     pub fn run(&mut self, unit: u16, max: u32) -> Result<Running, Refusal>
         ensures ok { IfOk result (λ answer. OnBook self.old.plain unit (λ b c. RunsBook any_device b max answer c) self.new.plain) }
+        ensures some { OnOk result (1 ≤ max) }
         ensures refused { IfErr result (RunRefused self.old.plain unit max) }
         ensures rest { self.new ≡ record self.old { plain = self.new.plain } }
         ensures err { OnErr result (self.new ≡ self.old) }

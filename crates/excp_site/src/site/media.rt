@@ -8,7 +8,7 @@ ghost use Rattle.tape_unit.specs.Mount.{opening as opening_tape};
 ghost use Rattle.tape_unit.specs.Item.{block, tape_mark};
 ghost use Rattle.line_printer.specs.Mount.{opening as opening_printer};
 ghost use Rattle.excp_site.specs.Media.{IsEmpty, PutsItem, PutsRecord};
-ghost use Rattle.excp_site.specs.Mounting.{AddRefused, DiskRefused, PrinterRefused, TapeRefused};
+ghost use Rattle.excp_site.specs.Mounting.{AddRefused, DiskRefused, DiskTaken, PrinterRefused, PrinterTaken, TapeRefused, TapeTaken};
 ghost use Rattle.excp_site.specs.Sites.{AddsUnit, is_room};
 ghost use Rattle.excp_site.specs.declared.refusal.Refusal.TheVariants as Refusal;
 
@@ -119,6 +119,7 @@ impl Site {
     pub fn mount_disk(&mut self, geometry: Geometry, room: Room) -> Result<u16, Refusal>
         ensures ok { IfOk result (λ unit. AddsUnit self.old (AnyDevice.Disk (opening_disk geometry self.old.medium.records.items self.old.medium.faults.items)) None room.in_flight room.held unit self.new) }
         ensures used { OnOk result (IsEmpty self.new.medium) }
+        ensures taken { OnOk result (DiskTaken self.old geometry) }
         ensures refused { IfErr result (DiskRefused self.old geometry room.in_flight room.held) }
         ensures err { OnErr result (self.new ≡ self.old) }
     {
@@ -138,6 +139,7 @@ impl Site {
     pub fn mount_tape(&mut self, bytes: u64, room: Room) -> Result<u16, Refusal>
         ensures ok { IfOk result (λ unit. AddsUnit self.old (AnyDevice.Tape (opening_tape bytes self.old.medium.items.items self.old.medium.faults.items)) None room.in_flight room.held unit self.new) }
         ensures used { OnOk result (IsEmpty self.new.medium) }
+        ensures taken { OnOk result (TapeTaken self.old bytes) }
         ensures refused { IfErr result (TapeRefused self.old bytes room.in_flight room.held) }
         ensures err { OnErr result (self.new ≡ self.old) }
     {
@@ -158,6 +160,7 @@ impl Site {
     pub fn mount_printer(&mut self, lines: u64, pages: u64, room: Room) -> Result<u16, Refusal>
         ensures ok { IfOk result (λ unit. AddsUnit self.old (AnyDevice.Printer (opening_printer lines pages self.old.medium.faults.items)) None room.in_flight room.held unit self.new) }
         ensures used { OnOk result (IsEmpty self.new.medium) }
+        ensures taken { OnOk result (PrinterTaken self.old lines pages) }
         ensures refused { IfErr result (PrinterRefused self.old lines pages room.in_flight room.held) }
         ensures err { OnErr result (self.new ≡ self.old) }
     {

@@ -20,6 +20,7 @@ impl Site {
     /// Errors: `NoUnit`, `NoMemory`. What was made before stays then.
     pub fn make_history(&mut self, unit: u16) -> Result<usize, Refusal>
         ensures len { IfOk result (λ len. len ≡ length self.new.made) }
+        ensures unit { OnOk result (unit < length self.old.plain.units) }
         ensures refused { IfErr result (HistoryRefused self.old.plain unit) }
         ensures rest { self.new ≡ record self.old { made = self.new.made } }
         ensures err { OnErr result (self.new ≡ self.old) }

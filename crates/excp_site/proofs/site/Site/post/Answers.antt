@@ -6,6 +6,8 @@ use Rattle.excp_site.proofs.Refused.{no-first}
 use Rattle.excp_site.proofs.site.Site.post.Goals as goal
 
 pub returns-in-None-clause-refused : goal.returns-in-None-clause-refused
-returns-in-None-clause-refused c =
-    subst (λ (s : SiteView). list_of s.plain.rows c.args.task ≡ []) c.self.view_is
-    (no-first (list_of c.self.inside.plain.rows c.args.task) (sym c.post.ensures ∙ ap option_copied c.in-None.is))
+returns-in-None-clause-refused c = (
+  c.in_ok-has_task.ensures.there,
+  subst (λ (s : SiteView). list_of s.plain.rows c.args.task ≡ []) c.self.view_is
+      (no-first (list_of c.self.inside.plain.rows c.args.task) (sym c.post.ensures ∙ ap option_copied c.in-None.is)),
+)

@@ -46,6 +46,8 @@ returns-in-Some-clause-ok c =
     let did = subst (λ (p : SiteState AnyDevice). Serves p unit (posts_sent turn.delivery) turn.commands new) plain_is c.in_ok-turn.ensures.serves in
     let left_is : left ≡ max - (max - left) = omega (arith, i.most) in
     record {
+      there = c.in_ok-has_unit.ensures.there;
+      some = omega (arith, i.some, i.most);
       serves = turned s c.loop.self.plain new unit max c.loop.left c.loop.posts c.posts_sent-posts.result turn.commands turn.delivery i.most
           c.in_ok-turn.ensures.most c.posts_sent-posts.ensures.value i.serves did;
       most = omega arith;
