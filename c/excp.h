@@ -100,21 +100,25 @@ excp_status excp_put_fault(excp_site *site, uint64_t command, uint8_t unit_statu
 /* Forgets what was put. */
 excp_status excp_clear_medium(excp_site *site);
 
-/* How many requests may be in flight to a unit, and how many its book holds at a time: each 1 to 65,536. */
+/* How many requests may be in flight to a unit, and how many it holds at a time, which wait, are active, or are posted and not
+ * delivered. Each is 1 to 65,536. */
 typedef struct excp_room {
     uint32_t in_flight;
     uint32_t held;
 } excp_room;
 
-/* Adds a unit, whose number counts from 0: a disk of `cylinders` times `heads` tracks of `track_bytes` bytes, a tape of `bytes`
- * bytes, or a printer for `lines` lines on paper of `pages` pages. */
+/* Adds a unit, whose number counts from 0. EXCP_BAD_GEOMETRY: a size is outside its range.
+ * A disk has `cylinders` times `heads` tracks, 1 to 65,535, of `track_bytes` bytes, 16 to 65,535, and at most 16,777,216 bytes.
+ * A tape has `bytes` bytes, 4 to 16,777,216: a block takes 4 beside its data, and a tape mark takes 4.
+ * A printer has room for `lines` lines, 1 to 100,000, on paper of `pages` pages, 1 to 10,000. */
 excp_status excp_mount_disk(excp_site *site, uint64_t cylinders, uint64_t heads, uint64_t track_bytes, const excp_room *room,
                             uint16_t *unit);
 excp_status excp_mount_tape(excp_site *site, uint64_t bytes, const excp_room *room, uint16_t *unit);
 excp_status excp_mount_printer(excp_site *site, uint64_t lines, uint64_t pages, const excp_room *room, uint16_t *unit);
 
 /* Adds a unit from an image, with the faults that were put: a disk from a CKD_P370 image, or a tape of `bytes` bytes from an AWSTAPE
- * image (docs/FORMATS.md). With EXCP_BAD_IMAGE, the rule that the image breaks, in words, is what excp_copy_out copies. */
+ * image (docs/FORMATS.md). The tape has at most 4,294,967,296 bytes (EXCP_BAD_GEOMETRY); EXCP_BAD_IMAGE: they are too few for the
+ * image. With EXCP_BAD_IMAGE, the rule that the image breaks, in words, is what excp_copy_out copies. */
 excp_status excp_mount_ckd(excp_site *site, const uint8_t *image, size_t length, const excp_room *room, uint16_t *unit);
 excp_status excp_mount_aws(excp_site *site, const uint8_t *image, size_t length, uint64_t bytes, const excp_room *room, uint16_t *unit);
 
@@ -165,7 +169,7 @@ excp_status excp_issue(excp_site *site, uint16_t task, uint16_t unit, uint16_t d
 excp_status excp_take(excp_site *site, uint16_t unit, excp_answer *answer);
 /* The unit starts what comes next. */
 excp_status excp_start(excp_site *site, uint16_t unit, excp_answer *answer);
-/* The active channel program runs for at most `max_commands` commands, at least 1. */
+/* The active channel program runs for at most `max_commands` commands, at least 1. A transfer in channel is no command. */
 excp_status excp_run(excp_site *site, uint16_t unit, uint32_t max_commands, excp_answer *answer);
 /* The unit takes the pending status. */
 excp_status excp_interrupt(excp_site *site, uint16_t unit, excp_answer *answer);
@@ -190,7 +194,7 @@ excp_status excp_settle(excp_site *site, uint16_t unit);
 
 /* ---- Posts ----------------------------------------------------------------------------------------------------------- */
 
-/* How a request ended. */
+/* How a request ended. Its storage comes back with the ECB and the IOB posted. */
 typedef struct excp_post {
     uint64_t number;
     uint32_t address;       /* of the CSW: the last CCW used, plus 8 */
@@ -217,8 +221,10 @@ excp_status excp_next_post(excp_site *site, uint16_t task, excp_post *post, uint
 
 enum { EXCP_QUIESCE = 0, EXCP_HALT = 1 };
 
-/* Purges the requests of a DCB, or those of a task at one unit: what waits is posted 48; what is active goes on to its end
- * (EXCP_QUIESCE) or is halted (EXCP_HALT). */
+/* Purges the requests of a DCB, or those of a task at one unit, which the unit took. What waits is posted 48. What is active goes on
+ * to its end (EXCP_QUIESCE) or is halted (EXCP_HALT). A halt ends a program that runs, and excp_interrupt posts the request. If its
+ * status is pending, the halt changes only what would be a retry: it is posted 48 then. If it awaits its restart, the halt posts it,
+ * and the answer is EXCP_QUIET. */
 excp_status excp_purge(excp_site *site, uint16_t unit, uint16_t dcb, uint8_t mode, excp_answer *answer);
 excp_status excp_purge_task(excp_site *site, uint16_t unit, uint16_t task, uint8_t mode, excp_answer *answer);
 /* Closes a DCB. */
@@ -286,8 +292,8 @@ excp_status excp_printed_line(excp_site *site, uint16_t unit, uint32_t place, ex
 /* Histories and images. A site keeps the bytes that were made last: each of these calls makes them anew, and says how many there are.
  * excp_copy_out copies `length` of them, from the place `from` on (EXCP_NO_ROOM: there are not so many). */
 
-/* What happened at a unit since it was mounted, or since its last checkpoint, as text: a line for each entry. Requests have the
- * numbers that they have there, from 1 on. */
+/* What happened at a unit since it was mounted, or since its last checkpoint, as text: a line for each entry, and no NUL. Requests
+ * have the numbers that they have there, from 1 on. */
 excp_status excp_make_history(excp_site *site, uint16_t unit, size_t *length);
 
 /* The medium of a unit as an image: a disk as CKD_P370, a tape as AWSTAPE, the paper of a printer as text in UTF-8
