@@ -1,6 +1,6 @@
 -- DCBs in error.
-use Rattle.std.proofs.Common.{◌≡◌, ◌∙◌, ◌==◌, ◌&&◌, not, ℕ, Bool, true, false, List, ◌∷◌, ap, inl, inr, refl, subst, sym}
-use Rattle.std.proofs.lemmas.Bool.{cases_Bool, eqb-true}
+use Rattle.std.proofs.Common.{◌≡◌, ◌∙◌, ◌==◌, not, ℕ, true, List, ◌∷◌, ap, inl, inr, refl, subst, sym}
+use Rattle.std.proofs.lemmas.Bool.{and_parts, cases_Bool, eqb-true}
 use Rattle.io_images.specs.declared.extent.Extent.{Extent}
 use Rattle.any_device.specs.declared.device.AnyDevice.{AnyDevice}
 use Rattle.unit_book.specs.Book.{Book}
@@ -28,13 +28,9 @@ one-more b e H one others dcb is = elim (cases_Bool (opens dcb e)) [
   | inr n ↦ let g : is_opened dcb H ≡ true = rw n at is in others dcb g
 ]
 
-first : (a b : Bool) → (a && b) ≡ true → a ≡ true
-first true b e = refl
-first false b e = absurd cc
-
 pub none-flagged : (b : Book AnyDevice) → AllUnflagged b b.trace → IsFlagged b → ⊥
 none-flagged b all is =
-    all is.dcb (first (is_opened is.dcb b.trace) (not (is_closed is.dcb b.trace)) (state-open is.dcb b.trace is.open_is)) is.open_is is.flagged
+    all is.dcb (and_parts (is_opened is.dcb b.trace) (not (is_closed is.dcb b.trace)) (state-open is.dcb b.trace is.open_is)).0 is.open_is is.flagged
 
 -- a DCB that an entry opens
 pub opened-is : (b : Book AnyDevice) (e : Entry) (n : ℕ) (method : ProcessingMethod) (extents : List Extent) → e ≡ Opened n method extents

@@ -4,4 +4,5 @@ pub mod Ranges
 pub mod Controls
 pub mod Resting
 pub mod Flagged
+pub mod Standing
 pub mod Serving

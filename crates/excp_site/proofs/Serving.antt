@@ -1,5 +1,5 @@
 -- Serving a unit, turn after turn.
-use Rattle.std.proofs.Common.{◌≡◌, ◌+◌, ◌-◌, ◌≤◌, ℕ, arith, min, subst, sym}
+use Rattle.std.proofs.Common.{◌≡◌, ◌+◌, ◌-◌, ◌≤◌, ℕ, arith, subst, sym}
 use Rattle.any_device.specs.Devices.{any_device}
 use Rattle.any_device.specs.declared.device.AnyDevice.{AnyDevice}
 use Rattle.unit_book.specs.Answers.{RunsBook}

@@ -10,9 +10,8 @@ use Rattle.tape_unit.specs.Recording.{is_recordable}
 use Rattle.aws_tape.specs.Reading.{IsOfImage, read_image}
 use Rattle.aws_tape.specs.declared.fault.AwsError.{AwsError}
 use Rattle.aws_tape.specs.declared.image.Image.{Image as TapeImage}
-use Rattle.any_device.specs.declared.device.AnyDevice.{AnyDevice}
 use Rattle.any_device.specs.declared.device.AnyDevice.TheVariants as device
-use Rattle.medium_image.specs.Saving.{IsNoModel, LoadsAgain, SavesMedium}
+use Rattle.medium_image.specs.Saving.{IsNoModel, IsSameImage, KeepsItems, LoadsAgain, SavesMedium}
 use Rattle.medium_image.specs.declared.image.Kept.TheVariants as kept
 use Rattle.unit_world.specs.Sites.{OnPart}
 use Rattle.excp_site.specs.Looks.{device_now}
@@ -64,30 +63,36 @@ LeavesMade old new _ = new ≡ old
 abbrev pub CanLoad : SiteView → ℕ → ℕ → Type 0
 CanLoad s in_flight held = CanAdd s in_flight held × (has_no_records s ≡ true) × (has_no_items s ≡ true)
 
--- what was put is none for an image: a record, an item, or faults that no device meets
-abbrev pub PutsTooMuch : SiteView → ℕ → ℕ → Type 0
-PutsTooMuch s in_flight held =
-    CanAdd s in_flight held × ((has_no_records s ≡ false) ⊎ ((has_no_items s ≡ false) ⊎ (is_script s.medium.faults.items ≡ false)))
+-- what was put is none for an image: a record, an item, or faults that no device meets; the image is tested before these
+abbrev pub PutsTooMuch : SiteView → ℕ → ℕ → Type 0 → Type 0
+PutsTooMuch s in_flight held IsImage =
+    (CanAdd s in_flight held × ((has_no_records s ≡ false) ⊎ (has_no_items s ≡ false)))
+    ⊎ (CanLoad s in_flight held × IsImage × (is_script s.medium.faults.items ≡ false))
 
 -- WHY NO UNIT IS ADDED
 abbrev pub CkdRefused : SiteView → List ℕ → ℕ → ℕ → Refusal → Type 0
-CkdRefused s bytes in_flight held BadMedium = PutsTooMuch s in_flight held
+CkdRefused s bytes in_flight held BadMedium = PutsTooMuch s in_flight held ((image : DiskImage) × IsCkd bytes image)
 CkdRefused s bytes in_flight held BadImage = CanLoad s in_flight held × BreaksCkd bytes
 CkdRefused s bytes in_flight held NoMemory = CanLoad s in_flight held
 CkdRefused s bytes in_flight held e = AddRefused s in_flight held e
 
 abbrev pub AwsRefused : SiteView → List ℕ → ℕ → ℕ → ℕ → Refusal → Type 0
-AwsRefused s bytes size in_flight held BadMedium = PutsTooMuch s in_flight held
+AwsRefused s bytes size in_flight held BadMedium =
+    PutsTooMuch s in_flight held ((is_recordable size ≡ true) × ((image : TapeImage) × (read_image size bytes ≡ Ok image)))
 AwsRefused s bytes size in_flight held BadGeometry = CanLoad s in_flight held × (is_recordable size ≡ false)
 AwsRefused s bytes size in_flight held BadImage = CanLoad s in_flight held × (is_recordable size ≡ true) × BreaksAws size bytes
 AwsRefused s bytes size in_flight held NoMemory = CanLoad s in_flight held × (is_recordable size ≡ true)
 AwsRefused s bytes size in_flight held e = AddRefused s in_flight held e
 
--- THE MEDIUM OF A UNIT IS MADE as an image, or the paper of a printer as text; what was made of a tape loads again
+-- THE MEDIUM OF A UNIT IS MADE as an image, or the paper of a printer as text; what was made of a tape loads again, and one that was
+-- not written is as the image that it came from
 pub record MakesImage (old : SiteView) (unit : ℕ) (new : SiteView) : Type 0 where
   pub there : unit < length old.plain.units
   pub saved : OnPart old.plain unit (λ p. SavesMedium (Some []) (Some new.made) (beside_of old unit) p.book.mounted (device_now p.book))
   pub read_back : OnPart old.plain unit (λ p. LoadsAgain (beside_of old unit) p.book.mounted (device_now p.book))
+  pub same : OnPart old.plain unit (λ p. (image : List ℕ) →
+      IsSameImage (beside_of old unit) p.book.mounted (device_now p.book) image → new.made ≡ image)
+  pub untouched : OnPart old.plain unit (λ p. KeepsItems (beside_of old unit) p.book.mounted (device_now p.book))
   pub rest : new ≡ record old { made = new.made }
 
 -- WHY IT IS NOT: no model of a disk is as this one, which came from no image

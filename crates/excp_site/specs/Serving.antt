@@ -1,18 +1,23 @@
 -- WHAT SERVING A UNIT LEAVES (profile).
-use Rattle.std.specs.Prelude.{◌≡◌, ◌≤◌, ◌<◌, ◌+◌, ◌-◌, ℕ, [], length}
+use Rattle.std.specs.Prelude.{◌≡◌, ◌≢◌, ◌≤◌, ◌<◌, ◌⊎◌, ◌+◌, ◌-◌, ℕ, [], length}
 use Rattle.any_device.specs.Devices.{any_device}
 use Rattle.any_device.specs.declared.device.AnyDevice.{AnyDevice}
 use Rattle.request_piece.specs.declared.piece.Name.{Name}
 use Rattle.unit_book.specs.Answers.{InterruptsBook, RunsBook, StartsBook}
+use Rattle.unit_book.specs.Book.{occupancy}
 use Rattle.unit_book.specs.Refusals.{SettleLacks}
+use Rattle.unit_book.specs.Settle.{IsIdle}
 use Rattle.unit_book.specs.declared.answer.Delivery.{Delivery}
 use Rattle.unit_book.specs.declared.answer.Delivery.TheVariants as delivery
 use Rattle.unit_book.specs.declared.answer.Intake.{Intake}
+use Rattle.unit_book.specs.declared.answer.Intake.TheVariants as intake
 use Rattle.unit_book.specs.declared.answer.Interruption.{Interruption}
+use Rattle.unit_book.specs.declared.answer.Interruption.TheVariants as interruption
 use Rattle.unit_book.specs.declared.answer.Running.{Running}
 use Rattle.unit_book.specs.declared.answer.Running.TheVariants as running
 use Rattle.unit_book.specs.declared.answer.Starting.{Starting}
-use Rattle.unit_world.specs.Parts.{IsFinishedPart, PartTakes}
+use Rattle.unit_book.specs.declared.answer.Starting.TheVariants as starting
+use Rattle.unit_world.specs.Parts.{UnitPart, IsFinishedPart, PartTakes}
 use Rattle.unit_world.specs.PostLists.{list_of}
 use Rattle.unit_world.specs.Sites.{SiteState, DeliversAs, IsFirstOut, OnBook, OnPart, OnUnit, SettlesBook}
 use Rattle.excp_site.specs.Sites.{HasPart}
@@ -27,6 +32,11 @@ pub record IsHeldUp (s : SiteState AnyDevice) (unit : ℕ) : Type 0 where
   pub name : Name
   pub out : IsFirstOut s unit name
   pub full : s.post_room ≤ length (list_of s.rows name.task)
+
+-- A UNIT STANDS STILL: nothing waits or is active, and what is in flight finds no room
+pub record IsStill (p : UnitPart AnyDevice) : Type 0 where
+  pub idle : IsIdle p.book.trace
+  pub flight : (p.flight ≡ []) ⊎ (p.book.capacity ≤ occupancy p.book)
 
 -- NOTHING IS LEFT TO DO at a unit: nothing is in flight, waits, is active or is out
 pub record IsServed (s : SiteState AnyDevice) (unit : ℕ) : Type 0 where
@@ -58,10 +68,10 @@ pub data Serves (old : SiteState AnyDevice) (unit : ℕ) : ℕ → ℕ → SiteS
   Delivers : {posts commands : ℕ} {mid new : SiteState AnyDevice} → Serves old unit posts commands mid →
       (answer : Delivery) → DeliversAs mid unit answer new → Serves old unit (posts + posts_sent answer) commands new
 
--- WHY IT ENDS: nothing is left, a row is full, or as many commands were done as may be
+-- WHY IT ENDS: nothing is left, nothing can be done but for a row that is full, or as many commands were done as may be
 abbrev pub EndsServe : SiteState AnyDevice → ℕ → ℕ → ServedEnd → Type 0
 EndsServe s unit left ended.All = IsServed s unit
-EndsServe s unit left ended.RowFull = IsHeldUp s unit
+EndsServe s unit left ended.RowFull = IsHeldUp s unit × OnPart s unit IsStill
 EndsServe s unit left ended.Commands = left ≡ 0
 
 -- A UNIT IS SERVED, for at most `max` commands
@@ -100,3 +110,11 @@ abbrev pub OnDelivery : SiteState AnyDevice → ℕ → Delivery → Type 0
 OnDelivery s unit delivery.Quiet = OnPart s unit (λ p. p.book.out ≡ [])
 OnDelivery s unit (delivery.Delivered name) = Unit {0}
 OnDelivery s unit (delivery.Full name) = IsHeldUp s unit
+
+-- these events changed nothing
+pub record IsQuiet (taken : Intake) (started : Starting) (ran : Running) (interrupted : Interruption) (delivered : Delivery) : Type 0 where
+  pub takes_none : (name : Name) → taken ≢ intake.Took name
+  pub starts_none : (started ≡ starting.Busy) ⊎ (started ≡ starting.Idle)
+  pub runs_none : ran ≡ running.Quiet
+  pub interrupts_none : interrupted ≡ interruption.Quiet
+  pub delivers_none : (name : Name) → delivered ≢ delivery.Delivered name

@@ -1,9 +1,9 @@
 //! Serving a unit: all of its events, one after another.
 
-ghost use Rattle.std.specs.Prelude.{◌≡◌, ◌<◌, ◌≤◌, IfErr, IfNone, IfOk, IfSome, OnErr, OnOk, length};
+ghost use Rattle.std.specs.Prelude.{◌≡◌, false, ◌<◌, ◌≤◌, IfErr, IfNone, IfOk, IfSome, OnErr, OnOk, length};
 ghost use Rattle.unit_book.specs.Settle.{IsIdle};
 ghost use Rattle.unit_world.specs.Sites.{OnPart};
-ghost use Rattle.excp_site.specs.Serving.{EndsServe, HasSettled, IsServedFor, OnDelivery, ServeRefused, Serves, SettleRefused, StopsServing, commands_done, posts_sent};
+ghost use Rattle.excp_site.specs.Serving.{EndsServe, HasSettled, IsQuiet, IsServedFor, IsStill, OnDelivery, ServeRefused, Serves, SettleRefused, StopsServing, commands_done, posts_sent};
 
 use crate::refusal::Refusal;
 use crate::served::{Served, ServedEnd};
@@ -16,7 +16,7 @@ use unit_world::PlainSite;
 /// What one turn of a unit did.
 #[derive(Clone, Copy)]
 struct Turn {
-    /// Whether a step before the delivery changed the unit.
+    /// Whether an event changed the unit.
     has_moved: bool,
     /// How many commands were done.
     commands: u32,
@@ -59,6 +59,7 @@ impl Site {
     fn ended(&self, unit: u16, turn: Turn, left: u32) -> Option<ServedEnd>
         requires unit { unit < length self.now.plain.units }
         requires delivery { OnDelivery self.now.plain unit turn.delivery }
+        requires still { turn.has_moved ≡ false → OnPart self.now.plain unit IsStill }
         ensures why { IfSome result (EndsServe self.now.plain unit left) }
         ensures none { IfNone result (1 ≤ left) }
     {
@@ -97,6 +98,7 @@ fn take_turn(plain: &mut PlainSite<AnyDevice>, unit: u16, max: u32) -> Result<Tu
     ensures serves { IfOk result (λ turn. Serves plain.old unit (posts_sent turn.delivery) turn.commands plain.new) }
     ensures most { IfOk result (λ turn. turn.commands ≤ max) }
     ensures delivery { IfOk result (λ turn. OnDelivery plain.new unit turn.delivery) }
+    ensures still { IfOk result (λ turn. turn.has_moved ≡ false → OnPart plain.new unit IsStill) }
     ensures units { length plain.new.units ≡ length plain.old.units }
     ensures stops { OnErr result (StopsServing plain.old unit max plain.new) }
 {
@@ -104,15 +106,29 @@ fn take_turn(plain: &mut PlainSite<AnyDevice>, unit: u16, max: u32) -> Result<Tu
     let started = plain.start(unit)?;
     let running = plain.run(unit, max)?;
     let interruption = plain.interrupt(unit)?;
-    let has_started = matches!(started, Starting::Started(_) | Starting::Violated(_));
+    let delivery = plain.deliver(unit);
     Ok(Turn {
-        has_moved: matches!(taken, Intake::Took(_))
-            || has_started
-            || running != Running::Quiet
-            || interruption != Interruption::Quiet,
+        has_moved: has_moved(taken, started, running, interruption, delivery),
         commands: commands_done(running),
-        delivery: plain.deliver(unit),
+        delivery,
     })
+}
+
+/// Whether one of these events changed the unit.
+fn has_moved(
+    taken: Intake,
+    started: Starting,
+    running: Running,
+    interruption: Interruption,
+    delivery: Delivery,
+) -> bool
+    ensures { result ≡ false → IsQuiet taken started running interruption delivery }
+{
+    matches!(taken, Intake::Took(_))
+        || matches!(started, Starting::Started(_) | Starting::Violated(_))
+        || !matches!(running, Running::Quiet)
+        || !matches!(interruption, Interruption::Quiet)
+        || matches!(delivery, Delivery::Delivered(_))
 }
 
 /// How many commands a run did.

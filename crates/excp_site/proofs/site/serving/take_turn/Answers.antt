@@ -1,7 +1,8 @@
-use Rattle.std.proofs.Common.{◌+◌, ◌≤◌, ℕ, arith, sym}
-use Rattle.excp_site.specs.Serving.{Serves, Begins, Takes, Starts, Runs, Interrupts, Delivers, StopsServing, commands_done, posts_sent}
+use Rattle.std.proofs.Common.{◌+◌, ◌≤◌, arith}
+use Rattle.excp_site.specs.Serving.{Begins, Takes, Starts, Runs, Interrupts, Delivers, StopsServing, commands_done, posts_sent}
 use Rattle.excp_site.proofs.Refused.{errs}
 use Rattle.excp_site.proofs.Serving.{counted, few-commands, stops}
+use Rattle.excp_site.proofs.Standing.{stands}
 use Rattle.excp_site.proofs.site.serving.take_turn.Goals as goal
 
 pub returns-in_err-taken-clause-stops : goal.returns-in_err-taken-clause-stops
@@ -49,10 +50,17 @@ returns-clause-serves c =
     let started = Starts (Takes Begins c.in_ok-taken.taken c.in_ok-taken.ensures.ok) c.in_ok-started.started c.in_ok-started.ensures.ok in
     let ran = Runs started c.args.max c.requires.some running c.in_ok-running.ensures.ok in
     let interrupted = Interrupts ran c.in_ok-interruption.interruption c.in_ok-interruption.ensures.ok in
-    let delivered = Delivers interrupted c.deliver.result c.deliver.ensures.answer in
-    counted c.args.plain.now c.args.unit (0 + posts_sent c.deliver.result) (0 + commands_done running) (posts_sent c.deliver.result)
-    c.commands_done.result c.deliver.new.self (omega arith) (omega (arith, c.commands_done.ensures)) delivered
+    let delivered = Delivers interrupted c.deliver-delivery.result c.deliver-delivery.ensures.answer in
+    counted c.args.plain.now c.args.unit (0 + posts_sent c.deliver-delivery.result) (0 + commands_done running) (posts_sent c.deliver-delivery.result)
+    c.commands_done.result c.deliver-delivery.new.self (omega arith) (omega (arith, c.commands_done.ensures)) delivered
 
 pub returns-clause-most : goal.returns-clause-most
 returns-clause-most c =
     omega (arith, c.commands_done.ensures, few-commands c.start.new.self c.args.unit c.args.max c.in_ok-running.running c.run.new.self c.in_ok-running.ensures.ok)
+
+pub returns-clause-still : goal.returns-clause-still
+returns-clause-still c = λ quiet.
+    stands c.args.plain.now c.take.new.self c.start.new.self c.run.new.self c.interrupt.new.self c.deliver-delivery.new.self c.args.unit c.args.max
+    c.in_ok-taken.taken c.in_ok-started.started c.in_ok-running.running c.in_ok-interruption.interruption c.deliver-delivery.result
+    (c.has_moved.ensures quiet) c.in_ok-taken.ensures.ok c.in_ok-started.ensures.ok c.in_ok-running.ensures.ok c.in_ok-interruption.ensures.ok
+    c.deliver-delivery.ensures.answer
