@@ -238,7 +238,8 @@ def run_cases(group, cases, jobs):
     chains = {}
     for number, case in enumerate(cases):
         chains.setdefault(case.chain or number, []).append(number)
-    chains = list(chains.values())
+    # the longest chain first, so that none is left at the end
+    chains = sorted(chains.values(), key=len, reverse=True)
     if jobs > 1 and len(chains) > 1:
         pool = concurrent.futures.ProcessPoolExecutor(jobs, mp_context=multiprocessing.get_context("fork"))
         with pool:
