@@ -1,6 +1,6 @@
 //! Serving a unit: all of its events, one after another.
 
-ghost use Rattle.std.specs.Prelude.{◌≡◌, false, ◌<◌, ◌≤◌, IfErr, IfNone, IfOk, IfSome, OnErr, OnOk, length};
+ghost use Rattle.std.specs.Prelude.{◌≡◌, ◌↔◌, false, ◌<◌, ◌≤◌, IfErr, IfNone, IfOk, IfSome, OnErr, OnOk, length};
 ghost use Rattle.unit_book.specs.Settle.{IsIdle};
 ghost use Rattle.unit_world.specs.Sites.{OnPart};
 ghost use Rattle.excp_site.specs.Serving.{EndsServe, HasSettled, IsQuiet, IsServedFor, IsStill, OnDelivery, ServeRefused, Serves, SettleRefused, StopsServing, commands_done, posts_sent};
@@ -122,7 +122,7 @@ fn has_moved(
     interruption: Interruption,
     delivery: Delivery,
 ) -> bool
-    ensures { result ≡ false → IsQuiet taken started running interruption delivery }
+    ensures { result ≡ false ↔ IsQuiet taken started running interruption delivery }
 {
     matches!(taken, Intake::Took(_))
         || matches!(started, Starting::Started(_) | Starting::Violated(_))

@@ -62,5 +62,5 @@ pub returns-clause-still : goal.returns-clause-still
 returns-clause-still c = λ quiet.
     stands c.args.plain.now c.take.new.self c.start.new.self c.run.new.self c.interrupt.new.self c.deliver-delivery.new.self c.args.unit c.args.max
     c.in_ok-taken.taken c.in_ok-started.started c.in_ok-running.running c.in_ok-interruption.interruption c.deliver-delivery.result
-    (c.has_moved.ensures quiet) c.in_ok-taken.ensures.ok c.in_ok-started.ensures.ok c.in_ok-running.ensures.ok c.in_ok-interruption.ensures.ok
+    (c.has_moved.ensures.0 quiet) c.in_ok-taken.ensures.ok c.in_ok-started.ensures.ok c.in_ok-running.ensures.ok c.in_ok-interruption.ensures.ok
     c.deliver-delivery.ensures.answer
