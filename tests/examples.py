@@ -103,6 +103,8 @@ RUN = {
         NOTHING,
         {"first.script": "samples/read.script", "rest.script": "samples/read.script"},
     ),
+    ("docs/MANUAL.md", "./excp report --json first.script"): (ANYTHING, {"first.script": "samples/read.script"}),
+    ("docs/REPORT.md", "./excp report --json first.script"): (ANYTHING, {"first.script": "samples/read.script"}),
     ("docs/ASSEMBLER.md", "./excp assemble job | ./excp -"): (NEXT, {"job": "tasks 1"}),
     ("docs/ASSEMBLER.md", "./excp assemble job > job.script"): (NOTHING, {"job": "tasks 1"}),
 }

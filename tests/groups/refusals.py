@@ -274,6 +274,10 @@ def programs(setup):
     yield f"{name}: threads", it
     programs_end = f"{SAMPLES}/how-programs-end"
     yield plan("report", prints_a_part, f"{programs_end}.script", f"{programs_end}.steps", "--steps")
+    # the group reports judges this text
+    whole = setup.run("report", "--json", file=f"{programs_end}.script").out
+    words = [setup.program, "report", "--json"]
+    yield "report samples/how-programs-end.script --json", Plan(words, prints_a_part, f"{programs_end}.script", whole)
     yield plan("check", prints_all_or_nothing, f"{SAMPLES}/read.script", "/dev/null")
     yield plan("assemble", prints_all_or_nothing, f"{SAMPLES}/read.symbolic", f"{SAMPLES}/read.assembled")
     folder = f"{CASES}/refusals"

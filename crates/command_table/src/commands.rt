@@ -75,10 +75,24 @@ pub fn command_name(kind: Kind, code: u8) -> &'static str {
     command_named(kind, code).unwrap_or("no command")
 }
 
+/// The mnemonic of a command of a kind of device, if it has a command with this code.
+pub fn mnemonic(kind: Kind, code: u8) -> Option<&'static str> {
+    mnemonic_in(&COMMON, code).or(mnemonic_in(commands_of(kind), code))
+}
+
 fn name_in(commands: &'static [Row], code: u8) -> Option<&'static str> {
     for (_, listed, name, _) in commands {
         if *listed == code {
             return Some(*name);
+        }
+    }
+    None
+}
+
+fn mnemonic_in(commands: &'static [Row], code: u8) -> Option<&'static str> {
+    for (mnemonic, listed, _, _) in commands {
+        if *listed == code {
+            return Some(*mnemonic);
         }
     }
     None

@@ -10,6 +10,7 @@
 mod convert;
 mod describe;
 mod images;
+mod pictures;
 mod progress;
 mod replacement;
 mod saver;
@@ -28,6 +29,7 @@ use job_run::{Finished, Output, Workers, report_script, run_parsed, run_script, 
 use job_script::{JobError, Script, UnitSetup, read_script};
 use job_step::{Images, Keeper, SiteKind, Views, check_scenario_on, step_scenario_on};
 use medium_image::{Image, Kept};
+use pictures::print_json;
 use saver::{Medium, Saver};
 use screen::Screen;
 use std::cell::Cell;
@@ -141,6 +143,7 @@ fn carry_out<R: Threads + Wait + Sync, I: Read>(
                 counts,
                 print,
                 media,
+                name,
             };
             report(rt, threads, input, asked, images, &is_broken)
         }
@@ -178,12 +181,13 @@ fn run<R: Threads + Wait + Sync, I: Read>(
     Ok(0)
 }
 
-/// What is asked of a report.
+/// What is asked of a report, and the name of its script.
 #[derive(Clone, Copy)]
 struct ReportOrder<'a> {
     counts: Counts,
     print: Print,
     media: &'a MediaFiles,
+    name: &'a str,
 }
 
 /// Runs a script, prints its posts and what the run left behind, and saves media.
@@ -233,7 +237,7 @@ fn report_media<R: Threads + Wait + Sync, I: Read>(
     }
     let MountedImages { devices, kept } = mount_images(alloc, &script.set_up.units, images)?;
     let run = run_parsed(threads, alloc, &script, devices, workers(asked.counts))?;
-    let printed = print_report(rt, &script, &run, asked.print, is_broken);
+    let printed = print_report(rt, &script, &run, asked, is_broken);
     save_media(&mut saver, &run, &kept);
     let saved = saver.finish();
     printed?;
@@ -245,16 +249,20 @@ fn print_report(
     rt: &HostRuntime,
     script: &Script,
     run: &Finished,
-    print: Print,
+    asked: ReportOrder<'_>,
     is_broken: &Cell<bool>,
 ) -> Result<(), JobError> {
-    let output = match print {
+    let output = match asked.print {
         Print::Posts => Output::Posts,
         Print::Report => whole_report(script, run, None),
         Print::Steps(most) => whole_report(script, run, Some(most)),
+        Print::Json(most) => {
+            let screen = Screen::new(rt.stdout(), false, is_broken);
+            return print_json(rt.alloc(), script, run, asked.name, most, screen);
+        }
     };
     let mut screen = Screen::new(rt.stdout(), takes_colour(rt, rt.stdout()), is_broken);
-    write(rt.alloc(), &run.lines, output, &mut screen)
+    write(rt.alloc(), &run.tasks, output, &mut screen)
 }
 
 /// The report of a run, with that many commands of each unit.

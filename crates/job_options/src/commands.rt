@@ -19,6 +19,9 @@ pub const LOAD: &str = "load";
 
 pub const SAVE: &str = "save";
 
+/// The group of the forms of a report that have commands.
+const DETAILED: &str = "detailed";
+
 /// The formats of images, as words of `--to`.
 pub const FORMATS: &[&str] = &["aws", "ckd"];
 
@@ -72,13 +75,19 @@ fn report<'a>(alloc: Global) -> Result<Command<'a>, AllocError> {
         "posts",
         "The posts and their count alone, as `run` prints them",
     );
+    let json = flag(
+        alloc,
+        "json",
+        "All of a report as JSON, with every command (docs/REPORT.md)",
+    );
     Command::new(alloc, "report")
         .about("Prints the posts of a script, the history of each unit and what lies on its medium")
         .arg(channels(alloc))?
         .arg(handlers(alloc))?
-        .arg(steps)?
+        .arg(steps.group(DETAILED)?)?
+        .arg(json.group(DETAILED)?)?
         .arg(most_steps(alloc)?)?
-        .arg(posts.conflicts_with("steps")?)?
+        .arg(posts.conflicts_with("steps")?.conflicts_with("json")?)?
         .arg(load(alloc))?
         .arg(save(alloc))?
         .arg(script(alloc))
@@ -168,9 +177,9 @@ fn most_steps<'a>(alloc: Global) -> Result<Arg<'a>, AllocError> {
     Arg::new(alloc, "most-steps")
         .long("most-steps")
         .value_name("N")
-        .help("With --steps: only the first N commands of each unit")
+        .help("With --steps or --json: only the first N commands of each unit")
         .value_parser(value_parser!(u64).range(1..))
-        .requires_arg("steps")
+        .requires_arg(DETAILED)
 }
 
 fn script<'a>(alloc: Global) -> Arg<'a> {

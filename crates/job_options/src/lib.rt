@@ -1,5 +1,5 @@
-//! The command line. `run` and `report` take `--channels N` and `--handlers N`. `report` takes `--posts`, or `--steps` with
-//! `--most-steps N`. All but `run` take the name of a file. `--load U=FILE` and `--save U=FILE` name images of media.
+//! The command line. `run` and `report` take `--channels N` and `--handlers N`. `report` takes `--posts`, or `--steps` or `--json`
+//! with `--most-steps N`. All but `run` take the name of a file. `--load U=FILE` and `--save U=FILE` name images of media.
 //!
 //! Tests: `tests/run command_line`.
 #![tactic(auto)]
@@ -46,6 +46,8 @@ pub enum Print {
     Report,
     /// And that many commands of each unit.
     Steps(u64),
+    /// All of that as JSON.
+    Json(u64),
 }
 
 /// What is asked for a script.
@@ -216,10 +218,17 @@ fn print_of(options: &ArgMatches<'_>) -> Print {
     if options.get_flag("posts") {
         Print::Posts
     } else if options.get_flag("steps") {
-        Print::Steps(options.get_one::<u64>("most-steps").unwrap_or(u64::MAX))
+        Print::Steps(most_steps(options))
+    } else if options.get_flag("json") {
+        Print::Json(most_steps(options))
     } else {
         Print::Report
     }
+}
+
+/// The most commands of each unit that a report has.
+fn most_steps(options: &ArgMatches<'_>) -> u64 {
+    options.get_one::<u64>("most-steps").unwrap_or(u64::MAX)
 }
 
 /// The numbers of workers.

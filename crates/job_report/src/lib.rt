@@ -6,8 +6,10 @@
 
 mod medium;
 mod post;
+mod records;
 mod units;
 
 pub use medium::{are_declarable, write_medium};
-pub use post::{End, write_post};
+pub use post::write_post;
+pub use records::unit_records;
 pub use units::write_units;

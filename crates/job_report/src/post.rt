@@ -3,17 +3,9 @@
 ghost use Rattle.std.specs.Prelude.{◌≤◌, length};
 
 use digits::{put_decimal, put_digits, write_bytes};
-use io_images::{Code, Csw};
 use std::io;
 use std::io::Write;
-
-/// How a request ended.
-#[derive(Clone, Copy)]
-pub struct End {
-    pub code: Code,
-    pub csw: Csw,
-    pub sense: u16,
-}
+use unit_history::End;
 
 /// Writes the line of a post, without a line feed: `post`, the numbers of task, unit and request, how the request ended, and
 /// the shown bytes of its area.

@@ -8,7 +8,7 @@ use device_port::Fault;
 use job_script::SetUp;
 use std::io::Write;
 use unit_book::UnitBook;
-use unit_history::{CommandList, HistoryError, OpenDcbs, write_history};
+use unit_history::{CommandList, Dcbs, HistoryError, write_history};
 
 /// Writes of each unit of a script its history and its medium, as its book has them at the end of a run; with `steps` also
 /// that many commands of each unit. The books are in the order of the units' numbers, and the table has room for the DCBs
@@ -18,7 +18,7 @@ pub fn write_units<W: Write>(
     set_up: &SetUp,
     books: &[UnitBook<AnyDevice>],
     steps: Option<u64>,
-    open: &mut OpenDcbs,
+    open: &mut Dcbs,
 ) -> Result<(), HistoryError>
     ensures { steps ≡ None → IfErr result (λ fault. fault ≡ HistoryError.NotWritten) }
 {

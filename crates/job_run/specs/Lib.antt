@@ -1,5 +1,4 @@
--- How large rows and books are, what a task sends, which faults come when, and when all that a task prints is known.
-pub mod Complete
+-- How large rows and books are, what a task sends, and which faults come when.
 pub mod Ending
 pub mod Faults
 pub mod Rooms

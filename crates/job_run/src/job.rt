@@ -7,7 +7,7 @@ ghost use Rattle.job_script.specs.Commands.{NamesUnits};
 ghost use Rattle.job_run.specs.Sending.{EndsEarly, ExcpFails, Fails, StopsAt, sends, sends_all, sends_excp};
 
 use crate::command_fault::CommandFault;
-use crate::lines::Lines;
+use crate::records::record_of;
 use crate::task_error::TaskError;
 use crate::unit_calls::{close, purge, purge_task, reset};
 use any_device::AnyDevice;
@@ -16,6 +16,7 @@ use excp_system::{Site, System};
 use fifo_row::Full;
 use job_mount::request;
 use job_script::{Action, Command, Excp, Script};
+use run_record::{TaskEvent, TaskRecord};
 use std::alloc::{AllocError, Global};
 use std::sync::Wait;
 use system_threads::{Alarm, Client};
@@ -53,23 +54,23 @@ impl<'a, 'r, S: Site> Job<'a, 'r, S> {
     }
 
     /// Does all that a task does: its commands, up to the first fault, and then waits until all its requests were posted.
-    /// Returns what is printed of them, or why it ended. Out of memory outranks the fault of a line.
+    /// Returns the record of that, or why it ended. Out of memory outranks the fault of a line.
     pub fn task<R: Wait>(
         &self,
         rt: &R,
         alloc: Global,
         client: &mut Client<'_, S>,
-    ) -> Result<Lines, TaskError>
+    ) -> Result<TaskRecord, TaskError>
         ensures number { client.new.number ≡ client.old.number }
         ensures sent { OnOk result (client.new.sent ≡ sends_all client.old.number self.now.script.now.commands.items client.old.sent) }
         ensures awaits_none { OnOk result (awaited_count client.new ≡ 0) }
         ensures stopped { IfErr result (EndsEarly client.old.number self.now.script.now.commands.items client.old.sent client.new.sent) }
     {
-        let mut lines = Lines::of_task(alloc, self.script, client.number())?;
-        let done = self.commands(rt, alloc, client, &mut lines);
-        self.collect(rt, client, &mut lines)?;
+        let mut record = record_of(alloc, self.script, client.number())?;
+        let done = self.commands(rt, alloc, client, &mut record);
+        self.collect(rt, client, &mut record)?;
         done?;
-        Ok(lines)
+        Ok(record)
     }
 
     /// Does the commands of a task, in order, up to the first fault. Whatever other threads do, the task sends the requests
@@ -79,7 +80,7 @@ impl<'a, 'r, S: Site> Job<'a, 'r, S> {
         rt: &R,
         alloc: Global,
         client: &mut Client<'_, S>,
-        lines: &mut Lines,
+        record: &mut TaskRecord,
     ) -> Result<(), TaskError>
         ensures number { client.new.number ≡ client.old.number }
         ensures sent { OnOk result (client.new.sent ≡ sends_all client.old.number self.now.script.now.commands.items client.old.sent) }
@@ -87,7 +88,7 @@ impl<'a, 'r, S: Site> Job<'a, 'r, S> {
     {
         for place in self.script.places_of(client.number()) {
             let command = &self.script.commands[*place];
-            if let Err(fault) = self.command(rt, alloc, client, lines, command) {
+            if let Err(fault) = self.command(rt, alloc, client, record, command) {
                 return Err(fault.at(command.line));
             }
         }
@@ -100,7 +101,7 @@ impl<'a, 'r, S: Site> Job<'a, 'r, S> {
         rt: &R,
         alloc: Global,
         client: &mut Client<'_, S>,
-        lines: &mut Lines,
+        record: &mut TaskRecord,
         command: &Command,
     ) -> Result<(), CommandFault>
         requires units { NamesUnits S.rows.units command.now }
@@ -111,12 +112,18 @@ impl<'a, 'r, S: Site> Job<'a, 'r, S> {
         ensures fails { IfErr result (Fails command.now.action client.old.sent) }
     {
         match &command.action {
-            Action::Excp(excp) => self.issue(rt, alloc, client, lines, excp)?,
-            Action::Purge(dcb, mode) => purge(rt, self.system, *dcb, *mode)?,
-            Action::PurgeTask(task, mode) => purge_task(rt, self.system, *task, *mode)?,
-            Action::Close(dcb) => close(rt, self.system, *dcb)?,
-            Action::Reset(dcb) => reset(rt, self.system, *dcb)?,
-            Action::Wait => self.collect(rt, client, lines)?,
+            Action::Excp(excp) => self.issue(rt, alloc, client, record, excp)?,
+            Action::Purge(dcb, mode) => purge(rt, self.system, *dcb, *mode, record)?,
+            Action::PurgeTask(task, mode) => {
+                let units = self.script.set_up.units.len() as u16;
+                purge_task(rt, self.system, units, *task, *mode, record)?;
+            }
+            Action::Close(dcb) => close(rt, self.system, *dcb, record)?,
+            Action::Reset(dcb) => reset(rt, self.system, *dcb, record)?,
+            Action::Wait => {
+                record.note(TaskEvent::Waited);
+                self.collect(rt, client, record)?;
+            }
         }
         Ok(())
     }
@@ -128,7 +135,7 @@ impl<'a, 'r, S: Site> Job<'a, 'r, S> {
         rt: &R,
         alloc: Global,
         client: &mut Client<'_, S>,
-        lines: &mut Lines,
+        record: &mut TaskRecord,
         excp: &Excp,
     ) -> Result<(), CommandFault>
         requires unit { excp.now.dcb.unit < S.rows.units }
@@ -146,13 +153,19 @@ impl<'a, 'r, S: Site> Job<'a, 'r, S> {
         for _ in rt.forever() {
             if client.awaited() < MOST_UNDER_WAY {
                 match client.excp(rt, request) {
-                    Ok(()) => return Ok(()),
+                    Ok(()) => {
+                        record.note(TaskEvent::Issued {
+                            unit: excp.dcb.unit,
+                            number: name.seq,
+                        });
+                        return Ok(());
+                    }
                     Err(Full(again)) => request = again,
                 }
             }
             match client.next_post(rt, self.alarm)? {
                 Some(posted) => {
-                    lines.fill(&posted);
+                    record.collect(&posted);
                     idle.reset();
                 }
                 None => idle.snooze(),
@@ -166,7 +179,7 @@ impl<'a, 'r, S: Site> Job<'a, 'r, S> {
         &self,
         rt: &R,
         client: &mut Client<'_, S>,
-        lines: &mut Lines,
+        record: &mut TaskRecord,
     ) -> Result<(), AllocError>
         ensures number { client.new.number ≡ client.old.number }
         ensures sent { client.new.sent ≡ client.old.sent }
@@ -174,7 +187,7 @@ impl<'a, 'r, S: Site> Job<'a, 'r, S> {
     {
         for _ in rt.forever() {
             match client.next_post(rt, self.alarm)? {
-                Some(posted) => lines.fill(&posted),
+                Some(posted) => record.collect(&posted),
                 None => return Ok(()),
             }
         }

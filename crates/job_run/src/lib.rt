@@ -16,8 +16,8 @@
 mod command_fault;
 mod job;
 mod late_writer;
-mod lines;
 mod output;
+mod records;
 mod rooms;
 mod run;
 mod script_tasks;
@@ -25,8 +25,8 @@ mod task_error;
 mod unit_calls;
 
 pub use job::Job;
-pub use lines::Lines;
 pub use output::{Output, write};
+pub use records::record_of;
 pub use run::{Finished, ended, report_script, run_on, run_parsed, run_script};
 pub use script_tasks::ScriptTasks;
 pub use system_threads::Workers;

@@ -4,14 +4,13 @@ ghost use Rattle.std.specs.Prelude.{◌≡◌, ◌≤◌, ◌<◌, ◌+◌, All,
 ghost use Rattle.job_mount.specs.Requests.{CanBeDone};
 ghost use Rattle.job_script.specs.Reading.{ReadsAtMost};
 ghost use Rattle.job_script.specs.Views.{said};
-ghost use Rattle.job_run.specs.Complete.{IsComplete};
+ghost use Rattle.run_record.specs.Complete.{IsComplete};
 ghost use Rattle.job_run.specs.Ending.{EndsBy, EndsParsed, IsFaultlessWith, IsLate, RunsWhole};
 ghost use Rattle.job_run.specs.Faults.{LeavesWriter};
 ghost use Rattle.excp_system.specs.Opening.{AreBooks, AreFresh};
 ghost use Rattle.post_ledger.specs.Report.{IsFor};
 ghost use Rattle.post_ledger.specs.Work.{lists_of};
 
-use crate::lines::Lines;
 use crate::output::{Output, write};
 use crate::rooms::rows_and_books;
 use crate::script_tasks::ScriptTasks;
@@ -20,6 +19,7 @@ use any_device::AnyDevice;
 use excp_system::Rows;
 use job_script::{JobError, LIMIT, Script, read_script};
 use post_ledger::Report;
+use run_record::TaskRecord;
 use std::alloc::Global;
 use std::io::{Read, Write};
 use std::sync::Wait;
@@ -27,12 +27,12 @@ use std::thread::Threads;
 use system_threads::{RunError, Workers, run_program};
 use unit_book::UnitBook;
 
-/// A run that was brought to its end: what is printed of the requests of each task, and the account of its units.
+/// A run that was brought to its end: the record of each task, and the account of its units.
 #[derive(Drop)]
 pub struct Finished {
-    pub lines: Vec<Lines>,
+    pub tasks: Vec<TaskRecord>,
     pub report: Report<AnyDevice>,
-    ghost complete: { All IsComplete lines.items },
+    ghost complete: { All IsComplete tasks.items },
 }
 
 /// Reads a script, at most 1,048,576 bytes and one more. Runs its tasks beside these numbers of channel workers and
@@ -51,7 +51,7 @@ pub fn run_script<R: Threads + Wait + Sync, I: Read, W: Write>(
     ensures fault { IfErr result (EndsBy LIMIT (I.remaining reader.old) (I.remaining reader.new)) }
 {
     match read_and_run(rt, alloc, reader, workers) {
-        Ok((_, run)) => write(alloc, &run.lines, Output::Posts, writer),
+        Ok((_, run)) => write(alloc, &run.tasks, Output::Posts, writer),
         // one text for both causes (profile)
         Err(JobError::NoThread) => Err(JobError::NoMemory),
         Err(fault) => Err(fault),
@@ -79,7 +79,7 @@ pub fn report_script<R: Threads + Wait + Sync, I: Read, W: Write>(
         books: run.report.units(),
         steps,
     };
-    write(alloc, &run.lines, output, writer)
+    write(alloc, &run.tasks, output, writer)
 }
 
 /// Reads a script and runs it.
@@ -143,15 +143,14 @@ pub fn run_on<R: Threads + Wait + Sync>(
     }
 }
 
-/// The printed lines of a run that was brought to its end: those of its tasks, and the posts that they had not
-/// collected.
+/// The records of a run that was brought to its end: those of its tasks, with the posts that they had not collected.
 ///
 /// Errors: out of memory, if a task ended for that; the fault of the first task that ended before its last command; a
-/// line without a post of its own.
+/// request without a post of its own.
 pub fn ended(
     alloc: Global,
     report: Report<AnyDevice>,
-    outcomes: Vec<Result<Lines, TaskError>>,
+    outcomes: Vec<Result<TaskRecord, TaskError>>,
 ) -> Result<Finished, JobError>
     requires lists { IsFor (length report.books) (length outcomes.items) report }
     requires few_units { length report.books ≤ 64 }
@@ -159,54 +158,56 @@ pub fn ended(
     ensures report { IfOk result (λ finished. finished.report ≡ report) }
     ensures fault { IfErr result IsLate }
 {
-    let mut lines = lines_of(alloc, outcomes)?;
-    add_rest(&mut lines, &report);
-    if !lines.iter().all(|of_task| of_task.is_complete()) {
+    let mut tasks = records_of(alloc, outcomes)?;
+    add_rest(&mut tasks, &report);
+    if !tasks.iter().all(|record| record.is_complete()) {
         return Err(JobError::Unmatched);
     }
-    Ok(Finished { lines, report })
+    Ok(Finished { tasks, report })
 }
 
-/// The printed lines of each task's requests. If a task ended for lack of memory it returns that, and else the first
-/// fault.
-fn lines_of(alloc: Global, outcomes: Vec<Result<Lines, TaskError>>) -> Result<Vec<Lines>, TaskError>
-    ensures { IfOk result (λ lines. length lines.items ≡ length outcomes.items) }
+/// The record of each task. If a task ended for lack of memory it returns that, and else the first fault.
+fn records_of(
+    alloc: Global,
+    outcomes: Vec<Result<TaskRecord, TaskError>>,
+) -> Result<Vec<TaskRecord>, TaskError>
+    ensures { IfOk result (λ tasks. length tasks.items ≡ length outcomes.items) }
 {
     if outcomes.iter().any(wants_memory) {
         return Err(TaskError::NoMemory);
     }
-    let mut lines = Vec::with_capacity(alloc, outcomes.len())?;
+    let mut tasks = Vec::with_capacity(alloc, outcomes.len())?;
     for outcome in outcomes {
-        lines.push(outcome?)?;
+        tasks.push(outcome?)?;
     }
-    Ok(lines)
+    Ok(tasks)
 }
 
 /// Whether a task ended because memory ran out.
-fn wants_memory(outcome: &Result<Lines, TaskError>) -> bool {
+fn wants_memory(outcome: &Result<TaskRecord, TaskError>) -> bool {
     matches!(outcome, Err(TaskError::NoMemory))
 }
 
-/// Adds what the report of a run lists to the lines of each task.
-fn add_rest(lines: &mut [Lines], report: &Report<AnyDevice>)
-    requires lists { IsFor (length report.now.books) (length lines.old) report.now }
+/// Adds the posts that the report of a run lists to the record of each task.
+fn add_rest(tasks: &mut [TaskRecord], report: &Report<AnyDevice>)
+    requires lists { IsFor (length report.now.books) (length tasks.old) report.now }
     requires few_units { length report.now.books ≤ 64 }
-    requires few_tasks { length lines.old ≤ 64 }
+    requires few_tasks { length tasks.old ≤ 64 }
 {
     let units = report.units().len() as u16;
-    for task in 0..lines.len() {
-        add_listed(&mut lines[task], report, task as u16, units);
+    for task in 0..tasks.len() {
+        add_listed(&mut tasks[task], report, task as u16, units);
     }
 }
 
-/// Adds what the report of a run lists for a task to its lines.
-fn add_listed(lines: &mut Lines, report: &Report<AnyDevice>, task: u16, units: u16)
+/// Adds the posts that the report of a run lists for a task to its record.
+fn add_listed(record: &mut TaskRecord, report: &Report<AnyDevice>, task: u16, units: u16)
     requires task { task < length report.now.lists }
     requires units { length (lists_of report.now.lists task) ≡ units }
 {
     for unit in 0..units {
         for posted in report.posts(task, unit) {
-            lines.fill(posted);
+            record.fill(posted);
         }
     }
 }

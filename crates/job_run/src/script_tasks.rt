@@ -5,17 +5,17 @@ ghost use Rattle.job_mount.specs.Requests.{CanBeDone};
 ghost use Rattle.job_run.specs.Sending.{DoesScript};
 
 use crate::job::Job;
-use crate::lines::Lines;
 use crate::task_error::TaskError;
 use any_device::AnyDevice;
 use excp_system::{Site, System};
 use job_script::Script;
+use run_record::TaskRecord;
 use std::alloc::Global;
 use std::sync::Wait;
 use system_threads::{Alarm, Client, TaskProgram};
 
 /// Each task does its commands of the script, up to its first fault, and waits until all its requests were posted. It
-/// leaves the printed lines of them, or why it ended. A worker that runs out of memory outranks the fault of a line.
+/// leaves the record of that, or why it ended. A worker that runs out of memory outranks the fault of a line.
 #[derive(Drop)]
 pub struct ScriptTasks<'a> {
     script: &'a Script,
@@ -33,7 +33,7 @@ impl<'a> ScriptTasks<'a> {
 }
 
 impl<'a> TaskProgram<AnyDevice> for ScriptTasks<'a> {
-    type Outcome = Result<Lines, TaskError>;
+    type Outcome = Result<TaskRecord, TaskError>;
 
     ghost units = { λ tasks. vec_len tasks.script.now.set_up.units };
 
@@ -46,7 +46,7 @@ impl<'a> TaskProgram<AnyDevice> for ScriptTasks<'a> {
         system: &System<'_, S, AnyDevice>,
         alarm: &Alarm,
         client: &mut Client<'_, S>,
-    ) -> Result<Lines, TaskError> {
+    ) -> Result<TaskRecord, TaskError> {
         Job::new(self.script, system, alarm).task(rt, alloc, client)
     }
 }

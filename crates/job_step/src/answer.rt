@@ -1,10 +1,11 @@
 //! The answers of events, as text.
 
 use io_images::Code;
-use job_report::{End, write_post};
+use job_report::write_post;
 use request_piece::{Name, Posted};
 use std::io::{Result, Write};
 use unit_book::{Closing, Delivery, Intake, Interruption, Purging, Running, Starting};
+use unit_history::End;
 
 /// The answer of an EXCP.
 #[derive(Clone, Copy)]

@@ -30,18 +30,26 @@ fn find(entries: &[Entry], name: Name) -> Option<(usize, &Issued)>
     None
 }
 
-/// The request of this name that arrived among entries, and the place where it did, which is looked for from a place
-/// on, and then before it.
-pub(crate) fn arrival_of(entries: &[Entry], from: usize, name: Name) -> (usize, &Issued)
-    requires { list_any (arrives name) entries.now ≡ true }
-    ensures { (k : ℕ) × ArrivesAt entries.now name k result.1.now }
+/// The request of this name that arrived among entries, and the place where it did. The search begins at a place, and goes on
+/// before it.
+pub fn find_arrival(entries: &[Entry], from: usize, name: Name) -> Option<(usize, &Issued)>
+    ensures { MatchOption result (list_any (arrives name) entries.now ≡ false) (λ found. ArrivesAt entries.now name found.0 found.1.now) }
 {
     let from = from.min(entries.len());
     let (earlier, later) = entries.split_at(from);
     if let Some((place, issued)) = find(later, name) {
-        return (from + place, issued);
+        return Some((from + place, issued));
     }
-    let Some(found) = find(earlier, name) else {
+    let found = find(earlier, name)?;
+    Some(found)
+}
+
+/// The same of a request that arrived.
+pub(crate) fn arrival_of(entries: &[Entry], from: usize, name: Name) -> (usize, &Issued)
+    requires { list_any (arrives name) entries.now ≡ true }
+    ensures { ArrivesAt entries.now name result.0 result.1.now }
+{
+    let Some(found) = find_arrival(entries, from, name) else {
         unreachable!()
     };
     found

@@ -12,4 +12,5 @@ mod arrivals;
 mod attempt;
 mod replay;
 
+pub use arrivals::find_arrival;
 pub use replay::{Replay, Step};

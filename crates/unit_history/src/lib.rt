@@ -1,20 +1,29 @@
-//! The history of a unit in words: each entry of its trace on a line with its number, and each command of its channel
-//! programs, replayed, if that is wanted. Each line is a comment of a script. It knows no script, and any device.
+//! The history of a unit: the events of its trace, and the commands of its channel programs, replayed. One description of
+//! them serves all that show a history; here is the one in words, where each line is a comment of a script. It knows no
+//! script, and any device.
 //!
 //! Tests: tests/cases/histories, samples/*.steps.
 #![tactic(auto)]
 
 mod characters;
-mod doom;
+mod command;
+mod commands;
+mod dcbs;
 mod error;
+mod event;
+mod events;
 mod history;
 mod names;
-mod open_dcbs;
+mod past;
 mod steps;
 mod words;
 
 pub use characters::Text;
+pub use command::{After, Broken, Command, Ending, Moved, Shown, Way};
+pub use commands::{CommandList, Commands, Next};
+pub use dcbs::Dcbs;
 pub use error::HistoryError;
-pub use history::write_history;
-pub use open_dcbs::OpenDcbs;
-pub use steps::CommandList;
+pub use event::{Cause, End, Event, Told};
+pub use events::Events;
+pub use history::{kind_in_words, method_in_words, mode_in_words, write_history};
+pub use names::{NORMAL_END, SENSE, STATUS};

@@ -11,7 +11,7 @@ use any_device::AnyDevice;
 use ckd_disk::{Records, Stored};
 use line_printer::PrintedLine;
 use unit_book::{DcbState, UnitBook};
-use unit_history::{OpenDcbs, write_history};
+use unit_history::{Dcbs, write_history};
 
 impl Site {
     /// Makes the history of a unit, a line for each entry, and keeps it in place of what was made before. Returns how many bytes
@@ -28,7 +28,7 @@ impl Site {
         self.has_unit(unit)?;
         let book = self.plain.book(unit);
         let mut text = Vec::new(self.alloc);
-        let mut open = OpenDcbs::new(self.alloc, opened(book))?;
+        let mut open = Dcbs::new(self.alloc, opened(book))?;
         if write_history(&mut text, usize::from(unit), book, None, &mut open).is_err() {
             return Err(Refusal::NoMemory);
         }

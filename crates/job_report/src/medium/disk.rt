@@ -4,37 +4,9 @@ use super::Unit;
 use ckd_disk::{Disk, Geometry, Stored};
 use device_port::Device;
 use digits::write_bytes;
+use run_record::Track;
 use std::io;
 use std::io::Write;
-
-/// A track, by its cylinder and its head.
-#[derive(Clone, Copy)]
-struct Track {
-    cylinder: u16,
-    head: u16,
-}
-
-impl Track {
-    /// The CCHHR of a record of it.
-    fn id(self, number: u8) -> [u8; 5] {
-        let [cylinder_high, cylinder_low] = self.cylinder.to_be_bytes();
-        let [head_high, head_low] = self.head.to_be_bytes();
-        [cylinder_high, cylinder_low, head_high, head_low, number]
-    }
-
-    /// Whether a record is the R0 that mounting puts on it.
-    fn has_mounted(self, record: &Stored<'_>) -> bool {
-        record.id() == self.id(0).as_slice()
-            && record.key().is_empty()
-            && record.content() == [0; 8].as_slice()
-    }
-
-    /// The number of a record that a line can declare: its CCHHR is of the track, and it is not R0.
-    fn number_of(self, record: &Stored<'_>) -> Option<u8> {
-        let number = *record.id().last()?;
-        (number > 0 && record.id() == self.id(number).as_slice()).then_some(number)
-    }
-}
 
 /// Whether lines declare all records of a disk.
 pub(super) fn has_declarable(disk: &Disk) -> bool {
@@ -48,6 +20,11 @@ pub(super) fn has_declarable(disk: &Disk) -> bool {
     true
 }
 
+/// The number of a record that a line can declare: its CCHHR is of the track, and it is not R0.
+fn declared_number(track: Track, record: &Stored<'_>) -> Option<u8> {
+    track.number_of(record).filter(|number| *number > 0)
+}
+
 /// Whether lines declare all records of a track, the first of which is R0 as mounting makes it.
 fn are_declarable(disk: &Disk, track: Track) -> bool {
     let mut records = disk.records(track.cylinder, track.head);
@@ -55,7 +32,7 @@ fn are_declarable(disk: &Disk, track: Track) -> bool {
         Some(first) => track.has_mounted(&first),
         None => true,
     };
-    has_mounted && records.all(|record| track.number_of(&record).is_some())
+    has_mounted && records.all(|record| declared_number(track, &record).is_some())
 }
 
 /// Writes the lines of a disk, its tracks in the order of their numbers.
@@ -110,7 +87,7 @@ fn write_record<W: Write>(
     track: Track,
     record: &Stored<'_>,
 ) -> io::Result<()> {
-    let Some(number) = track.number_of(record) else {
+    let Some(number) = declared_number(track, record) else {
         return write_undeclared(out, track, record);
     };
     let Track { cylinder, head } = track;

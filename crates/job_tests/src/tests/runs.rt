@@ -4,17 +4,18 @@
 ghost use Rattle.std.specs.Prelude.{◌≡◌, ◌<◌, ◌≤◌, All, IfOk, vec_len};
 ghost use Rattle.excp_system.specs.Opening.{AreBooks, AreFresh, site_of};
 ghost use Rattle.job_mount.specs.Requests.{CanBeDone};
-ghost use Rattle.job_run.specs.Complete.{IsComplete};
+ghost use Rattle.run_record.specs.Complete.{IsComplete};
 
 mod not_awaited;
 
 use any_device::AnyDevice;
 use excp_system::{Gate, IscTaker, Point, Rows, Site, System};
 use job_mount::books;
-use job_run::{Lines, Output, ScriptTasks, TaskError, ended, run_on, write};
+use job_run::{Output, ScriptTasks, TaskError, ended, run_on, write};
 use job_script::{FaultName, JobError, Script};
 use not_awaited::NotAwaited;
 use request_piece::Name;
+use run_record::TaskRecord;
 use std::alloc::{AllocError, Global};
 use std::marker::Brand;
 use std::sync::Wait;
@@ -222,7 +223,7 @@ fn unawaited<R: Threads + Wait + Sync + AllocGlobal>(
         return Err(JobError::NoMemory);
     };
     let run = ended(alloc, report, outcomes)?;
-    printed(alloc, &run.lines)
+    printed(alloc, &run.tasks)
 }
 
 /// What comes of the tasks of a script on these rows and books.
@@ -295,11 +296,11 @@ fn two_of_each() -> Workers {
 }
 
 /// How many tasks ran out of memory. The others are to have collected all their posts.
-fn how_many_short(outcomes: Vec<Result<Lines, TaskError>>) -> Result<usize, JobError> {
+fn how_many_short(outcomes: Vec<Result<TaskRecord, TaskError>>) -> Result<usize, JobError> {
     let mut short: usize = 0;
     for outcome in outcomes {
         match outcome {
-            Ok(lines) if lines.is_complete() => {}
+            Ok(record) if record.is_complete() => {}
             Ok(_) => return Err(JobError::Unmatched),
             Err(TaskError::NoMemory) => short = short.saturating_add(1),
             Err(error) => return Err(JobError::from(error)),
@@ -309,11 +310,11 @@ fn how_many_short(outcomes: Vec<Result<Lines, TaskError>>) -> Result<usize, JobE
 }
 
 /// What is printed of the requests of each task.
-fn printed(alloc: Global, lines: &[Lines]) -> Result<Outcome, JobError>
-    requires { All IsComplete lines.now }
+fn printed(alloc: Global, tasks: &[TaskRecord]) -> Result<Outcome, JobError>
+    requires { All IsComplete tasks.now }
 {
     let mut text = Vec::new(alloc);
-    write(alloc, lines, Output::Posts, &mut text)?;
+    write(alloc, tasks, Output::Posts, &mut text)?;
     Ok(Outcome::Printed(text))
 }
 
@@ -391,7 +392,7 @@ fn run<R: Threads + Wait + Sync + AllocGlobal>(
     match way {
         Way::Whole => {
             let run = run_on(rt, alloc, rows, books, &script, two_of_each())?;
-            printed(alloc, &run.lines)
+            printed(alloc, &run.tasks)
         }
         Way::Unawaited => unawaited(rt, rows, books, &script),
         _ => tasks_alone::<Brand, R>(rt, &mut rows, books, &script, way),

@@ -5,13 +5,14 @@ ghost use Rattle.job_mount.specs.Requests.{CanBeDone};
 
 use any_device::AnyDevice;
 use excp_system::{Site, System};
-use job_run::{Job, Lines, TaskError};
+use job_run::{Job, TaskError, record_of};
 use job_script::Script;
+use run_record::TaskRecord;
 use std::alloc::Global;
 use std::sync::Wait;
 use system_threads::{Alarm, Client, TaskProgram};
 
-/// Each task leaves what is printed of its requests.
+/// Each task leaves the record of its requests.
 #[derive(Drop)]
 pub struct NotAwaited<'a> {
     script: &'a Script,
@@ -28,7 +29,7 @@ impl<'a> NotAwaited<'a> {
 }
 
 impl<'a> TaskProgram<AnyDevice> for NotAwaited<'a> {
-    type Outcome = Result<Lines, TaskError>;
+    type Outcome = Result<TaskRecord, TaskError>;
 
     ghost units = { λ tasks. vec_len tasks.script.now.set_up.units };
 
@@ -41,9 +42,9 @@ impl<'a> TaskProgram<AnyDevice> for NotAwaited<'a> {
         system: &System<'_, S, AnyDevice>,
         alarm: &Alarm,
         client: &mut Client<'_, S>,
-    ) -> Result<Lines, TaskError> {
-        let mut lines = Lines::of_task(alloc, self.script, client.number())?;
-        Job::new(self.script, system, alarm).commands(rt, alloc, client, &mut lines)?;
-        Ok(lines)
+    ) -> Result<TaskRecord, TaskError> {
+        let mut record = record_of(alloc, self.script, client.number())?;
+        Job::new(self.script, system, alarm).commands(rt, alloc, client, &mut record)?;
+        Ok(record)
     }
 }

@@ -38,9 +38,9 @@ prefix-requires g c =
           let e : w.trace.result.now ≡ reverse i.book.now.trace = sym (reverse-reverse w.trace.result.now) ∙ ap reverse w.trace.ensures in
           let a = w.arrival_of-place.ensures in
           let k = w.in_ok-attempt-in-None.ensures in
-          let at = subst (λ x. ArrivesAt (take i.done x) c.args.name a.0 w.arrival_of-place.result.1.now) e a.1 in
+          let at = subst (λ x. ArrivesAt (take i.done x) c.args.name w.arrival_of-place.result.0 w.arrival_of-place.result.1.now) e a in
           let b = begins-first m i.book.now.mounted (reverse i.book.now.trace) i.done i.ran c.args.name i.device l here
-          c.match-take.attempt a.0 t
+          c.match-take.attempt w.arrival_of-place.result.0 t
           (rw (w.attempt-is, k.issued) at) (rw (w.attempt-is, k.issued) k.area) (rw (w.attempt-is, k.issued) k.context) in
           rw (c.seek.ensures, w.self-inside-is)
           (begun-seeks m i.book.now.mounted (reverse i.book.now.trace) i.done i.ran c.args.name i.device l here g.met.D.Device.lawful t
@@ -71,9 +71,9 @@ invariant_of-self-2 g c =
           let e : w.trace.result.now ≡ reverse i.book.now.trace = sym (reverse-reverse w.trace.result.now) ∙ ap reverse w.trace.ensures in
           let a = w.arrival_of-place.ensures in
           let k = w.in_ok-attempt-in-None.ensures in
-          let at = subst (λ x. ArrivesAt (take i.done x) c.args.name a.0 w.arrival_of-place.result.1.now) e a.1 in
+          let at = subst (λ x. ArrivesAt (take i.done x) c.args.name w.arrival_of-place.result.0 w.arrival_of-place.result.1.now) e a in
           let b = begins-first m i.book.now.mounted (reverse i.book.now.trace) i.done i.ran c.args.name i.device l here
-          c.match-take.attempt a.0 t
+          c.match-take.attempt w.arrival_of-place.result.0 t
           (rw (w.attempt-is, k.issued) at) (rw (w.attempt-is, k.issued) k.area) (rw (w.attempt-is, k.issued) k.context) in
           rw (w.self-inside-is, next)
           (begun m i.book.now.mounted (reverse i.book.now.trace) i.done i.ran c.args.name i.device l here t c.match-take.attempt b

@@ -1,0 +1,44 @@
+//! The units of a script, as reports of every form show them.
+
+use any_device::AnyDevice;
+use job_script::{Medium, SetUp};
+use run_record::{Room, UnitRecord};
+use std::alloc::{AllocError, Global};
+use unit_book::UnitBook;
+
+/// The units of a script, with their books in the order of their numbers. `places` has for each unit the places of its entries
+/// in one order of all units, if the run has one.
+pub fn unit_records<'a>(
+    alloc: Global,
+    set_up: &'a SetUp,
+    books: &'a [UnitBook<AnyDevice>],
+    places: Option<&'a [Vec<usize>]>,
+) -> Result<Vec<UnitRecord<'a>>, AllocError> {
+    let mut records = Vec::with_capacity(alloc, books.len())?;
+    for (number, (unit, book)) in set_up.units.iter().zip(books).enumerate() {
+        records.push(UnitRecord {
+            book,
+            faults: &unit.faults,
+            room: room_of(&unit.medium),
+            places: places_of(places, number),
+        })?;
+    }
+    Ok(records)
+}
+
+/// The places of the entries of a unit.
+fn places_of(places: Option<&[Vec<usize>]>, unit: usize) -> Option<&[usize]> {
+    Some(places?.get(unit)?.as_slice())
+}
+
+/// The room of a medium.
+fn room_of(medium: &Medium) -> Room {
+    match medium {
+        Medium::Disk(_, _) => Room::Disk,
+        Medium::Tape(bytes, _) => Room::Tape { bytes: *bytes },
+        Medium::Printer { lines, pages } => Room::Printer {
+            lines: *lines,
+            pages: *pages,
+        },
+    }
+}

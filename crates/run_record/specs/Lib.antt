@@ -1,0 +1,2 @@
+-- What is kept of the requests of a task.
+pub mod Complete

@@ -1,0 +1,213 @@
+//! A command of a history: its CCWs, the first of the bytes that it moved, and how it ended.
+
+use ccw_programs::{Context, Link, Listing, Rule, State};
+use command_table::{command_name, mnemonic};
+use device_port::{Flow, Kind, Segment};
+use io_area::Area;
+use io_images::Csw;
+
+/// The most bytes of a command's data that are shown.
+const SHOWN: u32 = 16;
+
+/// A command of a channel program, after it was done.
+#[derive(Drop)]
+pub struct Command<'c> {
+    kind: Kind,
+    listing: Listing<'c>,
+    context: &'c Context,
+    area: &'c Area,
+    fault: Option<usize>,
+}
+
+/// The bytes that a command moved, and the first of them.
+#[derive(Clone, Copy)]
+pub struct Moved<'c> {
+    pub count: u32,
+    pub way: Way,
+    /// Where the first part of its storage begins. A read backward fills it downward.
+    pub address: u32,
+    pub bytes: Shown<'c>,
+    /// Whether there are more bytes than the shown ones.
+    pub has_more: bool,
+}
+
+/// The way of data.
+#[derive(Clone, Copy)]
+pub enum Way {
+    /// From storage to the device.
+    From,
+    /// From the device to storage.
+    To,
+    /// From the device to storage, from its highest address down.
+    DownFrom,
+}
+
+/// What is shown of data.
+#[derive(Clone, Copy)]
+pub enum Shown<'c> {
+    Bytes(&'c [u8]),
+    /// The CCW has the skip flag.
+    Skipped,
+    /// The bytes lie outside the area. A command moves none of these.
+    Outside,
+}
+
+/// A CCW that breaks a rule: its address, its image where it can be fetched, and the rule.
+#[derive(Clone, Copy)]
+pub struct Broken<'c> {
+    pub at: u32,
+    pub image: Option<&'c [u8]>,
+    pub rule: Rule,
+}
+
+/// How a command ended: unit status (the high byte) and subchannel status, the residual count, and what comes after it.
+#[derive(Clone, Copy)]
+pub struct Ending {
+    pub status: u16,
+    pub residual: u16,
+    pub after: After,
+}
+
+/// What comes after a command.
+#[derive(Clone, Copy)]
+pub enum After {
+    /// The program goes on at this address.
+    Next(u32),
+    /// The program has ended, with these sense bytes.
+    Sense(u16),
+}
+
+impl<'c> Command<'c> {
+    /// A command that a device of this kind did.
+    pub(crate) fn new(
+        kind: Kind,
+        listing: Listing<'c>,
+        context: &'c Context,
+        area: &'c Area,
+        fault: Option<usize>,
+    ) -> Command<'c> {
+        Command {
+            kind,
+            listing,
+            context,
+            area,
+            fault,
+        }
+    }
+
+    /// Its CCWs: the command itself, and the CCWs of its data chain.
+    pub fn links(&self) -> &'c [Link] {
+        self.listing.links
+    }
+
+    /// The name of the command of a CCW, by its place in the chain.
+    pub fn name(&self, place: usize) -> &'static str {
+        match self.listing.links.get(place) {
+            Some(link) if place == 0 => command_name(self.kind, link.ccw.command),
+            _ => "data",
+        }
+    }
+
+    /// The mnemonic of the command, or `?` if the device has no such command.
+    pub fn mnemonic(&self) -> &'static str {
+        match self.listing.links.first() {
+            Some(link) => mnemonic(self.kind, link.ccw.command).unwrap_or("?"),
+            None => "",
+        }
+    }
+
+    /// The number of the fault of the unit that it met, from 1.
+    pub fn fault(&self) -> Option<usize> {
+        self.fault
+    }
+
+    /// The rule that a CCW of it breaks. The device did nothing then.
+    pub fn broken(&self) -> Option<Broken<'c>> {
+        let refusal = self.listing.refusal?;
+        Some(Broken {
+            at: refusal.at,
+            image: self.area.get(refusal.at, 8),
+            rule: refusal.rule,
+        })
+    }
+
+    /// The bytes that it moved, if it moved any.
+    pub fn moved(&self) -> Option<Moved<'c>> {
+        let count = moved_bytes(self.listing.links, &self.context.halted());
+        let [part, ..] = self.listing.parts else {
+            return None;
+        };
+        if count == 0 {
+            return None;
+        }
+        let shown = count.min(u32::from(part.count)).min(SHOWN);
+        let (way, from) = match self.listing.flow {
+            Some(Flow::Out) => (Way::From, part.address),
+            Some(Flow::Back) => (Way::DownFrom, lowest(part, shown)),
+            _ => (Way::To, part.address),
+        };
+        let bytes = match self.area.get(from, shown as usize) {
+            Some(_) if part.skip => Shown::Skipped,
+            Some(bytes) => Shown::Bytes(bytes),
+            None => Shown::Outside,
+        };
+        Some(Moved {
+            count,
+            way,
+            address: part.address,
+            bytes,
+            has_more: count > shown,
+        })
+    }
+
+    /// How it ended.
+    pub fn ending(&self) -> Ending {
+        match self.context.state() {
+            State::Running => {
+                let next = self.context.next();
+                let modifier = leaves_out(self.listing.links, next);
+                ending_of(&self.context.halted(), modifier, After::Next(next))
+            }
+            State::Ended(csw, sense) => ending_of(&csw, 0, After::Sense(sense)),
+        }
+    }
+}
+
+/// How a command ended that stored this CSW, with these bits of unit status too.
+fn ending_of(csw: &Csw, modifier: u16, after: After) -> Ending {
+    let mut image = [0; 8];
+    csw.write(&mut image);
+    let [_, _, _, _, unit, subchannel, high, low] = image;
+    Ending {
+        status: u16::from_be_bytes([unit, subchannel]) | modifier,
+        residual: u16::from_be_bytes([high, low]),
+        after,
+    }
+}
+
+/// The lowest address of `count` bytes that end where a part begins.
+fn lowest(part: &Segment, count: u32) -> u32 {
+    part.address.saturating_sub(count.saturating_sub(1))
+}
+
+/// How many bytes a command moved: those that its CCWs count up to the one where it ended, which it stored, but for
+/// what was left of that.
+fn moved_bytes(links: &[Link], stored: &Csw) -> u32 {
+    let mut moved: u32 = 0;
+    for link in links {
+        if link.at.saturating_add(8) == stored.address.get() {
+            let counted = link.ccw.count.saturating_sub(stored.residual);
+            return moved.saturating_add(u32::from(counted));
+        }
+        moved = moved.saturating_add(u32::from(link.ccw.count));
+    }
+    moved
+}
+
+/// Status modifier, where a program goes on at this address and so has left out the CCW after its last one.
+fn leaves_out(links: &[Link], next: u32) -> u16 {
+    match links.last() {
+        Some(link) if link.at.saturating_add(16) & 0xFF_FFFF == next => 0x4000,
+        _ => 0,
+    }
+}

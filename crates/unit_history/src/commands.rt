@@ -1,0 +1,133 @@
+//! The commands of a unit's programs, replayed from its trace one by one.
+
+use crate::command::Command;
+use ccw_programs::{Listing, Workspace};
+use device_port::{Device, Fault, Kind};
+use std::alloc::AllocError;
+use trace_replay::Replay;
+use unit_book::UnitBook;
+
+/// Which commands of a unit are described: the first `most`. `faults` are those that its device was to meet, in the order of
+/// their numbers.
+#[derive(Clone, Copy)]
+pub struct CommandList<'f> {
+    pub faults: &'f [Fault],
+    pub most: u64,
+}
+
+/// A replay of a unit's trace.
+#[derive(Drop)]
+pub struct Commands<'t, D: Device> {
+    replay: Replay<'t, D>,
+    /// Where the next command is put together.
+    listed: Workspace,
+    kind: Kind,
+    faults: &'t [Fault],
+    /// How many of the faults were met.
+    met: usize,
+    /// How many commands the device did: those whose CCWs kept the rules.
+    acted: u64,
+    /// How many more commands are described.
+    left: u64,
+    /// Whether a command was left out, and with it all that follow.
+    is_cut: bool,
+}
+
+/// What comes next of a replay.
+#[derive(Drop)]
+pub enum Next<'c> {
+    Command(Command<'c>),
+    /// No program runs. A legal trace counts no such command.
+    Idle,
+    /// The most commands were described, and the others are left out.
+    LeftOut,
+}
+
+impl<'t, D: Device> Commands<'t, D> {
+    /// Nothing is replayed.
+    pub fn of(
+        book: &'t UnitBook<D>,
+        commands: &CommandList<'t>,
+    ) -> Result<Commands<'t, D>, AllocError> {
+        Ok(Commands {
+            replay: Replay::of(book)?,
+            listed: Workspace::new(),
+            kind: book.mounted().kind(),
+            faults: commands.faults,
+            met: 0,
+            acted: 0,
+            left: commands.most,
+            is_cut: false,
+        })
+    }
+
+    /// Whether a command was left out.
+    pub fn is_cut(&self) -> bool {
+        self.is_cut
+    }
+
+    /// Replays the next entry, which is not of commands.
+    pub fn pass(&mut self) -> Result<(), AllocError> {
+        if !self.is_cut {
+            self.replay.step()?;
+        }
+        Ok(())
+    }
+
+    /// Replays the next command, and describes it: what is listed of it before, and then the places of its program and its
+    /// storage.
+    pub fn next_command(&mut self) -> Result<Next<'_>, AllocError> {
+        if self.left == 0 {
+            self.is_cut = true;
+            return Ok(Next::LeftOut);
+        }
+        self.left -= 1;
+        let Commands {
+            replay,
+            listed,
+            kind,
+            faults,
+            met,
+            acted,
+            ..
+        } = self;
+        let Some(listing) = replay.next_command(listed) else {
+            return Ok(Next::Idle);
+        };
+        let fault = met_by(&listing, faults, met, acted);
+        described(replay, *kind, listing, fault)
+    }
+}
+
+/// Replays the command of this listing, and describes it.
+fn described<'c, 't, D: Device>(
+    replay: &'c mut Replay<'t, D>,
+    kind: Kind,
+    listing: Listing<'c>,
+    fault: Option<usize>,
+) -> Result<Next<'c>, AllocError> {
+    replay.step()?;
+    let (Some(context), Some(area)) = (replay.context(), replay.area()) else {
+        return Ok(Next::Idle);
+    };
+    Ok(Next::Command(Command::new(kind, listing, context, area, fault)))
+}
+
+/// The number of the fault that a command met, from 1, if it met one.
+fn met_by(
+    listing: &Listing<'_>,
+    faults: &[Fault],
+    met: &mut usize,
+    acted: &mut u64,
+) -> Option<usize> {
+    if listing.refusal.is_some() {
+        return None;
+    }
+    *acted = acted.saturating_add(1);
+    let fault = faults.get(*met)?;
+    if fault.ordinal != *acted {
+        return None;
+    }
+    *met = met.saturating_add(1);
+    Some(*met)
+}

@@ -1,0 +1,120 @@
+//! What a history tells of an entry.
+
+use io_images::{Code, Csw, Extent};
+use request_piece::{Issued, Name, Scope};
+use unit_book::{Mode, ProcessingMethod};
+
+/// An event of a unit: an entry of its trace, or the turns of a program that follow one another.
+#[derive(Clone, Copy)]
+pub struct Event<'t> {
+    /// The number of its entry, from 1. Of turns it is the number of the first.
+    pub entry: usize,
+    pub told: Told<'t>,
+}
+
+/// What happened, and what the entries before it leave to be known of it.
+#[derive(Clone, Copy)]
+pub enum Told<'t> {
+    Opened {
+        dcb: u16,
+        method: ProcessingMethod,
+        extents: &'t [Extent],
+    },
+    Arrived(&'t Issued),
+    /// The number of the attempt counts from 1.
+    Started {
+        name: Name,
+        attempt: u32,
+    },
+    /// How many commands ran, and in how many turns.
+    Ran {
+        name: Name,
+        commands: u64,
+        turns: u64,
+    },
+    Halted(Name),
+    /// A purge, and the request that was active at it.
+    Purged {
+        scope: Scope,
+        mode: Mode,
+        active: Option<Name>,
+    },
+    Closed {
+        dcb: u16,
+    },
+    Reset {
+        dcb: u16,
+    },
+    Posted {
+        name: Name,
+        end: End,
+        cause: Cause,
+    },
+}
+
+/// How a request ended: its completion code, its CSW and its sense bytes.
+#[derive(Clone, Copy)]
+pub struct End {
+    pub code: Code,
+    pub csw: Csw,
+    pub sense: u16,
+}
+
+/// Why a request was posted, with the number of the entry that brought it about, if there is one.
+#[derive(Clone, Copy)]
+pub enum Cause {
+    /// Its program ended.
+    Program,
+    /// Its disk address is outside the extents of its DCB.
+    OutsideExtents,
+    /// It waited, and a purge covered it.
+    Purge(usize),
+    /// It waited, and its DCB was closed.
+    Close(usize),
+    /// Its DCB was not open when it arrived. The entry is the close.
+    NotOpen(Option<usize>),
+    /// It is related. The entry is the post of a related request of its DCB that ended in error.
+    RelatedError(Option<usize>),
+    /// A purge halted its program.
+    Halt(Option<usize>),
+    /// A purge with halt kept it from being tried again.
+    NotTriedAgain(Option<usize>),
+    /// No entry says. A legal trace has no such post.
+    Unknown,
+}
+
+impl Cause {
+    /// The number of the entry that brought it about.
+    pub fn entry(self) -> Option<usize> {
+        match self {
+            Cause::Program | Cause::OutsideExtents | Cause::Unknown => None,
+            Cause::Purge(entry) | Cause::Close(entry) => Some(entry),
+            Cause::NotOpen(entry)
+            | Cause::RelatedError(entry)
+            | Cause::Halt(entry)
+            | Cause::NotTriedAgain(entry) => entry,
+        }
+    }
+
+    /// Why it was not started or not ended by its program, in words.
+    pub fn in_words(self) -> Option<&'static str> {
+        match self {
+            Cause::Program | Cause::Unknown => None,
+            Cause::OutsideExtents => Some("its disk address is outside the extents"),
+            Cause::Purge(_) => Some("purged"),
+            Cause::Close(_) => Some("its DCB was closed"),
+            Cause::NotOpen(_) => Some("its DCB is not open"),
+            Cause::RelatedError(_) => Some("a related request ended in error"),
+            Cause::Halt(_) => Some("halted"),
+            Cause::NotTriedAgain(_) => Some("not tried again"),
+        }
+    }
+
+    /// Whether the request was posted without a start.
+    pub fn is_before_start(self) -> bool {
+        !matches!(
+            self,
+            Cause::Program | Cause::Halt(_) | Cause::NotTriedAgain(_)
+        )
+    }
+}
