@@ -1,0 +1,3 @@
+-- The text of a page.
+pub mod Escape
+pub mod Share

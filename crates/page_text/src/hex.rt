@@ -1,0 +1,140 @@
+//! Bytes in hexadecimal, with the characters that they are.
+
+use crate::escape::{Ebcdic, Escaped};
+use std::fmt;
+
+/// The bytes of a line.
+const LINE: usize = 16;
+
+/// The bytes of a group of a line.
+const GROUP: usize = 4;
+
+/// The columns that the digits of a full line take.
+const COLUMNS: usize = 35;
+
+/// How few bytes are not taken for ASCII, whatever they are.
+const SHORTEST_ASCII: usize = 4;
+
+/// Bytes in hexadecimal, 16 a line in groups of four, with line feeds between the lines. After the digits is the EBCDIC of
+/// the line in an `i` element. If all bytes are visible ASCII and there are at least four, their ASCII follows in a `u`
+/// element.
+#[derive(Clone, Copy)]
+pub struct HexLines<'a> {
+    bytes: &'a [u8],
+    address: Option<u64>,
+    indent: &'static str,
+}
+
+impl<'a> HexLines<'a> {
+    pub fn new(bytes: &'a [u8]) -> HexLines<'a> {
+        HexLines {
+            bytes,
+            address: None,
+            indent: "",
+        }
+    }
+
+    /// The same, each line with the address of its first byte. That of the first line is `address`.
+    pub fn with_address(self, address: u64) -> HexLines<'a> {
+        HexLines {
+            address: Some(address),
+            ..self
+        }
+    }
+
+    /// The same, each line after this text.
+    pub fn with_indent(self, indent: &'static str) -> HexLines<'a> {
+        HexLines { indent, ..self }
+    }
+
+    /// Whether the lines show ASCII.
+    fn is_ascii(self) -> bool {
+        self.bytes.len() >= SHORTEST_ASCII
+            && self.bytes.iter().all(|byte| matches!(*byte, b' '..=b'~'))
+    }
+
+    /// Whether there are several lines, whose characters begin in the same column.
+    fn is_table(self) -> bool {
+        self.bytes.len() > LINE
+    }
+
+    /// Writes the line with this number.
+    fn write_line<W: fmt::Write>(
+        self,
+        f: &mut fmt::Formatter<W>,
+        number: usize,
+        part: &[u8],
+        is_ascii: bool,
+    ) -> fmt::Result {
+        f.write_str(self.indent)?;
+        if let Some(address) = self.address {
+            let before = (number as u64).saturating_mul(LINE as u64);
+            write!(f, "{:06X}  ", address.saturating_add(before))?;
+        }
+        write!(f, "{}", Digits(part))?;
+        if self.is_table() {
+            f.write_repeated(" ", COLUMNS.saturating_sub(columns_of(part)))?;
+        }
+        write!(f, "  <i>{}</i>", Ebcdic(part))?;
+        if !is_ascii {
+            return Ok(());
+        }
+        let blanks = if self.is_table() {
+            (LINE + 2).saturating_sub(part.len())
+        } else {
+            2
+        };
+        f.write_repeated(" ", blanks)?;
+        write!(f, "<u>{}</u>", Escaped(Ascii(part)))
+    }
+}
+
+impl<'a> fmt::Display for HexLines<'a> {
+    fn fmt<W: fmt::Write>(&self, f: &mut fmt::Formatter<W>) -> fmt::Result {
+        let is_ascii = self.is_ascii();
+        for (number, part) in self.bytes.chunks(LINE).enumerate() {
+            if number > 0 {
+                f.write_str("\n")?;
+            }
+            self.write_line(f, number, part, is_ascii)?;
+        }
+        Ok(())
+    }
+}
+
+/// How many columns the digits of a line take.
+fn columns_of(part: &[u8]) -> usize {
+    let groups = part.len().div_ceil(GROUP);
+    part.len()
+        .saturating_mul(2)
+        .saturating_add(groups.saturating_sub(1))
+}
+
+/// The digits of a line, with a blank between groups.
+#[derive(Clone, Copy)]
+struct Digits<'a>(&'a [u8]);
+
+impl<'a> fmt::Display for Digits<'a> {
+    fn fmt<W: fmt::Write>(&self, f: &mut fmt::Formatter<W>) -> fmt::Result {
+        for (place, byte) in self.0.iter().enumerate() {
+            if place > 0 && place % GROUP == 0 {
+                f.write_str(" ")?;
+            }
+            write!(f, "{byte:02X}")?;
+        }
+        Ok(())
+    }
+}
+
+/// Bytes as text in ASCII.
+#[derive(Clone, Copy)]
+struct Ascii<'a>(&'a [u8]);
+
+impl<'a> fmt::Display for Ascii<'a> {
+    fn fmt<W: fmt::Write>(&self, f: &mut fmt::Formatter<W>) -> fmt::Result {
+        for byte in self.0 {
+            f.write_char(char::from(*byte))?;
+        }
+        Ok(())
+    }
+}

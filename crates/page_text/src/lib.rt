@@ -1,0 +1,17 @@
+//! What all parts of an HTML page need: text that cannot break the page, numbers, and bytes in hexadecimal. Nothing takes
+//! memory.
+//!
+//! Tests: none yet. No program draws pages.
+#![tactic(auto)]
+
+mod escape;
+mod hex;
+mod measure;
+mod numbers;
+mod percent;
+
+pub use escape::{Ebcdic, Escaped};
+pub use hex::HexLines;
+pub use measure::Measure;
+pub use numbers::{Counted, Grouped};
+pub use percent::Percent;
