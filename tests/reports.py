@@ -192,11 +192,14 @@ def check_parts(run):
         for event in unit["events"]:
             require(event["entry"] == entries + 1, f"unit {number}: entry {event['entry']} follows {entries}")
             entries += event.get("turns", 1)
-            if event["what"] == "posted":
+            if event["what"] == "posted" and (event["task"], number, event["request"]) in posts:
                 post = posts[event["task"], number, event["request"]]
                 same = all(post[key] == event[key] for key in ("code", "address", "status", "residual", "sense"))
                 require(same, f"unit {number}, entry {event['entry']}: another post than that of the task")
                 seen += 1
+            elif event["what"] == "posted":
+                # a scenario may end before a task has its post
+                require(run["order"] == "run", f"unit {number}, entry {event['entry']}: no task has this post")
             if event["what"] in ("purge", "closed", "reset"):
                 by = controls.pop((number, event["entry"]), None)
                 require(event["by"] == by, f"unit {number}, entry {event['entry']} is by {event['by']}, and task {by} made it")
@@ -240,16 +243,25 @@ def check_tasks(run, script):
         require(not issued, f"task {task} did not collect {sorted(issued)[:3]}")
 
 
-def check_iobs(run, script):
-    """Each IOB is as its script has it, with what a post writes into it, unless its program stored bytes there."""
-    areas, numbers, due = {}, {}, {}
+def areas_of(script):
+    """The areas of a script: of each the first address, and the bytes."""
+    words = [line.split() for line in script.splitlines() if line.startswith("area ")]
+    return {it[1]: (int(it[2], 16), bytes.fromhex("".join(it[3:]).replace("-", ""))) for it in words}
+
+
+def requests_of(script):
+    """The requests of a script by their names: of each the address of its IOB, and its area."""
+    areas, numbers, requests = areas_of(script), {}, {}
     for words in map(str.split, script.splitlines()):
-        if words and words[0] == "area":
-            areas[words[1]] = int(words[2], 16), bytes.fromhex("".join(words[3:]).replace("-", ""))
-        elif words and words[0] == "excp":
+        if words and words[0] == "excp":
             key = int(words[1]), int(words[2])
             numbers[key] = numbers.get(key, 0) + 1
-            due[*key, numbers[key]] = int(words[4], 16), areas[words[5]]
+            requests[*key, numbers[key]] = int(words[4], 16), areas[words[5]]
+    return requests
+
+
+def check_iobs(run, due):
+    """Each IOB is as its request has it, with what a post writes into it, unless its program stored bytes there."""
     stored = {}
     for unit in run["units"]:
         for event in unit["events"]:
@@ -275,7 +287,7 @@ def check(run, script):
     check_parts(run)
     check_causes(run)
     check_tasks(run, script)
-    check_iobs(run, script)
+    check_iobs(run, requests_of(script))
 
 
 # --- the text report of it

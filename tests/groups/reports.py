@@ -1,25 +1,36 @@
-"""Reports as JSON (docs/REPORT.md): of every sample, every script of tests/cases that runs, and every stored history.
+"""Reports as JSON (docs/REPORT.md): of every sample, every script of tests/cases that runs, every stored history, and every
+scenario.
 
 tests/reports.py judges each without the program: its form, by the example of docs/REPORT.md; the posts, which are those that are
 stored; what its parts say of one another and of the script; the cause of each post, by the rules of docs/SPECIFICATION.md; and the
-text report that it comes to, which is the stored one if its history is.
+text report that it comes to, which is the stored one if its history is. tests/scenario_reports.py judges that of a scenario by what
+`step --trace` prints, too.
 """
 
 import glob
 import json
 import os
 import random
+import re
 import tempfile
 
 import reports
+import scenario_reports
 from groups import random as at_random
 from groups.samples import without_history
+from groups.scenarios import AT_ONCE, BY_COMMANDS, OTHERS, disturbed, every_command, scenarios
+from groups.scenarios import COMMANDS as COMMANDS_OF_UNITS
 from harness import SAMPLES, TOP, Case, Failed, expect, expect_text, files, multiple, read, require, run
 
-# How many jobs at random there are, also in the long form, and how many are one case.
+# How many jobs and scenarios at random there are, also in the long form, and how many are one case.
 JOBS = 100
 JOBS_LONG = 2000
 BATCH = 25
+
+# How many events a scenario at random has.
+EVENTS = 150
+
+HALT = f"{SAMPLES}/scenarios/halt-an-active-request.scenario"
 
 ORIGIN = "docs/REPORT.md, docs/SPECIFICATION.md and docs/MANUAL.md"
 
@@ -69,11 +80,77 @@ def are_right(setup, seed):
         reports.check(as_json(ran), script)
 
 
-def is_shortened(setup, script):
+def scenario_at_random(chance):
+    """Two tasks and three units do something at random, and end in half of the scenarios."""
+    events = []
+    for _ in range(EVENTS):
+        task, unit, dcb, mode = chance.randrange(2), chance.randrange(3), chance.randint(1, 2), chance.choice(["halt", "quiesce"])
+        area = at_random.area_of(dcb, chance.random() < 0.4, chance.choices(at_random.KINDS, [34, 6, 3, 4])[0])
+        each = {
+            f"excp {task} {unit} {dcb} 001000 {area} 001060 4": 30,
+            f"take {unit}": 30,
+            f"start {unit}": 20,
+            f"run {unit} {chance.choice([1, 2, 300, 5000])}": 30,
+            f"interrupt {unit}": 20,
+            f"deliver {unit}": 8,
+            f"collect {task}": 8,
+            f"serve {unit}": 4,
+            f"settle {unit}": 1,
+            f"purge {task} {unit} {dcb} {mode}": 6,
+            f"purgetask {task} {chance.randrange(3) % 2} {mode}": 3,
+            f"close {task} {unit} {chance.randint(2, 3)}": 1,
+            f"reset {task} {unit} {dcb}": 4,
+            f"open {unit} out {at_random.TRACK}": 1,
+        }
+        events += chance.choices(list(each), list(each.values()))
+    rooms = ["room intake 3", "room post 2", "room book 1 2"] if chance.random() < 0.5 else []
+    return "\n".join([*at_random.SET_UP, *rooms, *events, *(["finish"] if chance.random() < 0.5 else []), ""])
+
+
+def scenario_is_right(setup, script, status=0):
+    """The JSON of a scenario is right, and the same without locks."""
+    traced = setup.run("step", "--trace", script=script)
+    require(traced.status == status, "the scenario fails", traced)
+    ran, plain = (setup.run("step", "--json", *words, script=script) for words in ((), ("--plain",)))
+    require((ran.status, ran.err) == (status, traced.err), "another status or another error", ran)
+    require((plain.status, plain.out, plain.err) == (ran.status, ran.out, ran.err), "with --plain it prints something else", plain)
+    try:
+        found = json.loads(ran.out)
+    except ValueError as error:
+        raise Failed(f"this is no JSON: {error}", ran, None, ran.out[:2000]) from error
+    scenario_reports.check(found, script, traced.out)
+
+
+def scenarios_are_right(setup, give):
+    """The JSON of each of some scenarios is right."""
+    for script in give():
+        scenario_is_right(setup, script)
+
+
+def scenarios_at_random(seed):
+    """Scenarios at random."""
+    chance = random.Random(seed)
+    return [scenario_at_random(chance) for _ in range(BATCH)]
+
+
+def ends_early(setup, script, wanted):
+    """A scenario with faults or failed expectations: these are printed as ever. Its JSON is printed too, unless a line before its
+    end has a fault."""
+    end = next((at for at, line in enumerate(script.splitlines(), 1) if line.split() == ["finish"]), None)
+    lines = wanted.splitlines()
+    faults = [int(line.split(":")[1]) for line in lines if re.match(r"<stdin>:\d+: (?!expected: )", line)]
+    is_ended = all("expected: " in line for line in lines) or (end is not None and faults != [] and min(faults) > end)
+    if is_ended:
+        scenario_is_right(setup, script, 1)
+    else:
+        expect(setup.run("step", "--json", script=script), (1, "", wanted))
+
+
+def is_shortened(setup, script, words=("report",)):
     """With `--most-steps N`, each unit has its first N commands."""
-    whole = as_json(setup.run("report", "--json", script=script))
+    whole = as_json(setup.run(*words, "--json", script=script))
     for most in 1, 3:
-        part = as_json(setup.run("report", "--json", "--most-steps", str(most), script=script))
+        part = as_json(setup.run(*words, "--json", "--most-steps", str(most), script=script))
         for long, short in zip(whole["units"], part["units"]):
             steps = [it for event in long["events"] for it in reports.unfolded(event.get("steps", []))]
             left = [it for event in short["events"] for it in reports.unfolded(event.get("steps", []))]
@@ -104,11 +181,10 @@ def seen(byte):
     return "." if text < " " or "\x7f" <= text <= "\xa0" or text == "\xad" else text
 
 
-def writes_to_its_end(setup):
-    """A writer that fails is reported, and a reader that goes away is not."""
-    script = read(f"{SAMPLES}/read-a-tape.script")
+def writes_to_its_end(setup, word, file):
+    """A writer that fails is reported."""
     with open("/dev/full", "w", encoding="ascii") as full:
-        ran = run([setup.program, "report", "--json"], script, stdout=full)
+        ran = run([setup.program, word, "--json"], read(file), stdout=full)
     expect(ran, (1, "", "excp_job: output not written\n"))
 
 
@@ -139,4 +215,25 @@ def cases(setup):
     for seed in range((JOBS_LONG if setup.is_long else JOBS) // BATCH):
         yield Case(f"JSON of {BATCH} jobs at random, {seed}", lambda s=seed: are_right(setup, s), ORIGIN)
     yield Case("hostile names and bytes", lambda: escapes(setup), f"{ORIGIN}, and Python's cp037")
-    yield Case("a writer that fails", lambda: writes_to_its_end(setup), "docs/MANUAL.md")
+    for word, file in (("report", f"{SAMPLES}/read-a-tape.script"), ("step", HALT)):
+        yield Case(f"a writer that fails: {word}", lambda w=word, f=file: writes_to_its_end(setup, w, f), "docs/MANUAL.md")
+    yield from scenario_cases(setup)
+
+
+def scenario_cases(setup):
+    for file in scenarios():
+        yield Case(f"JSON of {os.path.relpath(file, TOP)}", lambda f=file: scenario_is_right(setup, read(f)), ORIGIN)
+    for file in files("scenarios", ".findings"):
+        for name, script, wanted, place in multiple(file):
+            yield Case(f"JSON of {name}, {place}", lambda s=script, w=wanted: ends_early(setup, s, w), ORIGIN)
+    for service in AT_ONCE, BY_COMMANDS:
+        for other in OTHERS:
+            give = lambda s=service, o=other: [disturbed(s, o, at) for at in range(8 + 4 * len(s))]
+            yield Case(f"JSON with {other} before each of {len(service)} calls", lambda g=give: scenarios_are_right(setup, g), ORIGIN)
+    for unit, commands in COMMANDS_OF_UNITS.items():
+        give = lambda u=unit, c=commands: [every_command(u, c)]
+        yield Case(f"JSON of every command of a {unit.split()[0]}", lambda g=give: scenarios_are_right(setup, g), ORIGIN)
+    for seed in range((JOBS_LONG if setup.is_long else JOBS) // BATCH):
+        give = lambda s=seed: scenarios_at_random(s)
+        yield Case(f"JSON of {BATCH} scenarios at random, {seed}", lambda g=give: scenarios_are_right(setup, g), ORIGIN)
+    yield Case("some steps of a scenario", lambda: is_shortened(setup, read(HALT), ("step",)), ORIGIN)

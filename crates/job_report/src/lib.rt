@@ -11,5 +11,5 @@ mod units;
 
 pub use medium::{are_declarable, write_medium};
 pub use post::write_post;
-pub use records::unit_records;
+pub use records::{unit_record, unit_records};
 pub use units::write_units;

@@ -1,7 +1,7 @@
 //! The units of a script, as reports of every form show them.
 
 use any_device::AnyDevice;
-use job_script::{Medium, SetUp};
+use job_script::{Medium, SetUp, UnitSetup};
 use run_record::{Room, UnitRecord};
 use std::alloc::{AllocError, Global};
 use unit_book::UnitBook;
@@ -16,14 +16,23 @@ pub fn unit_records<'a>(
 ) -> Result<Vec<UnitRecord<'a>>, AllocError> {
     let mut records = Vec::with_capacity(alloc, books.len())?;
     for (number, (unit, book)) in set_up.units.iter().zip(books).enumerate() {
-        records.push(UnitRecord {
-            book,
-            faults: &unit.faults,
-            room: room_of(&unit.medium),
-            places: places_of(places, number),
-        })?;
+        records.push(unit_record(unit, book, places_of(places, number)))?;
     }
     Ok(records)
+}
+
+/// A unit of a script, with its book, and the places of its entries in one order of all units, if the run has one.
+pub fn unit_record<'a>(
+    unit: &'a UnitSetup,
+    book: &'a UnitBook<AnyDevice>,
+    places: Option<&'a [usize]>,
+) -> UnitRecord<'a> {
+    UnitRecord {
+        book,
+        faults: &unit.faults,
+        room: room_of(&unit.medium),
+        places,
+    }
 }
 
 /// The places of the entries of a unit.

@@ -1,15 +1,13 @@
 //! What carries out the events of a scenario: units with their books, and rows between them and the tasks.
 
-ghost use Rattle.std.specs.Prelude.{◌≡◌, ◌<◌, ◌≤◌, ℕ, vec_len, IfErr, IfOk};
+ghost use Rattle.std.specs.Prelude.{◌≡◌, ◌<◌, ◌≤◌, ℕ, vec_len, IfOk};
 ghost use Rattle.job_mount.specs.Requests.{CanIssue};
-ghost use Rattle.job_step.specs.Faults.{IsStepFault};
 
 use crate::answer::Issuing;
-use crate::media::{Keeper, Media};
-use crate::shown::Shown;
+use crate::books::{Books, Finished};
 use crate::view::View;
 use io_images::Extent;
-use job_script::{DcbName, Excp, JobError};
+use job_script::{DcbName, Excp};
 use request_piece::Posted;
 use std::alloc::{AllocError, Global};
 use unit_book::{
@@ -125,18 +123,13 @@ pub trait Carrier: Drop {
     fn skip(&self, unit: u16, view: &mut View)
         requires unit { unit < units self.now };
 
-    /// Hands over the medium of a unit.
-    fn keep<K: Keeper>(&self, unit: u16, media: &mut Media<'_, K>)
+    /// How many entries the trace of a unit has.
+    fn entries(&self, unit: u16) -> usize
         requires unit { unit < units self.now };
 
-    /// Ends every request. Returns the answer: how many posts the tasks had not collected, and each of these posts. Adds to
-    /// the view what is to be printed of each unit, and hands over its medium.
-    fn finish<K: Keeper>(
-        self,
-        alloc: Global,
-        shown: &Shown,
-        view: &mut View,
-        media: &mut Media<'_, K>,
-    ) -> Result<Vec<u8>, JobError>
-        ensures { IfErr result IsStepFault };
+    /// Ends every request. Out of memory ends the scenario.
+    fn finish(self, alloc: Global) -> Result<Finished, AllocError>;
+
+    /// The books of the units, in which requests may wait or be active. Out of memory ends the scenario.
+    fn into_books(self, alloc: Global) -> Result<Books, AllocError>;
 }

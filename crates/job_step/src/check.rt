@@ -4,10 +4,10 @@ ghost use Rattle.std.specs.Prelude.{◌≡◌, ◌≤◌, IfErr, vec_len};
 ghost use Rattle.job_step.specs.Faults.{IsStepFault};
 
 use crate::lines::Lines;
+use crate::past::Past;
 use crate::printer::Printer;
 use crate::report::{after_finish, mounted_images};
 use crate::set_up::{Plan, read_line};
-use crate::shown::Shown;
 use crate::stepper::Stepper;
 use crate::unmade::Unmade;
 use crate::view::{View, Views};
@@ -82,12 +82,8 @@ fn check_lines<I: Read + Drop, W: Write, E: Write>(
         tasks: plan.set_up.tasks,
     };
     let view = View::new(alloc, printer.views(), 0)?;
-    let shown = Shown::new(
-        alloc,
-        usize::from(plan.set_up.tasks),
-        plan.set_up.units.len(),
-    )?;
-    let mut stepper = Stepper::new(alloc, carrier, &plan.set_up, shown, view, number);
+    let past = Past::new(alloc, plan.set_up.tasks, plan.set_up.units.len())?;
+    let mut stepper = Stepper::new(alloc, carrier, &plan.set_up, past, view, number);
     match first {
         Some(first) => check_events(alloc, &mut stepper, first, lines, printer),
         None => Ok(()),

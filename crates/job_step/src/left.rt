@@ -1,22 +1,17 @@
 //! What is left at a site without locks, brought to its end.
 
-ghost use Rattle.std.specs.Prelude.{◌≡◌, ◌<◌, ◌≤◌, IfErr, length};
-ghost use Rattle.job_step.specs.Faults.{IsStepFault};
+ghost use Rattle.std.specs.Prelude.{◌≡◌, ◌<◌, length};
 
-use crate::answer::write_posted;
 use crate::lists::Lists;
-use crate::shown::Shown;
 use any_device::AnyDevice;
-use job_script::JobError;
 use request_piece::Posted;
 use std::alloc::{AllocError, Global};
-use std::io::Write;
 use unit_book::{Delivery, Intake};
 use unit_world::PlainSite;
 
 /// The posts that were not collected, those of each task and unit in order.
 #[derive(Drop)]
-pub struct Left {
+struct Left {
     posts: Lists<Posted>,
 }
 
@@ -35,46 +30,16 @@ impl Left {
             None => Ok(()),
         }
     }
-
-    /// How many posts there are, and each on a line of its own.
-    pub fn written(&self, alloc: Global, shown: &Shown) -> Result<Vec<u8>, JobError>
-        ensures { IfErr result IsStepFault }
-    {
-        let mut answer = Vec::new(alloc);
-        match self.write(&mut answer, shown) {
-            Ok(()) => Ok(answer),
-            Err(_) => Err(JobError::NoMemory),
-        }
-    }
-
-    fn write(&self, out: &mut Vec<u8>, shown: &Shown) -> std::io::Result<()> {
-        let mut count: usize = 0;
-        for list in self.posts.all() {
-            count = count.saturating_add(list.len());
-        }
-        write!(out, "Finished {count}")?;
-        for list in self.posts.all() {
-            write_list(out, list, shown)?;
-        }
-        Ok(())
-    }
 }
 
-fn write_list(out: &mut Vec<u8>, posts: &[Posted], shown: &Shown) -> std::io::Result<()> {
-    for posted in posts {
-        out.write_all(b"\n")?;
-        write_posted(out, posted, shown.of(posted))?;
-    }
-    Ok(())
-}
-
-/// Ends every request of a site of these numbers of units and tasks, and returns the posts that were not collected.
+/// Ends every request of a site of these numbers of units and tasks, and returns the posts that were not collected, in order
+/// of tasks, units and posting.
 pub fn gather(
     alloc: Global,
     site: &mut PlainSite<AnyDevice>,
     units: u16,
     tasks: u16,
-) -> Result<Left, AllocError>
+) -> Result<Vec<Posted>, AllocError>
     requires { units ≡ length site.old.units }
     ensures { length site.new.units ≡ length site.old.units }
 {
@@ -84,7 +49,7 @@ pub fn gather(
             break;
         }
     }
-    Ok(left)
+    left.posts.into_items(alloc)
 }
 
 /// Does all that units and tasks can do. Returns whether nothing is left.

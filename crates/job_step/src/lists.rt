@@ -21,14 +21,13 @@ impl<T: Drop> Lists<T> {
         Ok(Lists { units, lists })
     }
 
-    /// All lists, in the order of the tasks.
-    pub fn all(&self) -> &[Vec<T>] {
-        &self.lists
-    }
-
-    /// The list of a task and a unit, if there are such.
-    pub fn get(&self, task: u16, unit: u16) -> Option<&Vec<T>> {
-        self.lists.get(self.place(task, unit)?)
+    /// The items of all lists, in the order of the tasks.
+    pub fn into_items(self, alloc: Global) -> Result<Vec<T>, AllocError> {
+        let mut items = Vec::new(alloc);
+        for mut list in self.lists {
+            items.append(&mut list)?;
+        }
+        Ok(items)
     }
 
     /// The list of a task and a unit, if there are such.

@@ -1,30 +1,25 @@
 //! Units under locks and real rows, used by one thread.
 
-ghost use Rattle.std.specs.Prelude.{◌≡◌, ◌<◌, ◌≤◌, IfErr, length};
+ghost use Rattle.std.specs.Prelude.{◌≤◌};
 ghost use Rattle.excp_system.specs.Drained.{ArePlaced};
-ghost use Rattle.post_ledger.specs.Report.{IsFor};
-ghost use Rattle.post_ledger.specs.Work.{lists_of};
-ghost use Rattle.job_step.specs.Faults.{IsStepFault};
 
-use crate::answer::{Issuing, write_posted};
+use crate::answer::Issuing;
+use crate::books::{Books, Finished};
 use crate::carrier::Carrier;
-use crate::media::{Keeper, Media};
-use crate::shown::Shown;
 use crate::view::View;
 use any_device::AnyDevice;
 use excp_system::{Site, System, Task};
 use fifo_row::Full;
 use io_images::Extent;
 use job_mount::request;
-use job_script::{DcbName, Excp, JobError};
-use post_ledger::{Report, finish};
+use job_script::{DcbName, Excp};
+use post_ledger::{Posts, finish};
 use request_piece::Posted;
 use std::alloc::{AllocError, Global};
-use std::io::Write;
 use std::sync::Wait;
 use unit_book::{
     Closing, DcbError, Delivery, Intake, Interruption, Mode, OpenError, ProcessingMethod, Purging,
-    Running, Starting, UnitBook,
+    Running, Starting,
 };
 
 /// The units of a site under their locks, and its tasks.
@@ -132,103 +127,42 @@ impl<'a, 'r, S: Site, R: Wait> Carrier for Locked<'a, 'r, S, R> {
         view.skip(unit, state.book());
     }
 
-    fn keep<K: Keeper>(&self, unit: u16, media: &mut Media<'_, K>) {
+    fn entries(&self, unit: u16) -> usize {
         let state = self.system.lock_of(unit).lock(self.rt);
-        media.keep(unit, state.book());
+        state.book().trace().len()
     }
 
-    fn finish<K: Keeper>(
-        self,
-        alloc: Global,
-        shown: &Shown,
-        view: &mut View,
-        media: &mut Media<'_, K>,
-    ) -> Result<Vec<u8>, JobError> {
+    fn finish(self, alloc: Global) -> Result<Finished, AllocError> {
         let Locked { rt, system, tasks } = self;
-        let count = tasks.len() as u16;
-        let report = match finish(rt, alloc, system, tasks) {
-            Ok(report) => report,
-            Err(_) => return Err(JobError::NoMemory),
+        let Ok(report) = finish(rt, alloc, system, tasks) else {
+            return Err(AllocError);
         };
-        keep_media(report.units(), media);
-        let mut answer = Vec::new(alloc);
-        let written = write_rest(&mut answer, &report, count, shown);
-        match written.and(show_books(report.units(), view)) {
-            Ok(()) => Ok(answer),
-            Err(_) => Err(JobError::NoMemory),
+        let (books, lists) = report.into_parts();
+        Ok(Finished {
+            books: Books::List(books),
+            posts: posts_of(alloc, lists)?,
+        })
+    }
+
+    fn into_books(self, alloc: Global) -> Result<Books, AllocError> {
+        let Locked { system, .. } = self;
+        let units = system.into_units()?;
+        let mut books = Vec::with_capacity(alloc, units.len())?;
+        for unit in units {
+            let (book, _, _, _) = unit.into_parts();
+            books.push(book)?;
+        }
+        Ok(Books::List(books))
+    }
+}
+
+/// The posts of all tasks, in order of tasks and units.
+fn posts_of(alloc: Global, tasks: Vec<Posts>) -> Result<Vec<Posted>, AllocError> {
+    let mut posts = Vec::new(alloc);
+    for task in tasks {
+        for mut list in task.into_units() {
+            posts.append(&mut list)?;
         }
     }
-}
-
-/// Adds to the view what is to be printed of each unit.
-fn show_books(books: &[UnitBook<AnyDevice>], view: &mut View) -> std::io::Result<()>
-    requires { length books.now ≤ 64 }
-{
-    for unit in 0..books.len() {
-        view.add(unit as u16, &books[unit])?;
-    }
-    Ok(())
-}
-
-/// Hands over the medium of each unit.
-fn keep_media<K: Keeper>(books: &[UnitBook<AnyDevice>], media: &mut Media<'_, K>)
-    requires { length books.now ≤ 64 }
-{
-    for unit in 0..books.len() {
-        media.keep(unit as u16, &books[unit]);
-    }
-}
-
-/// Writes how many posts the tasks had not collected, and each of these posts, in order of tasks and units.
-fn write_rest(
-    out: &mut Vec<u8>,
-    report: &Report<AnyDevice>,
-    tasks: u16,
-    shown: &Shown,
-) -> std::io::Result<()>
-    requires lists { IsFor (length report.now.books) tasks report.now }
-    requires few_units { length report.now.books ≤ 64 }
-{
-    let units = report.units().len() as u16;
-    let mut count: usize = 0;
-    for task in 0..tasks {
-        count = count.saturating_add(left_of(report, task, units));
-    }
-    write!(out, "Finished {count}")?;
-    for task in 0..tasks {
-        write_left(out, report, task, units, shown)?;
-    }
-    Ok(())
-}
-
-/// The number of posts that a task had not collected.
-fn left_of(report: &Report<AnyDevice>, task: u16, units: u16) -> usize
-    requires task { task < length report.now.lists }
-    requires units { length (lists_of report.now.lists task) ≡ units }
-{
-    let mut count: usize = 0;
-    for unit in 0..units {
-        count = count.saturating_add(report.posts(task, unit).len());
-    }
-    count
-}
-
-/// Writes the posts that a task had not collected, each on a line of its own.
-fn write_left(
-    out: &mut Vec<u8>,
-    report: &Report<AnyDevice>,
-    task: u16,
-    units: u16,
-    shown: &Shown,
-) -> std::io::Result<()>
-    requires task { task < length report.now.lists }
-    requires units { length (lists_of report.now.lists task) ≡ units }
-{
-    for unit in 0..units {
-        for posted in report.posts(task, unit) {
-            out.write_all(b"\n")?;
-            write_posted(out, posted, shown.of(posted))?;
-        }
-    }
-    Ok(())
+    Ok(posts)
 }

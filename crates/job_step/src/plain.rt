@@ -4,15 +4,14 @@ ghost use Rattle.std.specs.Prelude.{◌≡◌, ◌<◌, ◌≤◌, length, IfOk}
 ghost use Rattle.excp_system.specs.Opening.{AreBooks};
 
 use crate::answer::Issuing;
+use crate::books::{Books, Finished};
 use crate::carrier::Carrier;
-use crate::left::{Left, gather};
-use crate::media::{Keeper, Media};
-use crate::shown::Shown;
+use crate::left::gather;
 use crate::view::View;
 use any_device::AnyDevice;
 use io_images::Extent;
 use job_mount::request;
-use job_script::{DcbName, Excp, JobError};
+use job_script::{DcbName, Excp};
 use request_piece::Posted;
 use std::alloc::{AllocError, Global};
 use unit_book::{
@@ -134,45 +133,23 @@ impl Carrier for Plain {
         view.skip(unit, self.site.book(unit));
     }
 
-    fn keep<K: Keeper>(&self, unit: u16, media: &mut Media<'_, K>) {
-        media.keep(unit, self.site.book(unit));
+    fn entries(&self, unit: u16) -> usize {
+        self.site.book(unit).trace().len()
     }
 
-    fn finish<K: Keeper>(
-        self,
-        alloc: Global,
-        shown: &Shown,
-        view: &mut View,
-        media: &mut Media<'_, K>,
-    ) -> Result<Vec<u8>, JobError> {
+    fn finish(self, alloc: Global) -> Result<Finished, AllocError> {
         let Plain { site } = self;
         let mut site = site;
         let units = site.units() as u16;
         let tasks = site.tasks() as u16;
-        let left = gather(alloc, &mut site, units, tasks)?;
-        if show_units(&site, units, view).is_err() {
-            return Err(JobError::NoMemory);
-        }
-        keep_media(&site, units, media);
-        left.written(alloc, shown)
+        let posts = gather(alloc, &mut site, units, tasks)?;
+        Ok(Finished {
+            books: Books::Site(site),
+            posts,
+        })
     }
-}
 
-/// Adds to the view what is to be printed of each unit.
-fn show_units(site: &PlainSite<AnyDevice>, units: u16, view: &mut View) -> std::io::Result<()>
-    requires { units ≡ length site.now.units }
-{
-    for unit in 0..units {
-        view.add(unit, site.book(unit))?;
-    }
-    Ok(())
-}
-
-/// Hands over the medium of each unit.
-fn keep_media<K: Keeper>(site: &PlainSite<AnyDevice>, units: u16, media: &mut Media<'_, K>)
-    requires { units ≡ length site.now.units }
-{
-    for unit in 0..units {
-        media.keep(unit, site.book(unit));
+    fn into_books(self, _alloc: Global) -> Result<Books, AllocError> {
+        Ok(Books::Site(self.site))
     }
 }

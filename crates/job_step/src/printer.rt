@@ -91,6 +91,11 @@ impl<'a, W: Write, E: Write> Printer<'a, W, E> {
         self.is_met
     }
 
+    /// The name of the scenario.
+    pub fn title(&self) -> &'a str {
+        self.source.name
+    }
+
     /// What is printed of the units after each answer.
     pub fn views(&self) -> Views {
         self.views

@@ -4,15 +4,17 @@ ghost use Rattle.std.specs.Prelude.{◌≡◌, ◌≤◌, IfErr, vec_len};
 ghost use Rattle.excp_system.specs.Opening.{AreBooks, AreFresh, site_of};
 ghost use Rattle.job_step.specs.Faults.{EndsStep, IsStepFault};
 
+use crate::books::Finished;
 use crate::carrier::Carrier;
+use crate::end::{answer_of, hand_over, show};
 use crate::fault::StepError;
+use crate::keeper::{Keeper, Media, NoKeeper};
 use crate::lines::Lines;
 use crate::locked::Locked;
-use crate::media::{Keeper, Media, NoKeeper};
+use crate::past::Past;
 use crate::plain::Plain;
 use crate::printer::Printer;
 use crate::set_up::{Plan, read_line};
-use crate::shown::Shown;
 use crate::stepper::Stepper;
 use crate::view::{View, Views};
 use any_device::AnyDevice;
@@ -20,7 +22,7 @@ use excp_system::{Rows, Site, System};
 use job_check::{Finding, Source, mount_faults_but};
 use job_media::{MediaError, MountedImages, mount_images, sizes_of};
 use job_scenario::{Event, ScenarioLine};
-use job_script::{Cause, FaultName, JobError, LIMIT, Line};
+use job_script::{Cause, FaultName, JobError, LIMIT, Line, SetUp};
 use medium_image::Image;
 use std::alloc::Global;
 use std::io::{Read, Write};
@@ -67,8 +69,9 @@ pub struct Images<'a, K: Keeper> {
     pub keeper: &'a mut K,
 }
 
-/// Does so with the media of units from images. The keeper gets the medium of each unit at `finish`, or at the end of a
-/// scenario without it. If it does not let the scenario begin, or a line before has a fault, it gets none.
+/// Does so with the media of units from images. The keeper gets the medium of each unit and the record of the scenario at
+/// `finish`, or at the end of a scenario without it. If it does not let the scenario begin, or a line before has a fault, it
+/// gets none.
 pub fn step_scenario_on<R: Wait, K: Keeper, I: Read + Drop, W: Write, E: Write>(
     rt: &R,
     alloc: Global,
@@ -225,24 +228,45 @@ fn all_events<C: Carrier, K: Keeper, I: Read + Drop, W: Write, E: Write>(
     ensures { IfErr result IsStepFault }
 {
     let set_up = &plan.set_up;
-    let shown = Shown::new(alloc, usize::from(set_up.tasks), set_up.units.len())?;
+    let past = Past::new(alloc, set_up.tasks, set_up.units.len())?;
     let view = View::new(alloc, printer.views(), set_up.units.len())?;
-    let mut stepper = Stepper::new(alloc, carrier, set_up, shown, view, lines.number);
-    stepper.skip_set_up();
-    match events(alloc, &mut stepper, first, lines, printer)? {
-        Ending::Fault => return Ok(()),
+    let mut stepper = Stepper::new(alloc, carrier, set_up, past, view, lines.number);
+    stepper.skip_set_up()?;
+    let ending = events(alloc, &mut stepper, first, lines, printer)?;
+    let (carrier, past, view) = stepper.into_parts();
+    match ending {
+        Ending::Fault => Ok(()),
         Ending::Lines => {
-            stepper.keep(media);
-            return Ok(());
+            let books = carrier.into_books(alloc)?;
+            let books = books.list(alloc)?;
+            hand_over(alloc, printer.title(), set_up, &past, &books, media)
         }
-        Ending::Finish => {}
+        Ending::Finish => finish(alloc, carrier, set_up, past, view, media, lines, printer),
     }
-    let (carrier, shown, mut view) = stepper.into_parts();
-    view.text.clear();
-    let finished = lines.number;
-    let answer = carrier.finish(alloc, &shown, &mut view, media)?;
+}
+
+/// Ends every request of a scenario, prints the answer of that, and reads the lines after it.
+fn finish<C: Carrier, K: Keeper, I: Read + Drop, W: Write, E: Write>(
+    alloc: Global,
+    carrier: C,
+    set_up: &SetUp,
+    mut past: Past,
+    mut view: View,
+    media: &mut Media<'_, K>,
+    lines: &mut Lines<I>,
+    printer: &mut Printer<'_, W, E>,
+) -> Result<(), JobError>
+    ensures { IfErr result IsStepFault }
+{
+    let number = lines.number;
+    let Finished { books, posts } = carrier.finish(alloc)?;
+    let books = books.list(alloc)?;
+    past.end(&posts, &books)?;
+    let answer = answer_of(alloc, &posts, &past.tasks)?;
+    show(&mut view, &books)?;
+    hand_over(alloc, printer.title(), set_up, &past, &books, media)?;
     printer.answer(lines.current(), &answer, &view.text)?;
-    rest(alloc, finished, lines, &answer, printer)
+    rest(alloc, number, lines, &answer, printer)
 }
 
 /// What the events of a scenario end with.

@@ -9,9 +9,8 @@ use crate::answer::{
 };
 use crate::carrier::Carrier;
 use crate::fault::StepError;
-use crate::media::{Keeper, Media};
+use crate::past::Past;
 use crate::set_up::rejected;
-use crate::shown::Shown;
 use crate::view::View;
 use job_check::why_rejected;
 use job_scenario::{Event, ScenarioLine};
@@ -27,13 +26,13 @@ use unit_book::{
 /// The most commands of a turn in which a program runs to its end. A program fetches at most 4,096 CCWs.
 const TO_THE_END: u32 = 65_535;
 
-/// What carries events out, what is declared, and the answer of the last event.
+/// What carries events out, what is declared, what happened so far, and the answer of the last event.
 #[derive(Drop)]
 pub struct Stepper<'a, C: Carrier> {
     alloc: Global,
     carrier: C,
     set_up: &'a SetUp,
-    shown: Shown,
+    past: Past,
     /// The number of the line of the first event.
     first: usize,
     /// The answer of the last event.
@@ -45,12 +44,12 @@ pub struct Stepper<'a, C: Carrier> {
 }
 
 impl<'a, C: Carrier> Stepper<'a, C> {
-    /// Before the first event. `first` is the number of its line, no request shows bytes yet, and the view begins.
+    /// Before the first event. `first` is the number of its line, nothing happened yet, and the view begins.
     pub fn new(
         alloc: Global,
         carrier: C,
         set_up: &'a SetUp,
-        shown: Shown,
+        past: Past,
         view: View,
         first: usize,
     ) -> Self
@@ -61,25 +60,27 @@ impl<'a, C: Carrier> Stepper<'a, C> {
             alloc,
             carrier,
             set_up,
-            shown,
+            past,
             first,
             answer: Vec::new(alloc),
             view,
         }
     }
 
-    /// Takes what the set-up made happen as printed.
-    pub fn skip_set_up(&mut self) {
+    /// Takes what the set-up made happen as printed, and as made before the first event.
+    pub fn skip_set_up(&mut self) -> Result<(), AllocError> {
         for unit in 0..self.set_up.units.len() {
-            self.skip_at(unit as u16);
+            self.skip_at(unit as u16)?;
         }
+        Ok(())
     }
 
-    fn skip_at(&mut self, unit: u16)
+    fn skip_at(&mut self, unit: u16) -> Result<(), AllocError>
         requires { unit < vec_len self.old.set_up.now.units }
         ensures { self.new.set_up.now ≡ self.old.set_up.now }
     {
         self.carrier.skip(unit, &mut self.view);
+        self.past.order.add_unit(self.carrier.entries(unit))
     }
 
     /// Puts together what is printed of the units after an event.
@@ -104,32 +105,57 @@ impl<'a, C: Carrier> Stepper<'a, C> {
         written(self.carrier.show(unit, &mut self.view))
     }
 
-    /// Hands over the medium of each unit.
-    pub fn keep<K: Keeper>(&self, media: &mut Media<'_, K>) {
-        for unit in 0..self.set_up.units.len() {
-            self.carrier.keep(unit as u16, media);
-        }
-    }
-
-    /// What carried the events out, the bytes that requests show, and the view.
-    pub fn into_parts(self) -> (C, Shown, View) {
+    /// What carried the events out, what happened, and the view.
+    pub fn into_parts(self) -> (C, Past, View) {
         let Stepper {
             alloc: _,
             carrier,
             set_up: _,
-            shown,
+            past,
             first: _,
             answer: _,
             view,
         } = self;
-        (carrier, shown, view)
+        (carrier, past, view)
     }
 
-    /// Carries out the event of the line with this number, and keeps its answer.
+    /// Carries out the event of the line with this number, and keeps its answer. Out of memory ends the scenario.
     pub fn line(&mut self, number: usize, line: ScenarioLine) -> Result<(), StepError>
         ensures { IfErr result EndsStep }
     {
         self.answer.clear();
+        let task = task_of(&line);
+        self.carry_out(number, line)?;
+        self.note(task)
+    }
+
+    /// Notes the entries that the last event made. `task` is the task whose command it was, if it was a command.
+    fn note(&mut self, task: Option<u16>) -> Result<(), StepError>
+        ensures { IfErr result EndsStep }
+    {
+        for unit in 0..self.set_up.units.len() {
+            self.note_at(unit as u16, task)?;
+        }
+        Ok(())
+    }
+
+    /// Notes those of a unit. The first entry that a command makes is its own.
+    fn note_at(&mut self, unit: u16, task: Option<u16>) -> Result<(), AllocError>
+        requires { unit < vec_len self.old.set_up.now.units }
+        ensures { self.new.set_up.now ≡ self.old.set_up.now }
+    {
+        let entries = self.carrier.entries(unit);
+        let first = self.past.order.note(usize::from(unit), entries)?;
+        match (task, first) {
+            (Some(task), Some(first)) => self.past.tasks.control(task, unit, first),
+            _ => Ok(()),
+        }
+    }
+
+    /// Carries out the event of the line with this number.
+    fn carry_out(&mut self, number: usize, line: ScenarioLine) -> Result<(), StepError>
+        ensures { IfErr result EndsStep }
+    {
         match line {
             ScenarioLine::Script(Line::Excp(excp)) => self.excp(number, excp),
             ScenarioLine::Script(Line::Command(command)) => self.command(number, command),
@@ -168,10 +194,9 @@ impl<'a, C: Carrier> Stepper<'a, C> {
         if let Some(cause) = why_rejected(&excp, self.set_up.place_of_area(area)) {
             return Err(StepError::Line(number, cause));
         }
-        self.shown.reserve(task, unit)?;
         let answer = self.carrier.excp(self.alloc, task, &excp)?;
-        if let Issuing::Accepted(_) = answer {
-            self.shown.push(task, &excp)?;
+        if let Issuing::Accepted(name) = answer {
+            self.past.tasks.issue(name, &excp)?;
         }
         written(write_issuing(&mut self.answer, unit, answer))
     }
@@ -301,7 +326,8 @@ impl<'a, C: Carrier> Stepper<'a, C> {
         match self.carrier.collect(task) {
             None => written(write!(self.answer, "Quiet")),
             Some(posted) => {
-                let shown = self.shown.of(&posted);
+                self.past.tasks.collect(&posted);
+                let shown = self.past.tasks.shown(&posted);
                 written(write_posted(&mut self.answer, &posted, shown))
             }
         }
@@ -404,6 +430,14 @@ impl<'a, C: Carrier> Stepper<'a, C> {
             Ok(()) => Ok(()),
             Err(cause) => Err(StepError::Line(number, cause)),
         }
+    }
+}
+
+/// The task whose command a line is, if it is one.
+fn task_of(line: &ScenarioLine) -> Option<u16> {
+    match line {
+        ScenarioLine::Script(Line::Command(command)) => Some(command.task),
+        _ => None,
     }
 }
 

@@ -1,15 +1,13 @@
 //! Units and tasks of which only the numbers are known: what a scenario is checked on.
 
-ghost use Rattle.std.specs.Prelude.{◌≡◌, ◌<◌, ◌≤◌, IfErr};
-ghost use Rattle.job_step.specs.Faults.{IsStepFault};
+ghost use Rattle.std.specs.Prelude.{◌≡◌, ◌<◌, ◌≤◌};
 
 use crate::answer::Issuing;
+use crate::books::{Books, Finished};
 use crate::carrier::Carrier;
-use crate::media::{Keeper, Media};
-use crate::shown::Shown;
 use crate::view::View;
 use io_images::Extent;
-use job_script::{DcbName, Excp, JobError};
+use job_script::{DcbName, Excp};
 use request_piece::Posted;
 use std::alloc::{AllocError, Global};
 use unit_book::{
@@ -97,15 +95,18 @@ impl Carrier for Unmade {
 
     fn skip(&self, _unit: u16, _view: &mut View) {}
 
-    fn keep<K: Keeper>(&self, _unit: u16, _media: &mut Media<'_, K>) {}
+    fn entries(&self, _unit: u16) -> usize {
+        0
+    }
 
-    fn finish<K: Keeper>(
-        self,
-        alloc: Global,
-        _shown: &Shown,
-        _view: &mut View,
-        _media: &mut Media<'_, K>,
-    ) -> Result<Vec<u8>, JobError> {
-        Ok(Vec::new(alloc))
+    fn finish(self, alloc: Global) -> Result<Finished, AllocError> {
+        Ok(Finished {
+            books: self.into_books(alloc)?,
+            posts: Vec::new(alloc),
+        })
+    }
+
+    fn into_books(self, alloc: Global) -> Result<Books, AllocError> {
+        Ok(Books::List(Vec::new(alloc)))
     }
 }

@@ -1,11 +1,13 @@
-//! The media of units, before the first event and at the end of a scenario.
+//! What takes over a scenario at its end: the media of its units, and the record of all that happened.
 
 use any_device::AnyDevice;
 use job_script::UnitSetup;
 use medium_image::Kept;
+use run_record::Run;
 use unit_book::UnitBook;
+use unit_history::HistoryError;
 
-/// Takes over the medium of each unit at the end of a scenario.
+/// Takes over the medium of each unit at the end of a scenario, and its record.
 pub trait Keeper {
     /// Whether the scenario may begin, which has these units. If not, it ends here, and the keeper gets no medium.
     fn begin(&mut self, units: &[UnitSetup]) -> bool;
@@ -13,9 +15,13 @@ pub trait Keeper {
     /// Takes over the medium of a unit: the device as it was mounted, and as it is. `kept` is what the file of its image has
     /// beside, if it came from one.
     fn keep(&mut self, unit: u16, kept: Option<&Kept>, mounted: &AnyDevice, now: &AnyDevice);
+
+    /// Takes over the record of the scenario, after its media. The entries of all units are in one order. An error ends the
+    /// scenario.
+    fn record(&mut self, run: &Run<'_>) -> Result<(), HistoryError>;
 }
 
-/// Keeps no medium.
+/// Keeps no medium and no record.
 #[derive(Drop)]
 pub struct NoKeeper;
 
@@ -25,6 +31,10 @@ impl Keeper for NoKeeper {
     }
 
     fn keep(&mut self, _unit: u16, _kept: Option<&Kept>, _mounted: &AnyDevice, _now: &AnyDevice) {}
+
+    fn record(&mut self, _run: &Run<'_>) -> Result<(), HistoryError> {
+        Ok(())
+    }
 }
 
 /// What takes over the media, and what the files of their images have beside.
