@@ -1,12 +1,12 @@
 //! The names of lanes, beside them.
 
-use crate::codes::{CodeCounts, Codes};
-use crate::lane::Lane;
-use crate::limits::AXIS;
-use crate::view::View;
+use crate::progress::Progress;
+use page_axis::AXIS;
+use page_layout::{Lane, View};
+use page_words::{CodeCounts, Owner, unit_kind};
+use run_index::Index;
 use std::io::Write;
 use std::{fmt, io};
-use unit_history::kind_in_words;
 
 /// A lane lower than this has its name in one thin line.
 const THIN: u64 = 26;
@@ -15,80 +15,60 @@ const THIN: u64 = 26;
 const HIGH: u64 = 36;
 
 /// Writes the names of the lanes of a window.
-pub(crate) fn write_labels<W: Write>(out: &mut W, view: &View<'_>) -> io::Result<()> {
+pub(crate) fn write_labels<W: Write>(
+    out: &mut W,
+    view: &View<'_>,
+    progress: &Progress,
+) -> io::Result<()> {
     out.write_all(b"<div class=labs>")?;
     write!(out, "<span style='height:{AXIS}px' class=dim>event</span>")?;
-    for lane in view.layout.tasks.iter() {
-        write_task(out, view, lane)?;
-    }
-    for lane in view.layout.units.iter() {
-        write_unit(out, view, lane)?;
+    for lane in view.tasks().iter().chain(view.units()) {
+        let codes = CodeCounts::of(progress.codes(lane.owner));
+        write_label(out, view.index, lane, codes)?;
     }
     out.write_all(b"</div>")
 }
 
-fn write_task<W: Write>(out: &mut W, view: &View<'_>, lane: &Lane) -> io::Result<()> {
-    let codes = codes_of(view.task_codes, lane);
-    let number = lane.number;
-    write_label(
-        out,
-        lane,
-        format_args!("Task {number}"),
-        "",
-        format_args!("ends"),
-        codes,
-    )
+/// What the name of a lane links to: of a unit its part of the page, of a task how requests ended.
+#[derive(Clone, Copy)]
+struct LaneLink(Owner);
+
+impl fmt::Display for LaneLink {
+    fn fmt<W: fmt::Write>(&self, f: &mut fmt::Formatter<W>) -> fmt::Result {
+        match self.0 {
+            Owner::Task(_) => f.write_str("#ends"),
+            Owner::Unit(unit) => write!(f, "#u{unit}"),
+        }
+    }
 }
 
-fn write_unit<W: Write>(out: &mut W, view: &View<'_>, lane: &Lane) -> io::Result<()> {
-    let codes = codes_of(view.unit_codes, lane);
-    let number = lane.number;
-    let kind = match view.index.units().get(usize::from(number)) {
-        Some(parts) => kind_in_words(parts.kind),
-        None => "",
-    };
-    write_label(
-        out,
-        lane,
-        format_args!("Unit {number}"),
-        kind,
-        format_args!("u{number}"),
-        codes,
-    )
-}
-
-/// How the requests of a lane ended.
-fn codes_of(list: &[Codes], lane: &Lane) -> Codes {
-    list.get(usize::from(lane.number))
-        .copied()
-        .unwrap_or(Codes::NONE)
-}
-
-/// Writes the name of a lane, with a link, and the kind of its device.
-fn write_label<W: Write, N: fmt::Display + Drop, L: fmt::Display + Drop>(
+/// Writes the name of a lane, with a link, the kind of its device, and how its requests ended.
+fn write_label<W: Write>(
     out: &mut W,
+    index: &Index,
     lane: &Lane,
-    name: N,
-    kind: &str,
-    link: L,
-    codes: Codes,
+    codes: CodeCounts,
 ) -> io::Result<()> {
-    let height = lane.height;
+    let Lane { owner, height, .. } = *lane;
+    let link = LaneLink(owner);
+    let kind = match owner {
+        Owner::Task(_) => "",
+        Owner::Unit(unit) => unit_kind(index, unit),
+    };
     if height < THIN {
-        write!(out, "<a class=thin href=#{link} ")?;
+        write!(out, "<a class=thin href={link} ")?;
         write!(
             out,
-            "style='height:{height}px;line-height:{height}px'>{name} "
+            "style='height:{height}px;line-height:{height}px'>{owner} "
         )?;
         return write!(out, "<span class='dim wide'>{kind}</span></a>");
     }
     write!(
         out,
-        "<a href=#{link} style='height:{height}px'><b>{name}</b> "
+        "<a href={link} style='height:{height}px'><b>{owner}</b> "
     )?;
     write!(out, "<span class='dim wide'>{kind}</span>")?;
     if height >= HIGH {
-        let codes = CodeCounts::of(codes);
         write!(out, "<small>{codes}</small>")?;
     }
     out.write_all(b"</a>")

@@ -1,236 +1,110 @@
 //! Purges, closes and resets in lanes.
 
-use crate::pixels::{Tenths, width_of};
-use crate::view::View;
-use crate::window::{Place, Window};
-use crate::words::MarkWords;
+use crate::room::{Side, Taken};
+use page_axis::{Tenths, width_of};
+use page_layout::{Lane, View};
 use page_text::Percent;
-use run_index::{Control, Mark};
-use std::alloc::{AllocError, Global};
+use page_words::{MarkWords, Owner, mark_sign};
+use run_index::Mark;
+use std::alloc::Global;
 use std::io::Write;
 use std::{fmt, io};
 
-/// Half the width of a mark, in hundredths of a percent.
-const HALF: u64 = 100;
-
-/// Where the lane ends, in hundredths of a percent.
-const END: u64 = 10_000;
-
-/// How far words may be before the beginning of a lane, in hundredths of a percent.
-const BEFORE: u64 = 100;
-
-/// What is added to places, so that those before the beginning of a lane are numbers.
-const SHIFT: u64 = 100_000;
-
-/// A part of a lane, in hundredths of a percent after `SHIFT` before its beginning.
+/// A mark in words, with its unit, or with the task that made it, or with both.
 #[derive(Clone, Copy)]
-struct Room {
-    from: u64,
-    to: u64,
+struct Told<'a> {
+    mark: &'a Mark,
+    has_unit: bool,
+    has_task: bool,
 }
 
-impl Room {
-    /// Whether it has this place inside.
-    fn has(&self, place: u64) -> bool {
-        self.from < place && place < self.to
-    }
-
-    /// Whether it has nothing in common with another.
-    fn is_apart(&self, other: &Room) -> bool {
-        self.to < other.from || self.from > other.to
-    }
-
-    /// Whether it is in the lane.
-    fn is_inside(&self) -> bool {
-        self.from >= SHIFT.saturating_sub(BEFORE) && self.to <= SHIFT.saturating_add(END)
-    }
-}
-
-/// Where a lane has marks or words.
-#[derive(Drop)]
-pub(crate) struct Taken {
-    list: Vec<Room>,
-}
-
-impl Taken {
-    pub fn new(alloc: Global) -> Taken {
-        Taken {
-            list: Vec::new(alloc),
+impl<'a> Told<'a> {
+    /// What the lane of a unit or a task does not say.
+    fn beside(mark: &'a Mark, owner: Owner) -> Told<'a> {
+        Told {
+            mark,
+            has_unit: matches!(owner, Owner::Task(_)),
+            has_task: matches!(owner, Owner::Unit(_)),
         }
     }
 
-    /// Takes the place of a mark.
-    pub fn take_mark(&mut self, window: &Window, mark: &Mark) -> Result<(), AllocError> {
-        let place = place_of(window, mark);
-        self.list.push(Room {
-            from: place.saturating_sub(HALF),
-            to: place.saturating_add(HALF),
-        })?;
-        Ok(())
-    }
-
-    /// Takes room for the words of a mark at a place, if there is room: after it, or else before it.
-    fn take_words(&mut self, place: u64, width: u64) -> Result<Side, AllocError> {
-        let after = Room {
-            from: place.saturating_add(HALF / 2),
-            to: place.saturating_add(width),
-        };
-        if self.is_free(place, &after) {
-            self.list.push(after)?;
-            return Ok(Side::After);
+    /// All that is known of a mark.
+    fn whole(mark: &'a Mark) -> Told<'a> {
+        Told {
+            mark,
+            has_unit: true,
+            has_task: true,
         }
-        let before = Room {
-            from: place.saturating_sub(width),
-            to: place.saturating_sub(HALF / 2),
-        };
-        if self.is_free(place, &before) {
-            self.list.push(before)?;
-            return Ok(Side::Before);
-        }
-        Ok(Side::None)
-    }
-
-    /// Whether a room in the lane is free, but for the mark at a place.
-    fn is_free(&self, place: u64, room: &Room) -> bool {
-        room.is_inside()
-            && self
-                .list
-                .iter()
-                .all(|taken| taken.has(place) || room.is_apart(taken))
     }
 }
 
-/// On which side of a mark its words are.
-#[derive(Clone, Copy)]
-enum Side {
-    After,
-    Before,
-    None,
-}
-
-/// The place of a mark, in hundredths of a percent after `SHIFT`.
-fn place_of(window: &Window, mark: &Mark) -> u64 {
-    window
-        .x(Place::middle(mark.column))
-        .hundredths
-        .saturating_add(SHIFT)
-}
-
-/// The task that made a mark, after a comma.
-#[derive(Clone, Copy)]
-struct By(Option<u16>);
-
-impl fmt::Display for By {
+impl<'a> fmt::Display for Told<'a> {
     fn fmt<W: fmt::Write>(&self, f: &mut fmt::Formatter<W>) -> fmt::Result {
-        match self.0 {
-            Some(task) => write!(f, ", by task {task}"),
-            None => Ok(()),
+        let Mark { unit, what, by, .. } = *self.mark;
+        write!(f, "{}", MarkWords(what))?;
+        if self.has_unit {
+            write!(f, " on unit {unit}")?;
+        }
+        match by {
+            Some(task) if self.has_task => write!(f, ", by task {task}"),
+            _ => Ok(()),
         }
     }
 }
 
-/// A mark in words, as the lane of its unit has them.
-#[derive(Clone, Copy)]
-struct UnitMarkWords<'a>(&'a Mark);
-
-impl<'a> fmt::Display for UnitMarkWords<'a> {
-    fn fmt<W: fmt::Write>(&self, f: &mut fmt::Formatter<W>) -> fmt::Result {
-        let words = MarkWords(self.0.what);
-        let by = By(self.0.by);
-        write!(f, "{words}{by}")
-    }
-}
-
-/// A mark in words, as the lane of its task has them.
-#[derive(Clone, Copy)]
-struct TaskMarkWords<'a>(&'a Mark);
-
-impl<'a> fmt::Display for TaskMarkWords<'a> {
-    fn fmt<W: fmt::Write>(&self, f: &mut fmt::Formatter<W>) -> fmt::Result {
-        let words = MarkWords(self.0.what);
-        let unit = self.0.unit;
-        write!(f, "{words} on unit {unit}")
-    }
-}
-
-/// The sign of a mark.
-fn sign_of(what: &Control) -> &'static str {
-    match what {
-        Control::Purge { .. } => "mpurge",
-        Control::Close { .. } => "mclosed",
-        Control::Reset { .. } => "mreset",
-    }
-}
-
-/// Draws a mark in the lane of its unit, that many pixels down.
-pub(crate) fn draw_unit_mark<W: Write>(
+/// Draws the marks of a lane. The marks have their places before the words beside them.
+pub(crate) fn draw_marks<W: Write>(
     out: &mut W,
+    alloc: Global,
     view: &View<'_>,
-    mark: &Mark,
-    y: u64,
-    taken: &mut Taken,
+    lane: &Lane,
 ) -> io::Result<()> {
-    let words = UnitMarkWords(mark);
-    let side = taken.take_words(place_of(&view.window, mark), width_of(words))?;
-    begin_mark(out, view, mark, y, "")?;
-    write_words(
-        out,
-        view.window.x(Place::middle(mark.column)),
-        y,
-        side,
-        words,
-    )?;
-    out.write_all(b"</a>")
+    let mut taken = Taken::new(alloc);
+    for mark in view.marks(lane) {
+        taken.take_mark(view.window.middle(mark.column).hundredths)?;
+    }
+    for mark in view.marks(lane) {
+        draw_mark(out, view, lane, mark, &mut taken)?;
+    }
+    Ok(())
 }
 
-/// Draws a mark in the lane of its task, that many pixels down.
-pub(crate) fn draw_task_mark<W: Write>(
+/// Draws a mark: its sign, which is a link to its panel, and words if they have room. The key Tab skips the link in the lane
+/// of a task, since the lane of the unit has it too.
+fn draw_mark<W: Write>(
     out: &mut W,
     view: &View<'_>,
+    lane: &Lane,
     mark: &Mark,
-    y: u64,
     taken: &mut Taken,
-) -> io::Result<()> {
-    let words = TaskMarkWords(mark);
-    let side = taken.take_words(place_of(&view.window, mark), width_of(words))?;
-    begin_mark(out, view, mark, y, " tabindex=-1")?;
-    write_words(
-        out,
-        view.window.x(Place::middle(mark.column)),
-        y,
-        side,
-        words,
-    )?;
-    out.write_all(b"</a>")
-}
-
-/// Draws the sign of a mark, and begins the link to its panel.
-fn begin_mark<W: Write>(
-    out: &mut W,
-    view: &View<'_>,
-    mark: &Mark,
-    y: u64,
-    tab: &str,
 ) -> io::Result<()> {
     let Mark { unit, entry, .. } = *mark;
-    let told = TaskMarkWords(mark);
-    let by = By(mark.by);
-    let sign = sign_of(&mark.what);
-    let x = view.window.x(Place::middle(mark.column));
+    let x = view.window.middle(mark.column);
+    let (down, tab) = match lane.owner {
+        Owner::Unit(_) => (11, ""),
+        Owner::Task(_) => (9, " tabindex=-1"),
+    };
+    let y = lane.y.saturating_add(down);
+    let words = Told::beside(mark, lane.owner);
+    let side = taken.take_words(x.hundredths, width_of(words))?;
+    let told = Told::whole(mark);
+    let sign = mark_sign(&mark.what);
     write!(out, "<a class=mk href=#m{unit}-{entry}{tab}>")?;
     write!(
         out,
-        "<title>{told}{by}</title><use href='#{sign}' x={x} y={y} />"
-    )
+        "<title>{told}</title><use href='#{sign}' x={x} y={y} />"
+    )?;
+    write_words(out, x, y, side, words)?;
+    out.write_all(b"</a>")
 }
 
 /// Writes the words of a mark on a side of it.
-fn write_words<W: Write, T: fmt::Display + Drop>(
+fn write_words<W: Write>(
     out: &mut W,
     x: Percent,
     y: u64,
     side: Side,
-    words: T,
+    words: Told<'_>,
 ) -> io::Result<()> {
     let y = Tenths(y.saturating_mul(10).saturating_add(35));
     match side {

@@ -1,13 +1,13 @@
 //! The strips of DCBs, like signals of a logic analyser: a line while a DCB is open, hatched while it is flagged or closed.
 
-use crate::lane::Lane;
-use crate::pixels::{Frame, Tenths, has_room};
-use crate::strip_rows::StripRow;
-use crate::view::View;
-use crate::window::Place;
+use page_axis::{Fitted, Place, Tenths};
+use page_layout::{Lane, StripRow, View};
 use run_index::{Stop, Strip};
 use std::io::Write;
 use std::{fmt, io};
+
+/// The distance of strips, in tenths of a pixel.
+const PITCH: u64 = 140;
 
 /// A DCB, with what it is, if there is room for that.
 #[derive(Clone, Copy)]
@@ -31,87 +31,61 @@ fn state_of(stop: Stop) -> &'static str {
     }
 }
 
-/// The pixels of a strip, with the distance to the next.
-const PITCH: u64 = 14;
-
 /// Draws the strips of a unit.
 pub(crate) fn draw_strips<W: Write>(out: &mut W, view: &View<'_>, lane: &Lane) -> io::Result<()> {
-    let rows = lane.strips.of(view.layout.strips.as_slice());
-    for (number, row) in rows.iter().enumerate() {
-        let y = strip_y(lane, number);
-        draw_row(
-            out,
-            view,
-            lane,
-            row,
-            lane.y.saturating_mul(10).saturating_add(y),
-        )?;
+    for (number, row) in view.strips(lane).iter().enumerate() {
+        let y = row_y(lane, number).saturating_add(lane.begin());
+        draw_row(out, view, row, y)?;
     }
     Ok(())
 }
 
-/// Where a strip begins in its lane, in tenths of a pixel.
-pub(crate) fn strip_y(lane: &Lane, number: usize) -> u64 {
-    let before = (number as u64).saturating_mul(PITCH * 10);
+/// Where the strips of a DCB begin in a lane, in tenths of a pixel, if the lane has them.
+pub(crate) fn strip_y(view: &View<'_>, lane: &Lane, dcb: u16) -> Option<u64> {
+    let number = view.strips(lane).iter().position(|row| row.dcb == dcb)?;
+    Some(row_y(lane, number))
+}
+
+/// Where the strips with this number begin in their lane, in tenths of a pixel.
+fn row_y(lane: &Lane, number: usize) -> u64 {
+    let before = (number as u64).saturating_mul(PITCH);
     lane.low.saturating_add(30).saturating_add(before)
 }
 
 /// Draws the strips of a DCB. `y` is in tenths of a pixel.
-fn draw_row<W: Write>(
-    out: &mut W,
-    view: &View<'_>,
-    lane: &Lane,
-    row: &StripRow,
-    y: u64,
-) -> io::Result<()> {
+fn draw_row<W: Write>(out: &mut W, view: &View<'_>, row: &StripRow<'_>, y: u64) -> io::Result<()> {
     let middle = Tenths(y.saturating_add(60));
     write!(
         out,
         "<line class='strip on' x1=0 x2=100% y1={middle} y2={middle} />"
     )?;
-    for strip in row.shown.of(view.index.unit_strips(lane.number)) {
+    for strip in row.strips {
         draw_strip(out, view, strip, y)?;
     }
     Ok(())
 }
 
+/// Draws a strip, with the name of its DCB.
 fn draw_strip<W: Write>(out: &mut W, view: &View<'_>, strip: &Strip, y: u64) -> io::Result<()> {
-    let from = Place::middle(strip.from);
-    let to = Place::middle(strip.to);
-    let frame = Frame {
-        x: view.window.x(from),
-        width: view.window.width(from, to),
-        y,
-        height: 120,
-    };
+    let Strip { dcb, from, to, .. } = *strip;
+    let frame = view
+        .window
+        .frame(Place::middle(from), Place::middle(to), y, 120);
     if frame.width.hundredths == 0 {
         return Ok(());
     }
     let whole = StripName {
-        dcb: strip.dcb,
+        dcb,
         state: state_of(strip.stop),
     };
-    let Strip { from, to, .. } = *strip;
     let class = match strip.stop {
         Stop::ErrorFlag => "strip",
         Stop::Closed => "'strip closed'",
     };
     write!(out, "<g><title>{whole}, events {from} to {to}</title>")?;
     write!(out, "<rect class={class} {frame} />")?;
-    write_name(out, &frame, whole)
-}
-
-/// Writes the name of a DCB into its strip.
-fn write_name<W: Write>(out: &mut W, frame: &Frame, whole: StripName) -> io::Result<()> {
-    let short = StripName { state: "", ..whole };
-    let width = frame.width.hundredths;
-    let (name, tight) = if has_room(whole, width) {
-        (whole, "")
-    } else if has_room(short, width) {
-        (short, "")
-    } else {
-        (whole, " tight")
-    };
-    write!(out, "<svg {frame}><text class='on{tight}' x=4 y=9.5>")?;
-    write!(out, "{name}</text></svg></g>")
+    let short = StripName { dcb, state: "" };
+    let name = Fitted::new(whole, short, frame.width);
+    name.draw(out, &frame, "on", 4, Tenths(95))?;
+    out.write_all(b"</g>")
 }

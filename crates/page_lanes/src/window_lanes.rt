@@ -1,29 +1,33 @@
 //! The lanes of a window: a drawing for the tasks, one for the units, and the names beside them.
 
-use crate::axis::draw_axis;
 use crate::labels::write_labels;
-use crate::lane::Lane;
-use crate::task_lane::draw_task_lane;
-use crate::unit_lane::draw_unit_lane;
-use crate::view::View;
-use crate::window::Place;
+use crate::progress::Progress;
+use crate::whole_lane::draw_lane;
+use page_axis::draw_axis;
+use page_layout::View;
+use run_index::Mark;
 use std::alloc::Global;
 use std::io;
 use std::io::Write;
 
 /// Draws the lanes of a window.
-pub(crate) fn draw_window<W: Write>(out: &mut W, alloc: Global, view: &View<'_>) -> io::Result<()> {
+pub(crate) fn draw_window<W: Write>(
+    out: &mut W,
+    alloc: Global,
+    view: &View<'_>,
+    progress: &Progress,
+) -> io::Result<()> {
     let low = view.window.low;
-    let last = view.window.high.saturating_sub(1);
+    let last = view.window.last();
     out.write_all(b"<div class=w>")?;
-    write_labels(out, view)?;
+    write_labels(out, view, progress)?;
     out.write_all(b"<div class=sc tabindex=0 role=region ")?;
     write!(out, "aria-label='Events {low} to {last}'>")?;
-    begin_drawing(out, view, view.layout.task_height(), "tasks")?;
+    begin_drawing(out, view, view.task_height(), "tasks")?;
     draw_axis(out, &view.window)?;
     draw_tasks(out, alloc, view)?;
     out.write_all(b"</svg>")?;
-    begin_drawing(out, view, view.layout.unit_height(), "units")?;
+    begin_drawing(out, view, view.unit_height(), "units")?;
     draw_units(out, alloc, view)?;
     out.write_all(b"</svg></div></div>")
 }
@@ -37,7 +41,7 @@ fn begin_drawing<W: Write>(
 ) -> io::Result<()> {
     let columns = view.window.columns();
     let low = view.window.low;
-    let last = view.window.high.saturating_sub(1);
+    let last = view.window.last();
     write!(
         out,
         "<svg class=t role=group style='--n:{columns}' height={height} "
@@ -47,23 +51,13 @@ fn begin_drawing<W: Write>(
 
 /// Draws the lanes of tasks, and lines from what they did downward.
 fn draw_tasks<W: Write>(out: &mut W, alloc: Global, view: &View<'_>) -> io::Result<()> {
-    for (place, lane) in view.layout.tasks.iter().enumerate() {
-        draw_task_lane(out, alloc, view, lane, place)?;
+    for (place, lane) in view.tasks().iter().enumerate() {
+        draw_lane(out, alloc, view, lane, place)?;
     }
-    for lane in view.layout.tasks.iter() {
-        draw_drops(out, view, lane)?;
-    }
-    Ok(())
-}
-
-/// Draws the lines from what a task did down to the end of the drawing.
-fn draw_drops<W: Write>(out: &mut W, view: &View<'_>, lane: &Lane) -> io::Result<()> {
-    let from = lane.y.saturating_add(12);
-    let to = view.layout.task_height();
-    for mark in lane.marks.of(view.contents.task_marks.as_slice()) {
-        if let Some(mark) = view.mark(mark.mark) {
-            let x = view.window.x(Place::middle(mark.column));
-            write!(out, "<line class=drop x1={x} x2={x} y1={from} y2={to} />")?;
+    for lane in view.tasks() {
+        let from = lane.y.saturating_add(12);
+        for mark in view.marks(lane) {
+            draw_drop(out, view, mark, from, view.task_height())?;
         }
     }
     Ok(())
@@ -71,25 +65,26 @@ fn draw_drops<W: Write>(out: &mut W, view: &View<'_>, lane: &Lane) -> io::Result
 
 /// Draws the lanes of units, and lines from above to what tasks did to them.
 fn draw_units<W: Write>(out: &mut W, alloc: Global, view: &View<'_>) -> io::Result<()> {
-    let before = view.layout.tasks.len();
-    for (place, lane) in view.layout.units.iter().enumerate() {
-        draw_unit_lane(out, alloc, view, lane, before.saturating_add(place))?;
+    let before = view.tasks().len();
+    for (place, lane) in view.units().iter().enumerate() {
+        draw_lane(out, alloc, view, lane, before.saturating_add(place))?;
     }
-    for mark in view.contents.task_marks.iter() {
-        draw_drop(out, view, mark.mark)?;
+    for mark in view.task_marks() {
+        if let Some(lane) = view.unit_lane(mark.unit) {
+            draw_drop(out, view, mark, 0, lane.y.saturating_add(4))?;
+        }
     }
     Ok(())
 }
 
-/// Draws the line from above to a mark.
-fn draw_drop<W: Write>(out: &mut W, view: &View<'_>, place: usize) -> io::Result<()> {
-    let Some(mark) = view.mark(place) else {
-        return Ok(());
-    };
-    let Some(lane) = view.layout.unit_lane(mark.unit) else {
-        return Ok(());
-    };
-    let x = view.window.x(Place::middle(mark.column));
-    let to = lane.y.saturating_add(4);
-    write!(out, "<line class=drop x1={x} x2={x} y1=0 y2={to} />")
+/// Draws the line of a mark from one pixel down to another.
+fn draw_drop<W: Write>(
+    out: &mut W,
+    view: &View<'_>,
+    mark: &Mark,
+    from: u64,
+    to: u64,
+) -> io::Result<()> {
+    let x = view.window.middle(mark.column);
+    write!(out, "<line class=drop x1={x} x2={x} y1={from} y2={to} />")
 }

@@ -1,7 +1,7 @@
 //! The medium of a unit as a part of an HTML page: the tracks of a disk, the blocks of a tape, the pages of a printer. Its
 //! output grows no faster than the medium, up to limits that the page tells. Nothing takes memory.
 //!
-//! Tests: none yet. No program draws pages.
+//! Tests: the group pages of tests/run.
 #![tactic(auto)]
 
 mod disk;

@@ -8,7 +8,7 @@ type Row = (&'static [usize], &'static str);
 
 /// An IOB (DFSMSdfp Advanced Services, "Input/Output Block Fields").
 static ROWS: [Row; 5] = [
-    (&[1, 2, 1, 1, 3], "flags, sense, code, ECB"),
+    (&[1, 1, 2, 1, 3], "flags, sense, code, ECB"),
     (&[1, 3, 1, 1, 2], "CSW"),
     (&[1, 3, 1, 3], "program, DCB"),
     (&[8], ""),

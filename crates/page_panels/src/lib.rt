@@ -1,10 +1,10 @@
 //! The panels of an HTML page of a run: one for each request, with its entries, how it ended and its steps, and one for each
 //! purge, close and reset.
 //!
-//! Tests: none yet. No program draws pages.
+//! Tests: the group pages of tests/run.
 #![tactic(auto)]
 
-mod error;
+mod attempts;
 mod extents;
 mod iob;
 mod life;
@@ -16,9 +16,8 @@ mod source;
 mod status;
 mod texts;
 
-pub use error::PageError;
 pub use limits::{SHARE_FROM, STEP_BYTES};
 pub use marks::write_marks;
 pub use panels::write_panels;
 pub use source::Source;
-pub use texts::{Choice, Measured, choose, measure};
+pub use texts::Texts;

@@ -6,7 +6,7 @@ use crate::life::write_life;
 use crate::limits::{SHARE_FROM, SHOWN};
 use crate::source::Source;
 use crate::status::{write_short_status, write_status};
-use crate::texts::{Choice, Steps};
+use crate::texts::{Choice, Texts};
 use io_images::{Code, Extent};
 use page_text::{Counted, HexLines};
 use page_words::{CodeClass, PanelId, code_in_words};
@@ -25,26 +25,25 @@ pub(crate) struct Panel<'a> {
     pub request: &'a Request,
     /// The extents of its DCB.
     pub extents: &'a [Extent],
+    /// The steps of all requests, and what the page has of those of this one.
+    pub texts: &'a Texts,
     pub choice: Choice,
 }
 
-/// Writes the panel of a request. `steps` has its steps, if the page is to have them.
-pub(crate) fn write_panel<W: Write>(
-    out: &mut W,
-    panel: &Panel<'_>,
-    steps: &Steps<'_>,
-) -> io::Result<()> {
+/// Writes the panel of a request.
+pub(crate) fn write_panel<W: Write>(out: &mut W, panel: &Panel<'_>) -> io::Result<()> {
     let request = panel.request;
     let Request { unit, .. } = request;
     write_heading(out, request, panel.kind)?;
     write!(out, "<div class=g><pre><b>Entries of unit {unit}</b>\n")?;
     write_life(out, &panel.source, request)?;
     out.write_all(b"</pre><pre>")?;
-    if let Some(ended) = panel.source.post(request) {
-        write_ended(out, panel, &ended)?;
+    match panel.source.post(request) {
+        Some(ended) => write_ended(out, panel, &ended)?,
+        None => write_uncollected(out, request)?,
     }
     out.write_all(b"</pre><div class=st>")?;
-    write_chosen(out, &panel.source, panel.choice, steps)?;
+    write_chosen(out, panel)?;
     out.write_all(b"</div></div></section>\n")
 }
 
@@ -95,6 +94,16 @@ fn write_ended<W: Write>(out: &mut W, panel: &Panel<'_>, ended: &Ended<'_>) -> i
     write_shown(out, ended.shown)
 }
 
+/// Writes how a request ended whose post its task has not collected. Its IOB is not known then.
+fn write_uncollected<W: Write>(out: &mut W, request: &Request) -> io::Result<()> {
+    let Some(end) = request.end else {
+        return Ok(());
+    };
+    out.write_all(b"<b>CSW and sense</b>\n")?;
+    write_status(out, &end, request.starts.len() > 0)?;
+    out.write_all(b"\nIts task has not collected the post.")
+}
+
 /// Whether a request sought outside its extents.
 fn is_outside(end: &End) -> bool {
     end.code == Code::ExtentViolated
@@ -112,16 +121,11 @@ fn write_shown<W: Write>(out: &mut W, shown: &[u8]) -> io::Result<()> {
 }
 
 /// Writes what a page has of the steps of a request.
-fn write_chosen<W: Write>(
-    out: &mut W,
-    source: &Source<'_>,
-    choice: Choice,
-    steps: &Steps<'_>,
-) -> io::Result<()> {
-    match choice {
+fn write_chosen<W: Write>(out: &mut W, panel: &Panel<'_>) -> io::Result<()> {
+    match panel.choice {
         Choice::Nothing => Ok(()),
-        Choice::Written => write_attempts(out, steps),
-        Choice::Same(place) => match source.index.requests().get(place) {
+        Choice::Written(number) => out.write_all(panel.texts.text(number)),
+        Choice::Same(place) => match panel.source.index.requests().get(place) {
             Some(other) => write_same(out, other),
             None => Ok(()),
         },
@@ -138,20 +142,4 @@ fn write_same<W: Write>(out: &mut W, other: &Request) -> io::Result<()> {
     write!(out, "<pre><b>Steps</b>\nas of <a href=#{id}>")?;
     write!(out, "task {task} unit {unit} request {number}</a>: ")?;
     out.write_all(b"the same CCWs, bytes and ends</pre>")
-}
-
-/// Writes the steps of each attempt.
-fn write_attempts<W: Write>(out: &mut W, steps: &Steps<'_>) -> io::Result<()> {
-    let count = steps.attempts();
-    for place in 0..count {
-        if count == 1 {
-            out.write_all(b"<pre><b>Steps</b>\n")?;
-        } else {
-            let number = place.saturating_add(1);
-            write!(out, "<pre><b>Steps of attempt {number}</b>\n")?;
-        }
-        out.write_all(steps.attempt(place).unwrap_or(&[]))?;
-        out.write_all(b"</pre>")?;
-    }
-    Ok(())
 }

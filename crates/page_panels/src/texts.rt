@@ -1,197 +1,203 @@
-//! Which steps a page has: those of requests of interest first, up to a limit, and in a long run equal ones once.
+//! The steps of the requests of a run, as far as a page has them: those of requests of interest first, up to a limit, and in a
+//! long run equal ones once.
 
-use crate::error::{PageError, in_memory};
+use crate::attempts::write_attempts;
 use crate::limits::{SHARE_FROM, STEP_BYTES};
 use crate::source::{Source, is_plain};
 use any_device::AnyDevice;
 use ccw_programs::Rule;
+use indexmap::IndexMap;
 use page_steps::UnitSteps;
-use run_index::Request;
+use run_index::{Part, Request};
 use run_record::UnitRecord;
-use sha2::{Digest, Sha256};
 use std::alloc::{AllocError, Global};
-use std::collections::BTreeMap;
-
-/// The first 128 bits of the SHA-256 digest of steps. Steps with equal ones are taken for equal.
-#[derive(Clone, Copy, PartialEq, Eq, PartialOrd, Ord)]
-struct Key {
-    high: u64,
-    low: u64,
-}
-
-/// What is kept of the steps of a request.
-#[derive(Clone, Copy)]
-pub struct Measured {
-    /// How many bytes they take as HTML.
-    len: usize,
-    key: Key,
-    /// The first rule that one of them breaks.
-    pub rule: Option<Rule>,
-}
-
-/// No steps.
-const NOTHING: Measured = Measured {
-    len: 0,
-    key: Key { high: 0, low: 0 },
-    rule: None,
-};
+use std::io;
+use unit_history::HistoryError;
 
 /// What a page has of the steps of a request.
 #[derive(Clone, Copy)]
-pub enum Choice {
+pub(crate) enum Choice {
     /// It has no steps.
     Nothing,
-    Written,
+    /// The text with this number.
+    Written(usize),
     /// They are those of the request at this place.
     Same(usize),
     LeftOut,
 }
 
+/// What is known of the steps of a request.
+#[derive(Clone, Copy)]
+struct Known {
+    choice: Choice,
+    /// The first rule that one of them breaks.
+    rule: Option<Rule>,
+}
+
+/// No steps.
+const NOTHING: Known = Known {
+    choice: Choice::Nothing,
+    rule: None,
+};
+
 /// A replay of a unit.
-pub(crate) type Steps<'t> = UnitSteps<'t, AnyDevice>;
+type Steps<'t> = UnitSteps<'t, AnyDevice>;
 
-/// A replay of a unit of the run.
-pub(crate) fn replay<'t>(alloc: Global, unit: &UnitRecord<'t>) -> Result<Steps<'t>, PageError> {
-    in_memory(UnitSteps::of(alloc, unit.book, unit.faults, STEP_BYTES))
-}
-
-/// Goes on to the steps of a request, which is the next of its unit. Returns whether it has steps.
-pub(crate) fn find_steps(steps: &mut Steps<'_>, request: &Request) -> Result<bool, PageError> {
-    if request.starts.len() == 0 {
-        return Ok(false);
-    }
-    match in_memory(steps.next_request())? {
-        Some(name) => Ok(request.is_named(name.task, request.unit, name.seq)),
-        None => Ok(false),
-    }
-}
-
-/// Measures the steps of each request.
-pub fn measure(alloc: Global, source: &Source<'_>) -> Result<Vec<Measured>, PageError> {
-    let mut list = Vec::new(alloc);
-    for (number, unit) in source.run.units.iter().enumerate() {
-        let number = u16::try_from(number).unwrap_or(u16::MAX);
-        let requests = source.index.unit_requests(number);
-        measure_unit(alloc, &mut list, unit, requests)?;
-    }
-    Ok(list)
-}
-
-/// Measures the steps of the requests of a unit.
-fn measure_unit(
-    alloc: Global,
-    list: &mut Vec<Measured>,
-    unit: &UnitRecord<'_>,
-    requests: &[Request],
-) -> Result<(), PageError> {
-    let mut steps = replay(alloc, unit)?;
-    for request in requests {
-        let measured = if find_steps(&mut steps, request)? {
-            measure_steps(&steps)
-        } else {
-            NOTHING
-        };
-        list.push(measured).map_err(AllocError::from)?;
-    }
-    Ok(())
-}
-
-/// Measures the steps of a request.
-fn measure_steps(steps: &Steps<'_>) -> Measured {
-    let mut hasher = Sha256::new();
-    for place in 0..steps.attempts() {
-        let text = steps.attempt(place).unwrap_or(&[]);
-        hasher.update(text.len().to_be_bytes().as_slice());
-        hasher.update(text);
-    }
-    Measured {
-        len: steps.text().len(),
-        key: key_of(&hasher.finalize()),
-        rule: steps.rule(),
-    }
-}
-
-/// The first 128 bits of a digest.
-fn key_of(digest: &[u8; 32]) -> Key {
-    let [a, b, c, d, e, f, g, h, i, j, k, l, m, n, o, p, ..] = *digest;
-    Key {
-        high: u64::from_be_bytes([a, b, c, d, e, f, g, h]),
-        low: u64::from_be_bytes([i, j, k, l, m, n, o, p]),
-    }
-}
-
-/// Chooses what the page has of the steps of each request. `arrivals` has the places of requests in order of their arrivals.
-pub fn choose(
-    alloc: Global,
-    requests: &[Request],
-    arrivals: &[usize],
-    measured: &[Measured],
-) -> Result<Vec<Choice>, AllocError> {
-    let mut chooser = Chooser {
-        list: Vec::new(alloc),
-        seen: BTreeMap::new(alloc),
-        room: STEP_BYTES,
-        shares: requests.len() >= SHARE_FROM,
-    };
-    chooser.list.resize(requests.len(), Choice::Nothing)?;
-    for are_plain in [false, true] {
-        chooser.choose_some(requests, arrivals, measured, are_plain)?;
-    }
-    Ok(chooser.list)
-}
-
-/// The choices, as they are made.
+/// The steps of the requests of a run as HTML, each text once. They take no more memory than a page has bytes of steps.
 #[derive(Drop)]
-struct Chooser {
-    list: Vec<Choice>,
-    /// The places of the requests whose steps are written.
-    seen: BTreeMap<Key, usize>,
-    /// How many bytes of steps may still be written.
+pub struct Texts {
+    /// Of each request, by its place.
+    list: Vec<Known>,
+    /// The texts, each with the place of the first request that has it.
+    distinct: IndexMap<Vec<u8>, usize>,
+    /// How many bytes of steps the page may still have.
     room: usize,
+    /// Whether equal texts are written once.
     shares: bool,
+    /// Where a text is put together.
+    draft: Vec<u8>,
 }
 
-impl Chooser {
-    /// Chooses for the requests that are plain, or for the others.
-    fn choose_some(
+impl Texts {
+    /// The steps of a run: first those of the requests that did not end well at once, then those of the others, unit by unit.
+    pub fn of(alloc: Global, source: &Source<'_>) -> Result<Texts, HistoryError> {
+        let count = source.index.requests().len();
+        let mut texts = Texts {
+            list: Vec::new(alloc),
+            distinct: IndexMap::new(alloc),
+            room: STEP_BYTES,
+            shares: count >= SHARE_FROM,
+            draft: Vec::new(alloc),
+        };
+        texts.list.resize(count, NOTHING)?;
+        for are_plain in [false, true] {
+            texts.add_units(alloc, source, are_plain)?;
+        }
+        Ok(texts)
+    }
+
+    /// The first rule that a step of the request at a place breaks.
+    pub fn rule(&self, place: usize) -> Option<Rule> {
+        self.known(place).rule
+    }
+
+    /// What the page has of the steps of the request at a place.
+    pub(crate) fn choice(&self, place: usize) -> Choice {
+        self.known(place).choice
+    }
+
+    /// The text with a number.
+    pub(crate) fn text(&self, number: usize) -> &[u8] {
+        match self.distinct.get_index(number) {
+            Some((text, _)) => text.as_slice(),
+            None => &[],
+        }
+    }
+
+    fn known(&self, place: usize) -> Known {
+        self.list.get(place).copied().unwrap_or(NOTHING)
+    }
+
+    /// Adds the steps of the requests of each unit that are plain, or of the others.
+    fn add_units(
         &mut self,
-        requests: &[Request],
-        arrivals: &[usize],
-        measured: &[Measured],
+        alloc: Global,
+        source: &Source<'_>,
         are_plain: bool,
-    ) -> Result<(), AllocError> {
-        for place in arrivals {
-            let (Some(request), Some(measured)) = (requests.get(*place), measured.get(*place))
-            else {
-                continue;
-            };
-            if is_plain(request) == are_plain {
-                let choice = self.choice(*place, measured)?;
-                if let Some(chosen) = self.list.get_mut(*place) {
-                    *chosen = choice;
-                }
+    ) -> Result<(), HistoryError> {
+        let requests = source.index.requests();
+        for (parts, unit) in source.index.units().iter().zip(source.run.units) {
+            let has_some = parts
+                .requests
+                .of(requests)
+                .iter()
+                .any(|request| is_plain(request) == are_plain);
+            if has_some {
+                self.add_unit(alloc, unit, requests, parts.requests, are_plain)?;
             }
         }
         Ok(())
     }
 
-    /// Chooses for the request at a place.
-    fn choice(&mut self, place: usize, measured: &Measured) -> Result<Choice, AllocError> {
-        if measured.len == 0 {
-            return Ok(Choice::Nothing);
-        }
-        if self.shares {
-            if let Some(first) = self.seen.get(&measured.key) {
-                return Ok(Choice::Same(*first));
+    /// Adds those of a unit, whose requests are this part of all. Its one replay passes over the others.
+    fn add_unit(
+        &mut self,
+        alloc: Global,
+        unit: &UnitRecord<'_>,
+        requests: &[Request],
+        part: Part,
+        are_plain: bool,
+    ) -> Result<(), HistoryError> {
+        let mut steps = in_memory(Steps::of(alloc, unit.book, unit.faults, STEP_BYTES))?;
+        for (place, request) in (part.from..part.to).zip(part.of(requests)) {
+            if request.starts.len() == 0 {
+                continue;
+            }
+            if is_plain(request) == are_plain {
+                in_memory(steps.next_request())?;
+                in_memory(self.add(place, &steps))?;
+            } else {
+                in_memory(steps.pass_request())?;
             }
         }
-        match self.room.checked_sub(measured.len) {
-            Some(room) => {
-                self.room = room;
-                self.seen.insert(measured.key, place)?;
-                Ok(Choice::Written)
-            }
-            None => Ok(Choice::LeftOut),
+        Ok(())
+    }
+
+    /// Adds the steps of the request at a place.
+    fn add(&mut self, place: usize, steps: &Steps<'_>) -> io::Result<()> {
+        self.draft.clear();
+        write_attempts(&mut self.draft, steps)?;
+        let choice = if steps.text().is_empty() {
+            Choice::Nothing
+        } else {
+            self.chosen(place)?
+        };
+        if let Some(known) = self.list.get_mut(place) {
+            *known = Known {
+                choice,
+                rule: steps.rule(),
+            };
         }
+        Ok(())
+    }
+
+    /// What the page has of the draft, which is that of the request at a place.
+    fn chosen(&mut self, place: usize) -> Result<Choice, AllocError> {
+        let known = self.number_of_draft();
+        match known {
+            Some((_, first)) if self.shares => return Ok(Choice::Same(first)),
+            _ => {}
+        }
+        let Some(room) = self.room.checked_sub(self.draft.len()) else {
+            return Ok(Choice::LeftOut);
+        };
+        let number = match known {
+            Some((number, _)) => number,
+            None => self.keep_draft(place)?,
+        };
+        self.room = room;
+        Ok(Choice::Written(number))
+    }
+
+    /// The number of the text that is the draft, and the place of the first request that has it.
+    fn number_of_draft(&self) -> Option<(usize, usize)> {
+        let (number, _, first) = self.distinct.get_full(self.draft.as_slice())?;
+        Some((number, *first))
+    }
+
+    /// Keeps the draft, which is that of the request at a place. Returns its number.
+    fn keep_draft(&mut self, place: usize) -> Result<usize, AllocError> {
+        let number = self.distinct.len();
+        let text = self.draft.clone()?;
+        self.distinct.insert(text, place)?;
+        Ok(number)
+    }
+}
+
+/// The result of a call whose only error is that memory ran out.
+fn in_memory<T>(outcome: io::Result<T>) -> Result<T, HistoryError> {
+    match outcome {
+        Ok(value) => Ok(value),
+        Err(_) => Err(HistoryError::NoMemory),
     }
 }

@@ -1,7 +1,7 @@
 //! The steps of channel programs as HTML: each command with its CCWs, the first bytes that it moved and its end,
 //! request by request in the order in which a unit ran them.
 //!
-//! Tests: none yet. No program draws pages.
+//! Tests: the group pages of tests/run.
 #![tactic(auto)]
 
 mod attempts;

@@ -4,7 +4,8 @@ use crate::bits::{sense_names, status_names};
 use crate::wrap::Wrapped;
 use ccw_programs::Link;
 use command_table::CCW_FLAGS;
-use page_text::{Counted, Escaped, HexLines};
+use digits::digits_of;
+use page_text::{Counted, HexLines};
 use std::io;
 use std::io::Write;
 use unit_history::{After, Broken, Command, Ending, Moved, Shown, Way};
@@ -47,7 +48,7 @@ fn write_ccw(out: &mut Vec<u8>, mnemonic: &str, name: &str, link: &Link) -> io::
     link.ccw.write(&mut image);
     write!(out, "{:06X}  ", link.at)?;
     write_image(out, &image)?;
-    write!(out, "  <b>{mnemonic:<4}</b> {}", Escaped(name))?;
+    write!(out, "  <b>{mnemonic:<4}</b> {name}")?;
     write_flags(out, image[4])?;
     out.write_all(b"\n")
 }
@@ -68,8 +69,10 @@ fn write_flags(out: &mut Vec<u8>, flags: u8) -> io::Result<()> {
 /// Writes a CCW as two words.
 fn write_image(out: &mut Vec<u8>, image: &[u8]) -> io::Result<()> {
     for (place, byte) in image.iter().enumerate() {
-        let blank = if place == 4 { " " } else { "" };
-        write!(out, "{blank}{byte:02X}")?;
+        if place == 4 {
+            out.push(b' ')?;
+        }
+        out.extend_from_slice(&digits_of(*byte))?;
     }
     Ok(())
 }

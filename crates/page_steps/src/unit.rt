@@ -19,6 +19,8 @@ pub struct UnitSteps<'t, D: Device> {
     left: &'t [Entry],
     commands: Commands<'t, D>,
     active: Option<Name>,
+    /// Whether the steps of the request are written.
+    is_wanted: bool,
     /// The first rule that a command of the request breaks.
     rule: Option<Rule>,
     fold: Fold,
@@ -43,6 +45,7 @@ impl<'t, D: Device> UnitSteps<'t, D> {
             left: book.trace(),
             commands: Commands::of(book, &list)?,
             active: None,
+            is_wanted: true,
             rule: None,
             fold: Fold::new(alloc),
             attempts: Attempts::new(alloc, most),
@@ -73,6 +76,17 @@ impl<'t, D: Device> UnitSteps<'t, D> {
     /// Replays up to the post of the next request that was started, and returns its name. None if there is no other. Its error
     /// says that memory ran out.
     pub fn next_request(&mut self) -> io::Result<Option<Name>> {
+        self.is_wanted = true;
+        self.go_on()
+    }
+
+    /// The same for a request whose steps are not wanted: its attempts are empty, and it breaks no rule.
+    pub fn pass_request(&mut self) -> io::Result<Option<Name>> {
+        self.is_wanted = false;
+        self.go_on()
+    }
+
+    fn go_on(&mut self) -> io::Result<Option<Name>> {
         self.attempts.clear();
         self.rule = None;
         for entry in self.left {
@@ -116,9 +130,13 @@ impl<'t, D: Device> UnitSteps<'t, D> {
         self.attempts.end()
     }
 
-    /// Replays commands of the active request, and writes them.
+    /// Replays commands of the active request, and writes them if they are wanted.
     fn run(&mut self, count: u32) -> io::Result<()> {
         for _ in 0..count {
+            if !self.is_wanted {
+                self.commands.next_command()?;
+                continue;
+            }
             let mut text = self.fold.text();
             match self.commands.next_command()? {
                 Next::Command(command) => {

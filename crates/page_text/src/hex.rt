@@ -1,7 +1,8 @@
 //! Bytes in hexadecimal, with the characters that they are.
 
 use crate::escape::{Ebcdic, Escaped};
-use std::fmt;
+use digits::digits_of;
+use std::{fmt, str};
 
 /// The bytes of a line.
 const LINE: usize = 16;
@@ -110,19 +111,21 @@ fn columns_of(part: &[u8]) -> usize {
         .saturating_add(groups.saturating_sub(1))
 }
 
-/// The digits of a line, with a blank between groups.
+/// The digits of a line, at most 16 bytes, with a blank between groups.
 #[derive(Clone, Copy)]
 struct Digits<'a>(&'a [u8]);
 
 impl<'a> fmt::Display for Digits<'a> {
     fn fmt<W: fmt::Write>(&self, f: &mut fmt::Formatter<W>) -> fmt::Result {
-        for (place, byte) in self.0.iter().enumerate() {
-            if place > 0 && place % GROUP == 0 {
-                f.write_str(" ")?;
+        let mut text = [b' '; COLUMNS];
+        for (place, byte) in self.0.iter().enumerate().take(LINE) {
+            let column = 2 * place + place / GROUP;
+            if let Some(pair) = text.get_mut(column..column + 2) {
+                pair.copy_from_slice(&digits_of(*byte));
             }
-            write!(f, "{byte:02X}")?;
         }
-        Ok(())
+        let digits = text.get(..columns_of(self.0)).unwrap_or(&[]);
+        f.write_str(str::from_utf8(digits).unwrap_or(""))
     }
 }
 

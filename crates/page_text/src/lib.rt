@@ -1,7 +1,7 @@
 //! What all parts of an HTML page need: text that cannot break the page, numbers, and bytes in hexadecimal. Nothing takes
 //! memory.
 //!
-//! Tests: none yet. No program draws pages.
+//! Tests: the group pages of tests/run.
 #![tactic(auto)]
 
 mod escape;

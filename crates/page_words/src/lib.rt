@@ -1,10 +1,16 @@
-//! The words of an HTML page of a run, and links to its panels.
+//! The words of an HTML page of a run, links to its panels, and counts of completion codes.
 //!
-//! Tests: none yet. No program draws pages.
+//! Tests: the group pages of tests/run.
 #![tactic(auto)]
 
+mod codes;
 mod links;
+mod owner;
 mod words;
 
+pub use codes::{CodeCounts, Codes, write_share};
 pub use links::{MarkLink, ShortLink};
-pub use words::{CODES, CodeClass, MarkWords, PanelId, code_in_words, code_place, why};
+pub use owner::Owner;
+pub use words::{
+    CODES, CodeClass, MarkWords, PanelId, code_in_words, code_place, mark_sign, unit_kind, why,
+};

@@ -25,6 +25,7 @@ pub struct MarkLink {
 }
 
 impl MarkLink {
+    /// The link to the panel of this mark.
     pub fn of(mark: &Mark) -> MarkLink {
         MarkLink {
             unit: mark.unit,

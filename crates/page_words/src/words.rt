@@ -2,9 +2,9 @@
 
 use io_images::Code;
 use request_piece::Scope;
-use run_index::{Control, Request};
+use run_index::{Control, Index, Request};
 use std::fmt;
-use unit_history::{Cause, mode_in_words};
+use unit_history::{Cause, kind_in_words, mode_in_words};
 
 /// The completion codes, in the order of the page.
 pub const CODES: [Code; 4] = [
@@ -24,13 +24,13 @@ pub fn code_place(code: Code) -> usize {
     }
 }
 
-/// What a completion code says.
+/// What a completion code says. What posts 48 is a purge, a close or the error of a related request.
 pub fn code_in_words(code: Code) -> &'static str {
     match code {
         Code::Ended => "ended well",
         Code::PermanentError => "permanent error",
         Code::ExtentViolated => "outside the extents",
-        Code::Purged => "purged",
+        Code::Purged => "ended by another event",
     }
 }
 
@@ -78,7 +78,7 @@ pub fn why(cause: Cause) -> Option<&'static str> {
     }
 }
 
-/// The id of the panel of a request.
+/// The id of the panel of a request: its task, its unit, and its number among the requests of the task to the unit.
 #[derive(Clone, Copy)]
 pub struct PanelId {
     pub task: u16,
@@ -87,6 +87,7 @@ pub struct PanelId {
 }
 
 impl PanelId {
+    /// The id of the panel of this request.
     pub fn of(request: &Request) -> PanelId {
         PanelId {
             task: request.task,
@@ -120,5 +121,22 @@ impl fmt::Display for MarkWords {
             Control::Close { dcb } => write!(f, "close of DCB {dcb}"),
             Control::Reset { dcb } => write!(f, "reset of DCB {dcb}"),
         }
+    }
+}
+
+/// The id of the sign of a purge, a close or a reset among the drawings of the page.
+pub fn mark_sign(what: &Control) -> &'static str {
+    match what {
+        Control::Purge { .. } => "mpurge",
+        Control::Close { .. } => "mclosed",
+        Control::Reset { .. } => "mreset",
+    }
+}
+
+/// The word for the kind of a unit's device. Empty for a unit that the run does not have.
+pub fn unit_kind(index: &Index, unit: u16) -> &'static str {
+    match index.units().get(usize::from(unit)) {
+        Some(parts) => kind_in_words(parts.kind),
+        None => "",
     }
 }

@@ -27,7 +27,7 @@ pub(crate) fn give_columns(
     run: &Run<'_>,
     gathered: &mut Gathered,
 ) -> Result<Columns, AllocError> {
-    let is_ordered = run.units.iter().all(|unit| unit.places.is_some());
+    let is_ordered = run.is_ordered();
     let list = if is_ordered {
         order_by_places(alloc, run, gathered)?
     } else {
@@ -84,21 +84,12 @@ fn add_placed(
     unit: &UnitRecord<'_>,
     moments: &[Moment],
 ) -> Result<(), AllocError> {
-    let places = unit.places.unwrap_or(&[]);
     for moment in head.next..head.end {
         let entry = moments.get(moment).map_or(0, |moment| moment.entry);
         sorted.push(Placed {
-            place: place_of(places, entry),
+            place: unit.place_of(entry).unwrap_or(usize::MAX),
             moment,
         })?;
     }
     Ok(())
-}
-
-/// The place of an entry, by its number.
-fn place_of(places: &[usize], entry: usize) -> usize {
-    places
-        .get(entry.saturating_sub(1))
-        .copied()
-        .unwrap_or(usize::MAX)
 }

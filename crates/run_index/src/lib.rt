@@ -1,6 +1,6 @@
 //! The index of a run: the events of all units in one order, and what a page asks of its requests, purges, closes and resets.
 //!
-//! Tests: none yet. No program draws pages.
+//! Tests: the group pages of tests/run.
 #![tactic(auto)]
 
 mod columns;
