@@ -104,7 +104,10 @@ RUN = {
         {"first.script": "samples/read.script", "rest.script": "samples/read.script"},
     ),
     ("docs/MANUAL.md", "./excp report --json first.script"): (ANYTHING, {"first.script": "samples/read.script"}),
+    ("docs/MANUAL.md", "./excp report --html first.script"): (NOTHING, {"first.script": "samples/read.script"}),
     ("docs/REPORT.md", "./excp report --json first.script"): (ANYTHING, {"first.script": "samples/read.script"}),
+    ("docs/REPORT.md", "./excp report --html first.script"): (NOTHING, {"first.script": "samples/read.script"}),
+    ("docs/REPORT.md", "./excp step --json samples/scenarios/halt-an-active-request.scenario"): (ANYTHING, {}),
     ("docs/ASSEMBLER.md", "./excp assemble job | ./excp -"): (NEXT, {"job": "tasks 1"}),
     ("docs/ASSEMBLER.md", "./excp assemble job > job.script"): (NOTHING, {"job": "tasks 1"}),
 }
@@ -115,6 +118,7 @@ NOT_RUN = {
     ("docs/CLIENT.md", "cd crates/print_tape && rt run"): "`rt ci` proves the program and runs it",
     ("docs/CLIENT.md", "tools/library.py"): "the group library_clients builds and runs the examples",
     ("docs/MANUAL.md", "./excp describe tape.aws disk.ckd"): "it needs images; the group images runs such commands",
+    ("samples/README.md", "./excp step --html samples/scenarios/a-related-error.scenario"): "it needs Chromium; the group pages opens pages",
     ("docs/SPEED.md", "cd crates/excp_speed && rt run -- 2000"): "it proves the program and takes minutes",
 }
 

@@ -47,6 +47,13 @@ REJECTED = [
     (["assemble", "--channels", "2"], "error: unexpected argument '--channels' found"),
     (["assemble", "--steps"], "error: unexpected argument '--steps' found"),
     (["step", "--steps"], "error: unexpected argument '--steps' found"),
+    (["step", "--json", "--trace"], "error: the argument '--trace' cannot be used with '--json'"),
+    (["step", "--state", "--json"], "error: the argument '--state' cannot be used with '--json'"),
+    (["step", "--html", "--trace"], "error: the argument '--html' cannot be used with '--trace'"),
+    (["step", "--html", "--json"], "error: the argument '--html' cannot be used with '--json'"),
+    (["report", "--html", "--steps"], "error: the argument '--html' cannot be used with:"),
+    (["report", "--posts", "--html"], "error: the argument '--posts' cannot be used with '--html'"),
+    (["step", "--most-steps", "1"], "error: the following required arguments were not provided:"),
     (["assembly"], "error: unrecognized subcommand 'assembly'"),
     (["report", "--steps", "--steps"], "error: the argument '--steps' cannot be used multiple times"),
     (["report", "--most-steps", "1"], "error: the following required arguments were not provided:"),
@@ -57,7 +64,7 @@ REJECTED = [
     (["run", "--steps"], "error: unexpected argument '--steps' found"),
     (["run", "--load", "0=x"], "error: unexpected argument '--load' found"),
     (["check", "--save", "0=x"], "error: unexpected argument '--save' found"),
-    (["report", "--posts", "--steps"], "error: the argument '--posts' cannot be used with '--steps'"),
+    (["report", "--posts", "--steps"], "error: the argument '--posts' cannot be used with:"),
     *(
         ([word, "--load", it], "error: --load and --save take U=FILE: a unit from 0 to 63, and the name of a file")
         for word, it in (("report", "x"), ("step", "64=x"), ("check", "0="), ("report", "=x"), ("report", "+1=x"))

@@ -274,10 +274,15 @@ def programs(setup):
     yield f"{name}: threads", it
     programs_end = f"{SAMPLES}/how-programs-end"
     yield plan("report", prints_a_part, f"{programs_end}.script", f"{programs_end}.steps", "--steps")
-    # the group reports judges this text
-    whole = setup.run("report", "--json", file=f"{programs_end}.script").out
-    words = [setup.program, "report", "--json"]
-    yield "report samples/how-programs-end.script --json", Plan(words, prints_a_part, f"{programs_end}.script", whole)
+    # the groups reports and pages judge these texts
+    for form in "--json", "--html":
+        whole = setup.run("report", form, file=f"{programs_end}.script").out
+        words = [setup.program, "report", form]
+        yield f"report samples/how-programs-end.script {form}", Plan(words, prints_a_part, f"{programs_end}.script", whole)
+    for scenario in (f"{SAMPLES}/scenarios/halt-an-active-request.scenario", f"{CASES}/scenarios/purge_of_one_task_over_units_halt.scenario"):
+        for words in ["step", "--json"], ["step", "--json", "--plain"], ["step", "--html"]:
+            whole = setup.run(*words, file=scenario).out
+            yield f"{' '.join(words)} {os.path.relpath(scenario, TOP)}", Plan([setup.program, *words], prints_a_part, scenario, whole)
     yield plan("check", prints_all_or_nothing, f"{SAMPLES}/read.script", "/dev/null")
     yield plan("assemble", prints_all_or_nothing, f"{SAMPLES}/read.symbolic", f"{SAMPLES}/read.assembled")
     folder = f"{CASES}/refusals"

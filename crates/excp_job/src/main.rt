@@ -14,23 +14,24 @@ mod pictures;
 mod progress;
 mod replacement;
 mod saver;
+mod scenario;
 mod screen;
 mod words;
 
-use any_device::AnyDevice;
 use convert::{make_image, print_lines};
 use describe::describe_all;
 use images::load_all;
 use job_assembler::assemble_script;
 use job_check::{Source, check_script_on};
 use job_media::{MountedImages, mount_images, sizes_of, with_sizes};
-use job_options::{Counts, Format, MediaFiles, Order, Print, StepOptions, Words};
+use job_options::{Counts, Format, MediaFiles, Order, Print, Words};
 use job_run::{Finished, Output, Workers, report_script, run_parsed, run_script, write};
-use job_script::{JobError, Script, UnitSetup, read_script};
-use job_step::{Images, Keeper, SiteKind, Views, check_scenario_on, step_scenario_on};
+use job_script::{JobError, Script, read_script};
+use job_step::check_scenario_on;
 use medium_image::{Image, Kept};
-use pictures::print_json;
+use pictures::print_script;
 use saver::{Medium, Saver};
+use scenario::{StepOrder, step};
 use screen::Screen;
 use std::cell::Cell;
 use std::env;
@@ -154,8 +155,9 @@ fn carry_out<R: Threads + Wait + Sync, I: Read>(
                 options,
                 media,
                 name,
+                is_broken: &is_broken,
             };
-            step(rt, threads, input, asked, images, &is_broken)
+            step(rt, threads, input, asked, images)
         }
     };
     if matches!(order, Order::Check { .. }) && is_broken.get() {
@@ -256,9 +258,9 @@ fn print_report(
         Print::Posts => Output::Posts,
         Print::Report => whole_report(script, run, None),
         Print::Steps(most) => whole_report(script, run, Some(most)),
-        Print::Json(most) => {
+        Print::As(form) => {
             let screen = Screen::new(rt.stdout(), false, is_broken);
-            return print_json(rt.alloc(), script, run, asked.name, most, screen);
+            return print_script(rt.alloc(), script, run, asked.name, form, screen);
         }
     };
     let mut screen = Screen::new(rt.stdout(), takes_colour(rt, rt.stdout()), is_broken);
@@ -322,75 +324,6 @@ fn assemble<I: Read>(
     let screen = Screen::new(rt.stdout(), false, is_broken);
     let is_rejected = assemble_script(rt.alloc(), input, source, screen, rt.stderr())?;
     Ok(if is_rejected { REJECTED } else { 0 })
-}
-
-/// What is asked of a scenario, and the name of its script.
-#[derive(Clone, Copy)]
-struct StepOrder<'a> {
-    options: StepOptions,
-    media: &'a MediaFiles,
-    name: &'a str,
-}
-
-impl<'a> Keeper for Saver<'a> {
-    fn begin(&mut self, units: &[UnitSetup]) -> bool {
-        Saver::begin(self, units)
-    }
-
-    fn keep(&mut self, unit: u16, kept: Option<&Kept>, mounted: &AnyDevice, now: &AnyDevice) {
-        let medium = Medium { mounted, now, kept };
-        self.write(usize::from(unit), medium);
-    }
-}
-
-/// Carries out a scenario, and returns the exit status.
-fn step<R: Wait, I: Read>(
-    rt: &HostRuntime,
-    threads: &R,
-    input: &mut I,
-    asked: StepOrder<'_>,
-    images: Vec<Option<Image>>,
-    is_broken: &Cell<bool>,
-) -> Result<u8, JobError> {
-    let StepOrder {
-        options,
-        media,
-        name,
-    } = asked;
-    let is_coloured = takes_colour(rt, rt.stderr());
-    let source = Source { name, is_coloured };
-    let views = Views {
-        trace: options.trace,
-        state: options.state,
-    };
-    let mut saver = Saver::new(rt, media);
-    let mut screen = Screen::new(rt.stdout(), false, is_broken);
-    let images = Images {
-        images,
-        keeper: &mut saver,
-    };
-    let is_met = step_scenario_on(
-        threads,
-        rt.alloc(),
-        kind_of(options.plain),
-        views,
-        images,
-        input,
-        &mut screen,
-        &mut rt.stderr(),
-        source,
-    );
-    let saved = saver.finish();
-    Ok(if is_met? { saved } else { saved.max(REJECTED) })
-}
-
-/// What carries a scenario out.
-fn kind_of(is_plain: bool) -> SiteKind {
-    if is_plain {
-        SiteKind::Plain
-    } else {
-        SiteKind::Locked
-    }
 }
 
 fn workers(counts: Counts) -> Workers {

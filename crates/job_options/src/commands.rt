@@ -19,8 +19,10 @@ pub const LOAD: &str = "load";
 
 pub const SAVE: &str = "save";
 
-/// The group of the forms of a report that have commands.
+/// The group of the forms that have commands.
 const DETAILED: &str = "detailed";
+
+const HTML: &str = "html";
 
 /// The formats of images, as words of `--to`.
 pub const FORMATS: &[&str] = &["aws", "ckd"];
@@ -65,29 +67,33 @@ fn run<'a>(alloc: Global) -> Result<Command<'a>, AllocError> {
 }
 
 fn report<'a>(alloc: Global) -> Result<Command<'a>, AllocError> {
-    let steps = flag(
-        alloc,
-        "steps",
-        "Every command of each history too: some 200 bytes each, and up to 4,096 an attempt",
-    );
-    let posts = flag(
-        alloc,
-        "posts",
-        "The posts and their count alone, as `run` prints them",
-    );
-    let json = flag(
-        alloc,
-        "json",
-        "All of a report as JSON, with every command (docs/REPORT.md)",
-    );
     Command::new(alloc, "report")
         .about("Prints the posts of a script, the history of each unit and what lies on its medium")
         .arg(channels(alloc))?
         .arg(handlers(alloc))?
-        .arg(steps.group(DETAILED)?)?
-        .arg(json.group(DETAILED)?)?
-        .arg(most_steps(alloc)?)?
-        .arg(posts.conflicts_with("steps")?.conflicts_with("json")?)?
+        .arg(detailed(
+            alloc,
+            "steps",
+            "Every command of each history too: some 200 bytes each, and up to 4,096 an attempt",
+        )?)?
+        .arg(detailed(
+            alloc,
+            "json",
+            "All of a report as JSON, with every command (docs/REPORT.md)",
+        )?)?
+        .arg(most_steps(
+            alloc,
+            "With --steps or --json: only the first N commands of each unit",
+        )?)?
+        .arg(html(
+            alloc,
+            "All of a report as one page for a browser: a picture of the run, and a panel for each request",
+        )?)?
+        .arg(alone(
+            alloc,
+            "posts",
+            "The posts and their count alone, as `run` prints them",
+        )?)?
         .arg(load(alloc))?
         .arg(save(alloc))?
         .arg(script(alloc))
@@ -114,17 +120,25 @@ fn step<'a>(alloc: Global) -> Result<Command<'a>, AllocError> {
         "plain",
         "Units and rows without locks; the answers are the same",
     );
-    let trace = flag(
-        alloc,
-        "trace",
-        "The entries that each event adds to the traces of units",
-    );
-    let state = flag(alloc, "state", "The state of each unit after each event");
     Command::new(alloc, "step")
         .about("Carries out a scenario event by event, and prints each answer at once")
         .arg(plain)?
-        .arg(trace)?
-        .arg(state)?
+        .arg(alone(
+            alloc,
+            "trace",
+            "The entries that each event adds to the traces of units",
+        )?)?
+        .arg(alone(alloc, "state", "The state of each unit after each event")?)?
+        .arg(detailed(
+            alloc,
+            "json",
+            "No answers; at the end all that happened as JSON (docs/REPORT.md)",
+        )?)?
+        .arg(most_steps(alloc, "With --json: only the first N commands of each unit")?)?
+        .arg(html(
+            alloc,
+            "No answers; at the end all that happened as one page for a browser",
+        )?)?
         .arg(load(alloc))?
         .arg(save(alloc))?
         .arg(script(alloc))
@@ -173,11 +187,28 @@ fn flag<'a>(alloc: Global, name: &'a str, help: &'a str) -> Arg<'a> {
         .action(ArgAction::SetTrue)
 }
 
-fn most_steps<'a>(alloc: Global) -> Result<Arg<'a>, AllocError> {
+/// A flag for a form that has commands.
+fn detailed<'a>(alloc: Global, name: &'a str, help: &'a str) -> Result<Arg<'a>, AllocError> {
+    flag(alloc, name, help).group(DETAILED)
+}
+
+/// The flag for a page, which has limits of its own.
+fn html<'a>(alloc: Global, help: &'a str) -> Result<Arg<'a>, AllocError> {
+    flag(alloc, HTML, help).conflicts_with(DETAILED)
+}
+
+/// A flag that goes with no form that has commands, and with no page.
+fn alone<'a>(alloc: Global, name: &'a str, help: &'a str) -> Result<Arg<'a>, AllocError> {
+    flag(alloc, name, help)
+        .conflicts_with(DETAILED)?
+        .conflicts_with(HTML)
+}
+
+fn most_steps<'a>(alloc: Global, help: &'a str) -> Result<Arg<'a>, AllocError> {
     Arg::new(alloc, "most-steps")
         .long("most-steps")
         .value_name("N")
-        .help("With --steps or --json: only the first N commands of each unit")
+        .help(help)
         .value_parser(value_parser!(u64).range(1..))
         .requires_arg(DETAILED)
 }

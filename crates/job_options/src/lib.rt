@@ -1,5 +1,6 @@
-//! The command line. `run` and `report` take `--channels N` and `--handlers N`. `report` takes `--posts`, or `--steps` or `--json`
-//! with `--most-steps N`. All but `run` take the name of a file. `--load U=FILE` and `--save U=FILE` name images of media.
+//! The command line. `run` and `report` take `--channels N` and `--handlers N`. `report` takes `--posts`, `--html`, or `--steps` or
+//! `--json` with `--most-steps N`; `step` takes `--html`, or `--json` with it. All but `run` take the name of a file.
+//! `--load U=FILE` and `--save U=FILE` name images of media.
 //!
 //! Tests: `tests/run command_line`.
 #![tactic(auto)]
@@ -28,13 +29,29 @@ pub struct Counts {
     ghost handlers_fit: { (1 ≤ handlers) × (handlers ≤ 8) },
 }
 
-/// How a scenario is carried out: without locks, and with what is printed after each answer, new entries of traces and the
-/// state of each unit.
+/// How a scenario is carried out: with locks or without, and what it prints.
 #[derive(Clone, Copy)]
 pub struct StepOptions {
     pub plain: bool,
-    pub trace: bool,
-    pub state: bool,
+    pub print: StepPrint,
+}
+
+/// What a scenario prints.
+#[derive(Clone, Copy)]
+pub enum StepPrint {
+    /// Each answer at once, and after it the new entries of traces and the state of each unit, if asked for.
+    Answers { trace: bool, state: bool },
+    /// At its end all of it, in another form.
+    As(Form),
+}
+
+/// A form for programs and browsers.
+#[derive(Clone, Copy)]
+pub enum Form {
+    /// JSON, with that many commands of each unit.
+    Json(u64),
+    /// A page in HTML.
+    Html,
 }
 
 /// What a report prints.
@@ -46,8 +63,8 @@ pub enum Print {
     Report,
     /// And that many commands of each unit.
     Steps(u64),
-    /// All of that as JSON.
-    Json(u64),
+    /// All of that in another form.
+    As(Form),
 }
 
 /// What is asked for a script.
@@ -61,7 +78,7 @@ pub enum Order {
     Check { scenario: bool },
     /// To print the plain script of one with symbolic areas.
     Assemble,
-    /// To carry out a scenario, and print the answer of each event.
+    /// To carry out a scenario, and print the answer of each event, or all of it at its end.
     Step(StepOptions),
 }
 
@@ -202,8 +219,7 @@ fn asked_for(name: &str, options: &ArgMatches<'_>) -> Option<Order> {
         "assemble" => Some(Order::Assemble),
         "step" => Some(Order::Step(StepOptions {
             plain: options.get_flag("plain"),
-            trace: options.get_flag("trace"),
-            state: options.get_flag("state"),
+            print: step_print_of(options),
         })),
         "report" => Some(Order::Report {
             counts: counts_of(options)?,
@@ -219,14 +235,34 @@ fn print_of(options: &ArgMatches<'_>) -> Print {
         Print::Posts
     } else if options.get_flag("steps") {
         Print::Steps(most_steps(options))
-    } else if options.get_flag("json") {
-        Print::Json(most_steps(options))
     } else {
-        Print::Report
+        form_of(options).map_or(Print::Report, Print::As)
     }
 }
 
-/// The most commands of each unit that a report has.
+/// What a scenario prints.
+fn step_print_of(options: &ArgMatches<'_>) -> StepPrint {
+    match form_of(options) {
+        Some(form) => StepPrint::As(form),
+        None => StepPrint::Answers {
+            trace: options.get_flag("trace"),
+            state: options.get_flag("state"),
+        },
+    }
+}
+
+/// The form for programs and browsers that is asked for.
+fn form_of(options: &ArgMatches<'_>) -> Option<Form> {
+    if options.get_flag("json") {
+        Some(Form::Json(most_steps(options)))
+    } else if options.get_flag("html") {
+        Some(Form::Html)
+    } else {
+        None
+    }
+}
+
+/// The most commands of each unit that are printed.
 fn most_steps(options: &ArgMatches<'_>) -> u64 {
     options.get_one::<u64>("most-steps").unwrap_or(u64::MAX)
 }
