@@ -17,7 +17,7 @@ COMMAND = re.compile(r"(?:\$ )?(?:\./|tests/|tools/|cd |rt )")
 # ./excp of a folder in which commands run: it runs the program that is tested, on a file or with a subcommand.
 EXCP = """#!/usr/bin/env bash
 case "$1" in
-    run | report | check | assemble | step | describe | convert) exec {program} "$@" ;;
+    run | report | check | assemble | step | outcomes | describe | convert) exec {program} "$@" ;;
     -) exec {program} run ;;
     *) exec {program} run < "$1" ;;
 esac
@@ -105,6 +105,9 @@ RUN = {
     ),
     ("docs/MANUAL.md", "./excp report --json first.script"): (ANYTHING, {"first.script": "samples/read.script"}),
     ("docs/MANUAL.md", "./excp report --html first.script"): (NOTHING, {"first.script": "samples/read.script"}),
+    ("docs/MANUAL.md", "./excp outcomes samples/outcomes/a-halt.script"): (SESSION, {}),
+    ("docs/MANUAL.md", "./excp report --seed 7"): (ANYTHING, {"race.script": "samples/outcomes/a-halt.script"}),
+    ("samples/README.md", "./excp outcomes samples/outcomes/a-halt.script"): (ANYTHING, {}),
     ("docs/REPORT.md", "./excp report --json first.script"): (ANYTHING, {"first.script": "samples/read.script"}),
     ("docs/REPORT.md", "./excp report --html first.script"): (NOTHING, {"first.script": "samples/read.script"}),
     ("docs/REPORT.md", "./excp step --json samples/scenarios/halt-an-active-request.scenario"): (ANYTHING, {}),

@@ -94,7 +94,7 @@ def task_events_due(run, script, answers):
             due[task].append({"what": "issued", "unit": int(words[2]), "request": int(answer.split()[3])})
         elif words[0] == "collect" and answer != "Quiet":
             due[task].append({"what": "collected", "unit": int(answer.split()[2]), "request": int(answer.split()[3])})
-        elif words[0] in ("purge", "purgetask", "close", "reset"):
+        elif words[0] in ("purge", "purgetask", "purgetaskat", "close", "reset"):
             for unit in dict.fromkeys(of for of, _ in entries):
                 due[task].append({"what": "controlled", "unit": unit, "entry": counts.get(unit, 0) + 1})
         for unit, _ in entries:

@@ -326,7 +326,7 @@ def cases(setup):
     plain = "".join(f"{it.rstrip(' ')}\n" for it in read(STORED).splitlines())
     yield case("assemble a plain script", accepts, setup, ["assemble"], plain)
     none = f"{tempfile.gettempdir()}/no-such-folder/none"
-    for word in ("step", "describe", "convert"):
+    for word in ("step", "outcomes", "describe", "convert"):
         yield case(f"the stored help of {word}", as_stored, setup, word)
     for word in ("report", "check", "assemble"):
         yield case(f"{word} a file that is missing", of_unusable, setup, word, f"{none}.script", "there is no such file")

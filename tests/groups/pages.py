@@ -10,6 +10,7 @@ and dark, with scripts and without.
 import glob
 import os
 import random
+import re
 import tempfile
 
 import browser
@@ -126,6 +127,16 @@ def escapes_the_title(setup):
     require(page.texts["title"] in (f"{it}: a run of excp_job" for it in (name, shown)), f"the title is {page.texts['title']!r}", ran)
 
 
+def counts_dcbs(setup, dcbs):
+    """The lane of a unit whose DCBs are all closed has strips of six of them, and says how many more there are."""
+    lines = ["tasks 1", "tape 0 0 100", *["open 0 in"] * (dcbs + 1), *(f"close 0 0 {dcb}" for dcb in range(1, dcbs + 1)),
+             f"purge 0 0 {dcbs + 1} halt", ""]
+    text = page_of(setup, "report", "--html", script="\n".join(lines))
+    more = {6: [], 7: ["and 1 DCB more in error or closed"], 9: ["and 3 DCBs more in error or closed"]}
+    require(re.findall(r"and \d+ DCBs? more[^<]*", text) == more[dcbs], "another count of DCBs")
+    require(len(re.findall(r"<title>DCB \d+ closed, events", text)) == 6, "not six strips")
+
+
 def fits(setup, kind):
     """A page of 20,000 requests is at most this large."""
     script = many(20_000, kind == "different")
@@ -218,6 +229,8 @@ def cases(setup):
     for code in "cp037", "ascii":
         yield Case(f"hostile bytes in {code}", lambda c=code: keeps_its_shape(setup, c), f"{ORIGIN}, and the HTML standard")
     yield Case("a hostile name", lambda: escapes_the_title(setup), ORIGIN)
+    for dcbs in 6, 7, 9:
+        yield Case(f"{dcbs} closed DCBs", lambda d=dcbs: counts_dcbs(setup, d), ORIGIN)
     for kind in SIZES:
         yield Case(f"20,000 requests, {kind}", lambda k=kind: fits(setup, k), ORIGIN)
     all_sheets = list(sheets())

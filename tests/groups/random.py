@@ -16,8 +16,10 @@ import difflib
 import os
 import random
 import re
+import tempfile
 from dataclasses import dataclass, field
 
+from groups.outcomes import every_outcome, is_among, posts_in
 from harness import Case, Failed, expect, expect_text
 
 TRACK = "18000000000000000000000000000001"
@@ -552,6 +554,9 @@ RUNS = 25
 RUNS_LONG = 200
 MOST = 400
 
+# How many small jobs are compared with their outcomes.
+SMALL = 8
+
 
 def runs_are_lawful(setup, seed, channels, handlers):
     """Judges 25 runs, or 200 in the long form, and more, up to 400, until they have met all that is wanted."""
@@ -566,6 +571,26 @@ def runs_are_lawful(setup, seed, channels, handlers):
         if count >= (RUNS_LONG if setup.is_long else RUNS) and WANTED <= met:
             return
     raise Failed(f"no run met {WANTED - met}")
+
+
+def small_runs_are_outcomes(setup, seed):
+    """The posts of small jobs, whose reports are judged, are among the outcomes that `outcomes` finds."""
+    chance, compared = random.Random(seed), 0
+    for _ in range(SMALL):
+        job = job_at_random(chance, FEW)
+        ran = printed(setup, "report", [*SET_UP, *job.lines], 2, 2)
+        judge(job, read_report(ran.out, job))
+        with tempfile.TemporaryDirectory() as folder:
+            told, last = every_outcome(setup, "\n".join([*SET_UP, *job.lines, ""]), folder)
+        if not last.startswith("not all"):
+            is_among(posts_in(ran), told, "a report")
+            compared += 1
+    require_some(compared, f"{SMALL} jobs were too large")
+
+
+def require_some(count, what):
+    if not count:
+        raise Failed(what)
 
 
 def altered(text):
@@ -651,6 +676,8 @@ def cases(setup):
         yield case(f"scripts at random: {channels} and {handlers} workers", runs_are_lawful, seed, channels, handlers)
     for seed in range(4):
         yield case(f"the judge rejects wrong reports: {seed}", wrong_reports_are_rejected, seed)
+    for seed in range(4):
+        yield case(f"small jobs post what they can: {seed}", small_runs_are_outcomes, seed)
     for channels, handlers in (1, 1), (2, 2), (16, 8):
         name = f"two_disks_four_hundred_posts: {channels} and {handlers} workers"
         yield case(name, two_disks_four_hundred_posts, channels, handlers)

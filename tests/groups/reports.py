@@ -98,6 +98,7 @@ def scenario_at_random(chance):
             f"settle {unit}": 1,
             f"purge {task} {unit} {dcb} {mode}": 6,
             f"purgetask {task} {chance.randrange(3) % 2} {mode}": 3,
+            f"purgetaskat {task} {chance.randrange(3) % 2} {mode} {unit}": 2,
             f"close {task} {unit} {chance.randint(2, 3)}": 1,
             f"reset {task} {unit} {dcb}": 4,
             f"open {unit} out {at_random.TRACK}": 1,

@@ -7,7 +7,7 @@ import re
 from harness import SAMPLES, TOP, Case, Failed, expect, outcome, read
 
 # A line of `check` that is a warning.
-NOTE = re.compile(r"[^:]+:[0-9]+: note: .*\n")
+NOTE = re.compile(r"[^:]+(?::[0-9]+)?: note: .*\n")
 
 
 def without_history(text):

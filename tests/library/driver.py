@@ -160,6 +160,9 @@ class Scenario(Job):
     def on_purgetask(self, _task, other, mode):
         return ", ".join(map(str, self.site.purge_task(int(other), MODES[mode])))
 
+    def on_purgetaskat(self, _task, other, mode, unit):
+        return str(self.site.units[int(unit)].purge_task(int(other), MODES[mode]))
+
     def on_collect(self, task):
         post = self.site.next_post(int(task))
         return self.line(post) if post else "Quiet"

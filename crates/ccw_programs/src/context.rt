@@ -76,6 +76,19 @@ impl Context {
         }
     }
 
+    /// The same place.
+    pub fn copy(&self) -> Context
+        ensures { result ≡ self.now }
+    {
+        Context {
+            next: self.next,
+            fetched: self.fetched,
+            address: self.address,
+            residual: self.residual,
+            state: self.state,
+        }
+    }
+
     /// Whether it runs, or how it ended.
     pub fn state(&self) -> State
         ensures { result ≡ self.now.state }
@@ -105,7 +118,7 @@ impl Context {
     }
 
     /// How many CCWs were fetched.
-    pub(crate) fn fetched(&self) -> u16
+    pub fn fetched(&self) -> u16
         ensures value { result ≡ self.now.fetched }
         ensures bound { result ≤ 4096 }
     {

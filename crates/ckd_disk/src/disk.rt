@@ -1,8 +1,10 @@
 //! The disk as a device: its mounting, its commands, and its reader.
 
-ghost use Rattle.std.specs.Prelude.{◌≡◌, ◌+◌, ◌*◌, ◌<◌, ◌≤◌, ℕ, length, IfOk, [], true};
+ghost use Rattle.std.specs.Prelude.{◌≡◌, ◌+◌, ◌-◌, ◌*◌, ◌^◌, ◌<◌, ◌≤◌, ℕ, length, IfNone, IfOk, IfSome, [], true};
 ghost use Rattle.std.specs.List.{AllByRecursion};
+ghost use Rattle.device_port.specs.Faults.{IsClear};
 ghost use Rattle.device_port.specs.Packed.{image_of};
+ghost use Rattle.ckd_disk.specs.Access.{access_of};
 ghost use Rattle.ckd_disk.specs.Record.{FitsCountArea, ckd};
 ghost use Rattle.ckd_disk.specs.Disk.{disk, seek_given, track_of, at_start};
 ghost use Rattle.ckd_disk.specs.DiskLaws.{disk_lawful};
@@ -129,6 +131,28 @@ impl Disk {
             access: Access::start(FileMask(0)),
             faults,
         }
+    }
+
+    /// The number of the track under the heads.
+    pub fn track(&self) -> usize
+        ensures { result ≡ self.now.track }
+    {
+        self.track
+    }
+
+    /// What the last command left for the next one, beside the medium.
+    pub fn access(&self) -> Access
+        ensures { access_of result ≡ self.now.access }
+    {
+        self.access
+    }
+
+    /// How many commands were done, if a fault may still come. Otherwise no later command meets one.
+    pub fn to_come(&self) -> Option<u64>
+        ensures done { IfSome result (λ done. done ≡ self.now.ordinals.done) }
+        ensures none { IfNone result (IsClear self.now.ordinals.script self.now.ordinals.done (2 ^ 64 - 1)) }
+    {
+        self.faults.to_come()
     }
 
     /// How many tracks the disk has.

@@ -18,9 +18,10 @@ mod track;
 mod volume;
 mod walk;
 
+pub use access::{Access, Armed, Orientation};
 pub use disk::Disk;
 pub use mount::{
     Geometry, GeometryRefusal, InitialRecord, Overfull, RecordRefusal, first_overfull,
 };
-pub use track::{Records, Stored};
+pub use track::{Records, Spot, Stored};
 pub use volume::{END_MARK, Unmounted, Volume, VolumeError};

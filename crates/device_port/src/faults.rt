@@ -1,6 +1,6 @@
 //! Faults that a device is to meet, by the numbers of its commands.
 
-ghost use Rattle.std.specs.Prelude.{◌≡◌, ◌<◌, IfOk, IsSome, IsTrue, None, if◌then◌else◌, length, true};
+ghost use Rattle.std.specs.Prelude.{◌≡◌, ◌<◌, ◌-◌, ◌^◌, IfNone, IfOk, IfSome, IsSome, IsTrue, None, if◌then◌else◌, length, true};
 ghost use Rattle.device_port.specs.Faults.{Ordinals, fault_met, counted, failed, is_channel_check, is_script, are_faults_after, Follows, IsClear, next_ordinal};
 
 use crate::answer::Acted;
@@ -147,6 +147,17 @@ impl FaultScript {
         self.done = done;
         self.clear = clear;
         fault
+    }
+
+    /// How many commands were done, if a fault may still come. Otherwise no later command meets one.
+    pub fn to_come(&self) -> Option<u64>
+        ensures done { IfSome result (λ done. done ≡ self.now.done) }
+        ensures none { IfNone result (IsClear self.now.script self.now.done (2 ^ 64 - 1)) }
+    {
+        if clear_until(self.faults.as_slice(), self.next, self.done) == u64::MAX {
+            return None;
+        }
+        Some(self.done)
     }
 
     /// The same script at the same place.

@@ -3,7 +3,7 @@
 use crate::progress::Progress;
 use crate::replacement::{BESIDE, ReplaceError, target_of};
 use aws_tape::AwsError;
-use job_options::{MediaFiles, UnitFile};
+use job_options::{RunFiles, UnitFile};
 use job_script::JobError;
 use medium_image::{Image, ImageError};
 use std::alloc::Global;
@@ -31,7 +31,7 @@ pub fn no_memory(rt: &HostRuntime) -> u8 {
 /// Reads the images of units, and lists them by unit number. Each file is for one unit, also those that are saved.
 ///
 /// Error: what is wrong was printed; the exit status.
-pub fn load_all(rt: &HostRuntime, media: &MediaFiles) -> Result<Vec<Option<Image>>, u8> {
+pub fn load_all(rt: &HostRuntime, media: &RunFiles) -> Result<Vec<Option<Image>>, u8> {
     let mut images: Vec<Option<Image>> = Vec::new(rt.alloc());
     check_names(rt, media)?;
     for file in &media.loads {
@@ -95,7 +95,7 @@ fn load_from<R: Read>(alloc: Global, file: &mut R) -> io::Result<Result<Image, I
 
 /// Finds a file that the command line names for two units, where a file that is saved has two: itself, and the new one beside
 /// it.
-fn check_names(rt: &HostRuntime, media: &MediaFiles) -> Result<(), u8> {
+fn check_names(rt: &HostRuntime, media: &RunFiles) -> Result<(), u8> {
     let mut known: Vec<(u8, String)> = Vec::new(rt.alloc());
     for file in &media.loads {
         note_name(rt, &mut known, file, "")?;

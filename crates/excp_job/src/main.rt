@@ -10,9 +10,11 @@
 mod convert;
 mod describe;
 mod images;
+mod outcomes;
 mod pictures;
 mod progress;
 mod replacement;
+mod report;
 mod saver;
 mod scenario;
 mod screen;
@@ -23,14 +25,13 @@ use describe::describe_all;
 use images::load_all;
 use job_assembler::assemble_script;
 use job_check::{Source, check_script_on};
-use job_media::{MountedImages, mount_images, sizes_of, with_sizes};
-use job_options::{Counts, Format, MediaFiles, Order, Print, Words};
-use job_run::{Finished, Output, Workers, report_script, run_parsed, run_script, write};
-use job_script::{JobError, Script, read_script};
+use job_options::{Counts, Format, Order, OutcomeOptions, RunFiles, Words};
+use job_run::{Workers, run_script};
+use job_script::JobError;
 use job_step::check_scenario_on;
-use medium_image::{Image, Kept};
-use pictures::print_script;
-use saver::{Medium, Saver};
+use medium_image::Image;
+use outcomes::{OutcomeOrder, outcomes};
+use report::{ReportOrder, report};
 use scenario::{StepOrder, step};
 use screen::Screen;
 use std::cell::Cell;
@@ -53,11 +54,63 @@ fn main(rt: HostRuntime) -> ExitCode {
             Some(file) => of_file(&rt, &rt, order, &media, &file),
             None => carry_out(&rt, &rt, order, &media, &mut rt.stdin(), STANDARD_INPUT),
         },
+        Ok(
+            Words::Outcomes {
+                options,
+                file,
+                media,
+                scenarios,
+            },
+        ) => {
+            let asked = Exploring {
+                options,
+                media,
+                scenarios,
+            };
+            explored(&rt, &asked, file)
+        }
         Ok(Words::Describe(names)) => of_images(&rt, &names),
         Ok(Words::Convert { to, file, output }) => converted(&rt, to, &file, output),
         Err(status) => status,
     };
     ExitCode::from(status)
+}
+
+/// What is asked of a search for outcomes.
+#[derive(Drop)]
+struct Exploring {
+    options: OutcomeOptions,
+    media: RunFiles,
+    scenarios: Option<String>,
+}
+
+/// Prints every outcome of the script in a file or of standard input, and returns the exit status.
+fn explored(rt: &HostRuntime, asked: &Exploring, file: Option<String>) -> u8 {
+    match file {
+        Some(name) => match opened(rt, name.as_str()) {
+            Ok(mut file) => explore(rt, asked, &mut file),
+            Err(status) => status,
+        },
+        None => explore(rt, asked, &mut rt.stdin()),
+    }
+}
+
+/// Prints every outcome of the script that is read, and returns the exit status.
+fn explore<I: Read>(rt: &HostRuntime, asked: &Exploring, input: &mut I) -> u8 {
+    let images = match load_all(rt, &asked.media) {
+        Ok(images) => images,
+        Err(status) => return status,
+    };
+    let is_broken = Cell::new(false);
+    let order = OutcomeOrder {
+        options: asked.options,
+        directory: match &asked.scenarios {
+            Some(name) => Some(name.as_str()),
+            None => None,
+        },
+        is_broken: &is_broken,
+    };
+    ended(rt, outcomes(rt, input, order, images), is_broken.get())
 }
 
 /// Describes images, and returns the exit status.
@@ -90,13 +143,23 @@ fn of_file<R: Threads + Wait + Sync>(
     rt: &HostRuntime,
     threads: &R,
     order: Order,
-    media: &MediaFiles,
+    media: &RunFiles,
     name: &str,
 ) -> u8 {
-    match File::open(rt, name) {
-        Ok(file) if is_directory(&file) => unreadable(rt, name, "it is a directory"),
+    match opened(rt, name) {
         Ok(mut file) => carry_out(rt, threads, order, media, &mut file, name),
-        Err(error) => unreadable(rt, name, why_unopened(error.kind())),
+        Err(status) => status,
+    }
+}
+
+/// The script in a file.
+///
+/// Error: why it is not read was printed; the exit status.
+fn opened(rt: &HostRuntime, name: &str) -> Result<File, u8> {
+    match File::open(rt, name) {
+        Ok(file) if is_directory(&file) => Err(unreadable(rt, name, "it is a directory")),
+        Ok(file) => Ok(file),
+        Err(error) => Err(unreadable(rt, name, why_unopened(error.kind()))),
     }
 }
 
@@ -128,7 +191,7 @@ fn carry_out<R: Threads + Wait + Sync, I: Read>(
     rt: &HostRuntime,
     threads: &R,
     order: Order,
-    media: &MediaFiles,
+    media: &RunFiles,
     input: &mut I,
     name: &str,
 ) -> u8 {
@@ -139,14 +202,20 @@ fn carry_out<R: Threads + Wait + Sync, I: Read>(
     let is_broken = Cell::new(false);
     let done = match order {
         Order::Run(counts) => run(rt, threads, input, counts),
-        Order::Report { counts, print } => {
+        Order::Report {
+            counts,
+            print,
+            seed,
+        } => {
             let asked = ReportOrder {
                 counts,
                 print,
-                media,
+                seed,
+                files: media,
                 name,
+                is_broken: &is_broken,
             };
-            report(rt, threads, input, asked, images, &is_broken)
+            report(rt, threads, input, asked, images)
         }
         Order::Check { scenario } => check(rt, input, scenario, images, name, &is_broken),
         Order::Assemble => assemble(rt, input, name, &is_broken),
@@ -183,115 +252,6 @@ fn run<R: Threads + Wait + Sync, I: Read>(
     Ok(0)
 }
 
-/// What is asked of a report, and the name of its script.
-#[derive(Clone, Copy)]
-struct ReportOrder<'a> {
-    counts: Counts,
-    print: Print,
-    media: &'a MediaFiles,
-    name: &'a str,
-}
-
-/// Runs a script, prints its posts and what the run left behind, and saves media.
-fn report<R: Threads + Wait + Sync, I: Read>(
-    rt: &HostRuntime,
-    threads: &R,
-    input: &mut I,
-    asked: ReportOrder<'_>,
-    images: Vec<Option<Image>>,
-    is_broken: &Cell<bool>,
-) -> Result<u8, JobError> {
-    let has_media = !images.is_empty() || !asked.media.saves.is_empty();
-    let steps = match asked.print {
-        Print::Report if !has_media => None,
-        Print::Steps(most) if !has_media => Some(most),
-        _ => return report_media(rt, threads, input, asked, images, is_broken),
-    };
-    let mut screen = Screen::new(rt.stdout(), takes_colour(rt, rt.stdout()), is_broken);
-    report_script(
-        threads,
-        rt.alloc(),
-        input,
-        &mut screen,
-        workers(asked.counts),
-        steps,
-    )?;
-    Ok(0)
-}
-
-/// Does so with media from images, or with the posts alone.
-fn report_media<R: Threads + Wait + Sync, I: Read>(
-    rt: &HostRuntime,
-    threads: &R,
-    input: &mut I,
-    asked: ReportOrder<'_>,
-    images: Vec<Option<Image>>,
-    is_broken: &Cell<bool>,
-) -> Result<u8, JobError> {
-    let alloc = rt.alloc();
-    let text = read_script(alloc, input)?;
-    let sizes = sizes_of(alloc, &images)?;
-    let text = with_sizes(alloc, &text, &sizes)?;
-    let script = Script::parse(alloc, &text)?;
-    let mut saver = Saver::new(rt, asked.media);
-    if !saver.begin(&script.set_up.units) {
-        return Ok(saver.finish());
-    }
-    let MountedImages { devices, kept } = mount_images(alloc, &script.set_up.units, images)?;
-    let run = run_parsed(threads, alloc, &script, devices, workers(asked.counts))?;
-    let printed = print_report(rt, &script, &run, asked, is_broken);
-    save_media(&mut saver, &run, &kept);
-    let saved = saver.finish();
-    printed?;
-    Ok(saved)
-}
-
-/// Prints what a run came to.
-fn print_report(
-    rt: &HostRuntime,
-    script: &Script,
-    run: &Finished,
-    asked: ReportOrder<'_>,
-    is_broken: &Cell<bool>,
-) -> Result<(), JobError> {
-    let output = match asked.print {
-        Print::Posts => Output::Posts,
-        Print::Report => whole_report(script, run, None),
-        Print::Steps(most) => whole_report(script, run, Some(most)),
-        Print::As(form) => {
-            let screen = Screen::new(rt.stdout(), false, is_broken);
-            return print_script(rt.alloc(), script, run, asked.name, form, screen);
-        }
-    };
-    let mut screen = Screen::new(rt.stdout(), takes_colour(rt, rt.stdout()), is_broken);
-    write(rt.alloc(), &run.tasks, output, &mut screen)
-}
-
-/// The report of a run, with that many commands of each unit.
-fn whole_report<'a>(script: &'a Script, run: &'a Finished, steps: Option<u64>) -> Output<'a> {
-    Output::Report {
-        set_up: &script.set_up,
-        books: run.report.units(),
-        steps,
-    }
-}
-
-/// Writes the media of a run that are to be saved.
-fn save_media(saver: &mut Saver<'_>, run: &Finished, kept: &[Option<Kept>]) {
-    for (unit, book) in run.report.units().iter().enumerate() {
-        let kept = match kept.get(unit) {
-            Some(Some(kept)) => Some(kept),
-            _ => None,
-        };
-        let medium = Medium {
-            mounted: book.mounted(),
-            now: book.device(),
-            kept,
-        };
-        saver.write(unit, medium);
-    }
-}
-
 /// Prints what is wrong in a script, or in a scenario, and returns the exit status.
 fn check<I: Read>(
     rt: &HostRuntime,
@@ -326,6 +286,7 @@ fn assemble<I: Read>(
     Ok(if is_rejected { REJECTED } else { 0 })
 }
 
+/// The numbers of workers.
 fn workers(counts: Counts) -> Workers {
     let Counts {
         channels,

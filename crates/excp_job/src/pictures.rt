@@ -1,27 +1,37 @@
 //! A run in forms for programs and browsers.
 
+use any_device::AnyDevice;
 use job_options::Form;
 use job_report::unit_records;
-use job_run::Finished;
 use job_script::{JobError, Script};
 use run_json::write_json;
 use run_page::write_page;
 use run_record::{Run, TaskRecord, UnitRecord};
 use std::alloc::Global;
 use std::io::{BufWriter, Write};
+use unit_book::UnitBook;
 use unit_history::HistoryError;
+
+/// What a run left: the record of each task, the books of the units, and for each unit the places of its entries in one order
+/// of all units, if the run has one.
+#[derive(Clone, Copy)]
+pub struct Left<'a> {
+    pub tasks: &'a [TaskRecord],
+    pub books: &'a [UnitBook<AnyDevice>],
+    pub places: Option<&'a [Vec<usize>]>,
+}
 
 /// Prints the run of a script in a form.
 pub fn print_script<'x, W: Write + Drop>(
     alloc: Global,
     script: &'x Script,
-    run: &'x Finished,
+    left: Left<'x>,
     title: &'x str,
     form: Form,
     writer: W,
 ) -> Result<(), JobError> {
-    let units = unit_records(alloc, &script.set_up, run.report.units(), None)?;
-    match print_parts(alloc, title, &run.tasks, &units, form, writer) {
+    let units = unit_records(alloc, &script.set_up, left.books, left.places)?;
+    match print_parts(alloc, title, left.tasks, &units, form, writer) {
         Ok(()) => Ok(()),
         Err(HistoryError::NotWritten) => Err(JobError::NotWritten),
         Err(HistoryError::NoMemory) => Err(JobError::NoMemory),

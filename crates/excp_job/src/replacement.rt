@@ -181,6 +181,18 @@ impl Replacement {
     }
 }
 
+/// Replaces the file of this name by one of this text, or makes it.
+pub fn replace_file(rt: &HostRuntime, name: &str, text: &[u8]) -> Result<(), ReplaceError> {
+    let mut replacement = Replacement::begin(rt, name)?;
+    match replacement.file().write_all(text) {
+        Ok(()) => replacement.finish(rt),
+        Err(error) => {
+            replacement.abandon(rt);
+            Err(error.into())
+        }
+    }
+}
+
 /// The file that a name comes to, through all links.
 pub fn target_of(rt: &HostRuntime, name: &str) -> Result<String, ReplaceError> {
     match fs::metadata(rt, name) {

@@ -5,7 +5,7 @@ use crate::progress::Progress;
 use crate::replacement::{ReplaceError, Replacement};
 use any_device::AnyDevice;
 use ckd_image::Kept;
-use job_options::MediaFiles;
+use job_options::RunFiles;
 use job_script::UnitSetup;
 use medium_image::save;
 use std::io::{BufWriter, Write};
@@ -28,7 +28,7 @@ pub struct Medium<'a> {
 #[derive(Drop)]
 pub struct Saver<'a> {
     rt: &'a HostRuntime,
-    media: &'a MediaFiles,
+    media: &'a RunFiles,
     written: Vec<Replacement>,
     /// The exit status.
     status: u8,
@@ -36,7 +36,7 @@ pub struct Saver<'a> {
 
 impl<'a> Saver<'a> {
     /// Saves units to the files that the command line names.
-    pub fn new(rt: &'a HostRuntime, media: &'a MediaFiles) -> Self {
+    pub fn new(rt: &'a HostRuntime, media: &'a RunFiles) -> Self {
         Saver {
             rt,
             media,
@@ -67,6 +67,11 @@ impl<'a> Saver<'a> {
             }
         }
         true
+    }
+
+    /// Something else of the run failed with this exit status: nothing is saved.
+    pub fn fail(&mut self, status: u8) {
+        self.status = self.status.max(status);
     }
 
     /// Whether the medium of a unit comes from an image.
@@ -179,7 +184,7 @@ fn write_to<W: Write>(
 }
 
 /// Prints why a file is not replaced, and returns the exit status.
-fn said(rt: &HostRuntime, name: &str, error: ReplaceError) -> u8 {
+pub fn said(rt: &HostRuntime, name: &str, error: ReplaceError) -> u8 {
     match error {
         ReplaceError::NoMemory => no_memory(rt),
         _ => failed(rt, name, error),

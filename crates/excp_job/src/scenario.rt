@@ -6,7 +6,7 @@ use crate::screen::Screen;
 use crate::{REJECTED, takes_colour};
 use any_device::AnyDevice;
 use job_check::Source;
-use job_options::{MediaFiles, StepOptions, StepPrint};
+use job_options::{RunFiles, StepOptions, StepPrint};
 use job_script::{JobError, UnitSetup};
 use job_step::{Images, Keeper, SiteKind, Views, step_scenario_on};
 use medium_image::{Image, Kept};
@@ -20,7 +20,7 @@ use unit_history::HistoryError;
 #[derive(Clone, Copy)]
 pub struct StepOrder<'a> {
     pub options: StepOptions,
-    pub media: &'a MediaFiles,
+    pub media: &'a RunFiles,
     pub name: &'a str,
     /// Set once nothing reads any more what is printed.
     pub is_broken: &'a Cell<bool>,

@@ -18,20 +18,25 @@ const REJECTED: u8 = 1;
 const MOST_BYTES: usize = 4096;
 
 /// The subcommands that take the file of a script.
-const FILED: [&[u8]; 6] = [
+const FILED: [&[u8]; 7] = [
     b"report",
     b"check",
     b"assemble",
     b"step",
+    b"outcomes",
     b"describe",
     b"convert",
 ];
 
 /// The options that take a value.
-const VALUED: [&[u8]; 7] = [
+const VALUED: [&[u8]; 11] = [
     b"--channels",
     b"--handlers",
     b"--most-steps",
+    b"--turn",
+    b"--most-states",
+    b"--scenarios",
+    b"--seed",
     b"--load",
     b"--save",
     b"--to",
@@ -89,7 +94,7 @@ fn is_of_own(words: &[String]) -> bool {
         .filter(|word| *word != "help");
     matches!(
         words.next(),
-        Some("report" | "check" | "assemble" | "step" | "describe" | "convert")
+        Some("report" | "check" | "assemble" | "step" | "outcomes" | "describe" | "convert")
     )
 }
 

@@ -396,6 +396,7 @@ impl<'a> Check<'a> {
         if let Some(issued) = *unwaited {
             if let Some(note) = early(command, issued) {
                 add(&mut self.findings, command.line, FindingKind::Note(note))?;
+                self.races.add_early();
             }
         }
         match &command.action {

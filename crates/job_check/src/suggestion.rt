@@ -36,7 +36,7 @@ pub fn nearest<'k>(
 }
 
 /// The words that begin lines: those of a script are the first 16, and those of a scenario are all but the first.
-const FIRST_WORDS: [&str; 27] = [
+const FIRST_WORDS: [&str; 28] = [
     "wait",
     "tasks",
     "disk",
@@ -60,6 +60,7 @@ const FIRST_WORDS: [&str; 27] = [
     "interrupt",
     "deliver",
     "collect",
+    "purgetaskat",
     "settle",
     "serve",
     "finish",

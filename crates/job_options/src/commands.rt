@@ -19,6 +19,25 @@ pub const LOAD: &str = "load";
 
 pub const SAVE: &str = "save";
 
+/// The options of the numbers of workers.
+pub const CHANNELS: &str = "channels";
+
+pub const HANDLERS: &str = "handlers";
+
+/// The options of a run by a seed: the seed, and the file of its scenario. `check` has a flag of the second name.
+pub const SEED: &str = "seed";
+
+pub const SCHEDULE: &str = "schedule";
+
+/// The options of a search for outcomes.
+pub const TURN: &str = "turn";
+
+pub const MOST_STATES: &str = "most-states";
+
+pub const WHOLE: &str = "whole";
+
+pub const SCENARIOS: &str = "scenarios";
+
 /// The group of the forms that have commands.
 const DETAILED: &str = "detailed";
 
@@ -55,6 +74,7 @@ pub fn command<'a>(alloc: Global) -> Result<Command<'a>, AllocError> {
         .subcommand(check(alloc)?)?
         .subcommand(assemble(alloc)?)?
         .subcommand(step(alloc)?)?
+        .subcommand(outcomes(alloc)?)?
         .subcommand(describe(alloc)?)?
         .subcommand(convert(alloc)?)
 }
@@ -94,6 +114,8 @@ fn report<'a>(alloc: Global) -> Result<Command<'a>, AllocError> {
             "posts",
             "The posts and their count alone, as `run` prints them",
         )?)?
+        .arg(seed(alloc)?)?
+        .arg(schedule(alloc)?)?
         .arg(load(alloc))?
         .arg(save(alloc))?
         .arg(script(alloc))
@@ -142,6 +164,67 @@ fn step<'a>(alloc: Global) -> Result<Command<'a>, AllocError> {
         .arg(load(alloc))?
         .arg(save(alloc))?
         .arg(script(alloc))
+}
+
+fn outcomes<'a>(alloc: Global) -> Result<Command<'a>, AllocError> {
+    let whole = flag(alloc, WHOLE, "Counts the whole outputs too");
+    Command::new(alloc, "outcomes")
+        .about(
+            "Prints every post that each request can have, over all orders of steps, with steps that lead to it",
+        )
+        .arg(turn(alloc))?
+        .arg(most_states(alloc))?
+        .arg(whole)?
+        .arg(scenarios(alloc))?
+        .arg(load(alloc))?
+        .arg(script(alloc))
+}
+
+fn seed<'a>(alloc: Global) -> Result<Arg<'a>, AllocError> {
+    Arg::new(alloc, SEED)
+        .long(SEED)
+        .value_name("N")
+        .help("Runs on one thread, by the schedule of this seed: the same run each time")
+        .value_parser(value_parser!(u64).range(0..))
+        .conflicts_with(CHANNELS)?
+        .conflicts_with(HANDLERS)
+}
+
+fn schedule<'a>(alloc: Global) -> Result<Arg<'a>, AllocError> {
+    Arg::new(alloc, SCHEDULE)
+        .long("scenario")
+        .value_name("FILE")
+        .help("With --seed: writes the schedule as a scenario, which `step` runs to the same end")
+        .requires_arg(SEED)
+}
+
+fn turn<'a>(alloc: Global) -> Arg<'a> {
+    Arg::new(alloc, TURN)
+        .long(TURN)
+        .value_name("N")
+        .help(
+            "A program does N commands between two steps of others; 1 covers every place of a halt",
+        )
+        .value_parser(value_parser!(u32).range(1..=65_535))
+        .default_value("64")
+}
+
+fn most_states<'a>(alloc: Global) -> Arg<'a> {
+    Arg::new(alloc, MOST_STATES)
+        .long(MOST_STATES)
+        .value_name("N")
+        .help("The search ends after N states, and says that it has not found all")
+        .value_parser(value_parser!(u32).range(1..))
+        .default_value("1000000")
+}
+
+fn scenarios<'a>(alloc: Global) -> Arg<'a> {
+    Arg::new(alloc, SCENARIOS)
+        .long(SCENARIOS)
+        .value_name("DIR")
+        .help(
+            "Writes a scenario for each outcome into this directory, which `step` runs to that post",
+        )
 }
 
 fn describe<'a>(alloc: Global) -> Result<Command<'a>, AllocError> {
@@ -239,8 +322,8 @@ fn media_files<'a>(alloc: Global, name: &'a str, help: &'a str) -> Arg<'a> {
 }
 
 fn channels<'a>(alloc: Global) -> Arg<'a> {
-    Arg::new(alloc, "channels")
-        .long("channels")
+    Arg::new(alloc, CHANNELS)
+        .long(CHANNELS)
         .value_name("N")
         .help("How many channel workers serve the units, 1 to 16")
         .value_parser(value_parser!(u8).range(1..=16))
@@ -248,8 +331,8 @@ fn channels<'a>(alloc: Global) -> Arg<'a> {
 }
 
 fn handlers<'a>(alloc: Global) -> Arg<'a> {
-    Arg::new(alloc, "handlers")
-        .long("handlers")
+    Arg::new(alloc, HANDLERS)
+        .long(HANDLERS)
         .value_name("N")
         .help("How many handlers serve interruptions, 1 to 8")
         .value_parser(value_parser!(u8).range(1..=8))

@@ -12,7 +12,10 @@ ghost use Rattle.std.specs.Prelude.{◌≤◌, IfSome};
 
 use clap::error::ErrorKind;
 use clap::{ArgMatches, Command, Error};
-use commands::{FILE, IMAGES, LOAD, SAVE, SCRIPT, command};
+use commands::{
+    CHANNELS, FILE, HANDLERS, IMAGES, LOAD, MOST_STATES, SAVE, SCENARIOS, SCHEDULE, SCRIPT, SEED,
+    TURN, WHOLE, command,
+};
 use std::alloc::{AllocError, Global};
 pub use unit_file::UnitFile;
 use unit_file::{UnitFileError, unit_files};
@@ -72,21 +75,40 @@ pub enum Print {
 pub enum Order {
     /// To run it and print its posts.
     Run(Counts),
-    /// To run it and print a report.
-    Report { counts: Counts, print: Print },
+    /// To run it and print a report. With a seed, the schedule is that of the seed, on one thread.
+    Report {
+        counts: Counts,
+        print: Print,
+        seed: Option<u64>,
+    },
     /// To print every fault of it, or of a scenario.
-    Check { scenario: bool },
+    Check {
+        scenario: bool,
+    },
     /// To print the plain script of one with symbolic areas.
     Assemble,
     /// To carry out a scenario, and print the answer of each event, or all of it at its end.
     Step(StepOptions),
 }
 
-/// The files that the media of units are loaded from before a run, and saved to after it.
+/// The files of a run: those that the media of units are loaded from before it, and saved to after it, and that of the scenario
+/// of its schedule.
 #[derive(Drop)]
-pub struct MediaFiles {
+pub struct RunFiles {
     pub loads: Vec<UnitFile>,
     pub saves: Vec<UnitFile>,
+    pub scenario: Option<String>,
+}
+
+/// What is asked of a search for outcomes.
+#[derive(Clone, Copy)]
+pub struct OutcomeOptions {
+    /// How many commands a program does between two steps of others (1 to 65,535).
+    pub turn: u32,
+    /// The most states that are searched.
+    pub most_states: u32,
+    /// Whether whole outputs are sought too.
+    pub whole: bool,
 }
 
 /// A format of images.
@@ -103,7 +125,15 @@ pub enum Words {
     Script {
         order: Order,
         file: Option<String>,
-        media: MediaFiles,
+        media: RunFiles,
+    },
+    /// To print every outcome of a script, which is standard input if no file is named.
+    Outcomes {
+        options: OutcomeOptions,
+        file: Option<String>,
+        media: RunFiles,
+        /// The directory for a scenario of each outcome.
+        scenarios: Option<String>,
     },
     /// To describe images.
     Describe(Vec<String>),
@@ -127,6 +157,7 @@ pub fn parse(alloc: Global, words: &[String]) -> Result<Words, Error> {
     match name {
         "describe" => Ok(Words::Describe(strings(alloc, options, IMAGES)?)),
         "convert" => converting(alloc, options),
+        "outcomes" => exploring(alloc, &mut command, options),
         _ => of_script(alloc, &mut command, name, options),
     }
 }
@@ -143,6 +174,29 @@ fn converting(alloc: Global, options: &ArgMatches<'_>) -> Result<Words, Error> {
     Ok(Words::Convert { to, file, output })
 }
 
+/// What the options of `outcomes` ask for.
+fn exploring(
+    alloc: Global,
+    command: &mut Command<'_>,
+    options: &ArgMatches<'_>,
+) -> Result<Words, Error> {
+    Ok(Words::Outcomes {
+        options: OutcomeOptions {
+            turn: options.get_one::<u32>(TURN).unwrap_or(64),
+            most_states: options.get_one::<u32>(MOST_STATES).unwrap_or(1_000_000),
+            whole: options.get_flag(WHOLE),
+        },
+        file: script_file(alloc, options)?,
+        media: media_of(alloc, command, options)?,
+        scenarios: string(alloc, options, SCENARIOS)?,
+    })
+}
+
+/// The file of a script, if it is not standard input.
+fn script_file(alloc: Global, options: &ArgMatches<'_>) -> Result<Option<String>, AllocError> {
+    Ok(string(alloc, options, SCRIPT)?.filter(|file| file.as_str() != "-"))
+}
+
 /// What a subcommand on a script and its options ask for.
 fn of_script(
     alloc: Global,
@@ -157,13 +211,23 @@ fn of_script(
     let file = if name == "run" {
         None
     } else {
-        string(alloc, options, SCRIPT)?.filter(|file| file.as_str() != "-")
+        script_file(alloc, options)?
     };
-    let media = MediaFiles {
+    let media = media_of(alloc, command, options)?;
+    Ok(Words::Script { order, file, media })
+}
+
+/// The files of media.
+fn media_of(
+    alloc: Global,
+    command: &mut Command<'_>,
+    options: &ArgMatches<'_>,
+) -> Result<RunFiles, Error> {
+    Ok(RunFiles {
         loads: files_of(alloc, command, options, LOAD)?,
         saves: files_of(alloc, command, options, SAVE)?,
-    };
-    Ok(Words::Script { order, file, media })
+        scenario: string(alloc, options, SCHEDULE)?,
+    })
 }
 
 /// The files that an option names, each for a unit.
@@ -224,6 +288,7 @@ fn asked_for(name: &str, options: &ArgMatches<'_>) -> Option<Order> {
         "report" => Some(Order::Report {
             counts: counts_of(options)?,
             print: print_of(options),
+            seed: options.get_one::<u64>(SEED),
         }),
         _ => Some(Order::Run(counts_of(options)?)),
     }
@@ -269,8 +334,8 @@ fn most_steps(options: &ArgMatches<'_>) -> u64 {
 
 /// The numbers of workers.
 fn counts_of(options: &ArgMatches<'_>) -> Option<Counts> {
-    let channels = number(options, "channels", 16)?;
-    let handlers = number(options, "handlers", 8)?;
+    let channels = number(options, CHANNELS, 16)?;
+    let handlers = number(options, HANDLERS, 8)?;
     Some(Counts { channels, handlers })
 }
 

@@ -3,6 +3,7 @@ use Rattle.std.specs.Prelude.{ℕ, List, Option, Some, None, codes, if◌then◌
 use Rattle.std.specs.Str.{bytes_eq}
 use Rattle.job_scenario.specs.declared.verb.EventVerb.{EventVerb}
 use Rattle.job_scenario.specs.declared.verb.EventVerb.TheVariants.{Room, Take, Start, Run, Interrupt, Deliver, Collect, Settle, Serve}
+use Rattle.job_scenario.specs.declared.verb.EventVerb.TheVariants.{PurgeTaskAt}
 use Rattle.job_scenario.specs.declared.verb.EventVerb.TheVariants.{Finish, Expect}
 
 unfoldable pub event_verb_of : List ℕ → Option EventVerb
@@ -15,6 +16,7 @@ event_verb_of word =
     else if bytes_eq word (codes "interrupt") then Some Interrupt
     else if bytes_eq word (codes "deliver") then Some Deliver
     else if bytes_eq word (codes "collect") then Some Collect
+    else if bytes_eq word (codes "purgetaskat") then Some PurgeTaskAt
     else if bytes_eq word (codes "settle") then Some Settle
     else if bytes_eq word (codes "finish") then Some Finish
     else if bytes_eq word (codes "room") then Some Room

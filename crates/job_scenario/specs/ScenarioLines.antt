@@ -7,7 +7,7 @@ use Rattle.job_script.specs.declared.cause.Refusal.TheVariants.{Caused, NoMemory
 use Rattle.job_script.specs.declared.fault.FaultName.{FaultName}
 use Rattle.job_script.specs.declared.fault.FaultName.TheVariants as names
 use Rattle.job_script.specs.Steps.{◌>>=◌}
-use Rattle.job_script.specs.Forms.{Word, word, has, has_least, number_in, index}
+use Rattle.job_script.specs.Forms.{Word, word, has, has_least, number_in, index, mode_of}
 use Rattle.job_script.specs.Said.{ActionSaid, LineSaid, says_command, says_excp, says_nothing, says_set_up}
 use Rattle.job_script.specs.Said.{close, excp, purge, purge_task, reset, wait}
 use Rattle.job_script.specs.Lines.{line_of}
@@ -16,7 +16,8 @@ use Rattle.job_scenario.specs.declared.event.Room.TheVariants as rooms
 use Rattle.job_scenario.specs.declared.verb.EventVerb.{EventVerb}
 use Rattle.job_scenario.specs.declared.verb.EventVerb.TheVariants as verbs
 use Rattle.job_scenario.specs.EventVerbs.{event_verb_of}
-use Rattle.job_scenario.specs.ScenarioSaid.{ScenarioSaid, says_event, says_expected, says_finish, says_line, says_room, says_run}
+use Rattle.job_scenario.specs.ScenarioSaid.{ScenarioSaid, says_event, says_expected, says_finish, says_line, says_purge_at}
+use Rattle.job_scenario.specs.ScenarioSaid.{says_room, says_run}
 
 -- the number of a unit or a task, alone on its line
 unfoldable pub number_line : List Word → Result ℕ FaultName
@@ -31,6 +32,16 @@ run_line ws = do
   unit ← index (word 1 ws)
   most ← number_in 1 65535 (word 2 ws)
   Ok (says_run unit most)
+
+-- purgetaskat T X MODE U
+unfoldable pub purge_at_line : List Word → Result ScenarioSaid FaultName
+purge_at_line ws = do
+  _ ← has 5 ws
+  task ← index (word 1 ws)
+  other ← index (word 2 ws)
+  mode ← mode_of (word 3 ws)
+  unit ← index (word 4 ws)
+  Ok (says_purge_at (record { task = task; other = other; mode = mode; unit = unit }))
 
 -- room intake N or room post N
 abbrev pub row_room : (ℕ → Room) → List Word → Result Room FaultName
@@ -71,6 +82,7 @@ by_event_verb verbs.Run ws = run_line ws
 by_event_verb verbs.Interrupt ws = event_on verbs.Interrupt ws
 by_event_verb verbs.Deliver ws = event_on verbs.Deliver ws
 by_event_verb verbs.Collect ws = event_on verbs.Collect ws
+by_event_verb verbs.PurgeTaskAt ws = purge_at_line ws
 by_event_verb verbs.Settle ws = event_on verbs.Settle ws
 by_event_verb verbs.Serve ws = event_on verbs.Serve ws
 by_event_verb verbs.Finish ws = has 1 ws >>= λ _. Ok says_finish

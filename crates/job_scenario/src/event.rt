@@ -2,6 +2,8 @@
 
 ghost use Rattle.std.specs.Prelude.{◌≤◌};
 
+use unit_book::Mode;
+
 /// The size of rows or of a book.
 #[derive(Clone, Copy, PartialEq, Eq, Debug)]
 pub enum Room {
@@ -21,6 +23,17 @@ pub struct Turn {
     ghost some: { 1 ≤ most },
 }
 
+/// A purge at one unit: what a purge of a task does there.
+#[derive(Clone, Copy, PartialEq, Eq, Debug)]
+pub struct UnitPurge {
+    /// The task that purges.
+    pub task: u16,
+    /// The task whose requests are purged.
+    pub other: u16,
+    pub mode: Mode,
+    pub unit: u16,
+}
+
 /// An event that scripts do not have. The number is that of a unit, in `Collect` that of a task.
 #[derive(Clone, Copy, PartialEq, Eq, Debug)]
 pub enum Event {
@@ -36,6 +49,8 @@ pub enum Event {
     Deliver(u16),
     /// The task collects its next post.
     Collect(u16),
+    /// A task purges the requests of a task at one unit.
+    PurgeTaskAt(UnitPurge),
     /// Every request that waits or is active ends.
     Settle(u16),
     /// The unit takes, starts, runs, interrupts and delivers until it is idle.

@@ -9,6 +9,6 @@ mod event;
 mod line;
 mod verb;
 
-pub use event::{Event, Room, Turn};
+pub use event::{Event, Room, Turn, UnitPurge};
 pub use line::ScenarioLine;
 pub use verb::begins_event;

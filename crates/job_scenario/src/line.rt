@@ -5,12 +5,12 @@ ghost use Rattle.job_script.specs.Said.{says_command};
 ghost use Rattle.job_script.specs.Views.{command_said};
 ghost use Rattle.job_script.specs.Lines.{line_of};
 ghost use Rattle.job_script.specs.Outcomes.{Reads, ReadsAs, Returns, words_in};
-ghost use Rattle.job_scenario.specs.ScenarioLines.{IsNamedAs, by_event_verb, event_kind, no_wait, number_line, room_line, run_line, scenario_line, with_no_wait};
-ghost use Rattle.job_scenario.specs.ScenarioSaid.{says_run, scenario_said};
+ghost use Rattle.job_scenario.specs.ScenarioLines.{IsNamedAs, by_event_verb, event_kind, no_wait, number_line, purge_at_line, room_line, run_line, scenario_line, with_no_wait};
+ghost use Rattle.job_scenario.specs.ScenarioSaid.{says_purge_at, says_run, scenario_said};
 
-use crate::event::{Event, Room, Turn};
+use crate::event::{Event, Room, Turn, UnitPurge};
 use crate::verb::EventVerb;
-use job_script::forms::{has, has_least, index, number_in};
+use job_script::forms::{has, has_least, index, mode_of, number_in};
 use job_script::{Action, Cause, Command, FaultName, Line, Refusal, Verb, is_symbolic};
 use script_words::{Words, is_word};
 use std::alloc::Global;
@@ -18,7 +18,7 @@ use std::alloc::Global;
 /// No line begins with this word.
 const UNKNOWN: &str =
     "no line begins with '{w}': expected a set-up line, room, excp, purge, purgetask, close, reset, take, start, run, \
-    interrupt, deliver, collect, settle, serve, finish or expect";
+    interrupt, deliver, collect, purgetaskat, settle, serve, finish or expect";
 
 /// A scenario has no `wait`.
 const NO_WAIT: &str =
@@ -59,6 +59,9 @@ impl ScenarioLine {
             EventVerb::Interrupt => Ok(ScenarioLine::Event(Event::Interrupt(number_on(line)?))),
             EventVerb::Deliver => Ok(ScenarioLine::Event(Event::Deliver(number_on(line)?))),
             EventVerb::Collect => Ok(ScenarioLine::Event(Event::Collect(number_on(line)?))),
+            EventVerb::PurgeTaskAt => {
+                Ok(ScenarioLine::Event(Event::PurgeTaskAt(purge_on(line)?)))
+            }
             EventVerb::Settle => Ok(ScenarioLine::Event(Event::Settle(number_on(line)?))),
             EventVerb::Serve => Ok(ScenarioLine::Event(Event::Serve(number_on(line)?))),
             EventVerb::Finish => {
@@ -124,6 +127,24 @@ fn turn_on(line: &Words<'_>) -> Result<Turn, Cause>
     let unit = index(line, 1)?;
     let most = number_in(line, 2, 1, 65535)?;
     Ok(Turn { unit, most })
+}
+
+/// `purgetaskat T X MODE U`
+#[tactic(auto, unfolding(crate::specs::ScenarioLines::purge_at_line))]
+fn purge_on(line: &Words<'_>) -> Result<UnitPurge, Cause>
+    ensures { ReadsAs says_purge_at result (purge_at_line (words_in line.now)) }
+{
+    has(line, 5)?;
+    let task = index(line, 1)?;
+    let other = index(line, 2)?;
+    let mode = mode_of(line, 3)?;
+    let unit = index(line, 4)?;
+    Ok(UnitPurge {
+        task,
+        other,
+        mode,
+        unit,
+    })
 }
 
 /// `room intake N`, `room post N` or `room book U N`

@@ -15,6 +15,7 @@ pub enum EventVerb {
     Interrupt,
     Deliver,
     Collect,
+    PurgeTaskAt,
     Settle,
     Serve,
     Finish,
@@ -50,6 +51,9 @@ impl EventVerb {
         }
         if is_word(word, b"collect") {
             return Some(EventVerb::Collect);
+        }
+        if is_word(word, b"purgetaskat") {
+            return Some(EventVerb::PurgeTaskAt);
         }
         if is_word(word, b"settle") {
             return Some(EventVerb::Settle);

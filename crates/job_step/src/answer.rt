@@ -3,20 +3,10 @@
 use io_images::Code;
 use job_report::write_post;
 use request_piece::{Name, Posted};
+use scenario_site::Issuing;
 use std::io::{Result, Write};
 use unit_book::{Closing, Delivery, Intake, Interruption, Purging, Running, Starting};
 use unit_history::End;
-
-/// The answer of an EXCP.
-#[derive(Clone, Copy)]
-pub enum Issuing {
-    /// The request is on its way to its unit, under this name.
-    Accepted(Name),
-    /// The intake row of its unit is full. The request gets no number.
-    Full,
-    /// The task has used its last number for the unit.
-    NoNumber,
-}
 
 /// Writes a word and the name of a request: the numbers of its task and unit, and its own.
 fn write_named<W: Write>(out: &mut W, word: &str, unit: u16, name: Name) -> Result<()> {

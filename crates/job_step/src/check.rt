@@ -1,21 +1,19 @@
 //! What is wrong in a scenario: every fault of its lines. Nothing is run, and no expectation is compared.
 
 ghost use Rattle.std.specs.Prelude.{◌≡◌, ◌≤◌, IfErr, vec_len};
-ghost use Rattle.job_step.specs.Faults.{IsStepFault};
+ghost use Rattle.scenario_set_up.specs.Faults.{IsStepFault};
 
-use crate::lines::Lines;
-use crate::past::Past;
 use crate::printer::Printer;
 use crate::report::{after_finish, mounted_images};
-use crate::set_up::{Plan, read_line};
 use crate::stepper::Stepper;
-use crate::unmade::Unmade;
-use crate::view::{View, Views};
 use job_check::{Source, mount_faults_but};
 use job_media::sizes_of;
 use job_scenario::{Event, ScenarioLine};
 use job_script::{JobError, LIMIT};
 use medium_image::Image;
+use scenario_past::Past;
+use scenario_set_up::{Lines, Plan, read_line};
+use scenario_site::{Unmade, View, Views};
 use std::alloc::Global;
 use std::io::{Read, Write, sink};
 

@@ -1,17 +1,15 @@
 //! The end of a scenario: the answer of `finish`, what is printed of the units, and what the keeper takes over.
 
 ghost use Rattle.std.specs.Prelude.{IfErr};
-ghost use Rattle.job_step.specs.Faults.{IsStepFault};
+ghost use Rattle.scenario_set_up.specs.Faults.{IsStepFault};
 
 use crate::answer::write_posted;
-use crate::keeper::{Keeper, Media};
-use crate::past::Past;
-use crate::tasks::Tasks;
-use crate::view::View;
 use any_device::AnyDevice;
 use job_script::{JobError, SetUp};
 use request_piece::Posted;
 use run_record::{Run, TaskRecord, UnitRecord};
+use scenario_past::{Keeper, Media, Past, Tasks};
+use scenario_site::View;
 use std::alloc::Global;
 use std::io::{Result as IoResult, Write};
 use unit_book::UnitBook;

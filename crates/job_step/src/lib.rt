@@ -4,30 +4,14 @@
 #![tactic(auto)]
 
 mod answer;
-mod books;
-mod carrier;
 mod check;
 mod end;
-mod fault;
-mod keeper;
-mod left;
-mod lines;
-mod lists;
-mod locked;
-mod order;
-mod past;
-mod plain;
 mod printer;
 mod report;
-mod rooms;
-mod set_up;
 mod stepper;
-mod tasks;
-mod unmade;
-mod view;
 
 pub use check::{check_scenario, check_scenario_on};
-pub use fault::StepError;
-pub use keeper::{Keeper, NoKeeper};
 pub use report::{Images, SiteKind, step_scenario, step_scenario_on};
-pub use view::Views;
+pub use scenario_past::{Keeper, NoKeeper};
+pub use scenario_set_up::StepError;
+pub use scenario_site::Views;

@@ -1,12 +1,12 @@
 //! Prints the answer of each event at once, and each fault and failed expectation.
 
 ghost use Rattle.std.specs.Prelude.{◌≡◌, IfErr, IfOk, IfSome, Ok};
-ghost use Rattle.job_step.specs.Faults.{EndsStep, IsStepFault};
+ghost use Rattle.scenario_set_up.specs.Faults.{EndsStep, IsStepFault};
 
-use crate::fault::StepError;
-use crate::view::Views;
 use job_check::{Finding, Found, SCRIPT, Source, fault_of_scenario, write_findings};
 use job_script::{Cause, JobError};
+use scenario_set_up::StepError;
+use scenario_site::Views;
 use script_words::{after_words, next_word};
 use std::alloc::Global;
 use std::io::Write;

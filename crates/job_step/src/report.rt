@@ -2,21 +2,11 @@
 
 ghost use Rattle.std.specs.Prelude.{◌≡◌, ◌≤◌, IfErr, vec_len};
 ghost use Rattle.excp_system.specs.Opening.{AreBooks, AreFresh, site_of};
-ghost use Rattle.job_step.specs.Faults.{EndsStep, IsStepFault};
+ghost use Rattle.scenario_set_up.specs.Faults.{EndsStep, IsStepFault};
 
-use crate::books::Finished;
-use crate::carrier::Carrier;
 use crate::end::{answer_of, hand_over, show};
-use crate::fault::StepError;
-use crate::keeper::{Keeper, Media, NoKeeper};
-use crate::lines::Lines;
-use crate::locked::Locked;
-use crate::past::Past;
-use crate::plain::Plain;
 use crate::printer::Printer;
-use crate::set_up::{Plan, read_line};
 use crate::stepper::Stepper;
-use crate::view::{View, Views};
 use any_device::AnyDevice;
 use excp_system::{Rows, Site, System};
 use job_check::{Finding, Source, mount_faults_but};
@@ -24,6 +14,9 @@ use job_media::{MediaError, MountedImages, mount_images, sizes_of};
 use job_scenario::{Event, ScenarioLine};
 use job_script::{Cause, FaultName, JobError, LIMIT, Line, SetUp};
 use medium_image::Image;
+use scenario_past::{Keeper, Media, NoKeeper, Past};
+use scenario_set_up::{Lines, Plan, StepError, read_line};
+use scenario_site::{Carrier, Finished, Locked, Plain, View, Views};
 use std::alloc::Global;
 use std::io::{Read, Write};
 use std::marker::Brand;

@@ -1,22 +1,20 @@
 //! Carries out the events of a scenario one by one, and keeps the answer of the last one.
 
 ghost use Rattle.std.specs.Prelude.{◌≡◌, ◌<◌, IfErr, OnOk, vec_len};
-ghost use Rattle.job_step.specs.Faults.{EndsStep};
+ghost use Rattle.scenario_set_up.specs.Faults.{EndsStep};
 
 use crate::answer::{
-    Issuing, write_closing, write_delivery, write_intake, write_interruption, write_issuing,
-    write_posted, write_purging, write_running, write_starting,
+    write_closing, write_delivery, write_intake, write_interruption, write_issuing, write_posted,
+    write_purging, write_running, write_starting,
 };
-use crate::carrier::Carrier;
-use crate::fault::StepError;
-use crate::past::Past;
-use crate::set_up::rejected;
-use crate::view::View;
 use job_check::why_rejected;
-use job_scenario::{Event, ScenarioLine};
+use job_scenario::{Event, ScenarioLine, UnitPurge};
 use job_script::{
     Action, Cause, Command, DcbName, ExcpLine, FaultName, JobError, Line, Opening, SetUp, SetUpLine,
 };
+use scenario_past::Past;
+use scenario_set_up::{StepError, rejected};
+use scenario_site::{Carrier, Issuing, View};
 use std::alloc::{AllocError, Global};
 use std::io::Write;
 use unit_book::{
@@ -247,6 +245,23 @@ impl<'a, C: Carrier> Stepper<'a, C> {
         Ok(())
     }
 
+    /// Purges the requests of a task at one unit.
+    fn purge_task_at(&mut self, number: usize, purge: UnitPurge) -> Result<(), StepError>
+        ensures { IfErr result EndsStep }
+    {
+        self.names_task(number, purge.task)?;
+        self.names_task(number, purge.other)?;
+        self.names_unit(number, purge.unit)?;
+        let UnitPurge {
+            task: _,
+            other,
+            mode,
+            unit,
+        } = purge;
+        let answer = self.carrier.purge_task_at(unit, other, mode)?;
+        written(write_purging(&mut self.answer, unit, answer))
+    }
+
     /// Adds to the answer what a purge of a task left at one unit.
     fn add_purging(&mut self, unit: u16, answer: Purging) -> Result<(), StepError>
         ensures set_up { self.new.set_up.now ≡ self.old.set_up.now }
@@ -304,6 +319,7 @@ impl<'a, C: Carrier> Stepper<'a, C> {
                 let answer = self.carrier.deliver(unit);
                 written(write_delivery(&mut self.answer, unit, answer))
             }
+            Event::PurgeTaskAt(purge) => self.purge_task_at(number, purge),
             Event::Settle(unit) => {
                 self.names_unit(number, unit)?;
                 self.carrier.settle(unit)?;
@@ -437,6 +453,7 @@ impl<'a, C: Carrier> Stepper<'a, C> {
 fn task_of(line: &ScenarioLine) -> Option<u16> {
     match line {
         ScenarioLine::Script(Line::Command(command)) => Some(command.task),
+        ScenarioLine::Event(Event::PurgeTaskAt(purge)) => Some(purge.task),
         _ => None,
     }
 }

@@ -49,6 +49,13 @@ impl Listing {
         })
     }
 
+    /// How many lines there is room for.
+    pub fn room(&self) -> usize
+        ensures { result ≡ self.now.room }
+    {
+        self.room
+    }
+
     /// Whether there is no room for a line more.
     pub fn is_full(&self) -> bool
         ensures { result ≡ nat_le self.now.room (length self.now.lines) }

@@ -2,7 +2,8 @@
 
 mod refusal;
 
-ghost use Rattle.std.specs.Prelude.{◌≡◌};
+ghost use Rattle.std.specs.Prelude.{◌≡◌, ◌-◌, ◌^◌, IfNone, IfSome};
+ghost use Rattle.device_port.specs.Faults.{IsClear};
 ghost use Rattle.line_printer.specs.Mount.{is_paper};
 ghost use Rattle.line_printer.specs.Printer.{printer};
 ghost use Rattle.line_printer.specs.PrinterLaws.{printer_lawful};
@@ -92,6 +93,21 @@ impl Printer {
         ensures { iter_rest result ≡ self.now.printed }
     {
         self.listing.lines().iter()
+    }
+
+    /// How many commands were done, if a fault may still come. Otherwise no later command meets one.
+    pub fn to_come(&self) -> Option<u64>
+        ensures done { IfSome result (λ done. done ≡ self.now.ordinals.done) }
+        ensures none { IfNone result (IsClear self.now.ordinals.script self.now.ordinals.done (2 ^ 64 - 1)) }
+    {
+        self.faults.to_come()
+    }
+
+    /// How many lines it prints at most.
+    pub fn room(&self) -> usize
+        ensures { result ≡ self.now.most }
+    {
+        self.listing.room()
     }
 
     /// Where the next line goes.

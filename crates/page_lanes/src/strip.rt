@@ -2,6 +2,7 @@
 
 use page_axis::{Fitted, Place, Tenths};
 use page_layout::{Lane, StripRow, View};
+use page_text::Counted;
 use run_index::{Stop, Strip};
 use std::io::Write;
 use std::{fmt, io};
@@ -31,13 +32,25 @@ fn state_of(stop: Stop) -> &'static str {
     }
 }
 
-/// Draws the strips of a unit.
+/// Draws the strips of a unit, and says how many more DCBs have some.
 pub(crate) fn draw_strips<W: Write>(out: &mut W, view: &View<'_>, lane: &Lane) -> io::Result<()> {
     for (number, row) in view.strips(lane).iter().enumerate() {
         let y = row_y(lane, number).saturating_add(lane.begin());
         draw_row(out, view, row, y)?;
     }
-    Ok(())
+    write_more(out, lane)
+}
+
+/// Says how many more DCBs have strips in the window.
+fn write_more<W: Write>(out: &mut W, lane: &Lane) -> io::Result<()> {
+    if lane.more_dcbs() == 0 {
+        return Ok(());
+    }
+    let below = row_y(lane, lane.dcbs()).saturating_add(lane.begin());
+    let y = Tenths(below.saturating_add(90));
+    let dcbs = Counted::new(lane.more_dcbs(), "DCB");
+    write!(out, "<text class=more x=4 y={y}>and {dcbs} more ")?;
+    write!(out, "in error or closed</text>")
 }
 
 /// Where the strips of a DCB begin in a lane, in tenths of a pixel, if the lane has them.

@@ -1,5 +1,6 @@
 //! The lanes of tasks and units, and how high they are.
 
+use crate::strip_rows::StripRows;
 use page_words::Owner;
 use run_index::Part;
 
@@ -23,8 +24,8 @@ pub struct Lane {
     pub(crate) requests: Part,
     /// Its part of the marks: of a task those of the window, of a unit those of the unit.
     pub(crate) marks: Part,
-    /// Its part of the strips of the window.
-    pub(crate) strips: Part,
+    /// The DCBs that have strips in it.
+    pub(crate) strips: StripRows,
 }
 
 impl Lane {
@@ -40,7 +41,7 @@ impl Lane {
             passing: 0,
             requests: Part::EMPTY,
             marks: Part::EMPTY,
-            strips: Part::EMPTY,
+            strips: StripRows::NONE,
         }
     }
 
@@ -58,7 +59,7 @@ impl Lane {
             .saturating_mul(pitch)
             .saturating_add(top)
             .saturating_add(waiting);
-        let strips = strips_height(self.strips.len());
+        let strips = strips_height(self.strips);
         let height = low.saturating_add(strips).saturating_add(40) / 10;
         Lane {
             y,
@@ -68,6 +69,16 @@ impl Lane {
             low,
             ..self
         }
+    }
+
+    /// How many DCBs have strips in it.
+    pub fn dcbs(&self) -> usize {
+        self.strips.part.len()
+    }
+
+    /// How many more DCBs have strips in the window, which it does not show.
+    pub fn more_dcbs(&self) -> u64 {
+        self.strips.more
     }
 
     /// Where it begins in the drawing, in tenths of a pixel.
@@ -91,11 +102,12 @@ impl Lane {
     }
 }
 
-/// The height of strips, in tenths of a pixel.
-fn strips_height(count: usize) -> u64 {
-    match count {
+/// The height of the strips of a lane, and of the line that says how many more DCBs have some, in tenths of a pixel.
+fn strips_height(strips: StripRows) -> u64 {
+    let line = if strips.more > 0 { 120 } else { 0 };
+    match strips.part.len() {
         0 => 0,
-        count => (count as u64).saturating_mul(140).saturating_add(30),
+        count => (count as u64).saturating_mul(140).saturating_add(line + 30),
     }
 }
 

@@ -134,7 +134,7 @@ impl<'i> View<'i> {
 
     /// The strips of the DCBs of a lane.
     pub fn strips(&self, lane: &Lane) -> &[StripRow<'i>] {
-        lane.strips.of(self.strips.as_slice())
+        lane.strips.part.of(self.strips.as_slice())
     }
 
     /// The column of the post of a request, or else the length of the run.

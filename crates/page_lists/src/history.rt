@@ -2,20 +2,22 @@
 
 use crate::limits::HISTORY;
 use crate::words::{ColoredCode, CswDigits, NameLink};
+use device_port::Device;
 use page_text::{Counted, Grouped};
 use request_piece::{Issued, Name, Scope};
 use std::io;
 use std::io::Write;
-use unit_book::{Entry, Mode, ProcessingMethod};
+use unit_book::{Mode, ProcessingMethod, UnitBook};
 use unit_history::{Cause, Dcbs, End, Event, Events, Told, method_in_words, mode_in_words};
 
 /// Writes the history of a unit in a fold, if it has one. The table has to have room for the DCBs of the unit.
-pub fn write_history<W: Write>(
+pub fn write_history<W: Write, D: Device>(
     out: &mut W,
     unit: u16,
-    trace: &[Entry],
+    book: &UnitBook<D>,
     dcbs: &mut Dcbs,
 ) -> io::Result<()> {
+    let trace = book.trace();
     if trace.is_empty() {
         return Ok(());
     }
@@ -23,7 +25,7 @@ pub fn write_history<W: Write>(
     out.write_all(b"<details><summary>")?;
     write_title(out, trace.len() as u64, is_whole)?;
     out.write_all(b"</summary><pre class=posts tabindex=0>")?;
-    for event in Events::of(trace, dcbs) {
+    for event in Events::of(book, dcbs) {
         if is_whole || is_rare(&event.told) {
             write_event(out, unit, &event)?;
         }

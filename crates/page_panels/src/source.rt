@@ -19,15 +19,6 @@ impl<'a> Source<'a> {
         record.ended(usize::from(request.unit), request.number as usize)
     }
 
-    /// How many requests were posted.
-    pub fn posts(&self) -> usize {
-        let mut count: usize = 0;
-        for request in self.index.requests() {
-            count = count.saturating_add(usize::from(request.end.is_some()));
-        }
-        count
-    }
-
     /// The places of the requests, in the order of their arrivals at all units.
     pub fn arrivals(&self, alloc: Global) -> Result<Vec<usize>, AllocError> {
         let mut places = Vec::new(alloc);

@@ -22,25 +22,12 @@ const SHORTEST_ASCII: usize = 4;
 #[derive(Clone, Copy)]
 pub struct HexLines<'a> {
     bytes: &'a [u8],
-    address: Option<u64>,
     indent: &'static str,
 }
 
 impl<'a> HexLines<'a> {
     pub fn new(bytes: &'a [u8]) -> HexLines<'a> {
-        HexLines {
-            bytes,
-            address: None,
-            indent: "",
-        }
-    }
-
-    /// The same, each line with the address of its first byte. That of the first line is `address`.
-    pub fn with_address(self, address: u64) -> HexLines<'a> {
-        HexLines {
-            address: Some(address),
-            ..self
-        }
+        HexLines { bytes, indent: "" }
     }
 
     /// The same, each line after this text.
@@ -59,19 +46,14 @@ impl<'a> HexLines<'a> {
         self.bytes.len() > LINE
     }
 
-    /// Writes the line with this number.
+    /// Writes the line of these bytes.
     fn write_line<W: fmt::Write>(
         self,
         f: &mut fmt::Formatter<W>,
-        number: usize,
         part: &[u8],
         is_ascii: bool,
     ) -> fmt::Result {
         f.write_str(self.indent)?;
-        if let Some(address) = self.address {
-            let before = (number as u64).saturating_mul(LINE as u64);
-            write!(f, "{:06X}  ", address.saturating_add(before))?;
-        }
         write!(f, "{}", Digits(part))?;
         if self.is_table() {
             f.write_repeated(" ", COLUMNS.saturating_sub(columns_of(part)))?;
@@ -97,7 +79,7 @@ impl<'a> fmt::Display for HexLines<'a> {
             if number > 0 {
                 f.write_str("\n")?;
             }
-            self.write_line(f, number, part, is_ascii)?;
+            self.write_line(f, part, is_ascii)?;
         }
         Ok(())
     }

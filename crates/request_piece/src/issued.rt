@@ -1,12 +1,12 @@
 //! A request as it was issued.
 
-ghost use Rattle.std.specs.Prelude.{◌≡◌};
+ghost use Rattle.std.specs.Prelude.{◌≡◌, IfOk};
 ghost use Rattle.std.specs.Arc.{arc_value};
 
 use crate::piece::{Name, Piece};
 use io_area::Area;
 use io_images::{Address, Seek};
-use std::alloc::Global;
+use std::alloc::{AllocError, Global};
 use std::marker::Model;
 use std::sync::Arc;
 
@@ -50,6 +50,23 @@ impl Issued {
             ecb: piece.ecb,
             area,
         }
+    }
+
+    /// The same request, over the same storage. Takes no memory, and fails only if the storage has too many owners.
+    pub fn copy(&self) -> Result<Issued, AllocError>
+        ensures { IfOk result (λ i. i ≡ self.now) }
+    {
+        Ok(Issued {
+            name: self.name,
+            unit: self.unit,
+            dcb: self.dcb,
+            related: self.related,
+            start: self.start,
+            seek: self.seek,
+            iob: self.iob,
+            ecb: self.ecb,
+            area: Arc::try_clone(&self.area)?,
+        })
     }
 
     pub fn name(&self) -> Name

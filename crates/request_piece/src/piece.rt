@@ -1,7 +1,10 @@
 //! The fields of a request, and its storage.
 
+ghost use Rattle.std.specs.Prelude.{◌≡◌, IfOk};
+
 use io_area::Area;
 use io_images::{Address, Seek};
+use std::alloc::AllocError;
 
 /// The name of a request: the task that issues it, and its number among the requests of that task to
 /// one unit, counted from 1 (profile).
@@ -30,4 +33,23 @@ pub struct Piece {
     /// Address of the ECB.
     pub ecb: u32,
     pub area: Area,
+}
+
+impl Piece {
+    /// The same request, with storage of its own.
+    pub fn copy(&self) -> Result<Piece, AllocError>
+        ensures { IfOk result (λ p. p ≡ self.now) }
+    {
+        Ok(Piece {
+            name: self.name,
+            unit: self.unit,
+            dcb: self.dcb,
+            related: self.related,
+            start: self.start,
+            seek: self.seek,
+            iob: self.iob,
+            ecb: self.ecb,
+            area: self.area.copy()?,
+        })
+    }
 }

@@ -1,6 +1,6 @@
 //! A request that has ended, and how a post writes its control blocks.
 
-ghost use Rattle.std.specs.Prelude.{◌≡◌, true};
+ghost use Rattle.std.specs.Prelude.{◌≡◌, true, IfOk};
 ghost use Rattle.io_images.specs.Written.{ecb_image};
 ghost use Rattle.io_area.specs.Storage.{SamePlace, bytes_at, lies_in, with_bytes};
 ghost use Rattle.io_images.specs.Codes.{posted_ecb};
@@ -11,6 +11,7 @@ use crate::piece::{Name, Piece};
 use crate::request::iob_image;
 use io_area::Area;
 use io_images::{Code, Csw, Ecb, Iob};
+use std::alloc::{AllocError, Global};
 use std::marker::Model;
 
 /// A request that has ended: its name and storage, how it ended, and what the IOB says of it.
@@ -46,6 +47,18 @@ impl Posted {
             csw,
             sense,
         }
+    }
+
+    /// The same post, with storage of its own.
+    pub fn copy(&self, alloc: Global) -> Result<Posted, AllocError>
+        ensures { IfOk result (λ p. p ≡ self.now) }
+    {
+        Ok(Posted {
+            piece: Box::new(alloc, self.piece.copy()?)?,
+            code: self.code,
+            csw: self.csw,
+            sense: self.sense,
+        })
     }
 
     /// The name of the request.

@@ -4,11 +4,12 @@ use crate::marks::{Control, Mark};
 use crate::moments::{Deed, Head, Moment, Subject};
 use crate::names::Names;
 use crate::requests::{Part, Request, UnitParts, add_request};
+use any_device::AnyDevice;
 use device_port::Device;
 use request_piece::Name;
 use run_record::{Controls, Run, UnitRecord};
 use std::alloc::{AllocError, Global};
-use unit_book::Entry;
+use unit_book::{Entry, UnitBook};
 use unit_history::{Dcbs, Event, Events, Told};
 
 /// The events of all units, and what they are about.
@@ -57,7 +58,7 @@ impl Gathered {
         let first = self.moments.len();
         let arrived = self.arrivals;
         let marked = self.marks.len();
-        self.add_events(number, unit.book.trace(), dcbs, controls)?;
+        self.add_events(number, unit.book, dcbs, controls)?;
         let end = self.moments.len();
         let next = first.saturating_add(openings(self.moments.get(first..).unwrap_or(&[])));
         self.heads.push(Head { first, next, end })?;
@@ -80,11 +81,11 @@ impl Gathered {
     fn add_events(
         &mut self,
         unit: u16,
-        trace: &[Entry],
+        book: &UnitBook<AnyDevice>,
         dcbs: &mut Dcbs,
         controls: &Controls,
     ) -> Result<(), AllocError> {
-        for event in Events::of(trace, dcbs) {
+        for event in Events::of(book, dcbs) {
             let subject = self.subject(unit, &event, controls)?;
             self.moments.push(Moment {
                 unit,

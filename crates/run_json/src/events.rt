@@ -45,7 +45,7 @@ impl<'a> UnitEvents<'a> {
     pub fn write<W: Write>(self, out: &mut W, dcbs: &mut Dcbs) -> Result<(), HistoryError> {
         let mut unit = self;
         let mut commas = Commas::new();
-        for event in Events::of(unit.unit.book.trace(), dcbs) {
+        for event in Events::of(unit.unit.book, dcbs) {
             commas.next(out)?;
             unit.write_event(out, &event)?;
         }

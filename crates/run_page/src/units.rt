@@ -39,7 +39,7 @@ fn write_past<W: Write>(
     unit: &UnitRecord<'_>,
 ) -> Result<(), HistoryError> {
     let mut dcbs = Dcbs::of_units(alloc, std::slice::from_ref(unit.book))?;
-    write_history(out, number, unit.book.trace(), &mut dcbs)?;
+    write_history(out, number, unit.book, &mut dcbs)?;
     Ok(())
 }
 

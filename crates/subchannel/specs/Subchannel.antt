@@ -56,6 +56,13 @@ status_of Idle = None
 status_of (Running place) = None
 status_of (Pending status) = Some status
 
+-- where the program that runs stands
+abbrev pub place_of : Phase → Option Place
+place_of Absent = None
+place_of Idle = None
+place_of (Running place) = Some place
+place_of (Pending status) = None
+
 abbrev pub stored_pair : Status → Csw × ℕ
 stored_pair status = (status.csw, status.sense)
 

@@ -5,15 +5,16 @@
 //! Tests: component_tests (`subchannels`).
 #![tactic(auto)]
 
-ghost use Rattle.std.specs.Prelude.{◌≡◌, ◌≤◌, Some, None, MatchOption, min, option_map};
+ghost use Rattle.std.specs.Prelude.{◌≡◌, ◌≤◌, Some, None, IfOk, MatchOption, min, option_map};
 ghost use Rattle.io_area.specs.Storage.{SamePlace};
 ghost use Rattle.ccw_programs.specs.Step.{program};
-ghost use Rattle.subchannel.specs.Subchannel.{Channel, Absent, Idle, TakesSeek, after_ssch, ssch_code, hsch_code, tsch_code, halted_phase, running_program, RunsAs, empty_status, status_of, stored_pair, tested_phase, is_pending};
+ghost use Rattle.subchannel.specs.Subchannel.{Channel, Absent, Idle, TakesSeek, after_ssch, ssch_code, hsch_code, tsch_code, halted_phase, running_program, RunsAs, empty_status, status_of, stored_pair, tested_phase, is_pending, place_of};
 
 use ccw_programs::{Burst, Context, State, Workspace, burst};
 use device_port::Device;
 use io_area::Area;
 use io_images::{Address, Csw, Seek};
+use std::alloc::AllocError;
 use std::marker::Model;
 
 /// The status of a channel program, with its two sense bytes.
@@ -41,6 +42,19 @@ enum Phase {
     Idle,
     Running(Context),
     Pending(Status),
+}
+
+impl Phase {
+    /// The same phase.
+    fn copy(&self) -> Phase
+        ensures { result ≡ self.now }
+    {
+        match self {
+            Phase::Idle => Phase::Idle,
+            Phase::Running(context) => Phase::Running(context.copy()),
+            Phase::Pending(status) => Phase::Pending(*status),
+        }
+    }
 }
 
 /// A subchannel with its interruption subclass and its device, if there is one.
@@ -90,6 +104,22 @@ impl<D: Device> Subchannel<D> {
             phase: Phase::Idle,
             workspace: Workspace::new(),
         }
+    }
+
+    /// The same subchannel, with a device of its own.
+    pub fn copy(&self) -> Result<Self, AllocError>
+        ensures { IfOk result (λ s. s ≡ self.now) }
+    {
+        let device = match &self.device {
+            Some(device) => Some(device.copy()?),
+            None => None,
+        };
+        Ok(Subchannel {
+            isc: self.isc,
+            device,
+            phase: self.phase.copy(),
+            workspace: Workspace::new(),
+        })
     }
 
     /// The interruption subclass (0 to 7).
@@ -200,6 +230,19 @@ impl<D: Device> Subchannel<D> {
             self.phase = Phase::Pending(Status { csw, sense });
         }
         Some(done)
+    }
+
+    /// Where the program that runs stands.
+    pub fn place(&self) -> Option<Context>
+        ensures { result ≡ place_of self.now.phase }
+    {
+        if self.device.is_none() {
+            return None;
+        }
+        match &self.phase {
+            Phase::Running(context) => Some(context.copy()),
+            Phase::Idle | Phase::Pending(_) => None,
+        }
     }
 
     /// Whether a status is pending.

@@ -95,6 +95,13 @@ impl Reel {
         Items::new(self)
     }
 
+    /// How many bytes it has.
+    pub fn size(&self) -> usize
+        ensures { result ≡ self.now.size }
+    {
+        self.bytes.len()
+    }
+
     /// The position after the last item.
     pub fn end(&self) -> Position
         ensures on { IsOn self.now.items result }

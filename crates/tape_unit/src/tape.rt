@@ -1,6 +1,7 @@
 //! The tape as a device: its mounting, its commands, and its reader.
 
-ghost use Rattle.std.specs.Prelude.{◌≡◌, ◌≤◌, length};
+ghost use Rattle.std.specs.Prelude.{◌≡◌, ◌≤◌, ◌-◌, ◌^◌, IfNone, IfSome, length};
+ghost use Rattle.device_port.specs.Faults.{IsClear};
 ghost use Rattle.tape_unit.specs.Item.{content_of};
 ghost use Rattle.tape_unit.specs.Tape.{tape, read_ended, spaced_ended};
 ghost use Rattle.tape_unit.specs.TapeLaws.{tape_lawful};
@@ -95,6 +96,13 @@ impl Tape {
         self.reel.items()
     }
 
+    /// How many bytes its medium has.
+    pub fn bytes(&self) -> usize
+        ensures { result ≡ self.now.reel.size }
+    {
+        self.reel.size()
+    }
+
     /// How many items it has.
     pub fn len(&self) -> usize
         ensures { result ≡ length self.now.reel.items }
@@ -107,6 +115,14 @@ impl Tape {
         ensures { result ≡ self.now.place }
     {
         self.head.place
+    }
+
+    /// How many commands were done, if a fault may still come. Otherwise no later command meets one.
+    pub fn to_come(&self) -> Option<u64>
+        ensures done { IfSome result (λ done. done ≡ self.now.ordinals.done) }
+        ensures none { IfNone result (IsClear self.now.ordinals.script self.now.ordinals.done (2 ^ 64 - 1)) }
+    {
+        self.faults.to_come()
     }
 
     /// A command that moves no data.

@@ -22,6 +22,8 @@ pub mod DoomLaws
 pub mod Worked
 pub mod Counting
 pub mod Controls
+pub mod Copies
+pub mod Activities
 pub mod Awaiting
 pub mod WorldTraces
 pub mod WorldBooks

@@ -24,6 +24,8 @@ use Rattle.unit_queue.specs.Queue.{Queue, queue}
 use Rattle.unit_book.specs.declared.active.Active.{Active}
 use Rattle.unit_book.specs.declared.active.Standing.{Standing}
 use Rattle.unit_book.specs.declared.active.Standing.TheVariants.{OnChannel, AwaitsRestart}
+use Rattle.unit_book.specs.declared.activity.ActivityPhase.{ActivityPhase}
+use Rattle.unit_book.specs.declared.activity.ActivityPhase.TheVariants as waits
 use Rattle.unit_book.specs.declared.dcb.Dcb.{Dcb}
 use Rattle.unit_book.specs.declared.entry.Entry.{Entry}
 use Rattle.unit_book.specs.declared.entry.Mode.{Mode}
@@ -57,6 +59,20 @@ active_field_count (Some a) = 1
 abbrev pub with_area : Active → Storage → Active
 with_area a m = record a { piece = with_value a.piece (record a.piece.value { area = m }) }
 
+-- the same active request, in a box of its own
+pub record IsSameActive (a copy : Active) : Type 0 where
+  pub piece : copy.piece.value ≡ a.piece.value
+  pub starts : copy.starts ≡ a.starts
+  pub halted : copy.halted ≡ a.halted
+  pub covered : copy.covered ≡ a.covered
+  pub standing : copy.standing ≡ a.standing
+
+abbrev pub IsSameActivity : Option Active → Option Active → Type 0
+IsSameActivity None None = Unit {0}
+IsSameActivity None (Some copy) = ⊥
+IsSameActivity (Some a) None = ⊥
+IsSameActivity (Some a) (Some copy) = IsSameActive a copy
+
 -- a request that is started once more
 abbrev pub started_again : Active → Active
 started_again a = record { piece = a.piece; starts = a.starts + 1; halted = false; covered = false; standing = OnChannel }
@@ -80,6 +96,22 @@ ended_code Retry covered = if covered then Some Purged else None
 abbrev pub pending_code : Kind → Status → ℕ → Bool → Bool → Option Code
 pending_code kind status starts halted covered =
     if halted then Some Purged else ended_code (verdict kind status.csw status.sense starts) covered
+
+-- a request on the channel has a program or a status there
+abbrev pub ArePhases : Standing → Phase → Type 0
+ArePhases (AwaitsRestart status) phase = Unit {0}
+ArePhases OnChannel Absent = ⊥
+ArePhases OnChannel Idle = ⊥
+ArePhases OnChannel (Running place) = Unit {0}
+ArePhases OnChannel (Pending status) = Unit {0}
+
+-- what the active request waits for
+abbrev pub activity_phase : Standing → Phase → ActivityPhase
+activity_phase (AwaitsRestart status) phase = waits.AwaitsRestart status
+activity_phase OnChannel (Running place) = waits.Running place
+activity_phase OnChannel (Pending status) = waits.Pending status
+activity_phase OnChannel Absent = waits.Pending empty_status
+activity_phase OnChannel Idle = waits.Pending empty_status
 
 -- THE TABLE OF DCBS
 

@@ -13,6 +13,7 @@ pub mod Answers
 pub mod Refusals
 pub mod Lists
 pub mod Fields
+pub mod Activity
 pub mod Laws
 pub mod Controls
 pub mod World

@@ -1,10 +1,10 @@
 //! The active request.
 
-ghost use Rattle.std.specs.Prelude.{◌≡◌, ◌+◌, ◌<◌, ◌≤◌, ◌&&◌, false, true};
+ghost use Rattle.std.specs.Prelude.{◌≡◌, ◌+◌, ◌<◌, ◌≤◌, ◌&&◌, false, true, IfOk};
 ghost use Rattle.io_area.specs.Storage.{SamePlace};
 ghost use Rattle.request_piece.specs.Scope.{covers};
 ghost use Rattle.subchannel.specs.Subchannel.{RunsAs, running_program};
-ghost use Rattle.unit_book.specs.Fields.{after_cover, awaits_by, kept_by, pending_code, started_again, with_area};
+ghost use Rattle.unit_book.specs.Fields.{IsSameActive, after_cover, awaits_by, kept_by, pending_code, started_again, with_area};
 ghost use Rattle.unit_book.specs.Trace.{is_halt};
 
 use crate::entry::Mode;
@@ -13,6 +13,7 @@ use device_port::{Device, Kind};
 use io_images::Code;
 use recovery::{Verdict, verdict};
 use request_piece::{Name, Piece, Scope};
+use std::alloc::{AllocError, Global};
 use subchannel::{Status, Subchannel};
 
 /// Whether the active request is on the channel, or awaits its restart with the status of its last attempt.
@@ -33,6 +34,19 @@ pub(crate) struct Active {
 }
 
 impl Active {
+    /// The same request, with storage of its own.
+    pub fn copy(&self, alloc: Global) -> Result<Self, AllocError>
+        ensures { IfOk result (IsSameActive self.now) }
+    {
+        Ok(Active {
+            piece: Box::new(alloc, self.piece.copy()?)?,
+            starts: self.starts,
+            halted: self.halted,
+            covered: self.covered,
+            standing: self.standing,
+        })
+    }
+
     /// The name of the request.
     pub fn name(&self) -> Name
         ensures { result ≡ self.now.piece.value.name }

@@ -60,6 +60,15 @@ impl<D: Device> UnitBook<D> {
         })
     }
 
+    /// The same book, with a device, a trace and storage of its own. What was issued is shared with this book.
+    pub fn copy(&self) -> Result<Self, AllocError>
+        ensures { IfOk result (λ b. b ≡ record self.now { spare = b.spare }) }
+    {
+        Ok(UnitBook {
+            entries: self.entries.copy()?,
+        })
+    }
+
     /// What holds of every book. Its trace is legal, and nothing is due. The posted values are those that were taken
     /// and those that are out. It holds no more requests than it may. Its interruption subclass is 0 to 7. No program
     /// runs if the active request awaits its restart.

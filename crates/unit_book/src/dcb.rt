@@ -1,6 +1,6 @@
 //! The DCBs of a unit.
 
-ghost use Rattle.std.specs.Prelude.{◌≡◌, ◌+◌, ◌==◌, ◌&&◌, ℕ, [], ◌∷◌, ◌++◌, length, OnOk, OnErr, true, false};
+ghost use Rattle.std.specs.Prelude.{◌≡◌, ◌+◌, ◌==◌, ◌&&◌, ℕ, [], ◌∷◌, ◌++◌, length, IfOk, OnOk, OnErr, true, false};
 ghost use Rattle.std.specs.Option.{option_copied};
 ghost use Rattle.io_images.specs.Codes.{is_error};
 ghost use Rattle.unit_book.specs.Dcbs.{mask_for};
@@ -49,6 +49,20 @@ pub(crate) struct Dcb {
     pub in_error: bool,
 }
 
+impl Dcb {
+    /// The same DCB.
+    fn copy(&self) -> Result<Dcb, AllocError>
+        ensures { IfOk result (λ dcb. dcb ≡ self.now) }
+    {
+        Ok(Dcb {
+            method: self.method,
+            extents: self.extents.copy()?,
+            closed: self.closed,
+            in_error: self.in_error,
+        })
+    }
+}
+
 /// The DCBs of a unit, by their numbers from 1.
 #[derive(Drop)]
 pub(crate) struct DcbTable {
@@ -71,6 +85,15 @@ impl DcbTable {
         DcbTable {
             rows: Vec::new(alloc),
         }
+    }
+
+    /// The same DCBs.
+    pub fn copy(&self) -> Result<Self, AllocError>
+        ensures { IfOk result (λ table. table ≡ self.now) }
+    {
+        Ok(DcbTable {
+            rows: copy_rows(&self.rows)?,
+        })
     }
 
     /// How many DCBs were opened.
@@ -147,6 +170,18 @@ impl DcbTable {
     {
         unflag(&mut self.rows[usize::from(dcb) - 1]);
     }
+}
+
+/// The same rows.
+fn copy_rows(rows: &Vec<Dcb>) -> Result<Vec<Dcb>, AllocError>
+    ensures { IfOk result (λ copies. copies.items ≡ rows.now.items) }
+{
+    let alloc = *rows.allocator();
+    let mut copies = Vec::with_capacity(alloc, rows.len())?;
+    for row in rows {
+        copies.push(row.copy()?)?;
+    }
+    Ok(copies)
 }
 
 /// Notes that the DCB is closed.

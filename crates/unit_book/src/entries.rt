@@ -1,6 +1,7 @@
 //! A book whose calls add one entry each.
 
 mod controls;
+mod copies;
 mod posts;
 mod programs;
 mod readers;

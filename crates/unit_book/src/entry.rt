@@ -1,9 +1,12 @@
 //! The trace of a unit: its entries.
 
+ghost use Rattle.std.specs.Prelude.{◌≡◌, IfOk};
+
 use crate::dcb::ProcessingMethod;
 use crate::extents::Extents;
 use io_images::{Code, Csw};
 use request_piece::{Issued, Name, Scope};
+use std::alloc::AllocError;
 
 /// Whether a purge lets the active request go on to its end, or halts its program (DFSMSdfp Advanced
 /// Services, PURGE).
@@ -34,4 +37,23 @@ pub enum Entry {
     Reset(u16),
     /// A request was posted: its CSW, its sense bytes and its completion code.
     Post(Name, Csw, u16, Code),
+}
+
+impl Entry {
+    /// The same entry.
+    pub(crate) fn copy(&self) -> Result<Entry, AllocError>
+        ensures { IfOk result (λ entry. entry ≡ self.now) }
+    {
+        Ok(match self {
+            Entry::Opened(dcb, method, extents) => Entry::Opened(*dcb, *method, extents.copy()?),
+            Entry::Arrive(issued) => Entry::Arrive(issued.copy()?),
+            Entry::Start(name) => Entry::Start(*name),
+            Entry::Ran(name, commands) => Entry::Ran(*name, *commands),
+            Entry::Halted(name) => Entry::Halted(*name),
+            Entry::Purge(scope, mode) => Entry::Purge(*scope, *mode),
+            Entry::Close(dcb) => Entry::Close(*dcb),
+            Entry::Reset(dcb) => Entry::Reset(*dcb),
+            Entry::Post(name, csw, sense, code) => Entry::Post(*name, *csw, *sense, *code),
+        })
+    }
 }

@@ -39,6 +39,15 @@ impl Extents {
         })
     }
 
+    /// The same extents.
+    pub(crate) fn copy(&self) -> Result<Self, AllocError>
+        ensures { IfOk result (λ e. e ≡ self.now) }
+    {
+        Ok(Extents {
+            items: self.items.clone()?,
+        })
+    }
+
     /// The extents.
     pub fn as_slice(&self) -> &[Extent]
         ensures { result.now ≡ self.now }

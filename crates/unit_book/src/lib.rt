@@ -8,6 +8,7 @@
 #![tactic(auto)]
 
 mod active;
+mod activity;
 mod answer;
 mod book;
 mod dcb;
@@ -18,6 +19,7 @@ mod entry;
 mod extents;
 pub mod laws;
 
+pub use activity::{Activity, ActivityPhase};
 pub use answer::{
     ArriveError, Closing, DcbError, Delivery, Intake, Interruption, OpenError, Purging, Running,
     Starting,

@@ -76,9 +76,9 @@ pub enum Cause {
     /// It is related. The entry is the post of a related request of its DCB that ended in error.
     RelatedError(Option<usize>),
     /// A purge halted its program.
-    Halt(Option<usize>),
+    Halt(usize),
     /// A purge with halt kept it from being tried again.
-    NotTriedAgain(Option<usize>),
+    NotTriedAgain(usize),
     /// No entry says. A legal trace has no such post.
     Unknown,
 }
@@ -88,11 +88,11 @@ impl Cause {
     pub fn entry(self) -> Option<usize> {
         match self {
             Cause::Program | Cause::OutsideExtents | Cause::Unknown => None,
-            Cause::Purge(entry) | Cause::Close(entry) => Some(entry),
-            Cause::NotOpen(entry)
-            | Cause::RelatedError(entry)
+            Cause::Purge(entry)
+            | Cause::Close(entry)
             | Cause::Halt(entry)
-            | Cause::NotTriedAgain(entry) => entry,
+            | Cause::NotTriedAgain(entry) => Some(entry),
+            Cause::NotOpen(entry) | Cause::RelatedError(entry) => entry,
         }
     }
 

@@ -63,7 +63,7 @@ fn write_events<W: Write, D: Device>(
     ensures { commands.entry ≡ None → IfErr result (λ error. error ≡ HistoryError.NotWritten) }
 {
     let mut commands = commands;
-    for event in Events::of(book.trace(), dcbs) {
+    for event in Events::of(book, dcbs) {
         write_event(out, &event)?;
         if let Some(commands) = &mut commands {
             write_commands(out, &event.told, commands)?;

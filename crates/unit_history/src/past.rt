@@ -3,6 +3,15 @@
 //! Requests that are doomed are posted straight after the entry that dooms them, or after the end of the program that it
 //! halts, and before anything else happens. So the last such entry is the cause of each of these posts.
 
+ghost use Rattle.std.specs.Prelude.{◌≡◌, ◌≤◌, ◌+◌, ◌∷◌, Some, true, false, length, reverse, slice_get, drop};
+ghost use Rattle.io_images.specs.Codes.{is_error};
+ghost use Rattle.request_piece.specs.Scope.{covers};
+ghost use Rattle.unit_book.specs.Trace.{active, has_arrived, request_named, starts_of};
+ghost use Rattle.unit_history.specs.Causes.{IsCauseOfPost, ended_cause, is_arrival_doom, is_doom, waiting_cause};
+ghost use Rattle.unit_history.specs.Events.{turns};
+ghost use Rattle.unit_history.specs.Orderly.{IsAfter, IsPostedNext, Orderly, StartFollows};
+ghost use Rattle.unit_history.specs.PastTies.{ActiveIs, DoomsBy, IfNamed, IsActive, Knows, UnlessNamed, before, active_halted, halting_after, purged_by};
+
 use crate::dcbs::Dcbs;
 use crate::event::Cause;
 use io_images::Code;
@@ -12,10 +21,12 @@ use unit_book::{Entry, Mode};
 
 /// The request that was started and not posted since.
 #[derive(Clone, Copy)]
-struct Active<'t> {
+pub(crate) struct Active<'t> {
     name: Name,
     /// The request as issued.
-    issued: Option<&'t Issued>,
+    issued: &'t Issued,
+    /// The place of its arrival.
+    place: usize,
     /// How often it was started.
     starts: u32,
     /// Whether its program was halted.
@@ -27,7 +38,10 @@ struct Active<'t> {
 /// What the entries before one leave to be known at it.
 #[derive(Drop)]
 pub(crate) struct Past<'t, 'd> {
-    trace: &'t [Entry],
+    /// The entries of the trace, oldest first.
+    pub trace: &'t [Entry],
+    /// How many of them are before.
+    pub done: usize,
     active: Option<Active<'t>>,
     dcbs: &'d mut Dcbs,
     /// Why the requests that wait and are posted next are.
@@ -38,10 +52,16 @@ pub(crate) struct Past<'t, 'd> {
 
 impl<'t, 'd> Past<'t, 'd> {
     /// No entry of a trace.
-    pub fn new(trace: &'t [Entry], dcbs: &'d mut Dcbs) -> Past<'t, 'd> {
+    pub fn new(trace: &'t [Entry], dcbs: &'d mut Dcbs) -> Past<'t, 'd>
+        requires orderly { Orderly (reverse trace.now) }
+        ensures knows { Knows result }
+        ensures trace { result.trace.now ≡ trace.now }
+        ensures done { result.done ≡ 0 }
+    {
         dcbs.clear();
         Past {
             trace,
+            done: 0,
             active: None,
             dcbs,
             cause: Cause::Unknown,
@@ -50,12 +70,20 @@ impl<'t, 'd> Past<'t, 'd> {
     }
 
     /// The active request, if it has this name.
-    fn active_named(&self, name: Name) -> Option<Active<'t>> {
-        self.active.filter(|active| active.name == name)
+    fn active_named(&self, name: Name) -> Option<Active<'t>>
+        ensures { IfNamed name self.now.active result }
+    {
+        match self.active {
+            Some(active) if active.name == name => Some(active),
+            _ => None,
+        }
     }
 
     /// The name of the active request.
-    pub fn active(&self) -> Option<Name> {
+    pub fn active(&self) -> Option<Name>
+        requires { Knows self.now }
+        ensures { result ≡ active (before self.now) }
+    {
         match self.active {
             Some(active) => Some(active.name),
             None => None,
@@ -63,39 +91,154 @@ impl<'t, 'd> Past<'t, 'd> {
     }
 
     /// The number of the attempt that a start of this request begins.
-    pub fn attempt(&self, name: Name) -> u32 {
+    pub fn attempt(&self, name: Name) -> u32
+        requires knows { Knows self.now }
+        requires follows { StartFollows name (before self.now) }
+        ensures { result ≡ starts_of name (before self.now) + 1 }
+    {
         match self.active_named(name) {
-            Some(active) => active.starts.saturating_add(1),
+            Some(active) => active.starts + 1,
             None => 1,
         }
     }
 
     /// Why the next entry posts this request, with this code.
-    pub fn cause(&self, name: Name, code: Code) -> Cause {
+    pub fn cause(&self, name: Name, code: Code) -> Cause
+        requires knows { Knows self.now }
+        requires follows { IsPostedNext name code (before self.now) }
+        ensures { IsCauseOfPost (before self.now) name code result }
+    {
         match self.active_named(name) {
             Some(active) => active.cause(code),
-            None if code == Code::ExtentViolated => Cause::OutsideExtents,
-            None if code == Code::Purged => self.cause,
-            None => Cause::Unknown,
+            None => waiting_cause(code, self.cause),
         }
     }
 
-    /// One entry more, with its number.
-    pub fn note(&mut self, entry: &'t Entry, number: usize) {
+    /// Goes on behind the next entry, which is this one.
+    pub fn note(&mut self, entry: &'t Entry)
+        requires knows { Knows self.old }
+        requires next { slice_get self.old.trace.now self.old.done ≡ Some entry.now }
+        requires follows { IsAfter entry.now (before self.old) }
+        ensures knows { Knows self.new }
+        ensures trace { self.new.trace.now ≡ self.old.trace.now }
+        ensures done { self.new.done ≡ self.old.done + 1 }
+    {
+        let number = self.done + 1;
+        let active = self.active_after(entry, number);
+        self.note_doom(entry, number);
+        self.searched = searched_after(active, self.searched);
+        self.active = active;
+        self.done = number;
+    }
+
+    /// Goes on behind the turns of a request that come next.
+    pub fn pass(&mut self, name: Name, count: usize)
+        requires knows { Knows self.old }
+        requires turns { count ≡ length (turns name (drop self.old.done self.old.trace.now)) }
+        ensures knows { Knows self.new }
+        ensures trace { self.new.trace.now ≡ self.old.trace.now }
+        ensures done { self.new.done ≡ self.old.done + count }
+    {
+        // A slice that is read has a length that fits.
+        let _trace = self.trace;
+        self.done += count;
+    }
+
+    /// The active request after the next entry, which is this one and has this number.
+    fn active_after(&self, entry: &Entry, number: usize) -> Option<Active<'t>>
+        requires knows { Knows self.now }
+        requires follows { IsAfter entry.now (before self.now) }
+        requires number { number ≡ self.now.done + 1 }
+        ensures { ActiveIs (entry.now ∷ before self.now) result }
+    {
+        match entry {
+            Entry::Start(name) => Some(self.started(*name)),
+            Entry::Halted(name) => self.halted(*name),
+            Entry::Purge(scope, mode) => self.purged(*scope, *mode, number),
+            Entry::Post(name, _, _, _) => self.active_but(*name),
+            _ => self.active,
+        }
+    }
+
+    /// A request that is started next.
+    fn started(&self, name: Name) -> Active<'t>
+        requires knows { Knows self.now }
+        requires follows { StartFollows name (before self.now) }
+        ensures { IsActive (Entry.Start name ∷ before self.now) result }
+    {
+        let starts = self.attempt(name);
+        let (place, issued) = match self.active_named(name) {
+            Some(active) => (active.place, active.issued),
+            None => self.arrival(name),
+        };
+        Active {
+            name,
+            issued,
+            place,
+            starts,
+            is_halted: false,
+            halting: None,
+        }
+    }
+
+    /// The active request after a halt.
+    fn halted(&self, name: Name) -> Option<Active<'t>>
+        requires knows { Knows self.now }
+        ensures { ActiveIs (Entry.Halted name ∷ before self.now) result }
+    {
+        match self.active {
+            Some(active) => Some(active.halted_by(name)),
+            None => None,
+        }
+    }
+
+    /// The active request after a purge, which has this number.
+    fn purged(&self, scope: Scope, mode: Mode, number: usize) -> Option<Active<'t>>
+        requires knows { Knows self.now }
+        requires number { number ≡ self.now.done + 1 }
+        ensures { ActiveIs (Entry.Purge scope mode ∷ before self.now) result }
+    {
+        match self.active {
+            Some(active) => Some(active.purged_by(scope, mode, number)),
+            None => None,
+        }
+    }
+
+    /// The active request, unless it has this name.
+    fn active_but(&self, name: Name) -> Option<Active<'t>>
+        ensures { UnlessNamed name self.now.active result }
+    {
+        match self.active {
+            Some(active) if active.name == name => None,
+            active => active,
+        }
+    }
+
+    /// What the next entry, which is this one, leaves to be known of the DCBs and of the requests that wait.
+    fn note_doom(&mut self, entry: &Entry, number: usize)
+        requires knows { Knows self.old }
+        requires follows { IsAfter entry.now (before self.old) }
+        requires number { number ≡ self.old.done + 1 }
+        ensures doom { is_doom self.new.cause ≡ true }
+        ensures dooms { DoomsBy (entry.now ∷ before self.old) self.new.cause }
+        ensures trace { self.new.trace.now ≡ self.old.trace.now }
+        ensures done { self.new.done ≡ self.old.done }
+        ensures active { self.new.active ≡ self.old.active }
+    {
         match entry {
             Entry::Opened(_, _, _) => self.dcbs.open_next(),
             Entry::Arrive(issued) => self.cause = self.on_arrival(issued.dcb()),
-            Entry::Start(name) => self.note_start(*name),
-            Entry::Ran(_, _) | Entry::Reset(_) => {}
-            Entry::Halted(name) => self.note_halt(*name),
-            Entry::Purge(scope, mode) => self.note_purge(*scope, *mode, number),
+            Entry::Purge(_, _) => self.cause = Cause::Purge(number),
             Entry::Close(dcb) => self.note_close(*dcb, number),
             Entry::Post(name, _, _, code) => self.note_post(*name, *code, number),
+            _ => {}
         }
     }
 
     /// Why a request that arrives for this DCB is posted at once, if it is.
-    fn on_arrival(&self, dcb: u16) -> Cause {
+    fn on_arrival(&self, dcb: u16) -> Cause
+        ensures { is_arrival_doom result ≡ true }
+    {
         if self.dcbs.is_open(dcb) {
             Cause::RelatedError(self.dcbs.flagged_by(dcb))
         } else {
@@ -103,58 +246,41 @@ impl<'t, 'd> Past<'t, 'd> {
         }
     }
 
-    fn note_start(&mut self, name: Name) {
-        let attempt = self.attempt(name);
-        let issued = match self.active_named(name) {
-            Some(active) => active.issued,
-            None => self.issued(name),
-        };
-        self.active = Some(Active {
-            name,
-            issued,
-            starts: attempt,
-            is_halted: false,
-            halting: None,
-        });
-    }
-
-    fn note_halt(&mut self, name: Name) {
-        if let Some(active) = &mut self.active {
-            active.is_halted |= active.name == name;
-        }
-    }
-
-    fn note_purge(&mut self, scope: Scope, mode: Mode, number: usize) {
-        self.cause = Cause::Purge(number);
-        if let Some(active) = &mut self.active {
-            if mode == Mode::Halt && active.is_of(scope) {
-                active.halting = active.halting.or(Some(number));
-            }
-        }
-    }
-
-    fn note_close(&mut self, dcb: u16, number: usize) {
+    fn note_close(&mut self, dcb: u16, number: usize)
+        ensures cause { self.new.cause ≡ Cause.Close number }
+        ensures trace { self.new.trace.now ≡ self.old.trace.now }
+        ensures done { self.new.done ≡ self.old.done }
+        ensures active { self.new.active ≡ self.old.active }
+    {
         self.dcbs.close(dcb, number);
         self.cause = Cause::Close(number);
     }
 
-    fn note_post(&mut self, name: Name, code: Code, number: usize) {
-        let ended = self.active_named(name);
-        if ended.is_some() {
-            self.active = None;
-        }
+    /// A request ends, with this code.
+    fn note_post(&mut self, name: Name, code: Code, number: usize)
+        ensures error { is_error code ≡ true → is_arrival_doom self.new.cause ≡ true }
+        ensures other { is_error code ≡ false → self.new.cause ≡ self.old.cause }
+        ensures trace { self.new.trace.now ≡ self.old.trace.now }
+        ensures done { self.new.done ≡ self.old.done }
+        ensures active { self.new.active ≡ self.old.active }
+    {
         if code.is_error() {
-            let issued = match ended {
-                Some(active) => active.issued,
-                None => self.issued(name),
-            };
-            self.note_error(issued, number);
+            self.note_error(name, number);
         }
     }
 
-    /// A request ended in error.
-    fn note_error(&mut self, issued: Option<&'t Issued>, number: usize) {
+    /// A request ends in error.
+    fn note_error(&mut self, name: Name, number: usize)
+        ensures cause { is_arrival_doom self.new.cause ≡ true }
+        ensures trace { self.new.trace.now ≡ self.old.trace.now }
+        ensures done { self.new.done ≡ self.old.done }
+        ensures active { self.new.active ≡ self.old.active }
+    {
         self.cause = Cause::RelatedError(Some(number));
+        let issued = match self.active_named(name) {
+            Some(active) => Some(active.issued),
+            None => self.waiting(name),
+        };
         if let Some(issued) = issued {
             if issued.is_related() {
                 self.dcbs.flag(issued.dcb(), number);
@@ -162,33 +288,102 @@ impl<'t, 'd> Past<'t, 'd> {
         }
     }
 
-    /// The request of this name, as issued. Requests are started in the order of their arrivals, so the search goes on where
-    /// the last one ended.
-    fn issued(&mut self, name: Name) -> Option<&'t Issued> {
+    /// The request of this name, as issued, which waits. Requests are started in the order of their arrivals, so the search
+    /// goes on where the last one ended.
+    fn waiting(&mut self, name: Name) -> Option<&'t Issued>
+        ensures cause { self.new.cause ≡ self.old.cause }
+        ensures trace { self.new.trace.now ≡ self.old.trace.now }
+        ensures done { self.new.done ≡ self.old.done }
+        ensures active { self.new.active ≡ self.old.active }
+    {
         let (place, issued) = find_arrival(self.trace, self.searched, name)?;
         self.searched = place;
         Some(issued)
     }
+
+    /// The request of this name, as issued, and the place of its arrival.
+    fn arrival(&self, name: Name) -> (usize, &'t Issued)
+        requires knows { Knows self.now }
+        requires arrived { has_arrived name (before self.now) ≡ true }
+        ensures { result.1.now ≡ request_named name (before self.now) }
+    {
+        let trace = &self.trace[..self.done];
+        let Some(found) = find_arrival(trace, self.searched, name) else {
+            unreachable!()
+        };
+        found
+    }
 }
 
 impl<'t> Active<'t> {
-    /// Why the next entry posts it, with this code.
-    fn cause(&self, code: Code) -> Cause {
-        if code != Code::Purged {
-            Cause::Program
-        } else if self.is_halted {
-            Cause::Halt(self.halting)
-        } else {
-            Cause::NotTriedAgain(self.halting)
+    /// Why the next entry posts it, with this code. A post as purged has a purge that halts.
+    fn cause(&self, code: Code) -> Cause
+        ensures { result ≡ ended_cause code self.now.is_halted self.now.halting }
+    {
+        match (code, self.halting) {
+            (Code::Purged, Some(purge)) if self.is_halted => Cause::Halt(purge),
+            (Code::Purged, Some(purge)) => Cause::NotTriedAgain(purge),
+            (Code::Purged, None) => Cause::Unknown,
+            _ => Cause::Program,
+        }
+    }
+
+    /// What it is after a halt of this name.
+    fn halted_by(self, name: Name) -> Active<'t>
+        ensures { result ≡ active_halted name self.entry }
+    {
+        Active {
+            is_halted: self.is_halted || self.name == name,
+            ..self
+        }
+    }
+
+    /// What it is after a purge, which has this number.
+    fn purged_by(self, scope: Scope, mode: Mode, number: usize) -> Active<'t>
+        ensures { result ≡ purged_by scope mode number self.entry }
+    {
+        let halts = self.is_of(scope) && matches!(mode, Mode::Halt);
+        Active {
+            halting: halting_after(self.halting, halts, number),
+            ..self
         }
     }
 
     /// Whether a scope covers it.
-    fn is_of(&self, scope: Scope) -> bool {
-        match (scope, self.issued) {
-            (Scope::Task(task), _) => self.name.task == task,
-            (Scope::Dcb(dcb), Some(issued)) => issued.dcb() == dcb,
-            (Scope::Dcb(_), None) => false,
+    fn is_of(&self, scope: Scope) -> bool
+        ensures { result ≡ covers scope self.now.issued.now }
+    {
+        match scope {
+            Scope::Task(task) => self.issued.name().task == task,
+            Scope::Dcb(dcb) => self.issued.dcb() == dcb,
         }
+    }
+}
+
+/// The number of the halting purge after one more purge, which halts or not.
+fn halting_after(halting: Option<usize>, halts: bool, number: usize) -> Option<usize>
+    ensures { result ≡ halting_after halting halts number }
+{
+    match halting {
+        None if halts => Some(number),
+        halting => halting,
+    }
+}
+
+/// The place of the arrival of the active request, or the place that was searched last.
+fn searched_after(active: Option<Active<'_>>, searched: usize) -> usize {
+    match active {
+        Some(active) => active.place,
+        None => searched,
+    }
+}
+
+/// Why a request that waits is posted with this code, if this is the cause of what is doomed.
+fn waiting_cause(code: Code, doom: Cause) -> Cause
+    ensures { result ≡ waiting_cause code doom }
+{
+    match code {
+        Code::ExtentViolated => Cause::OutsideExtents,
+        _ => doom,
     }
 }

@@ -1,2 +1,3 @@
 -- The lemmas of unit_queue.
 pub mod Sweeps
+pub mod Copies

@@ -1,6 +1,6 @@
 //! The queue of the requests that wait.
 
-ghost use Rattle.std.specs.Prelude.{◌≡◌, ◌==◌, ◌+◌, ◌<◌, ◌≤◌, ◌↔◌, [], ◌∷◌, ◌++◌, drop, false, filter, length, not, option_map, slice_get, IfOk, IsSome, box_value};
+ghost use Rattle.std.specs.Prelude.{◌≡◌, ◌==◌, ◌+◌, ◌<◌, ◌≤◌, ◌↔◌, [], ◌∷◌, ◌++◌, drop, false, filter, length, not, option_map, slice_get, Some, IfOk, IsSome, box_value};
 ghost use Rattle.std.specs.Option.{option_copied};
 ghost use Rattle.unit_queue.specs.Selection.{selects};
 ghost use Rattle.unit_queue.specs.Queue.{queue};
@@ -37,6 +37,26 @@ impl WaitQueue {
         Ok(WaitQueue {
             ring: HeapCircularBuffer::with_capacity(alloc, capacity)?,
         })
+    }
+
+    /// The same queue, with requests of its own.
+    pub fn copy(&self, alloc: Global) -> Result<WaitQueue, AllocError>
+        ensures { IfOk result (λ q. q ≡ self.now) }
+    {
+        let mut copy = WaitQueue::new(alloc, self.capacity())?;
+        for at in 0..self.len() {
+            copy.push(self.copy_at(alloc, at)?);
+        }
+        Ok(copy)
+    }
+
+    /// A copy of the request at a place.
+    fn copy_at(&self, alloc: Global, at: usize) -> Result<Box<Piece>, AllocError>
+        requires { at < length self.now.pieces }
+        ensures { IfOk result (λ piece. Some piece.value ≡ slice_get self.now.pieces at) }
+    {
+        let piece = self.get(at).unwrap();
+        Ok(Box::new(alloc, piece.copy()?)?)
     }
 
     /// How many requests wait.

@@ -87,6 +87,18 @@ impl<D: Device> PlainSite<D> {
         side.renew(book);
     }
 
+    /// Its books, by the numbers of the units.
+    pub fn into_books(self) -> Result<Vec<UnitBook<D>>, AllocError>
+        ensures { IfOk result (λ books. books.items ≡ map (λ p. p.book) self.units) }
+    {
+        let PlainSite { units, .. } = self;
+        let mut books = Vec::with_capacity(*units.allocator(), units.len())?;
+        for side in units {
+            books.push(side.into_book())?;
+        }
+        Ok(books)
+    }
+
     /// What holds of every site: a list of steps led to the world of each unit, so that unit keeps its requests.
     pub fn holds(&self)
         ensures site { IsSite D.meaning self.now }

@@ -72,6 +72,14 @@ impl<D: Device> UnitSide<D> {
         self.issued.fill(0);
     }
 
+    /// Its book.
+    pub fn into_book(self) -> UnitBook<D>
+        ensures { result ≡ (unit_part self).book }
+    {
+        let UnitSide { book, .. } = self;
+        book
+    }
+
     /// Accepts the next request of a task for this unit.
     pub fn accept(&mut self, request: Request) -> Result<(), Request>
         requires { next_name_of (unit_part self.old).issued request.name.task ≡ Some request.name }

@@ -1,11 +1,13 @@
 //! What a book tells. No reader takes memory.
 
-ghost use Rattle.std.specs.Prelude.{◌≡◌, ◌≤◌, ◌<◌, IsTrue, ◌↔◌, reverse, length, option_map, slice_get};
+ghost use Rattle.std.specs.Prelude.{◌≡◌, ◌≤◌, ◌<◌, IsTrue, ◌↔◌, reverse, length, MatchOption, None, option_map, slice_get};
+ghost use Rattle.unit_book.specs.Activity.{IsActivity};
 ghost use Rattle.unit_book.specs.Book.{occupancy, is_pending};
 ghost use Rattle.unit_book.specs.Dcbs.{dcb_state, flag, mask_of};
 ghost use Rattle.unit_book.specs.Media.{device};
 ghost use Rattle.unit_book.specs.Trace.{active, waiting};
 
+use crate::activity::Activity;
 use crate::book::UnitBook;
 use crate::dcb::DcbState;
 use crate::entry::Entry;
@@ -54,6 +56,13 @@ impl<D: Device> UnitBook<D> {
         ensures { result ≡ active self.now.trace }
     {
         self.entries.active_name()
+    }
+
+    /// The active request, with all that is kept of it.
+    pub fn activity(&self) -> Option<Activity<'_>>
+        ensures { MatchOption result (active self.now.trace ≡ None) (λ a. IsActivity D.meaning self.now a.piece.now a.starts a.halted a.covered a.phase) }
+    {
+        self.entries.activity()
     }
 
     /// Whether the active request awaits its restart.

@@ -1,14 +1,17 @@
 //! What a book tells.
 
-ghost use Rattle.std.specs.Prelude.{◌≡◌, ◌≤◌, ◌<◌, IsTrue, ◌↔◌, reverse, length, is_some, false, option_map, slice_get};
+ghost use Rattle.std.specs.Prelude.{◌≡◌, ◌≤◌, ◌<◌, IsTrue, ◌↔◌, reverse, length, is_some, false, MatchOption, None, option_map, slice_get};
 ghost use Rattle.request_piece.specs.declared.piece.Piece.{Piece};
+ghost use Rattle.unit_book.specs.Activity.{IsActivity};
 ghost use Rattle.unit_book.specs.Answers.{takes};
 ghost use Rattle.unit_book.specs.Book.{running_name, occupancy, is_pending};
 ghost use Rattle.unit_book.specs.Dcbs.{dcb_state, flag, is_refused, mask_of, opened_count};
+ghost use Rattle.unit_book.specs.Fields.{ArePhases, activity_phase};
 ghost use Rattle.unit_book.specs.Media.{device};
 ghost use Rattle.unit_book.specs.Trace.{active, waiting};
 
 use crate::active::Standing;
+use crate::activity::{Activity, ActivityPhase};
 use crate::dcb::DcbState;
 use crate::entries::Entries;
 use crate::entry::Entry;
@@ -16,6 +19,7 @@ use crate::extents::takes_extents;
 use device_port::Device;
 use io_images::Extent;
 use request_piece::{Name, Request};
+use subchannel::Subchannel;
 
 impl<D: Device> Entries<D> {
     /// The entries, oldest first.
@@ -73,6 +77,22 @@ impl<D: Device> Entries<D> {
     {
         match &self.active {
             Some(active) => Some(active.name()),
+            None => None,
+        }
+    }
+
+    /// The active request.
+    pub fn activity(&self) -> Option<Activity<'_>>
+        ensures { MatchOption result (active self.now.trace ≡ None) (λ a. IsActivity D.meaning self.now a.piece.now a.starts a.halted a.covered a.phase) }
+    {
+        match &self.active {
+            Some(active) => Some(Activity {
+                piece: &active.piece,
+                starts: active.starts,
+                halted: active.halted,
+                covered: active.covered,
+                phase: phase_of(active.standing, &self.channel),
+            }),
             None => None,
         }
     }
@@ -193,5 +213,19 @@ impl<D: Device> Entries<D> {
         ensures { result ≡ self.now.spare }
     {
         self.trace.capacity() - self.trace.len()
+    }
+}
+
+/// What the request with this standing waits for, whose program or status a subchannel has.
+fn phase_of<D: Device>(standing: Standing, channel: &Subchannel<D>) -> ActivityPhase
+    requires { ArePhases standing channel.now.phase }
+    ensures { result ≡ activity_phase standing channel.now.phase }
+{
+    match standing {
+        Standing::AwaitsRestart(status) => ActivityPhase::AwaitsRestart(status),
+        Standing::OnChannel => match channel.status() {
+            Some(status) => ActivityPhase::Pending(status),
+            None => ActivityPhase::Running(channel.place().unwrap()),
+        },
     }
 }

@@ -1,0 +1,186 @@
+//! A run of a script, on threads or by a seed, and its report.
+
+ghost use Rattle.std.specs.Prelude.{All};
+ghost use Rattle.run_record.specs.Complete.{IsComplete};
+
+use crate::pictures::{Left, print_script};
+use crate::replacement::replace_file;
+use crate::saver::{Medium, Saver, said};
+use crate::screen::Screen;
+use crate::{takes_colour, workers};
+use any_device::AnyDevice;
+use job_media::{MountedImages, mount_images, sizes_of, with_sizes};
+use job_options::{Counts, Print, RunFiles};
+use job_run::{Output, report_script, run_parsed, write};
+use job_script::{JobError, Script, read_script};
+use medium_image::{Image, Kept};
+use seeded_run::{SeededRun, run_seeded};
+use std::cell::Cell;
+use std::io::Read;
+use std::sync::Wait;
+use std::thread::Threads;
+use unit_book::UnitBook;
+
+/// What is asked of a report, and the name of its script.
+#[derive(Clone, Copy)]
+pub struct ReportOrder<'a> {
+    pub counts: Counts,
+    pub print: Print,
+    pub seed: Option<u64>,
+    pub files: &'a RunFiles,
+    pub name: &'a str,
+    /// Set once nothing reads any more what is printed.
+    pub is_broken: &'a Cell<bool>,
+}
+
+/// Runs a script, prints its posts and what the run left behind, and saves media.
+pub fn report<R: Threads + Wait + Sync, I: Read>(
+    rt: &HostRuntime,
+    threads: &R,
+    input: &mut I,
+    asked: ReportOrder<'_>,
+    images: Vec<Option<Image>>,
+) -> Result<u8, JobError> {
+    let is_plain = images.is_empty() && asked.files.saves.is_empty() && asked.seed.is_none();
+    let steps = match asked.print {
+        Print::Report if is_plain => None,
+        Print::Steps(most) if is_plain => Some(most),
+        _ => return report_parsed(rt, threads, input, asked, images),
+    };
+    let mut screen = Screen::new(rt.stdout(), takes_colour(rt, rt.stdout()), asked.is_broken);
+    report_script(
+        threads,
+        rt.alloc(),
+        input,
+        &mut screen,
+        workers(asked.counts),
+        steps,
+    )?;
+    Ok(0)
+}
+
+/// Does so with media from images, in another form, or by a seed.
+fn report_parsed<R: Threads + Wait + Sync, I: Read>(
+    rt: &HostRuntime,
+    threads: &R,
+    input: &mut I,
+    asked: ReportOrder<'_>,
+    images: Vec<Option<Image>>,
+) -> Result<u8, JobError> {
+    let alloc = rt.alloc();
+    let text = read_script(alloc, input)?;
+    let sizes = sizes_of(alloc, &images)?;
+    let text = with_sizes(alloc, &text, &sizes)?;
+    let script = Script::parse(alloc, &text)?;
+    let mut saver = Saver::new(rt, asked.files);
+    if !saver.begin(&script.set_up.units) {
+        return Ok(saver.finish());
+    }
+    let MountedImages { devices, kept } = mount_images(alloc, &script.set_up.units, images)?;
+    let printed = match asked.seed {
+        Some(seed) => {
+            let run = seeded(rt, &text, &script, devices, asked, seed, &mut saver)?;
+            let left = Left {
+                tasks: &run.tasks,
+                books: &run.books,
+                places: Some(run.order.all()),
+            };
+            print_and_save(rt, &script, left, asked, &mut saver, &kept)
+        }
+        None => {
+            let run = run_parsed(threads, alloc, &script, devices, workers(asked.counts))?;
+            let left = Left {
+                tasks: &run.tasks,
+                books: run.report.units(),
+                places: None,
+            };
+            print_and_save(rt, &script, left, asked, &mut saver, &kept)
+        }
+    };
+    let saved = saver.finish();
+    printed?;
+    Ok(saved)
+}
+
+/// Runs a script by the schedule of a seed, and writes its scenario, if a file is named for it.
+fn seeded(
+    rt: &HostRuntime,
+    text: &[u8],
+    script: &Script,
+    devices: Vec<Option<AnyDevice>>,
+    asked: ReportOrder<'_>,
+    seed: u64,
+    saver: &mut Saver<'_>,
+) -> Result<SeededRun, JobError> {
+    let has_scenario = asked.files.scenario.is_some();
+    let run = run_seeded(rt.alloc(), text, script, devices, seed, has_scenario)?;
+    if let Some(name) = &asked.files.scenario {
+        if let Err(error) = replace_file(rt, name.as_str(), &run.scenario) {
+            saver.fail(said(rt, name.as_str(), error));
+        }
+    }
+    Ok(run)
+}
+
+/// Prints what a run left, and saves its media.
+fn print_and_save(
+    rt: &HostRuntime,
+    script: &Script,
+    left: Left<'_>,
+    asked: ReportOrder<'_>,
+    saver: &mut Saver<'_>,
+    kept: &[Option<Kept>],
+) -> Result<(), JobError>
+    requires { All IsComplete left.tasks.now }
+{
+    let printed = print_report(rt, script, left, asked);
+    save_media(saver, left.books, kept);
+    printed
+}
+
+/// Prints what a run came to.
+fn print_report(
+    rt: &HostRuntime,
+    script: &Script,
+    left: Left<'_>,
+    asked: ReportOrder<'_>,
+) -> Result<(), JobError>
+    requires { All IsComplete left.tasks.now }
+{
+    let output = match asked.print {
+        Print::Posts => Output::Posts,
+        Print::Report => whole_report(script, left, None),
+        Print::Steps(most) => whole_report(script, left, Some(most)),
+        Print::As(form) => {
+            let screen = Screen::new(rt.stdout(), false, asked.is_broken);
+            return print_script(rt.alloc(), script, left, asked.name, form, screen);
+        }
+    };
+    let mut screen = Screen::new(rt.stdout(), takes_colour(rt, rt.stdout()), asked.is_broken);
+    write(rt.alloc(), left.tasks, output, &mut screen)
+}
+
+/// The report of a run, with that many commands of each unit.
+fn whole_report<'a>(script: &'a Script, left: Left<'a>, steps: Option<u64>) -> Output<'a> {
+    Output::Report {
+        set_up: &script.set_up,
+        books: left.books,
+        steps,
+    }
+}
+
+/// Writes the media of a run that are to be saved.
+fn save_media(saver: &mut Saver<'_>, books: &[UnitBook<AnyDevice>], kept: &[Option<Kept>]) {
+    for (unit, book) in books.iter().enumerate() {
+        let kept = match kept.get(unit) {
+            Some(Some(kept)) => Some(kept),
+            _ => None,
+        };
+        let medium = Medium {
+            mounted: book.mounted(),
+            now: book.device(),
+            kept,
+        };
+        saver.write(unit, medium);
+    }
+}

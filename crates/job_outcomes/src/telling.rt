@@ -1,0 +1,76 @@
+//! The outcomes of a script, found and told.
+
+ghost use Rattle.std.specs.Prelude.{◌≤◌, vec_len};
+
+use crate::asked::{Asked, ScenarioKeeper};
+use crate::order::in_order;
+use crate::scenario::Scenes;
+use crate::summary::write_summary;
+use crate::teller::Teller;
+use any_device::AnyDevice;
+use job_script::{JobError, Script};
+use job_world::ScriptLines;
+use numbered_job::opened_job;
+use outcome_search::{Limits, Search};
+use outcome_witness::Bench;
+use std::alloc::Global;
+use std::io::Write;
+
+/// Searches for every outcome of the job of a script, whose text this is, and writes them. `given` has the device that each
+/// unit is given, by its number. If memory runs out in the search, what was found is printed.
+///
+/// Errors: those of the script's requests and units; out of memory; a write that fails.
+pub fn write_outcomes<W: Write, K: ScenarioKeeper>(
+    alloc: Global,
+    text: &[u8],
+    script: &Script,
+    given: Vec<Option<AnyDevice>>,
+    asked: &Asked,
+    out: &mut W,
+    keeper: &mut K,
+) -> Result<(), JobError>
+    requires units { vec_len script.now.set_up.units ≤ 64 }
+{
+    let (job, books) = opened_job(alloc, script, given)?;
+    let bench = Bench::new(alloc, &job, books);
+    let mut search = Search::new(alloc, &job, bench.books()?, asked.turn, asked.whole)?;
+    let limits = Limits {
+        states: asked.most_states,
+        bytes: asked.most_bytes,
+    };
+    // without memory the search is not complete
+    let _ = search.explore(limits);
+    let requests = in_order(alloc, &job)?;
+    let lines = ScriptLines::new(alloc, text)?;
+    let scenes = Scenes {
+        alloc,
+        bench: &bench,
+        script,
+        lines: &lines,
+    };
+    let lost = tell_all(scenes, &mut search, &requests, out, keeper)?;
+    written(write_summary(out, &search, &requests, asked, lost))
+}
+
+/// Tells the outcomes of these requests. Returns how many have no witness.
+fn tell_all<W: Write, K: ScenarioKeeper>(
+    scenes: Scenes<'_>,
+    search: &mut Search<'_>,
+    requests: &[u16],
+    out: &mut W,
+    keeper: &mut K,
+) -> Result<usize, JobError> {
+    let mut teller = Teller::new(scenes, out, keeper);
+    for request in requests {
+        teller.tell(search, *request)?;
+    }
+    Ok(teller.lost)
+}
+
+/// The outcome of a write.
+pub(crate) fn written(outcome: std::io::Result<()>) -> Result<(), JobError> {
+    match outcome {
+        Ok(()) => Ok(()),
+        Err(_) => Err(JobError::NotWritten),
+    }
+}

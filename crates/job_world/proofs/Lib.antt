@@ -1,0 +1,3 @@
+-- Lemmas on steps of a job.
+pub mod Issuing
+pub mod Lawful

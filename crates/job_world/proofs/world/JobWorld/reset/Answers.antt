@@ -1,0 +1,12 @@
+use Rattle.std.proofs.Common.{refl}
+use Rattle.job_world.specs.Making.{Leaves, Resets}
+use Rattle.job_world.proofs.world.JobWorld.reset.Goals as goal
+
+pub returns-then-not-has_unit-clause-makes : goal.returns-then-not-has_unit-clause-makes
+returns-then-not-has_unit-clause-makes c = λ task. Leaves refl
+
+pub returns-in-Ok-clause-makes : goal.returns-in-Ok-clause-makes
+returns-in-Ok-clause-makes c = λ task. Resets c.args.unit c.args.dcb c.in-Ok.ensures.opened c.in-Ok.ensures.ok
+
+pub returns-in-Err-NoSuchDcb-clause-makes : goal.returns-in-Err-NoSuchDcb-clause-makes
+returns-in-Err-NoSuchDcb-clause-makes c = λ task. Leaves c.in-Err-NoSuchDcb.ensures.err

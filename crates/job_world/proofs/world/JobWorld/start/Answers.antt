@@ -1,0 +1,9 @@
+use Rattle.std.proofs.Common.{refl}
+use Rattle.job_world.specs.Making.{Leaves, Starts}
+use Rattle.job_world.proofs.world.JobWorld.start.Goals as goal
+
+pub returns-then-not-has_unit-clause-makes : goal.returns-then-not-has_unit-clause-makes
+returns-then-not-has_unit-clause-makes c = Leaves refl
+
+pub returns-clause-makes : goal.returns-clause-makes
+returns-clause-makes c = Starts c.in_ok-answer.answer c.in_ok-answer.ensures.ok

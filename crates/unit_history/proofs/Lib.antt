@@ -1,0 +1,5 @@
+-- The lemmas of unit_history.
+pub mod DoomCauses
+pub mod OrderlyLaws
+pub mod PastLaws
+pub mod TurnLaws

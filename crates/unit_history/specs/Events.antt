@@ -1,0 +1,73 @@
+-- THE EVENTS OF A TRACE: what each entry tells (profile).
+use Rattle.std.specs.Prelude.{◌≡◌, ◌≤◌, ◌-◌, ◌^◌, ℕ, ◌+◌, if◌then◌else◌, Option, Some, None, List, [], ◌∷◌, length, min, sum, MatchOption}
+use Rattle.std.specs.Prelude.{drop, reverse, take}
+use Rattle.request_piece.specs.declared.piece.Name.{Name}
+use Rattle.unit_book.specs.Trace.{active, same, starts_of}
+use Rattle.unit_book.specs.declared.entry.Entry.{Entry}
+use Rattle.unit_book.specs.declared.entry.Entry.TheVariants.{Opened, Arrive, Start, Ran, Halted, Purge, Close, Reset, Post}
+use Rattle.unit_history.specs.Causes.{IsCauseOfPost}
+use Rattle.unit_history.specs.declared.event.Event.{Event}
+use Rattle.unit_history.specs.declared.event.Told.{Told}
+use Rattle.unit_history.specs.declared.event.Told.TheVariants.{Opened as ToldOpened, Arrived, Started, Ran as ToldRan, Halted as ToldHalted, Purged, Closed, Reset as ToldReset, Posted}
+
+-- THE PLACE of events in a trace, whose entries are the oldest first: how many entries the events so far are of
+pub record EventsPlace : Type 0 where
+  pub entries : List Entry
+  pub done : ℕ
+
+-- the entries before a place, newest first
+abbrev pub entries_so_far : List Entry → ℕ → List Entry
+entries_so_far es done = reverse (take done es)
+
+-- THE TURNS of a program that follow one another
+
+-- the commands of a turn of this request
+abbrev pub turn : Name → Entry → Option ℕ
+turn n (Ran m j) = if same m n then Some j else None
+turn n _ = None
+
+-- the commands of each turn of this request that these entries begin with
+abbrev pub turns_by : Option ℕ → List ℕ → List ℕ
+turns_by None others = []
+turns_by (Some j) others = j ∷ others
+
+unfoldable pub turns : Name → List Entry → List ℕ
+turns n [] = []
+turns n (e ∷ es) = turns_by (turn n e) (turns n es)
+
+-- the largest number of 64 bits
+abbrev pub most_commands : ℕ
+most_commands = 2 ^ 64 - 1
+
+-- WHAT AN ENTRY TELLS, with the entries before it, newest first, and those from it on, oldest first
+abbrev pub TellsEntry : List Entry → Entry → List Entry → Told → Type 0
+TellsEntry H (Opened d m x) es (ToldOpened dcb method extents) = (dcb ≡ d) × (method ≡ m) × (extents.now ≡ x)
+TellsEntry H (Arrive r) es (Arrived issued) = issued.now ≡ r
+TellsEntry H (Start n) es (Started name attempt) = (name ≡ n) × (attempt ≡ starts_of n H + 1)
+TellsEntry H (Ran n j) es (ToldRan name commands count) =
+    (name ≡ n) × (commands ≡ min most_commands (sum (turns n es))) × (count ≡ length (turns n es))
+TellsEntry H (Halted n) es (ToldHalted name) = name ≡ n
+TellsEntry H (Purge s m) es (Purged scope mode busy) = (scope ≡ s) × (mode ≡ m) × (busy ≡ active H)
+TellsEntry H (Close d) es (Closed dcb) = dcb ≡ d
+TellsEntry H (Reset d) es (ToldReset dcb) = dcb ≡ d
+TellsEntry H (Post n csw sense code) es (Posted name end cause) =
+    (name ≡ n) × (end ≡ record { code = code; csw = csw; sense = sense }) × IsCauseOfPost H n code cause
+TellsEntry H _ es _ = ⊥
+
+-- the event of the first of these entries
+abbrev pub TellsFirst : List Entry → List Entry → Told → Type 0
+TellsFirst H [] told = ⊥
+TellsFirst H (e ∷ es) told = TellsEntry H e (e ∷ es) told
+
+-- how many entries an event is of: each turn, or one
+abbrev pub entries_of : Told → ℕ
+entries_of (ToldRan name commands count) = count
+entries_of _ = 1
+
+-- A CALL OF NEXT gives the event of the next entries, with the number of the first from 1, and goes on after them. At the
+-- end it gives none.
+abbrev pub GivesEvent : EventsPlace → Option Event → EventsPlace → Type 0
+GivesEvent p given q =
+    MatchOption given ((length p.entries ≤ p.done) × (q ≡ p))
+    (λ event. (event.entry ≡ p.done + 1) × TellsFirst (entries_so_far p.entries p.done) (drop p.done p.entries) event.told
+    × (q ≡ record p { done = p.done + entries_of event.told }))

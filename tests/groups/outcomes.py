@@ -1,0 +1,203 @@
+"""Every outcome of a job (`excp_job outcomes`, docs/MANUAL.md).
+
+Jobs whose outcomes follow by hand from docs/SPECIFICATION.md have just these. Of small jobs at random, no run by a seed and no run on
+threads posts anything else. The scenario of each outcome comes to its post when `step` carries it out. Every sample is searched to
+its end.
+"""
+
+import glob
+import os
+import re
+import tempfile
+
+from harness import SAMPLES, TOP, Case, expect, read, require
+from small_jobs import small_job
+
+ORIGIN = "docs/MANUAL.md and docs/SPECIFICATION.md"
+
+# How many small jobs there are, also in the long form, how many are one case, and how many seeds run each.
+JOBS = 150
+JOBS_LONG = 600
+BATCH = 25
+SEEDS = 6
+
+# How many jobs run on threads, and how often each.
+RACES = 20
+RUNS = 150
+
+# A disk with R1, an IOB with its ECB whose request is unrelated or related, and a program that reads a record: search, transfer in
+# channel, read.
+DISK = """tasks 2
+disk 0 0 1 1 40
+rec 0 0 0 1 - C1C2C3C4
+"""
+OPEN = "open 0 out 18000000000000000000000000000001\n"
+READ = "3100105040000005 0800103000000000 0600106000000004 0000000000000000 "
+
+
+def area(number, flags, record):
+    return (f"area {number} 001000 {flags}00000000001028 0000000000000000 0000103000000001 0000000000000000 0000000000000001 "
+            f"0000000000000000 {READ}00000000{record}000000 0000000000000000 0000000000000000\n")
+
+
+PLAIN = area(0, "42", "01")
+EXCP = "excp {} 0 1 001000 {} 001000 0\n"
+ENDED = "7F 001048 0C00 0000 0000 -"
+WAITED = "48 000000 0000 0000 0000 -"
+
+# A job with its options, and the outcomes of each request, worked by hand.
+BY_HAND = {
+    # A request and a quiesce. If it has not arrived, is active or is posted at the purge, it ends; if it waits, it is purged.
+    "a quiesce": (DISK + OPEN + PLAIN + EXCP.format(0, 0) + "purge 1 0 1 quiesce\n", (), {"0 0 1": {ENDED, WAITED}}),
+    # A halt also meets its program before its first command; with turns of one command between its two command steps too.
+    "a halt": (DISK + OPEN + PLAIN + EXCP.format(0, 0) + "purge 1 0 1 halt\n", (),
+               {"0 0 1": {ENDED, WAITED, "48 001030 0C00 0000 0000 -"}}),
+    "a halt, by commands": (DISK + OPEN + PLAIN + EXCP.format(0, 0) + "purge 1 0 1 halt\n", ("--turn", "1"),
+                            {"0 0 1": {ENDED, WAITED, "48 001030 0C00 0000 0000 -", "48 001038 0C00 0000 0000 -"}}),
+    # A related request that finds no record, and one of another task to the same DCB: that ends well only if it arrives first.
+    "a related error": (DISK + OPEN + area(0, "40", "09") + area(1, "40", "01") + EXCP.format(0, 0) + EXCP.format(1, 1), ("--whole",),
+                        {"0 0 1": {"41 001038 0E00 0005 0008 -"}, "1 0 1": {ENDED, WAITED}}),
+    # An error that is tried again, and a close: a request that is active stays so.
+    "a close": (DISK + "fault 0 1 0E 00 1000\n" + OPEN + PLAIN + EXCP.format(0, 0) + "close 1 0 1\n", (), {"0 0 1": {ENDED, WAITED}}),
+}
+
+# Two tapes, of each of which the first request reads the block 01 and the second the block 02. Task 0 issues to both; task 1 issues to
+# the second one, waits, and issues to the first. So if task 0 is first at the second tape, it is first at the first one too: of the
+# four outputs there are three. An order of a whole row that is chosen too early loses one.
+TAPES = """tasks 2
+tape 0 0 60
+block 0 01
+block 0 02
+tape 1 1 60
+block 1 01
+block 1 02
+open 0 in
+open 1 in
+area 0 001000 4200000000001028 0000000000000000 0000103000000001 0000000000000000 0000000000000000 0000000000000000 0200103820000001 00
+excp 0 0 1 001000 0 001038 1
+excp 0 1 1 001000 0 001038 1
+excp 1 1 1 001000 0 001038 1
+wait 1
+excp 1 0 1 001000 0 001038 1
+"""
+
+
+def outcomes_of(setup, script, *words):
+    """The posts that the program tells of each request, by its numbers, and the last line."""
+    ran = setup.run("outcomes", *words, script=script)
+    require((ran.status, ran.err) == (0, ""), "it fails", ran)
+    told, lines = {}, ran.out.splitlines()
+    for line in lines[:-1]:
+        if line.startswith("post "):
+            words = line.split(" ", 4)
+            told.setdefault(" ".join(words[1:4]), []).append(words[4])
+        else:
+            require(line.startswith("# "), f"a line {line!r}", ran)
+    return told, lines[-1]
+
+
+def is_by_hand(setup, script, words, wanted):
+    told, last = outcomes_of(setup, script, *words)
+    require({name: set(posts) for name, posts in told.items()} == wanted, f"the outcomes are {told}")
+    require(all(len(set(posts)) == len(posts) for posts in told.values()), "an outcome is told twice")
+    several = sum(len(posts) > 1 for posts in told.values())
+    plural = "request has" if several == 1 else "requests have"
+    require(last.startswith(f"{several} {plural} more than one outcome (turns of "), f"the last line is {last!r}")
+    if "--whole" in words:
+        require(last.endswith(", 2 whole outputs)"), f"the last line is {last!r}")
+
+
+def has_three_outputs(setup):
+    told, last = outcomes_of(setup, TAPES, "--whole")
+    require(all(len(posts) == 2 for posts in told.values()) and len(told) == 4, f"the outcomes are {told}")
+    require(last.endswith(", 3 whole outputs)"), f"the last line is {last!r}")
+
+
+def posts_in(ran):
+    """The posts that a run printed, by the numbers of their requests."""
+    posts = {}
+    for line in ran.out.splitlines():
+        if line.startswith("post "):
+            words = line.split(" ", 4)
+            posts[" ".join(words[1:4])] = words[4]
+    return posts
+
+
+def is_among(posts, told, what):
+    for name, post in posts.items():
+        require(post in told.get(name, []), f"{what} posts {name} with {post}, which is no outcome of {told.get(name)}")
+
+
+def runs_are_among(setup, first):
+    """The posts of small jobs are among their outcomes: by seeds, on threads, and by the scenarios of the outcomes."""
+    for seed in range(first, first + BATCH):
+        script = small_job(seed, tasks=3, units=2, requests=5, controls=3)
+        with tempfile.TemporaryDirectory() as folder:
+            # by commands, so that each turn of the workers, which is of 64, is one of these
+            told, last = every_outcome(setup, script, folder)
+            if last.startswith("not all"):
+                continue
+            for number in range(SEEDS):
+                ran = setup.run("report", "--posts", "--seed", str(number), script=script)
+                is_among(posts_in(ran), told, f"job {seed}: seed {number}")
+            ran = setup.run("report", "--posts", "--channels", "2", script=script)
+            is_among(posts_in(ran), told, f"job {seed}: a run on threads")
+
+
+def threads_are_among(setup, seed):
+    """What many runs on threads post is among the outcomes. Turns of one command divide those of the workers."""
+    script = small_job(f"threads {seed}", tasks=3, units=2, requests=6, controls=3)
+    with tempfile.TemporaryDirectory() as folder:
+        told, last = every_outcome(setup, script, folder)
+    require(not last.startswith("not all"), f"the last line is {last!r}")
+    for number in range(RUNS):
+        words = "--channels", str(1 + number % 3), "--handlers", str(1 + number % 2)
+        is_among(posts_in(setup.run("run", *words, script=script)), told, f"run {number}")
+
+
+def every_outcome(setup, script, folder):
+    """The outcomes by the scenarios that the program writes into a folder, each of which `step` runs to its post."""
+    _, last = outcomes_of(setup, script, "--turn", "1", "--most-states", "50000", "--scenarios", folder)
+    told = {}
+    for file in sorted(glob.glob(f"{folder}/*.scenario")):
+        ran = setup.run("step", "--plain", script=read(file))
+        require((ran.status, ran.err) == (0, ""), f"{os.path.basename(file)} does not come to its post", ran)
+        post = ran.out.rstrip("\n").rpartition("post ")[2].split(" ", 3)
+        name = "-".join(post[:3])
+        require(os.path.basename(file).startswith(f"post-{name}-"), f"{file} posts {name}", ran)
+        told.setdefault(" ".join(post[:3]), []).append(post[3])
+    return told, last
+
+
+def ends(setup, file):
+    """A sample is searched to its end."""
+    _, last = outcomes_of(setup, read(file))
+    require(not last.startswith("not all"), f"the last line is {last!r}")
+
+
+def is_stored(setup, file):
+    """A sample prints the stored outcomes."""
+    expect(setup.run("outcomes", script=read(file)), (0, read(file.replace(".script", ".posts"))))
+
+
+def is_cut(setup):
+    """A search that ends early says so."""
+    script = DISK + OPEN + PLAIN + EXCP.format(0, 0) * 3 + "purge 1 0 1 halt\n" + EXCP.format(1, 0) * 2
+    _, last = outcomes_of(setup, script, "--most-states", "2")
+    require(re.match(r"not all: at least \d+ requests? ha(s|ve) more than one outcome \(turns of 64 commands, \d+ states\)$", last),
+            f"the last line is {last!r}")
+
+
+def cases(setup):
+    for name, (script, words, wanted) in BY_HAND.items():
+        yield Case(f"by hand, {name}", lambda s=script, w=words, o=wanted: is_by_hand(setup, s, w, o), ORIGIN)
+    yield Case("three of four outputs", lambda: has_three_outputs(setup), ORIGIN)
+    yield Case("a search that is cut", lambda: is_cut(setup), ORIGIN)
+    for file in sorted(glob.glob(f"{SAMPLES}/outcomes/*.script")):
+        yield Case(os.path.relpath(file, TOP), lambda f=file: is_stored(setup, f), ORIGIN)
+    for file in sorted(glob.glob(f"{SAMPLES}/*.script")):
+        yield Case(os.path.relpath(file, TOP), lambda f=file: ends(setup, f), ORIGIN)
+    for first in range(0, JOBS_LONG if setup.is_long else JOBS, BATCH):
+        yield Case(f"small jobs from {first}", lambda f=first: runs_are_among(setup, f), ORIGIN)
+    for seed in range(RACES):
+        yield Case(f"{RUNS} runs on threads, {seed}", lambda s=seed: threads_are_among(setup, s), ORIGIN)
