@@ -18,6 +18,7 @@ mod report;
 mod saver;
 mod scenario;
 mod screen;
+mod script;
 mod words;
 
 use convert::{make_image, print_lines};
