@@ -70,11 +70,6 @@ REJECTED = [
         for word, it in (("report", "x"), ("step", "64=x"), ("check", "0="), ("report", "=x"), ("report", "+1=x"))
     ),
     (["report", "--save", "7=x", "--save", "7=y"], "error: --load and --save name each unit once"),
-    *(
-        (["report", "--seed", "1", "--scenario", "x", *words],
-         "error: --scenario names a file of its own: not the script, and none of --load or --save")
-        for words in (["x"], ["--load", "0=x"], ["--save", "0=x"])
-    ),
     (["convert", "--to", "aws", "x"], "error: the following required arguments were not provided:"),
     (["convert", "--output", "y", "x"], "error: the following required arguments were not provided:"),
     (["convert", "--to", "het", "--output", "y", "x"], "error: invalid value 'het' for '--to <FORMAT>'"),

@@ -18,7 +18,6 @@ mod report;
 mod saver;
 mod scenario;
 mod screen;
-mod script;
 mod words;
 
 use convert::{make_image, print_lines};

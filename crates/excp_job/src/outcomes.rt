@@ -3,11 +3,10 @@
 use crate::replacement::replace_file;
 use crate::saver::said;
 use crate::screen::Screen;
-use crate::script::{SizedScript, read_sized};
-use job_media::{MountedImages, mount_images};
+use job_media::{MountedImages, mount_images, sizes_of, with_sizes};
 use job_options::OutcomeOptions;
 use job_outcomes::{Asked, ScenarioKeeper, write_outcomes};
-use job_script::JobError;
+use job_script::{JobError, Script, read_script};
 use medium_image::Image;
 use request_piece::Name;
 use std::cell::Cell;
@@ -48,26 +47,10 @@ impl<'a> ScenarioKeeper for Directory<'a> {
         let file = format!(in self.rt.alloc();
             "{directory}/post-{task}-{unit}-{seq}-{number}.scenario"
         )?;
-        self.write(file.as_str(), text);
-        Ok(())
-    }
-
-    fn keep_output(&mut self, number: usize, text: &[u8]) -> Result<(), JobError> {
-        let Some(directory) = self.name else {
-            return Ok(());
-        };
-        let file = format!(in self.rt.alloc(); "{directory}/output-{number}.scenario")?;
-        self.write(file.as_str(), text);
-        Ok(())
-    }
-}
-
-impl<'a> Directory<'a> {
-    /// Writes a file. One that cannot be written gives a message, and is the last.
-    fn write(&mut self, file: &str, text: &[u8]) {
-        if let Err(error) = replace_file(self.rt, file, text) {
-            self.status = said(self.rt, file, error);
+        if let Err(error) = replace_file(self.rt, file.as_str(), text) {
+            self.status = said(self.rt, file.as_str(), error);
         }
+        Ok(())
     }
 }
 
@@ -88,7 +71,10 @@ pub fn outcomes<I: Read>(
     images: Vec<Option<Image>>,
 ) -> Result<u8, JobError> {
     let alloc = rt.alloc();
-    let SizedScript { text, script } = read_sized(alloc, input, &images)?;
+    let text = read_script(alloc, input)?;
+    let sizes = sizes_of(alloc, &images)?;
+    let text = with_sizes(alloc, &text, &sizes)?;
+    let script = Script::parse(alloc, &text)?;
     let MountedImages { devices, .. } = mount_images(alloc, &script.set_up.units, images)?;
     let mut directory = Directory {
         rt,

@@ -7,13 +7,12 @@ use crate::pictures::{Left, print_script};
 use crate::replacement::replace_file;
 use crate::saver::{Medium, Saver, said};
 use crate::screen::Screen;
-use crate::script::{SizedScript, read_sized};
 use crate::{takes_colour, workers};
 use any_device::AnyDevice;
-use job_media::{MountedImages, mount_images};
+use job_media::{MountedImages, mount_images, sizes_of, with_sizes};
 use job_options::{Counts, Print, RunFiles};
 use job_run::{Output, report_script, run_parsed, write};
-use job_script::{JobError, Script};
+use job_script::{JobError, Script, read_script};
 use medium_image::{Image, Kept};
 use seeded_run::{SeededRun, run_seeded};
 use std::cell::Cell;
@@ -69,7 +68,10 @@ fn report_parsed<R: Threads + Wait + Sync, I: Read>(
     images: Vec<Option<Image>>,
 ) -> Result<u8, JobError> {
     let alloc = rt.alloc();
-    let SizedScript { text, script } = read_sized(alloc, input, &images)?;
+    let text = read_script(alloc, input)?;
+    let sizes = sizes_of(alloc, &images)?;
+    let text = with_sizes(alloc, &text, &sizes)?;
+    let script = Script::parse(alloc, &text)?;
     let mut saver = Saver::new(rt, asked.files);
     if !saver.begin(&script.set_up.units) {
         return Ok(saver.finish());

@@ -167,11 +167,7 @@ fn step<'a>(alloc: Global) -> Result<Command<'a>, AllocError> {
 }
 
 fn outcomes<'a>(alloc: Global) -> Result<Command<'a>, AllocError> {
-    let whole = flag(
-        alloc,
-        WHOLE,
-        "Prints the whole outputs too: the posts that all requests can have together",
-    );
+    let whole = flag(alloc, WHOLE, "Counts the whole outputs too");
     Command::new(alloc, "outcomes")
         .about(
             "Prints every post that each request can have, over all orders of steps, with steps that lead to it",

@@ -214,29 +214,7 @@ fn of_script(
         script_file(alloc, options)?
     };
     let media = media_of(alloc, command, options)?;
-    if names_another(&media, &file) {
-        let why =
-            "--scenario names a file of its own: not the script, and none of --load or --save";
-        return Err(command.error(ErrorKind::ValueValidation, why)?);
-    }
     Ok(Words::Script { order, file, media })
-}
-
-/// Whether the file for a scenario has the name of the script, or of a file of a medium.
-fn names_another(media: &RunFiles, script: &Option<String>) -> bool {
-    let Some(scenario) = &media.scenario else {
-        return false;
-    };
-    let is_script = match script {
-        Some(script) => script == scenario,
-        None => false,
-    };
-    is_script || has_file(&media.loads, scenario) || has_file(&media.saves, scenario)
-}
-
-/// Whether one of these files has this name.
-fn has_file(files: &[UnitFile], name: &String) -> bool {
-    files.iter().any(|file| file.file == *name)
 }
 
 /// The files of media.

@@ -1,5 +1,4 @@
-//! Every outcome of a job, told: for each request the posts that it can have, each with the steps that lead to it. It tells whole
-//! outputs, which are the posts of all requests together, in the same way.
+//! Every outcome of a job, told: for each request the posts that it can have, each with the steps that lead to it.
 //!
 //! A search finds the outcomes. Each is printed as the post that its steps gave when they were carried out
 //! ([`outcome_witness`]), so a line is lawful whatever the search does.
@@ -10,9 +9,6 @@
 mod asked;
 mod codes;
 mod order;
-mod outputs;
-mod ranks;
-mod run_posts;
 mod scenario;
 mod steps;
 mod summary;

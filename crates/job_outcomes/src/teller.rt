@@ -2,9 +2,7 @@
 
 use crate::asked::ScenarioKeeper;
 use crate::codes::{CodeGroup, GROUPED, groups_of};
-use crate::ranks::Ranks;
-use crate::run_posts::RunPosts;
-use crate::scenario::{Scenes, write_events, write_line};
+use crate::scenario::{Scenes, write_events, write_posted};
 use crate::steps::world_steps;
 use crate::telling::written;
 use job_script::JobError;
@@ -17,9 +15,6 @@ use std::io::Write;
 #[derive(Drop)]
 pub(crate) struct Teller<'t, W: Write, K: ScenarioKeeper> {
     scenes: Scenes<'t>,
-    pub ranks: Ranks,
-    /// A whole run, if one was found.
-    run: Option<RunPosts>,
     out: &'t mut W,
     keeper: &'t mut K,
     /// How many outcomes have no witness. The search is wrong about these, and they are not told.
@@ -35,28 +30,18 @@ struct Told {
 }
 
 impl<'t, W: Write, K: ScenarioKeeper> Teller<'t, W, K> {
-    pub fn new(
-        scenes: Scenes<'t>,
-        ranks: Ranks,
-        run: Option<RunPosts>,
-        out: &'t mut W,
-        keeper: &'t mut K,
-    ) -> Self {
+    pub fn new(scenes: Scenes<'t>, out: &'t mut W, keeper: &'t mut K) -> Self {
         Teller {
             scenes,
-            ranks,
-            run,
             out,
             keeper,
             lost: 0,
         }
     }
 
-    /// Tells the outcomes of a request in order: each of a few, or the first of each completion code.
+    /// Tells the outcomes of a request: each of a few, or the first of each completion code.
     pub fn tell(&mut self, search: &mut Search<'_>, request: u16) -> Result<(), JobError> {
-        let ranks = &self.ranks;
-        let mut outcomes = search.outcomes(request).to_vec(self.scenes.alloc)?;
-        outcomes.sort_by_key(|outcome| ranks.get(outcome.text))?;
+        let outcomes = search.outcomes(request).to_vec(self.scenes.alloc)?;
         if outcomes.len() < GROUPED {
             self.tell_each(search, request, &outcomes)
         } else {
@@ -150,18 +135,13 @@ impl<'t, W: Write, K: ScenarioKeeper> Teller<'t, W, K> {
         written(self.out.write_all(&text))
     }
 
-    /// Tells one outcome of a request, as the post of a whole run if that has it and nobody reads its steps, or else of its witness.
+    /// Tells one outcome of a request, as the post of its witness.
     fn tell_one(
         &mut self,
         search: &mut Search<'_>,
         request: u16,
         told: Told,
     ) -> Result<(), JobError> {
-        if !told.has_steps && !self.keeper.is_wanted() {
-            if let Some(line) = self.line_of_run(search, request, told)? {
-                return written(self.out.write_all(&line));
-            }
-        }
         match self.witness(search, request, told)? {
             Some(witness) => self.tell_witness(request, &witness, told),
             None => {
@@ -169,28 +149,6 @@ impl<'t, W: Write, K: ScenarioKeeper> Teller<'t, W, K> {
                 Ok(())
             }
         }
-    }
-
-    /// The line of the post that a request has in the whole run, if it has this outcome.
-    fn line_of_run(
-        &self,
-        search: &Search<'_>,
-        request: u16,
-        told: Told,
-    ) -> Result<Option<Vec<u8>>, JobError> {
-        let Scenes { alloc, bench, .. } = self.scenes;
-        let issued = bench.job().requests.get(usize::from(request));
-        let (Some(run), Some(issued)) = (&self.run, issued) else {
-            return Ok(None);
-        };
-        let mut text = Vec::new(alloc);
-        let outcome = search.text(told.text);
-        let Some(posted) = run.with_outcome(bench, request, outcome, &mut text)? else {
-            return Ok(None);
-        };
-        text.clear();
-        written(write_line(&mut text, issued, posted))?;
-        Ok(Some(text))
     }
 
     /// The witness of an outcome. It is made short if anybody reads its steps.
@@ -225,7 +183,7 @@ impl<'t, W: Write, K: ScenarioKeeper> Teller<'t, W, K> {
             return Ok(());
         };
         let mut text = Vec::new(scenes.alloc);
-        written(write_line(&mut text, issued, &witness.posted))?;
+        written(write_posted(&mut text, issued, &witness.posted))?;
         if told.has_steps {
             let events = scenes.events_of(&witness.steps)?;
             written(write_events(&mut text, &events))?;

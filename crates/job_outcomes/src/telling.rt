@@ -4,11 +4,7 @@ ghost use Rattle.std.specs.Prelude.{◌≤◌, vec_len};
 
 use crate::asked::{Asked, ScenarioKeeper};
 use crate::order::in_order;
-use crate::outputs::tell_outputs;
-use crate::ranks::Ranks;
-use crate::run_posts::RunPosts;
 use crate::scenario::Scenes;
-use crate::steps::world_steps;
 use crate::summary::write_summary;
 use crate::teller::Teller;
 use any_device::AnyDevice;
@@ -56,7 +52,7 @@ pub fn write_outcomes<W: Write, K: ScenarioKeeper>(
     written(write_summary(out, &search, &requests, asked, lost))
 }
 
-/// Tells the outcomes of these requests, and the whole outputs that were sought. Returns how many have no witness.
+/// Tells the outcomes of these requests. Returns how many have no witness.
 fn tell_all<W: Write, K: ScenarioKeeper>(
     scenes: Scenes<'_>,
     search: &mut Search<'_>,
@@ -64,26 +60,11 @@ fn tell_all<W: Write, K: ScenarioKeeper>(
     out: &mut W,
     keeper: &mut K,
 ) -> Result<usize, JobError> {
-    let ranks = Ranks::of(scenes.alloc, search)?;
-    let run = run_of(scenes, search)?;
-    let mut teller = Teller::new(scenes, ranks, run, out, keeper);
+    let mut teller = Teller::new(scenes, out, keeper);
     for request in requests {
         teller.tell(search, *request)?;
     }
-    let Teller { ranks, lost, .. } = teller;
-    let outputs = tell_outputs(scenes, search, requests, &ranks, out, keeper)?;
-    Ok(lost.saturating_add(outputs))
-}
-
-/// A whole run, if the search came to the end of one.
-fn run_of(scenes: Scenes<'_>, search: &mut Search<'_>) -> Result<Option<RunPosts>, JobError> {
-    match search.run()? {
-        Some(steps) => {
-            let steps = world_steps(scenes.alloc, &steps)?;
-            Ok(RunPosts::of(scenes.alloc, scenes.bench, &steps)?)
-        }
-        None => Ok(None),
-    }
+    Ok(teller.lost)
 }
 
 /// The outcome of a write.

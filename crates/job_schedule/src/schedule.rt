@@ -1,8 +1,7 @@
 //! A schedule, step by step.
 
-ghost use Rattle.std.specs.Prelude.{OnOk};
-ghost use Rattle.job_world.specs.Reaching.{IsOver, IsReached};
-ghost use Rattle.job_world.specs.Worlds.{state_of};
+ghost use Rattle.std.specs.Prelude.{◌≡◌, OnOk};
+ghost use Rattle.job_world.specs.Places.{AwaitNone};
 
 use crate::chooser::Chooser;
 use job_script::JobError;
@@ -21,16 +20,15 @@ pub trait Visitor {
     fn after(&mut self, world: &JobWorld<'_>, step: Step, done: &Done) -> Result<(), JobError>;
 }
 
-/// Makes steps until none is left, as the generator of the seed chooses them. Then all is done. Otherwise it returns
-/// `Unmatched`, to which no run comes.
+/// Makes steps until none is left, as the generator of the seed chooses them. Then all requests are posted and collected.
+/// Otherwise it returns `Unmatched`, to which no run comes.
 pub fn run_schedule<V: Visitor>(
     alloc: Global,
     world: &mut JobWorld<'_>,
     seed: u64,
     visitor: &mut V,
 ) -> Result<(), JobError>
-    ensures reached { OnOk result (IsReached (state_of world.old) (state_of world.new)) }
-    ensures over { OnOk result (IsOver (state_of world.new)) }
+    ensures { OnOk result (AwaitNone world.new.tasks.items) }
 {
     let mut chooser = Chooser::new(seed);
     let mut steps = Vec::new(alloc);
@@ -49,9 +47,11 @@ pub fn run_schedule<V: Visitor>(
 }
 
 /// Makes a step, and shows it.
-fn visit<V: Visitor>(world: &mut JobWorld<'_>, step: Step, visitor: &mut V) -> Result<(), JobError>
-    ensures { OnOk result (IsReached (state_of world.old) (state_of world.new)) }
-{
+fn visit<V: Visitor>(
+    world: &mut JobWorld<'_>,
+    step: Step,
+    visitor: &mut V,
+) -> Result<(), JobError> {
     visitor.before(world, step)?;
     let done = world.step(step)?;
     visitor.after(world, step, &done)

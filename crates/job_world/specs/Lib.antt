@@ -1,7 +1,4 @@
--- What a step of a job does to units, rows and tasks, and why that is lawful; how far the tasks are.
-pub mod Places
-pub mod Commands
-pub mod Making
-pub mod Reaching
-pub mod Worlds
+-- What a step of a job does to the units and rows, and why that is lawful; how far the tasks are.
 pub mod Lawful
+pub mod Making
+pub mod Places
