@@ -25,6 +25,9 @@ SEEDS = 6
 RACES = 20
 RUNS = 150
 
+# An image of a tape.
+IMAGE = "tests/cases/images/w.aws"
+
 # A disk with R1, an IOB with its ECB whose request is unrelated or related, and a program that reads a record: search, transfer in
 # channel, read.
 DISK = """tasks 2
@@ -45,6 +48,10 @@ EXCP = "excp {} 0 1 001000 {} 001000 0\n"
 ENDED = "7F 001048 0C00 0000 0000 -"
 WAITED = "48 000000 0000 0000 0000 -"
 
+# A related request that finds no record, and one of another task to the same DCB that finds one.
+RELATED = DISK + OPEN + area(0, "40", "09") + area(1, "40", "01") + EXCP.format(0, 0) + EXCP.format(1, 1)
+FAILED = "41 001038 0E00 0005 0008 -"
+
 # A job with its options, and the outcomes of each request, worked by hand.
 BY_HAND = {
     # A request and a quiesce. If it has not arrived, is active or is posted at the purge, it ends; if it waits, it is purged.
@@ -55,8 +62,7 @@ BY_HAND = {
     "a halt, by commands": (DISK + OPEN + PLAIN + EXCP.format(0, 0) + "purge 1 0 1 halt\n", ("--turn", "1"),
                             {"0 0 1": {ENDED, WAITED, "48 001030 0C00 0000 0000 -", "48 001038 0C00 0000 0000 -"}}),
     # A related request that finds no record, and one of another task to the same DCB: that ends well only if it arrives first.
-    "a related error": (DISK + OPEN + area(0, "40", "09") + area(1, "40", "01") + EXCP.format(0, 0) + EXCP.format(1, 1), ("--whole",),
-                        {"0 0 1": {"41 001038 0E00 0005 0008 -"}, "1 0 1": {ENDED, WAITED}}),
+    "a related error": (RELATED, (), {"0 0 1": {FAILED}, "1 0 1": {ENDED, WAITED}}),
     # An error that is tried again, and a close: a request that is active stays so.
     "a close": (DISK + "fault 0 1 0E 00 1000\n" + OPEN + PLAIN + EXCP.format(0, 0) + "close 1 0 1\n", (), {"0 0 1": {ENDED, WAITED}}),
 }
@@ -82,45 +88,77 @@ excp 1 0 1 001000 0 001038 1
 """
 
 
-def outcomes_of(setup, script, *words):
-    """The posts that the program tells of each request, by its numbers, and the last line."""
+def read_by(first, second):
+    """The posts of the two tapes: which of the blocks 01 and 02 task 0 reads from each. Task 1 reads the other one."""
+    post = "7F 001038 0C00 0000 0000 0{}".format
+    return {"0 0 1": post(first), "0 1 1": post(second), "1 0 1": post(3 - first), "1 1 1": post(3 - second)}
+
+
+# The whole outputs of jobs, worked by hand, in order.
+OUTPUTS = {
+    "a related error": (RELATED, [{"0 0 1": FAILED, "1 0 1": WAITED}, {"0 0 1": FAILED, "1 0 1": ENDED}]),
+    "three of four outputs": (TAPES, [read_by(1, 1), read_by(1, 2), read_by(2, 2)]),
+}
+
+
+def numbers_and_post(line):
+    """The numbers of a request, and what is after them in the line of its post."""
+    words = line.split(" ", 4)
+    return " ".join(words[1:4]), words[4]
+
+
+def told_by(setup, script, *words):
+    """The posts that the program tells of each request, by its numbers, the whole outputs, and the last line."""
     ran = setup.run("outcomes", *words, script=script)
     require((ran.status, ran.err) == (0, ""), "it fails", ran)
-    told, lines = {}, ran.out.splitlines()
+    told, outputs, lines = {}, [], ran.out.splitlines()
     for line in lines[:-1]:
-        if line.startswith("post "):
-            words = line.split(" ", 4)
-            told.setdefault(" ".join(words[1:4]), []).append(words[4])
+        if line.startswith("output "):
+            outputs.append({})
+            require(line == f"output {len(outputs)}", f"a line {line!r}", ran)
+        elif line.startswith("post "):
+            name, post = numbers_and_post(line)
+            if outputs:
+                require(name not in outputs[-1], f"an output has {name} twice", ran)
+                outputs[-1][name] = post
+            else:
+                told.setdefault(name, []).append(post)
         else:
             require(line.startswith("# "), f"a line {line!r}", ran)
-    return told, lines[-1]
+    return told, outputs, lines[-1]
+
+
+def outcomes_of(setup, script, *words):
+    """The posts that the program tells of each request, by its numbers, and the last line."""
+    told, _, last = told_by(setup, script, *words)
+    return told, last
 
 
 def is_by_hand(setup, script, words, wanted):
     told, last = outcomes_of(setup, script, *words)
     require({name: set(posts) for name, posts in told.items()} == wanted, f"the outcomes are {told}")
-    require(all(len(set(posts)) == len(posts) for posts in told.values()), "an outcome is told twice")
+    require(all(sorted(set(posts)) == posts for posts in told.values()), "an outcome is told twice, or out of order")
     several = sum(len(posts) > 1 for posts in told.values())
     plural = "request has" if several == 1 else "requests have"
     require(last.startswith(f"{several} {plural} more than one outcome (turns of "), f"the last line is {last!r}")
-    if "--whole" in words:
-        require(last.endswith(", 2 whole outputs)"), f"the last line is {last!r}")
 
 
-def has_three_outputs(setup):
-    told, last = outcomes_of(setup, TAPES, "--whole")
-    require(all(len(posts) == 2 for posts in told.values()) and len(told) == 4, f"the outcomes are {told}")
-    require(last.endswith(", 3 whole outputs)"), f"the last line is {last!r}")
+def has_outputs(setup, script, wanted):
+    """The whole outputs are these, in order, each once, and the scenario of each runs to its posts."""
+    with tempfile.TemporaryDirectory() as folder:
+        _, outputs, last = told_by(setup, script, "--whole", "--scenarios", folder)
+        require(outputs == wanted, f"the outputs are {outputs}")
+        require(last.endswith(f", {len(wanted)} whole outputs)"), f"the last line is {last!r}")
+        for number, output in enumerate(outputs, 1):
+            ran = setup.run("step", "--plain", script=read(f"{folder}/output-{number}.scenario"))
+            require((ran.status, ran.err) == (0, ""), f"the scenario of output {number} fails", ran)
+            posts = dict(numbers_and_post(line[line.index("post "):]) for line in ran.out.splitlines() if ": post " in line)
+            require(posts == output, f"the scenario of output {number} posts {posts}", ran)
 
 
 def posts_in(ran):
     """The posts that a run printed, by the numbers of their requests."""
-    posts = {}
-    for line in ran.out.splitlines():
-        if line.startswith("post "):
-            words = line.split(" ", 4)
-            posts[" ".join(words[1:4])] = words[4]
-    return posts
+    return dict(numbers_and_post(line) for line in ran.out.splitlines() if line.startswith("post "))
 
 
 def is_among(posts, told, what):
@@ -184,14 +222,51 @@ def is_cut(setup):
     """A search that ends early says so."""
     script = DISK + OPEN + PLAIN + EXCP.format(0, 0) * 3 + "purge 1 0 1 halt\n" + EXCP.format(1, 0) * 2
     _, last = outcomes_of(setup, script, "--most-states", "2")
-    require(re.match(r"not all: at least \d+ requests? ha(s|ve) more than one outcome \(turns of 64 commands, \d+ states\)$", last),
+    require(re.match(r"not all: at least \d+ requests? ha(s|ve) more than one outcome "
+                     r"\(turns of 64 commands, \d+ states, ended by --most-states\)$", last),
             f"the last line is {last!r}")
 
 
+def leaves_its_script(setup):
+    """A scenario is not written to the script, by whatever name, and the script stays as it was."""
+    script = DISK + OPEN + PLAIN + EXCP.format(0, 0)
+    for name in "post-0-0-1-1.scenario", "output-1.scenario":
+        with tempfile.TemporaryDirectory() as folder:
+            file, link = f"{folder}/a.script", f"{folder}/{name}"
+            for source, other in ((link, ""), (file, link)):
+                with open(source, "w", encoding="utf-8") as it:
+                    it.write(script)
+                if other:
+                    os.remove(link)
+                    os.symlink("a.script", link)
+                ran = setup.run("outcomes", "--whole", "--scenarios", folder, source)
+                require((ran.status, ran.err) == (1, f"excp_job: {link}: this command reads or saves it: name another file\n"),
+                        "another message", ran)
+                require(read(source) == script, "the script is no longer what it was", ran)
+
+
+def rejects_no_directory(setup):
+    """Scenarios are written into a directory, not to a file."""
+    with tempfile.NamedTemporaryFile() as it:
+        ran = setup.run("outcomes", "--scenarios", it.name, script=DISK + OPEN + PLAIN + EXCP.format(0, 0))
+        expect(ran, (1, "", f"excp_job: {it.name}: it is not a directory\n"))
+
+
+def rejects_no_unit(setup):
+    """An image is loaded for a unit that the script declares."""
+    image = f"{TOP}/{IMAGE}"
+    ran = setup.run("outcomes", "--load", f"1={image}", script=DISK + OPEN + PLAIN + EXCP.format(0, 0))
+    expect(ran, (1, "", f"excp_job: 1={image}: no line declares unit 1\n"))
+
+
 def cases(setup):
+    yield Case("scenarios leave the script", lambda: leaves_its_script(setup), ORIGIN)
+    yield Case("scenarios want a directory", lambda: rejects_no_directory(setup), ORIGIN)
+    yield Case("an image wants a unit", lambda: rejects_no_unit(setup), ORIGIN)
     for name, (script, words, wanted) in BY_HAND.items():
         yield Case(f"by hand, {name}", lambda s=script, w=words, o=wanted: is_by_hand(setup, s, w, o), ORIGIN)
-    yield Case("three of four outputs", lambda: has_three_outputs(setup), ORIGIN)
+    for name, (script, wanted) in OUTPUTS.items():
+        yield Case(f"whole outputs, {name}", lambda s=script, w=wanted: has_outputs(setup, s, w), ORIGIN)
     yield Case("a search that is cut", lambda: is_cut(setup), ORIGIN)
     for file in sorted(glob.glob(f"{SAMPLES}/outcomes/*.script")):
         yield Case(os.path.relpath(file, TOP), lambda f=file: is_stored(setup, f), ORIGIN)

@@ -3,11 +3,12 @@ comes to the same end, and whose report tests/reports.py judges as it judges tho
 """
 
 import json
+import os
 import tempfile
 
 import reports
 from groups.reports import as_json, stored
-from harness import Case, expect_text, read, require
+from harness import SAMPLES, Case, expect, expect_text, read, require, run
 from small_jobs import small_job
 
 ORIGIN = "docs/MANUAL.md"
@@ -17,7 +18,15 @@ JOBS = 100
 JOBS_LONG = 1000
 BATCH = 25
 
+# How many seeds run a race.
+RACES = 100
+
 SEEDS = "0", "1", "2", "18446744073709551615"
+
+# Why a scenario is not written to a file that the command names for something else.
+TAKEN = "this command reads or saves it: name another file"
+
+TAPE = "tasks 1\ntape 0 0 1000\n"
 
 
 def posts_of(run):
@@ -47,7 +56,63 @@ def are_same(setup, first):
         is_same(setup, small_job(number, tasks=4, units=3, requests=8, controls=3, waits=2), str(number))
 
 
+def spellings(folder):
+    """Words that name the script of a folder, its scenario, and what its input is, so that the scenario is the script."""
+    script, link = f"{folder}/a.script", f"{folder}/link"
+    os.symlink("a.script", link)
+    yield [script, "--scenario", script], None
+    yield [script, "--scenario", f"{folder}/./a.script"], None
+    yield [script, "--scenario", os.path.relpath(script)], None
+    yield [script, "--scenario", link], None
+    yield [link, "--scenario", script], None
+    yield ["--scenario", script], script
+    yield ["-", "--scenario", link], script
+    yield ["/dev/stdin", "--scenario", script], script
+
+
+def leaves_its_script(setup):
+    """A scenario is not written to the script, by whatever name."""
+    with tempfile.TemporaryDirectory() as folder:
+        script = small_job(1, tasks=2, units=1, requests=2, controls=0, waits=0)
+        for words, stdin in spellings(folder):
+            with open(f"{folder}/a.script", "w", encoding="utf-8") as it:
+                it.write(script)
+            with open(stdin or os.devnull, encoding="utf-8") as source:
+                ran = run([setup.program, "report", "--posts", "--seed", "1", *words], stdin=source)
+            name = words[words.index("--scenario") + 1]
+            expect(ran, (1, "", f"excp_job: {name}: {TAKEN}\n"))
+            require(read(f"{folder}/a.script") == script, "the script is no longer what it was", ran)
+
+
+def leaves_its_image(setup):
+    """It is not written to an image that is loaded or saved either, and no image is saved then."""
+    with tempfile.TemporaryDirectory() as folder:
+        saved, link = f"{folder}/new.aws", f"{folder}/link"
+        words = "report", "--posts", "--seed", "1", "--save"
+        made = setup.run(*words, f"0={saved}", script=TAPE)
+        require(made.status == 0, "the image is not made", made)
+        with open(saved, "rb") as it:
+            image = it.read()
+        os.symlink("new.aws", link)
+        for option in "--save", "--load":
+            ran = setup.run(*words[:-1], option, f"0={saved}", "--scenario", link, script=TAPE)
+            expect(ran, (1, "", f"excp_job: {link}: {TAKEN}\n"))
+            with open(saved, "rb") as it:
+                require(it.read() == image, "the image is no longer what it was", ran)
+        require(sorted(os.listdir(folder)) == ["link", "new.aws"], "a file is left", ran)
+
+
+def other_seed_differs(setup):
+    """Other seeds can give other posts, where there are such."""
+    script = read(f"{SAMPLES}/outcomes/a-halt.script")
+    ended = {setup.run("report", "--posts", "--seed", str(seed), script=script).out for seed in range(RACES)}
+    require(len(ended) > 1, f"{RACES} seeds give the same posts of a race")
+
+
 def cases(setup):
+    yield Case("another seed", lambda: other_seed_differs(setup), ORIGIN)
+    yield Case("a scenario leaves its script", lambda: leaves_its_script(setup), ORIGIN)
+    yield Case("a scenario leaves images", lambda: leaves_its_image(setup), ORIGIN)
     for name, script, _ in stored():
         for seed in SEEDS:
             yield Case(f"{name}, seed {seed}", lambda s=script, n=seed: is_same(setup, s, n), ORIGIN)

@@ -18,6 +18,8 @@ mod report;
 mod saver;
 mod scenario;
 mod screen;
+mod script;
+mod taken;
 mod words;
 
 use convert::{make_image, print_lines};
@@ -88,15 +90,15 @@ struct Exploring {
 fn explored(rt: &HostRuntime, asked: &Exploring, file: Option<String>) -> u8 {
     match file {
         Some(name) => match opened(rt, name.as_str()) {
-            Ok(mut file) => explore(rt, asked, &mut file),
+            Ok(mut file) => explore(rt, asked, &mut file, name.as_str()),
             Err(status) => status,
         },
-        None => explore(rt, asked, &mut rt.stdin()),
+        None => explore(rt, asked, &mut rt.stdin(), STANDARD_INPUT),
     }
 }
 
 /// Prints every outcome of the script that is read, and returns the exit status.
-fn explore<I: Read>(rt: &HostRuntime, asked: &Exploring, input: &mut I) -> u8 {
+fn explore<I: Read>(rt: &HostRuntime, asked: &Exploring, input: &mut I, name: &str) -> u8 {
     let images = match load_all(rt, &asked.media) {
         Ok(images) => images,
         Err(status) => return status,
@@ -104,6 +106,8 @@ fn explore<I: Read>(rt: &HostRuntime, asked: &Exploring, input: &mut I) -> u8 {
     let is_broken = Cell::new(false);
     let order = OutcomeOrder {
         options: asked.options,
+        name,
+        media: &asked.media,
         directory: match &asked.scenarios {
             Some(name) => Some(name.as_str()),
             None => None,

@@ -1,12 +1,14 @@
 //! Every outcome of a script, and the files of their scenarios.
 
-use crate::replacement::replace_file;
-use crate::saver::said;
+use crate::replacement::ReplaceError;
+use crate::saver::{said, undeclared};
 use crate::screen::Screen;
-use job_media::{MountedImages, mount_images, sizes_of, with_sizes};
-use job_options::OutcomeOptions;
+use crate::script::{SizedScript, read_sized};
+use crate::taken::Taken;
+use job_media::{MountedImages, mount_images};
+use job_options::{OutcomeOptions, RunFiles};
 use job_outcomes::{Asked, ScenarioKeeper, write_outcomes};
-use job_script::{JobError, Script, read_script};
+use job_script::JobError;
 use medium_image::Image;
 use request_piece::Name;
 use std::cell::Cell;
@@ -16,20 +18,23 @@ use std::io::{BufWriter, ErrorKind, Read, Write};
 /// The most bytes that a search takes, about.
 const MOST_BYTES: usize = 512 << 20;
 
-/// What is asked for: the options, and the directory for scenarios.
+/// What is asked for: the options, the name of the script, the images of units, and the directory for scenarios.
 #[derive(Clone, Copy)]
 pub struct OutcomeOrder<'a> {
     pub options: OutcomeOptions,
+    pub name: &'a str,
+    pub media: &'a RunFiles,
     pub directory: Option<&'a str>,
     /// Set once nothing reads any more what is printed.
     pub is_broken: &'a Cell<bool>,
 }
 
-/// Writes scenarios into a directory.
+/// Writes scenarios into a directory. The first that cannot be written gives a message, and is the last.
 #[derive(Drop)]
 struct Directory<'a> {
     rt: &'a HostRuntime,
     name: Option<&'a str>,
+    taken: Taken<'a>,
     /// The exit status.
     status: u8,
 }
@@ -47,9 +52,16 @@ impl<'a> ScenarioKeeper for Directory<'a> {
         let file = format!(in self.rt.alloc();
             "{directory}/post-{task}-{unit}-{seq}-{number}.scenario"
         )?;
-        if let Err(error) = replace_file(self.rt, file.as_str(), text) {
-            self.status = said(self.rt, file.as_str(), error);
-        }
+        self.status = self.taken.replace(file.as_str(), text);
+        Ok(())
+    }
+
+    fn keep_output(&mut self, number: usize, text: &[u8]) -> Result<(), JobError> {
+        let Some(directory) = self.name else {
+            return Ok(());
+        };
+        let file = format!(in self.rt.alloc(); "{directory}/output-{number}.scenario")?;
+        self.status = self.taken.replace(file.as_str(), text);
         Ok(())
     }
 }
@@ -58,7 +70,10 @@ impl<'a> ScenarioKeeper for Directory<'a> {
 fn make_directory(rt: &HostRuntime, name: &str) -> u8 {
     match fs::create_dir(rt, name) {
         Ok(()) => 0,
-        Err(error) if error.kind() == ErrorKind::AlreadyExists => 0,
+        Err(error) if error.kind() == ErrorKind::AlreadyExists => match fs::metadata(rt, name) {
+            Ok(metadata) if metadata.is_dir() => 0,
+            _ => said(rt, name, ReplaceError::NoDirectory),
+        },
         Err(error) => said(rt, name, error.into()),
     }
 }
@@ -71,14 +86,16 @@ pub fn outcomes<I: Read>(
     images: Vec<Option<Image>>,
 ) -> Result<u8, JobError> {
     let alloc = rt.alloc();
-    let text = read_script(alloc, input)?;
-    let sizes = sizes_of(alloc, &images)?;
-    let text = with_sizes(alloc, &text, &sizes)?;
-    let script = Script::parse(alloc, &text)?;
+    let SizedScript { text, script } = read_sized(alloc, input, &images)?;
+    let status = undeclared(rt, asked.media, &script.set_up.units);
+    if status != 0 {
+        return Ok(status);
+    }
     let MountedImages { devices, .. } = mount_images(alloc, &script.set_up.units, images)?;
     let mut directory = Directory {
         rt,
         name: asked.directory,
+        taken: Taken::of(rt, asked.name, asked.media)?,
         status: match asked.directory {
             Some(name) => make_directory(rt, name),
             None => 0,

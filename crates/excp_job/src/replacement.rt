@@ -27,6 +27,10 @@ pub enum ReplaceError {
     NotAFile,
     /// It is a link to a file that is not there.
     DeadLink,
+    /// The same command reads or saves it.
+    Taken,
+    /// It is to be a directory, and is none.
+    NoDirectory,
     /// An earlier run that was killed left a new file beside it.
     LeftBeside,
     /// It is to be the image of a disk with these heads and bytes a track, and no model has them.
@@ -67,6 +71,8 @@ impl Display for ReplaceError {
         let why = match self {
             ReplaceError::NotAFile => "it is not a regular file",
             ReplaceError::DeadLink => "it is a link to a file that is not there",
+            ReplaceError::Taken => "this command reads or saves it: name another file",
+            ReplaceError::NoDirectory => "it is not a directory",
             ReplaceError::LeftBeside => {
                 "a run that was killed left a file beside it, with .excp-new after its name: remove that one"
             }

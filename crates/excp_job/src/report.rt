@@ -4,17 +4,18 @@ ghost use Rattle.std.specs.Prelude.{All};
 ghost use Rattle.run_record.specs.Complete.{IsComplete};
 
 use crate::pictures::{Left, print_script};
-use crate::replacement::replace_file;
-use crate::saver::{Medium, Saver, said};
+use crate::saver::{Medium, Saver};
 use crate::screen::Screen;
+use crate::script::{SizedScript, read_sized};
+use crate::taken::Taken;
 use crate::{takes_colour, workers};
 use any_device::AnyDevice;
-use job_media::{MountedImages, mount_images, sizes_of, with_sizes};
+use job_media::{MountedImages, mount_images};
 use job_options::{Counts, Print, RunFiles};
 use job_run::{Output, report_script, run_parsed, write};
-use job_script::{JobError, Script, read_script};
+use job_script::{JobError, Script};
 use medium_image::{Image, Kept};
-use seeded_run::{SeededRun, run_seeded};
+use seeded_run::run_seeded;
 use std::cell::Cell;
 use std::io::Read;
 use std::sync::Wait;
@@ -68,10 +69,14 @@ fn report_parsed<R: Threads + Wait + Sync, I: Read>(
     images: Vec<Option<Image>>,
 ) -> Result<u8, JobError> {
     let alloc = rt.alloc();
-    let text = read_script(alloc, input)?;
-    let sizes = sizes_of(alloc, &images)?;
-    let text = with_sizes(alloc, &text, &sizes)?;
-    let script = Script::parse(alloc, &text)?;
+    let taken = Taken::of(rt, asked.name, asked.files)?;
+    if let Some(name) = &asked.files.scenario {
+        let status = taken.leaves(name.as_str());
+        if status != 0 {
+            return Ok(status);
+        }
+    }
+    let SizedScript { text, script } = read_sized(alloc, input, &images)?;
     let mut saver = Saver::new(rt, asked.files);
     if !saver.begin(&script.set_up.units) {
         return Ok(saver.finish());
@@ -79,7 +84,11 @@ fn report_parsed<R: Threads + Wait + Sync, I: Read>(
     let MountedImages { devices, kept } = mount_images(alloc, &script.set_up.units, images)?;
     let printed = match asked.seed {
         Some(seed) => {
-            let run = seeded(rt, &text, &script, devices, asked, seed, &mut saver)?;
+            let scenario = &asked.files.scenario;
+            let run = run_seeded(alloc, &text, &script, devices, seed, scenario.is_some())?;
+            if let Some(name) = scenario {
+                saver.fail(taken.replace(name.as_str(), &run.scenario));
+            }
             let left = Left {
                 tasks: &run.tasks,
                 books: &run.books,
@@ -100,26 +109,6 @@ fn report_parsed<R: Threads + Wait + Sync, I: Read>(
     let saved = saver.finish();
     printed?;
     Ok(saved)
-}
-
-/// Runs a script by the schedule of a seed, and writes its scenario, if a file is named for it.
-fn seeded(
-    rt: &HostRuntime,
-    text: &[u8],
-    script: &Script,
-    devices: Vec<Option<AnyDevice>>,
-    asked: ReportOrder<'_>,
-    seed: u64,
-    saver: &mut Saver<'_>,
-) -> Result<SeededRun, JobError> {
-    let has_scenario = asked.files.scenario.is_some();
-    let run = run_seeded(rt.alloc(), text, script, devices, seed, has_scenario)?;
-    if let Some(name) = &asked.files.scenario {
-        if let Err(error) = replace_file(rt, name.as_str(), &run.scenario) {
-            saver.fail(said(rt, name.as_str(), error));
-        }
-    }
-    Ok(run)
 }
 
 /// Prints what a run left, and saves its media.

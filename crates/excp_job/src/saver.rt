@@ -48,14 +48,9 @@ impl<'a> Saver<'a> {
     /// Whether the command line fits the units of a script: each that it names is declared, and each disk that is to be
     /// saved comes from an image or is a model. Asked before a run. If not, it prints why, and nothing is saved.
     pub fn begin(&mut self, units: &[UnitSetup]) -> bool {
-        for file in self.media.loads.iter().chain(&self.media.saves) {
-            if usize::from(file.unit) >= units.len() {
-                let unit = file.unit;
-                let name = file.file.as_str();
-                let _ = eprintln!(self.rt; "excp_job: {unit}={name}: no line declares unit {unit}");
-                self.status = REJECTED;
-                return false;
-            }
+        self.status = undeclared(self.rt, self.media, units);
+        if self.status != 0 {
+            return false;
         }
         for file in &self.media.saves {
             if let Some(unit) = units.get(usize::from(file.unit))
@@ -117,6 +112,19 @@ impl<'a> Saver<'a> {
         }
         status
     }
+}
+
+/// Whether each unit that the command line names is declared. If not, it prints why. Returns the exit status.
+pub fn undeclared(rt: &HostRuntime, media: &RunFiles, units: &[UnitSetup]) -> u8 {
+    for file in media.loads.iter().chain(&media.saves) {
+        if usize::from(file.unit) >= units.len() {
+            let unit = file.unit;
+            let name = file.file.as_str();
+            let _ = eprintln!(rt; "excp_job: {unit}={name}: no line declares unit {unit}");
+            return REJECTED;
+        }
+    }
+    0
 }
 
 /// Whether a disk by the lines of its unit can be saved, since there is such a model. Every other medium can.

@@ -167,10 +167,14 @@ fn step<'a>(alloc: Global) -> Result<Command<'a>, AllocError> {
 }
 
 fn outcomes<'a>(alloc: Global) -> Result<Command<'a>, AllocError> {
-    let whole = flag(alloc, WHOLE, "Counts the whole outputs too");
+    let whole = flag(
+        alloc,
+        WHOLE,
+        "Prints the whole outputs too: the posts that all requests can have together",
+    );
     Command::new(alloc, "outcomes")
         .about(
-            "Prints every post that each request can have, over all orders of steps, with steps that lead to it",
+            "Prints the posts that each request can have, over all orders of steps, with steps that lead to each; of eight or more, the first of each completion code",
         )
         .arg(turn(alloc))?
         .arg(most_states(alloc))?

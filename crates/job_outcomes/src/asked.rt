@@ -12,7 +12,7 @@ pub struct Asked {
     pub most_states: u32,
     /// The most bytes that they take, about.
     pub most_bytes: usize,
-    /// Whether whole outputs are counted too.
+    /// Whether to tell whole outputs too.
     pub whole: bool,
 }
 
@@ -23,4 +23,7 @@ pub trait ScenarioKeeper {
 
     /// Takes the scenario that runs to an outcome of a request to a unit. The outcomes of a request are counted from 1.
     fn keep(&mut self, unit: u16, name: Name, number: usize, text: &[u8]) -> Result<(), JobError>;
+
+    /// Takes the scenario that runs to a whole output. These are counted from 1.
+    fn keep_output(&mut self, number: usize, text: &[u8]) -> Result<(), JobError>;
 }

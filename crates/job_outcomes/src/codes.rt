@@ -17,7 +17,7 @@ pub(crate) struct CodeGroup {
     pub count: usize,
 }
 
-/// The outcomes by their codes, in the order in which the codes were found.
+/// The outcomes by their codes, in order.
 pub(crate) fn groups_of(
     alloc: Global,
     search: &Search<'_>,

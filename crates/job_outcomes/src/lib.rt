@@ -1,4 +1,5 @@
-//! Every outcome of a job, told: for each request the posts that it can have, each with the steps that lead to it.
+//! Every outcome of a job, told: for each request the posts that it can have, each with the steps that lead to it. It tells whole
+//! outputs, which are the posts of all requests together, in the same way.
 //!
 //! A search finds the outcomes. Each is printed as the post that its steps gave when they were carried out
 //! ([`outcome_witness`]), so a line is lawful whatever the search does.
@@ -9,6 +10,9 @@
 mod asked;
 mod codes;
 mod order;
+mod outputs;
+mod ranks;
+mod run_posts;
 mod scenario;
 mod steps;
 mod summary;

@@ -1,11 +1,11 @@
 //! The scenario of a witness.
 
 use crate::telling::written;
-use job_report::write_post;
+use job_report::{shown, write_posted};
 use job_script::{JobError, Script};
-use job_world::{JobWorld, ScriptLines, Step, write_set_up, write_step};
+use job_world::{Done, JobWorld, ScriptLines, Step, write_set_up, write_step};
 use numbered_job::NumberedRequest;
-use outcome_witness::{Bench, Witness, end_of, shown};
+use outcome_witness::{Bench, Witness};
 use request_piece::Posted;
 use std::alloc::{AllocError, Global};
 use std::io;
@@ -31,8 +31,34 @@ impl<'t> Scenes<'t> {
         written(write_set_up(&mut text, self.lines, self.script))?;
         text.extend_from_slice(&self.events_of(&witness.steps)?)?;
         text.extend_from_slice(b"expect ")?;
-        written(write_posted(&mut text, request, &witness.posted))?;
+        written(write_line(&mut text, request, &witness.posted))?;
         Ok(text)
+    }
+
+    /// The scenario of a whole run, which expects each post where it is collected.
+    pub fn scenario_of_all(&self, steps: &[Step]) -> Result<Vec<u8>, JobError> {
+        let mut text = Vec::new(self.alloc);
+        written(write_set_up(&mut text, self.lines, self.script))?;
+        let mut world = self.bench.world()?;
+        for step in steps {
+            if let Done::Collected(posted) = self.add_event(&mut text, &mut world, *step)? {
+                self.expect(&mut text, &posted)?;
+            }
+        }
+        Ok(text)
+    }
+
+    /// Adds that a post is expected.
+    fn expect(&self, text: &mut Vec<u8>, posted: &Posted) -> Result<(), JobError> {
+        let job = self.bench.job();
+        let Some(number) = job.number_of(posted.unit(), posted.name()) else {
+            return Ok(());
+        };
+        let Some(request) = job.requests.get(number) else {
+            return Ok(());
+        };
+        text.extend_from_slice(b"expect ")?;
+        written(write_line(text, request, posted))
     }
 
     /// The lines of steps from the beginning of the job.
@@ -51,26 +77,21 @@ impl<'t> Scenes<'t> {
         text: &mut Vec<u8>,
         world: &mut JobWorld<'_>,
         step: Step,
-    ) -> Result<(), AllocError> {
+    ) -> Result<Done, AllocError> {
         if write_step(text, self.lines, world, step).is_err() {
             return Err(AllocError);
         }
-        world.step(step)?;
-        Ok(())
+        world.step(step)
     }
 }
 
 /// Writes the line of the post of a request, with its line feed.
-pub(crate) fn write_posted<W: Write>(
+pub(crate) fn write_line<W: Write>(
     out: &mut W,
     request: &NumberedRequest,
     posted: &Posted,
 ) -> io::Result<()> {
-    let task = usize::from(request.task);
-    let unit = usize::from(request.unit);
-    let number = request.name.seq as usize;
-    let shown = shown(posted, &request.excp);
-    write_post(out, task, unit, number, &end_of(posted), shown)?;
+    write_posted(out, posted, shown(posted, &request.excp))?;
     out.write_all(b"\n")
 }
 

@@ -27,6 +27,15 @@ pub(crate) fn write_summary<W: Write>(
         write!(out, ", ")?;
         write_count(out, wholes as u64, "whole output", "whole outputs")?;
     }
+    if !search.is_complete() {
+        let is_at_most = search.states() as u64 >= u64::from(asked.most_states);
+        let why = if is_at_most {
+            "--most-states"
+        } else {
+            "memory"
+        };
+        write!(out, ", ended by {why}")?;
+    }
     writeln!(out, ")")
 }
 

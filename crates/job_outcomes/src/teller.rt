@@ -2,7 +2,10 @@
 
 use crate::asked::ScenarioKeeper;
 use crate::codes::{CodeGroup, GROUPED, groups_of};
-use crate::scenario::{Scenes, write_events, write_posted};
+use crate::outputs::{Output, in_order};
+use crate::ranks::Ranks;
+use crate::run_posts::RunPosts;
+use crate::scenario::{Scenes, write_events, write_line};
 use crate::steps::world_steps;
 use crate::telling::written;
 use job_script::JobError;
@@ -15,6 +18,9 @@ use std::io::Write;
 #[derive(Drop)]
 pub(crate) struct Teller<'t, W: Write, K: ScenarioKeeper> {
     scenes: Scenes<'t>,
+    ranks: Ranks,
+    /// A whole run, if one was found.
+    run: Option<RunPosts>,
     out: &'t mut W,
     keeper: &'t mut K,
     /// How many outcomes have no witness. The search is wrong about these, and they are not told.
@@ -30,18 +36,29 @@ struct Told {
 }
 
 impl<'t, W: Write, K: ScenarioKeeper> Teller<'t, W, K> {
-    pub fn new(scenes: Scenes<'t>, out: &'t mut W, keeper: &'t mut K) -> Self {
-        Teller {
+    pub fn new(
+        scenes: Scenes<'t>,
+        search: &mut Search<'_>,
+        out: &'t mut W,
+        keeper: &'t mut K,
+    ) -> Result<Self, JobError> {
+        let ranks = Ranks::of(scenes.alloc, search)?;
+        let run = run_of(scenes, search)?;
+        Ok(Teller {
             scenes,
+            ranks,
+            run,
             out,
             keeper,
             lost: 0,
-        }
+        })
     }
 
-    /// Tells the outcomes of a request: each of a few, or the first of each completion code.
+    /// Tells the outcomes of a request in order: each of a few, or the first of each completion code.
     pub fn tell(&mut self, search: &mut Search<'_>, request: u16) -> Result<(), JobError> {
-        let outcomes = search.outcomes(request).to_vec(self.scenes.alloc)?;
+        let ranks = &self.ranks;
+        let mut outcomes = search.outcomes(request).to_vec(self.scenes.alloc)?;
+        outcomes.sort_by_key(|outcome| ranks.get(outcome.text))?;
         if outcomes.len() < GROUPED {
             self.tell_each(search, request, &outcomes)
         } else {
@@ -135,13 +152,18 @@ impl<'t, W: Write, K: ScenarioKeeper> Teller<'t, W, K> {
         written(self.out.write_all(&text))
     }
 
-    /// Tells one outcome of a request, as the post of its witness.
+    /// Tells one outcome of a request, as the post of a whole run if that has it and nobody reads its steps, or else of its witness.
     fn tell_one(
         &mut self,
         search: &mut Search<'_>,
         request: u16,
         told: Told,
     ) -> Result<(), JobError> {
+        if !told.has_steps && !self.keeper.is_wanted() {
+            if let Some(line) = self.line_of_run(search, request, told)? {
+                return written(self.out.write_all(&line));
+            }
+        }
         match self.witness(search, request, told)? {
             Some(witness) => self.tell_witness(request, &witness, told),
             None => {
@@ -149,6 +171,28 @@ impl<'t, W: Write, K: ScenarioKeeper> Teller<'t, W, K> {
                 Ok(())
             }
         }
+    }
+
+    /// The line of the post that a request has in the whole run, if it has this outcome.
+    fn line_of_run(
+        &self,
+        search: &Search<'_>,
+        request: u16,
+        told: Told,
+    ) -> Result<Option<Vec<u8>>, JobError> {
+        let Scenes { alloc, bench, .. } = self.scenes;
+        let issued = bench.job().requests.get(usize::from(request));
+        let (Some(run), Some(issued)) = (&self.run, issued) else {
+            return Ok(None);
+        };
+        let mut text = Vec::new(alloc);
+        let outcome = search.text(told.text);
+        let Some(posted) = run.with_outcome(bench, request, outcome, &mut text)? else {
+            return Ok(None);
+        };
+        text.clear();
+        written(write_line(&mut text, issued, posted))?;
+        Ok(Some(text))
     }
 
     /// The witness of an outcome. It is made short if anybody reads its steps.
@@ -183,7 +227,7 @@ impl<'t, W: Write, K: ScenarioKeeper> Teller<'t, W, K> {
             return Ok(());
         };
         let mut text = Vec::new(scenes.alloc);
-        written(write_posted(&mut text, issued, &witness.posted))?;
+        written(write_line(&mut text, issued, &witness.posted))?;
         if told.has_steps {
             let events = scenes.events_of(&witness.steps)?;
             written(write_events(&mut text, &events))?;
@@ -208,6 +252,60 @@ impl<'t, W: Write, K: ScenarioKeeper> Teller<'t, W, K> {
         }
         let text = scenes.scenario_of(issued, witness)?;
         self.keeper.keep(issued.unit, issued.name, number, &text)
+    }
+
+    /// Tells the whole outputs in the order of their posts, with the requests in this order.
+    pub fn tell_outputs(
+        &mut self,
+        search: &mut Search<'_>,
+        requests: &[u16],
+    ) -> Result<(), JobError> {
+        let places = in_order(self.scenes.alloc, search, requests, &self.ranks)?;
+        for (number, place) in places.iter().enumerate() {
+            let output = Output {
+                scenes: self.scenes,
+                requests,
+                place: *place,
+                number: number.saturating_add(1),
+                has_steps: places.len() > 1,
+            };
+            self.tell_output(search, &output)?;
+        }
+        Ok(())
+    }
+
+    /// Tells a whole output as the posts that its steps gave, and hands over its scenario.
+    fn tell_output(
+        &mut self,
+        search: &mut Search<'_>,
+        output: &Output<'_>,
+    ) -> Result<(), JobError> {
+        let Some(run) = output.run(search)? else {
+            self.lost = self.lost.saturating_add(1);
+            return Ok(());
+        };
+        let Some(text) = output.told(search, &run)? else {
+            self.lost = self.lost.saturating_add(1);
+            return Ok(());
+        };
+        written(self.out.write_all(&text))?;
+        if !self.keeper.is_wanted() {
+            return Ok(());
+        }
+        let scenes = self.scenes;
+        let text = scenes.scenario_of_all(&run.witness.steps)?;
+        self.keeper.keep_output(output.number, &text)
+    }
+}
+
+/// A whole run, if the search came to the end of one.
+fn run_of(scenes: Scenes<'_>, search: &mut Search<'_>) -> Result<Option<RunPosts>, JobError> {
+    match search.run()? {
+        Some(steps) => {
+            let steps = world_steps(scenes.alloc, &steps)?;
+            Ok(RunPosts::of(scenes.alloc, scenes.bench, &steps)?)
+        }
+        None => Ok(None),
     }
 }
 

@@ -52,7 +52,7 @@ pub fn write_outcomes<W: Write, K: ScenarioKeeper>(
     written(write_summary(out, &search, &requests, asked, lost))
 }
 
-/// Tells the outcomes of these requests. Returns how many have no witness.
+/// Tells the outcomes of these requests, and the whole outputs that were sought. Returns how many have no witness.
 fn tell_all<W: Write, K: ScenarioKeeper>(
     scenes: Scenes<'_>,
     search: &mut Search<'_>,
@@ -60,10 +60,11 @@ fn tell_all<W: Write, K: ScenarioKeeper>(
     out: &mut W,
     keeper: &mut K,
 ) -> Result<usize, JobError> {
-    let mut teller = Teller::new(scenes, out, keeper);
+    let mut teller = Teller::new(scenes, search, out, keeper)?;
     for request in requests {
         teller.tell(search, *request)?;
     }
+    teller.tell_outputs(search, requests)?;
     Ok(teller.lost)
 }
 

@@ -3,9 +3,42 @@
 ghost use Rattle.std.specs.Prelude.{◌≤◌, length};
 
 use digits::{put_decimal, put_digits, write_bytes};
+use job_script::Excp;
+use request_piece::{Name, Posted};
 use std::io;
 use std::io::Write;
 use unit_history::End;
+
+/// How many bytes tell how a request ended, up to its shown bytes.
+const END_LEN: usize = 25;
+
+/// Writes the line of a post that was collected, without a line feed, with these bytes of its area.
+pub fn write_posted<W: Write>(out: &mut W, posted: &Posted, shown: &[u8]) -> io::Result<()> {
+    let Name { task, seq } = posted.name();
+    let unit = usize::from(posted.unit());
+    write_post(
+        out,
+        usize::from(task),
+        unit,
+        seq as usize,
+        &End::of(posted),
+        shown,
+    )
+}
+
+/// Writes the outcome of a request: its post without the numbers of task, unit and request.
+pub fn write_outcome<W: Write>(out: &mut W, posted: &Posted, shown: &[u8]) -> io::Result<()> {
+    let mut text = [b' '; END_LEN];
+    put_end(&mut text, &End::of(posted));
+    out.write_all(&text)?;
+    write_bytes(out, shown)
+}
+
+/// The bytes of its area that the post of an EXCP shows.
+pub fn shown<'p>(posted: &'p Posted, excp: &Excp) -> &'p [u8] {
+    let count = usize::try_from(excp.len).unwrap_or(usize::MAX);
+    posted.area().get(excp.show, count).unwrap_or(&[])
+}
 
 /// Writes the line of a post, without a line feed: `post`, the numbers of task, unit and request, how the request ended, and
 /// the shown bytes of its area.
@@ -43,7 +76,7 @@ fn write_head<W: Write>(
 /// Puts the completion code, the CSW (the address, both status bytes, the residual count) and the sense bytes into a
 /// text of blanks.
 fn put_end(text: &mut [u8], end: &End)
-    requires { 25 ≤ length text.old }
+    requires { END_LEN ≤ length text.old }
 {
     let mut csw = [0; 8];
     end.csw.write(&mut csw);

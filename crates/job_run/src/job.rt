@@ -16,6 +16,7 @@ use excp_system::{Site, System};
 use fifo_row::Full;
 use job_mount::request;
 use job_script::{Action, Command, Excp, Script};
+use request_piece::Posted;
 use run_record::{TaskEvent, TaskRecord};
 use std::alloc::{AllocError, Global};
 use std::sync::Wait;
@@ -165,7 +166,7 @@ impl<'a, 'r, S: Site> Job<'a, 'r, S> {
             }
             match client.next_post(rt, self.alarm)? {
                 Some(posted) => {
-                    record.collect(&posted);
+                    note_collected(record, &posted);
                     idle.reset();
                 }
                 None => idle.snooze(),
@@ -187,10 +188,15 @@ impl<'a, 'r, S: Site> Job<'a, 'r, S> {
     {
         for _ in rt.forever() {
             match client.next_post(rt, self.alarm)? {
-                Some(posted) => record.collect(&posted),
+                Some(posted) => note_collected(record, &posted),
                 None => return Ok(()),
             }
         }
         unreachable!()
     }
+}
+
+/// Notes a post that the task collected. What its record holds then is no matter of the loops that call this.
+fn note_collected(record: &mut TaskRecord, posted: &Posted) {
+    record.collect(posted);
 }

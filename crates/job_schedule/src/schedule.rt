@@ -1,7 +1,8 @@
 //! A schedule, step by step.
 
-ghost use Rattle.std.specs.Prelude.{◌≡◌, OnOk};
-ghost use Rattle.job_world.specs.Places.{AwaitNone};
+ghost use Rattle.std.specs.Prelude.{OnOk};
+ghost use Rattle.job_world.specs.Reaching.{IsOver, IsReached};
+ghost use Rattle.job_world.specs.Worlds.{state_of};
 
 use crate::chooser::Chooser;
 use job_script::JobError;
@@ -13,22 +14,23 @@ pub const TURN: u32 = 64;
 
 /// Sees each step of a schedule. An error ends the schedule.
 pub trait Visitor {
-    /// The world as it is before a step. The step can be made in it.
+    /// The world as it is before a step, which is one that [`JobWorld::next_steps`] lists.
     fn before(&mut self, world: &JobWorld<'_>, step: Step) -> Result<(), JobError>;
 
     /// The world after that step, and what the step did.
     fn after(&mut self, world: &JobWorld<'_>, step: Step, done: &Done) -> Result<(), JobError>;
 }
 
-/// Makes steps until none is left, as the generator of the seed chooses them. Then all requests are posted and collected.
-/// Otherwise it returns `Unmatched`, to which no run comes.
+/// Makes steps until none is listed, as the generator of the seed chooses them. Then all is done. Otherwise it returns
+/// `Unmatched`, to which no run comes whose books have room for all requests.
 pub fn run_schedule<V: Visitor>(
     alloc: Global,
     world: &mut JobWorld<'_>,
     seed: u64,
     visitor: &mut V,
 ) -> Result<(), JobError>
-    ensures { OnOk result (AwaitNone world.new.tasks.items) }
+    ensures reached { OnOk result (IsReached (state_of world.old) (state_of world.new)) }
+    ensures over { OnOk result (IsOver (state_of world.new)) }
 {
     let mut chooser = Chooser::new(seed);
     let mut steps = Vec::new(alloc);
@@ -47,11 +49,9 @@ pub fn run_schedule<V: Visitor>(
 }
 
 /// Makes a step, and shows it.
-fn visit<V: Visitor>(
-    world: &mut JobWorld<'_>,
-    step: Step,
-    visitor: &mut V,
-) -> Result<(), JobError> {
+fn visit<V: Visitor>(world: &mut JobWorld<'_>, step: Step, visitor: &mut V) -> Result<(), JobError>
+    ensures { OnOk result (IsReached (state_of world.old) (state_of world.new)) }
+{
     visitor.before(world, step)?;
     let done = world.step(step)?;
     visitor.after(world, step, &done)

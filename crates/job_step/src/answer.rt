@@ -1,12 +1,10 @@
 //! The answers of events, as text.
 
 use io_images::Code;
-use job_report::write_post;
-use request_piece::{Name, Posted};
+use request_piece::Name;
 use scenario_site::Issuing;
 use std::io::{Result, Write};
 use unit_book::{Closing, Delivery, Intake, Interruption, Purging, Running, Starting};
-use unit_history::End;
 
 /// Writes a word and the name of a request: the numbers of its task and unit, and its own.
 fn write_named<W: Write>(out: &mut W, word: &str, unit: u16, name: Name) -> Result<()> {
@@ -86,16 +84,4 @@ pub fn write_closing<W: Write>(out: &mut W, unit: u16, answer: Closing) -> Resul
         Closing::Closed => write!(out, "Closed"),
         Closing::Closing(name) => write_named(out, "Closing", unit, name),
     }
-}
-
-/// Writes the line of a post, as a run prints it.
-pub fn write_posted<W: Write>(out: &mut W, posted: &Posted, shown: &[u8]) -> Result<()> {
-    let Name { task, seq } = posted.name();
-    let end = End {
-        code: posted.code(),
-        csw: posted.csw(),
-        sense: posted.sense(),
-    };
-    let unit = usize::from(posted.unit());
-    write_post(out, usize::from(task), unit, seq as usize, &end, shown)
 }

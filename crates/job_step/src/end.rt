@@ -3,8 +3,8 @@
 ghost use Rattle.std.specs.Prelude.{IfErr};
 ghost use Rattle.scenario_set_up.specs.Faults.{IsStepFault};
 
-use crate::answer::write_posted;
 use any_device::AnyDevice;
+use job_report::write_posted;
 use job_script::{JobError, SetUp};
 use request_piece::Posted;
 use run_record::{Run, TaskRecord, UnitRecord};

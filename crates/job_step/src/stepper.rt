@@ -4,10 +4,11 @@ ghost use Rattle.std.specs.Prelude.{◌≡◌, ◌<◌, IfErr, OnOk, vec_len};
 ghost use Rattle.scenario_set_up.specs.Faults.{EndsStep};
 
 use crate::answer::{
-    write_closing, write_delivery, write_intake, write_interruption, write_issuing, write_posted,
-    write_purging, write_running, write_starting,
+    write_closing, write_delivery, write_intake, write_interruption, write_issuing, write_purging,
+    write_running, write_starting,
 };
 use job_check::why_rejected;
+use job_report::write_posted;
 use job_scenario::{Event, ScenarioLine, UnitPurge};
 use job_script::{
     Action, Cause, Command, DcbName, ExcpLine, FaultName, JobError, Line, Opening, SetUp, SetUpLine,

@@ -1,7 +1,9 @@
 //! The steps of units.
 
-ghost use Rattle.std.specs.Prelude.{◌≡◌, ◌<◌, length, IfOk, IsTrue, OnErr, OnOk};
-ghost use Rattle.job_world.specs.Making.{IsNoPost, Makes};
+ghost use Rattle.std.specs.Prelude.{◌≡◌, ◌≤◌, ◌<◌, [], false, length, true, IfOk, OnErr};
+ghost use Rattle.job_world.specs.Making.{MakesAtSite, by_deliver, by_interrupt, by_run, by_start, by_take};
+ghost use Rattle.job_world.specs.Worlds.{state_of};
+ghost use Rattle.unit_world.specs.Sites.{OnPart};
 ghost use Rattle.job_world.specs.declared.step.Step.TheVariants as steps;
 
 use crate::step::Done;
@@ -12,35 +14,35 @@ use unit_book::{Delivery, Intake, Interruption, Running, Starting};
 impl<'a> JobWorld<'a> {
     /// The first request on its way to a unit arrives.
     pub(crate) fn take(&mut self, unit: u16) -> Result<Done, AllocError>
-        ensures makes { OnOk result (Makes self.old.site self.new.site (steps.Take unit)) }
+        ensures makes { IfOk result (λ answer. MakesAtSite (state_of self.old) answer self.new.site (steps.Take unit)) }
+        ensures others { self.new ≡ record self.old { site = self.new.site } }
         ensures kept { OnErr result (self.new.site ≡ self.old.site) }
-        ensures no_post { IfOk result IsNoPost }
     {
-        if !self.has_unit(unit) {
+        if !self.has_flight(unit) {
             return Ok(Done::Nothing);
         }
         let answer = self.site.take(unit)?;
-        Ok(take_done(unit, answer))
+        Ok(by_take(unit, answer))
     }
 
     /// What comes next at a unit is started.
     pub(crate) fn start(&mut self, unit: u16) -> Result<Done, AllocError>
-        ensures makes { OnOk result (Makes self.old.site self.new.site (steps.Start unit)) }
+        ensures makes { IfOk result (λ answer. MakesAtSite (state_of self.old) answer self.new.site (steps.Start unit)) }
+        ensures others { self.new ≡ record self.old { site = self.new.site } }
         ensures kept { OnErr result (self.new.site ≡ self.old.site) }
-        ensures no_post { IfOk result IsNoPost }
     {
         if !self.has_unit(unit) {
             return Ok(Done::Nothing);
         }
         let answer = self.site.start(unit)?;
-        Ok(start_done(unit, answer))
+        Ok(by_start(unit, answer))
     }
 
     /// The active program of a unit does at most `most` commands. It does none if `most` is 0.
     pub(crate) fn run(&mut self, unit: u16, most: u32) -> Result<Done, AllocError>
-        ensures makes { OnOk result (Makes self.old.site self.new.site (steps.Run unit most)) }
+        ensures makes { IfOk result (λ answer. MakesAtSite (state_of self.old) answer self.new.site (steps.Run unit most)) }
+        ensures others { self.new ≡ record self.old { site = self.new.site } }
         ensures kept { OnErr result (self.new.site ≡ self.old.site) }
-        ensures no_post { IfOk result IsNoPost }
     {
         if most == 0 {
             return Ok(Done::Nothing);
@@ -49,37 +51,45 @@ impl<'a> JobWorld<'a> {
             return Ok(Done::Nothing);
         }
         let answer = self.site.run(unit, most)?;
-        Ok(run_done(unit, answer))
+        Ok(by_run(unit, answer))
     }
 
     /// The pending status of a unit is taken.
     pub(crate) fn interrupt(&mut self, unit: u16) -> Result<Done, AllocError>
-        ensures makes { OnOk result (Makes self.old.site self.new.site (steps.Interrupt unit)) }
+        ensures makes { IfOk result (λ answer. MakesAtSite (state_of self.old) answer self.new.site (steps.Interrupt unit)) }
+        ensures others { self.new ≡ record self.old { site = self.new.site } }
         ensures kept { OnErr result (self.new.site ≡ self.old.site) }
-        ensures no_post { IfOk result IsNoPost }
     {
         if !self.has_unit(unit) {
             return Ok(Done::Nothing);
         }
         let answer = self.site.interrupt(unit)?;
-        Ok(interrupt_done(unit, answer))
+        Ok(by_interrupt(unit, answer))
     }
 
     /// The first posted request of a unit goes on its way to its task.
     pub(crate) fn deliver(&mut self, unit: u16) -> Done
-        ensures makes { Makes self.old.site self.new.site (steps.Deliver unit) }
-        ensures no_post { IsNoPost result }
+        ensures makes { MakesAtSite (state_of self.old) result self.new.site (steps.Deliver unit) }
+        ensures others { self.new ≡ record self.old { site = self.new.site } }
     {
         if !self.has_unit(unit) {
             return Done::Nothing;
         }
         let answer = self.site.deliver(unit);
-        deliver_done(unit, answer)
+        by_deliver(unit, answer)
+    }
+
+    /// Whether a request is in flight to a unit.
+    fn has_flight(&self, unit: u16) -> bool
+        ensures there { result ≡ true → (unit < length self.now.site.units) × OnPart self.now.site unit (λ p. 1 ≤ length p.flight) }
+        ensures absent { result ≡ false → OnPart self.now.site unit (λ p. p.flight ≡ []) }
+    {
+        self.has_unit(unit) && self.site.flight_len(unit) > 0
     }
 }
 
-fn take_done(unit: u16, answer: Intake) -> Done
-    ensures { IsNoPost result }
+fn by_take(unit: u16, answer: Intake) -> Done
+    ensures { result ≡ by_take unit answer }
 {
     match answer {
         Intake::Took(_) => Done::Served(unit),
@@ -87,8 +97,8 @@ fn take_done(unit: u16, answer: Intake) -> Done
     }
 }
 
-fn start_done(unit: u16, answer: Starting) -> Done
-    ensures { IsNoPost result }
+fn by_start(unit: u16, answer: Starting) -> Done
+    ensures { result ≡ by_start unit answer }
 {
     match answer {
         Starting::Started(_) | Starting::Violated(_) => Done::Served(unit),
@@ -96,8 +106,8 @@ fn start_done(unit: u16, answer: Starting) -> Done
     }
 }
 
-fn run_done(unit: u16, answer: Running) -> Done
-    ensures { IsNoPost result }
+fn by_run(unit: u16, answer: Running) -> Done
+    ensures { result ≡ by_run unit answer }
 {
     match answer {
         Running::Ran { .. } => Done::Served(unit),
@@ -105,8 +115,8 @@ fn run_done(unit: u16, answer: Running) -> Done
     }
 }
 
-fn interrupt_done(unit: u16, answer: Interruption) -> Done
-    ensures { IsNoPost result }
+fn by_interrupt(unit: u16, answer: Interruption) -> Done
+    ensures { result ≡ by_interrupt unit answer }
 {
     match answer {
         Interruption::Ended(..) | Interruption::Again(_) => Done::Served(unit),
@@ -114,8 +124,8 @@ fn interrupt_done(unit: u16, answer: Interruption) -> Done
     }
 }
 
-fn deliver_done(unit: u16, answer: Delivery) -> Done
-    ensures { IsNoPost result }
+fn by_deliver(unit: u16, answer: Delivery) -> Done
+    ensures { result ≡ by_deliver unit answer }
 {
     match answer {
         Delivery::Delivered(_) => Done::Served(unit),

@@ -43,44 +43,9 @@ impl Numbers {
         list.get(at).copied()
     }
 
-    /// How many requests there are to a unit.
-    pub fn count_to(&self, unit: u16) -> usize {
-        let mut count: usize = 0;
-        if self.units == 0 || usize::from(unit) >= self.units {
-            return count;
-        }
-        for list in self
-            .lists
-            .iter()
-            .skip(usize::from(unit))
-            .step_by(self.units)
-        {
-            count = count.saturating_add(list.len());
-        }
-        count
-    }
-
-    /// The largest number of requests of a task.
-    pub fn most_of_a_task(&self) -> usize {
-        let mut most = 0;
-        for task in self.lists.chunks(self.units.max(1)) {
-            most = total(task).max(most);
-        }
-        most
-    }
-
     /// The place of the list of a task and a unit.
     fn place(&self, task: u16, unit: u16) -> usize {
         let before = usize::from(task).saturating_mul(self.units);
         before.saturating_add(usize::from(unit))
     }
-}
-
-/// How many numbers these lists have.
-fn total(lists: &[Vec<usize>]) -> usize {
-    let mut count: usize = 0;
-    for list in lists {
-        count = count.saturating_add(list.len());
-    }
-    count
 }

@@ -1,7 +1,9 @@
 //! The record of a task.
 
-ghost use Rattle.std.specs.Prelude.{◌≡◌, ◌<◌, All, IfOk, IsTrue, vec_len};
-ghost use Rattle.run_record.specs.Complete.{IsComplete, IsWhole};
+ghost use Rattle.std.specs.Prelude.{◌≡◌, ◌<◌, ◌+◌, ◌-◌, ◌≤◌, true, All, IfOk, IsTrue, MatchBool, OnErr, OnOk, length, vec_len};
+ghost use Rattle.io_area.specs.Storage.{lies_in};
+ghost use Rattle.run_record.specs.Posts.{IsWhole, with_end, with_shown};
+ghost use Rattle.std.specs.Option.{option_copied};
 
 use crate::task_event::TaskEvent;
 use request_piece::Posted;
@@ -41,6 +43,27 @@ fn are_whole(posts: &[Post], shown: usize) -> bool
     posts.iter().all(|post| post.is_whole(shown))
 }
 
+/// Writes the bytes of a request that are shown to their place.
+fn show(shown: &mut [u8], post: &Post, posted: &Posted)
+    requires order { post.now.from ≤ post.now.to }
+    requires within { post.now.to ≤ length shown.old }
+    requires lies { lies_in posted.now.area post.now.show (post.now.to - post.now.from) ≡ true }
+    ensures { shown.new ≡ with_shown posted.now post.now shown.old }
+{
+    let part = &mut shown[post.from..post.to];
+    part.copy_from_slice(posted.area().get(post.show, part.len()).unwrap());
+}
+
+/// Notes how a request ended.
+fn end(post: &mut Post, posted: &Posted)
+    requires { lies_in posted.now.area post.old.iob 40 ≡ true }
+    ensures { post.new ≡ with_end posted.now post.old }
+{
+    let iob = posted.area().get(post.iob, IOB_LEN).unwrap();
+    post.iob_image.copy_from_slice(iob);
+    post.end = Some(End::of(posted));
+}
+
 /// How a request ended, with its shown bytes.
 #[derive(Clone, Copy)]
 pub struct Ended<'a> {
@@ -62,12 +85,17 @@ pub struct TaskRecord {
     happened: usize,
     /// Whether a post came that no request waits for.
     has_stray: bool,
+    ghost few: { happened ≤ vec_len events },
 }
 
 impl TaskRecord {
+    ghost use Rattle.run_record.specs.Complete.{IsComplete};
+    ghost use Rattle.run_record.specs.Record.{EndsAs, FillsAwaited, IsAwaited, IsBlank, IsStray, KeepsEvents, KeepsPosts, NotesEvent, NotesPost, event_room, events_of, kept_of, requests_to};
+
     /// No request to `units` units.
     pub fn new(alloc: Global, units: usize) -> Result<TaskRecord, AllocError>
-        ensures { IfOk result (λ task. vec_len task.units ≡ units) }
+        ensures units { IfOk result (λ task. vec_len task.units ≡ units) }
+        ensures blank { IfOk result (IsBlank units) }
     {
         let mut posts = Vec::with_capacity(alloc, units)?;
         for _ in 0..units {
@@ -105,30 +133,42 @@ impl TaskRecord {
 
     /// Makes room for `count` events more.
     pub fn make_room(&mut self, count: usize) -> Result<(), AllocError>
-        ensures { vec_len self.new.units ≡ vec_len self.old.units }
+        ensures units { vec_len self.new.units ≡ vec_len self.old.units }
+        ensures posts { KeepsPosts self.old self.new }
+        ensures events { events_of self.new ≡ events_of self.old }
+        ensures ok { OnOk result (event_room self.new ≡ event_room self.old + count) }
+        ensures err { OnErr result (event_room self.new ≡ event_room self.old) }
     {
-        let room = self.events.len().saturating_add(count);
-        self.events.resize(room, TaskEvent::Waited)?;
-        Ok(())
+        let Some(room) = self.events.len().checked_add(count) else {
+            return Err(AllocError);
+        };
+        self.events.resize(room, TaskEvent::Waited)
     }
 
     /// Notes an event, if there is room for it.
     pub fn note(&mut self, event: TaskEvent)
-        ensures { vec_len self.new.units ≡ vec_len self.old.units }
+        ensures units { vec_len self.new.units ≡ vec_len self.old.units }
+        ensures posts { KeepsPosts self.old self.new }
+        ensures events { NotesEvent self.old self.new event }
     {
-        if let Some(place) = self.events.get_mut(self.happened) {
-            *place = event;
-            self.happened = self.happened.saturating_add(1);
+        if self.happened < self.events.len() {
+            self.events[self.happened] = event;
+            self.happened += 1;
         }
     }
 
     /// The events of the task, in their order.
-    pub fn events(&self) -> &[TaskEvent] {
-        self.events.get(..self.happened).unwrap_or(&[])
+    pub fn events(&self) -> &[TaskEvent]
+        ensures { result.now ≡ events_of self.now }
+    {
+        &self.events[..self.happened]
     }
 
     /// Notes that the task collected the post of one of its requests.
-    pub fn collect(&mut self, posted: &Posted) {
+    pub fn collect(&mut self, posted: &Posted)
+        ensures post { NotesPost self.old self.new posted.now }
+        ensures event { NotesEvent self.old self.new (TaskEvent.Collected posted.now.unit posted.now.name.seq) }
+    {
         self.fill(posted);
         self.note(TaskEvent::Collected {
             unit: posted.unit(),
@@ -136,31 +176,52 @@ impl TaskRecord {
         });
     }
 
-    /// Notes what a request of the task was posted with.
-    pub fn fill(&mut self, posted: &Posted) {
-        let is_filled = self.fill_post(posted).is_some();
-        self.has_stray |= !is_filled;
+    /// Notes what a request of the task was posted with. It notes no more than a stray post if no request waits for it, or if
+    /// its IOB or the bytes that are shown do not lie in its area.
+    pub fn fill(&mut self, posted: &Posted)
+        ensures post { NotesPost self.old self.new posted.now }
+        ensures events { KeepsEvents self.old self.new }
+    {
+        if self.waits_for(posted) {
+            self.set_end(posted);
+        } else {
+            self.has_stray = true;
+        }
     }
 
-    /// Notes it at the request. Nothing is noted if no request waits for it, or if its IOB or the bytes that are shown do not
-    /// lie in its area.
-    fn fill_post(&mut self, posted: &Posted) -> Option<()> {
-        let place = (posted.name().seq as usize).checked_sub(1)?;
-        let posts = self.units.get_mut(usize::from(posted.unit()))?;
-        let post = posts.get_mut(place)?;
-        if post.end.is_some() {
-            return None;
-        }
-        let shown = self.shown.as_mut_slice().get_mut(post.from..post.to)?;
-        let iob = posted.area().get(post.iob, IOB_LEN)?;
-        shown.copy_from_slice(posted.area().get(post.show, shown.len())?);
-        post.iob_image.copy_from_slice(iob);
-        post.end = Some(End {
-            code: posted.code(),
-            csw: posted.csw(),
-            sense: posted.sense(),
-        });
-        Some(())
+    /// Whether a request waits for this post, and its IOB and the bytes that are shown lie in its area.
+    fn waits_for(&self, posted: &Posted) -> bool
+        ensures { MatchBool result (IsAwaited self.now posted.now) (IsStray self.now posted.now) }
+    {
+        let Some(post) = self.post(usize::from(posted.unit()), posted.name().seq as usize) else {
+            return false;
+        };
+        let Some(len) = post.to.checked_sub(post.from) else {
+            return false;
+        };
+        let area = posted.area();
+        post.end.is_none()
+            && post.to <= self.shown.len()
+            && area.get(post.iob, IOB_LEN).is_some()
+            && area.get(post.show, len).is_some()
+    }
+
+    /// What is kept of its request with this number to a unit.
+    fn post(&self, unit: usize, number: usize) -> Option<&Post>
+        ensures { option_copied result ≡ kept_of self.now unit number }
+    {
+        self.units.get(unit)?.get(number.checked_sub(1)?)
+    }
+
+    /// Notes a post at its request.
+    fn set_end(&mut self, posted: &Posted)
+        requires { IsAwaited self.old posted.now }
+        ensures filled { FillsAwaited self.old self.new posted.now }
+        ensures events { KeepsEvents self.old self.new }
+    {
+        let post = &mut self.units[usize::from(posted.unit())][posted.name().seq as usize - 1];
+        show(self.shown.as_mut_slice(), post, posted);
+        end(post, posted);
     }
 
     /// Whether each request was posted, and no other post came.
@@ -172,14 +233,17 @@ impl TaskRecord {
     }
 
     /// How many requests it issued to a unit.
-    pub fn requests_to(&self, unit: usize) -> usize {
+    pub fn requests_to(&self, unit: usize) -> usize
+        ensures { result ≡ requests_to self.now unit }
+    {
         self.units.get(unit).map_or(0, |posts| posts.len())
     }
 
     /// How its request with this number to a unit ended, if it was posted.
-    pub fn ended(&self, unit: usize, number: usize) -> Option<Ended<'_>> {
-        let place = number.checked_sub(1)?;
-        let post = self.units.get(unit)?.get(place)?;
+    pub fn ended(&self, unit: usize, number: usize) -> Option<Ended<'_>>
+        ensures { EndsAs self.now (kept_of self.now unit number) result }
+    {
+        let post = self.post(unit, number)?;
         Some(Ended {
             end: post.end?,
             shown: self.shown.get(post.from..post.to)?,

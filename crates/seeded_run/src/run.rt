@@ -27,8 +27,7 @@ pub struct SeededRun {
 
 /// Runs a script, whose text this is, by the schedule of a seed. `given` has the device that each unit is given, by its number.
 ///
-/// Errors: those of the script's requests and units; more than 32,767 requests; out of memory; a request without a post of
-/// its own.
+/// Errors: those of the script's requests and units; out of memory; a request without a post of its own.
 pub fn run_seeded(
     alloc: Global,
     text: &[u8],

@@ -1,6 +1,6 @@
 -- A legal trace is orderly.
 use Rattle.std.proofs.Common.{◌≡◌, ◌≢◌, ℕ, ◌+◌, Bool, true, false, ◌||◌, Option, Some, None, List, [], ◌∷◌, ◌++◌, refl, sym, ap, ◌∙◌, arith}
-use Rattle.std.proofs.Common.{append_assoc, subst, inl, inr, reverse, take, drop}
+use Rattle.std.proofs.Common.{append_assoc, eq-eqb, subst, inl, inr, reverse, take, drop}
 use Rattle.std.proofs.lemmas.Bool.{cases_Bool, or_left, or_right}
 use Rattle.std.proofs.lemmas.Grind.{common_steps}
 use Rattle.std.proofs.lemmas.List.{reverse-append, take-append-drop}
@@ -17,7 +17,11 @@ use Rattle.unit_book.specs.declared.entry.Entry.{Entry}
 use Rattle.unit_book.specs.declared.entry.Entry.TheVariants.{Opened, Arrive, Start, Ran, Halted, Purge, Close, Reset, Post}
 use Rattle.unit_book.specs.Trace.{arrives, has_arrived, has_started, is_covered, is_halted, is_posted, same, starts_of}
 unfoldable use Rattle.unit_book.specs.Trace.{active, request_named, started, waiting}
-use Rattle.unit_book.specs.Dcbs.{doomed, is_doomed}
+use Rattle.unit_book.specs.Dcbs.{doomed, is_doomed, is_opened}
+unfoldable use Rattle.unit_book.specs.Dcbs.{flag}
+use Rattle.io_images.specs.Codes.{is_error}
+use Rattle.io_images.specs.declared.extent.Extent.{Extent}
+use Rattle.unit_book.specs.declared.dcb.ProcessingMethod.{ProcessingMethod}
 use Rattle.unit_book.specs.Lists.{Each}
 use Rattle.unit_book.specs.Legal.{Again, Due, First, Fits, FitsBy, Free, OfActive, OfFirst, PostFits, PostsAs, StartFits, ToHalt, ToPost, is_to_halt}
 use Rattle.unit_book.specs.Legal.{WithVerdict, WhileCovered, AfterHalt}
@@ -28,6 +32,7 @@ use Rattle.unit_book.proofs.Facts.{due-halt, due-post, fits-freely, fresh, name-
 use Rattle.unit_book.proofs.LegalFacts.{facts, first-named, first-request}
 use Rattle.unit_book.proofs.Dooms.{due-doomed, settled-open}
 use Rattle.unit_book.proofs.Controls.{settled-reset}
+use Rattle.unit_book.proofs.Opens.{flag-opened, opened-few}
 use Rattle.unit_book.proofs.Lists.{no_both, same-is, same-refl, same-true}
 use Rattle.unit_book.proofs.TraceLaws.{any-later, start-unposted}
 use Rattle.unit_book.proofs.Names.{Final, Status, verdict}
@@ -38,7 +43,7 @@ use Rattle.trace_replay.specs.Ties.{ArrivesAt}
 use Rattle.std.proofs.lemmas.List.Folds.{list_any-append}
 use Rattle.unit_history.proofs.TurnLaws.{rest-at}
 use Rattle.unit_history.specs.Events.{entries_so_far}
-use Rattle.unit_history.specs.Orderly.{Doomed, Ended, Failed, IsAfter, PostFollows, StartFollows, Stopped}
+use Rattle.unit_history.specs.Orderly.{Doomed, Ended, ErrorFollows, Failed, IsAfter, OpenFollows, PostFollows, StartFollows, Stopped}
 unfoldable use Rattle.unit_history.specs.Orderly.{Orderly}
 
 -- the verdict is never that of a purge
@@ -159,18 +164,63 @@ module _ {D : Type 0} (meaning : Meaning D) (mounted : D) where
           doomed-follows (name-waits w'.0 (p.3 ∙ q)) p.1 (p.2 ∙ ap (λ (x : Piece). x ∷ p.1) named) r
       by_due Free e k = free-follows k
 
+  -- a post in error
+  error-opened : (n : Name) (csw : Csw) (sense : ℕ) (code : Code) (H : List Entry) → Legal meaning mounted (Post n csw sense code ∷ H) →
+      is_error code ≡ true → (request_named n H).related ≡ true → is_opened (request_named n H).dcb H ≡ true
+  unfolding flag
+  error-opened n csw sense code H l e r =
+      let self = eq-eqb (request_named n H).dcb (request_named n H).dcb refl in
+      flag-opened meaning mounted (request_named n H).dcb (Post n csw sense code ∷ H) l (rw (e, r, self) refl)
+
+  free-arrived : (n : Name) (status : Status) (code : Code) (H : List Entry) → Legal meaning mounted H → PostFits meaning mounted n status code H →
+      has_arrived n H ≡ true
+  free-arrived n status code H l (OfActive p) = (facts meaning mounted H l).0 n (active-is n H p.active).0
+  free-arrived n status code H l (OfFirst p) = (first-named H (facts meaning mounted H l) p.fails.first p.fails.name).arrived
+
+  error-follows : (n : Name) (csw : Csw) (sense : ℕ) (code : Code) (H : List Entry) → Legal meaning mounted H →
+      Fits meaning mounted (Post n csw sense code) H → is_error code ≡ true → ErrorFollows n H
+  unfolding Legal
+  error-follows n csw sense code H l h e = by_due (due meaning mounted H) refl h where
+    by_due : (d : Due) → d ≡ due meaning mounted H → FitsBy meaning mounted d (Post n csw sense code) H → ErrorFollows n H
+    by_due (ToHalt m) q k = absurd cc
+    by_due (ToPost m) q k = absurd (let p : code ≡ Purged = cc in no_both (is_error code) e (rw p refl))
+    by_due Free q k = record {
+      arrived = free-arrived n (record { csw = csw; sense = sense }) code H l k;
+      spared = due-doomed meaning mounted H (sym q);
+      opened = error-opened n csw sense code H (h, l) e;
+    }
+
+  open-follows : (d : ℕ) (m : ProcessingMethod) (x : List Extent) (H : List Entry) → Legal meaning mounted H →
+      Fits meaning mounted (Opened d m x) H → OpenFollows d (Opened d m x) H
+  open-follows d m x H l h =
+      let f = fits-freely meaning mounted (Opened d m x) H refl h in
+      let g = f.1 in
+      let unopened : is_opened d H ≡ false = elim (cases_Bool (is_opened d H)) [
+        | inl o ↦ absurd (omega (arith, (opened-few meaning mounted d H l o).1, g.next))
+        | inr o ↦ o
+      ] in
+      record {
+        spared = due-doomed meaning mounted (Opened d m x ∷ H) (settled-open meaning mounted (Opened d m x) H refl f.0);
+        next = g.next;
+        new = unopened;
+      }
+
   follows : (e : Entry) (H : List Entry) → Legal meaning mounted H → Fits meaning mounted e H → IsAfter e H
-  follows (Opened d i x) H l h =
-      due-doomed meaning mounted (Opened d i x ∷ H) (settled-open meaning mounted (Opened d i x) H refl (fits-freely meaning mounted (Opened d i x) H refl h).0)
-  follows (Arrive r) H l h = fresh r H (facts meaning mounted H l) (fits-freely meaning mounted (Arrive r) H refl h).1
+  follows (Opened d i x) H l h = open-follows d i x H l h
+  follows (Arrive r) H l h =
+      let f = fits-freely meaning mounted (Arrive r) H refl h in
+      (fresh r H (facts meaning mounted H l) f.1, due-doomed meaning mounted H f.0)
   follows (Start n) H l h = start-follows n H l (fits-freely meaning mounted (Start n) H refl h).1
   follows (Ran n j) H l h = tt
   follows (Halted n) H l h = tt
   follows (Purge s m) H l h = due-doomed meaning mounted H (fits-freely meaning mounted (Purge s m) H refl h).0
-  follows (Close d) H l h = due-doomed meaning mounted H (fits-freely meaning mounted (Close d) H refl h).0
+  follows (Close d) H l h =
+      let f = fits-freely meaning mounted (Close d) H refl h in
+      (due-doomed meaning mounted H f.0, f.1)
   follows (Reset d) H l h =
       due-doomed meaning mounted (Reset d ∷ H) (settled-reset meaning mounted d H (fits-freely meaning mounted (Reset d) H refl h).0)
-  follows (Post n csw sense code) H l h = post-follows n (record { csw = csw; sense = sense }) code H l h
+  follows (Post n csw sense code) H l h =
+      (post-follows n (record { csw = csw; sense = sense }) code H l h, error-follows n csw sense code H l h)
 
   -- A LEGAL TRACE IS ORDERLY
   pub orderly : (H : List Entry) → Legal meaning mounted H → Orderly H
@@ -210,7 +260,7 @@ named-in r (Arrive q ∷ later) earlier o =
           let e = same-true q.name r.name s in
           let there : has_arrived q.name (later ++ Arrive r ∷ earlier) ≡ true =
           any-later (arrives q.name) later (Arrive r ∷ earlier) (or_left (same r.name q.name) _ (same-is r.name q.name (sym e))) in
-          no_both (has_arrived q.name (later ++ Arrive r ∷ earlier)) there o.0
+          no_both (has_arrived q.name (later ++ Arrive r ∷ earlier)) there o.0.0
       | inr s ↦ rw s (named-in r later earlier o.1)
     ]
 named-in r (Opened d i x ∷ later) earlier o = named-in r later earlier o.1

@@ -34,7 +34,10 @@ use Rattle.unit_book.specs.Lists.{Each}
 use Rattle.unit_history.specs.PastTies.{DoomsBy}
 use Rattle.unit_history.specs.Causes.{IsCauseOfPost, IsDoom, WasDoomed, ended_cause, is_doom, waiting_cause}
 use Rattle.unit_history.specs.Orderly.{IsPostedNext}
+use Rattle.unit_history.proofs.DcbLaws.{knows-other}
 use Rattle.unit_history.proofs.DoomCauses.{dooms-ran}
+use Rattle.unit_history.specs.Dcbs.{KnowsDcbs, room_of}
+use Rattle.unit_history.specs.declared.dcbs.Dcbs.{Dcbs}
 use Rattle.unit_history.specs.declared.past.Active.{Active}
 use Rattle.unit_history.specs.declared.past.Past.{Past}
 use Rattle.std.proofs.Common.{drop, length-drop, zero}
@@ -43,7 +46,7 @@ use Rattle.trace_replay.proofs.Before.{before-next}
 use Rattle.unit_history.proofs.TurnLaws.{rest-at, turns-end, turns-few, turns-more, turns-none}
 use Rattle.unit_history.specs.Events.{turn, turns}
 use Rattle.unit_history.specs.Orderly.{Orderly}
-use Rattle.unit_history.specs.PastTies.{Knows, before}
+use Rattle.unit_history.specs.PastTies.{Knows, before, room_past}
 
 -- an entry that starts no name leaves the halting purge
 halting-later : (r : Piece) (e : Entry) (H : List Entry) (o : Option ℕ) → starts r.name e ≡ false → purges_halting r e ≡ false →
@@ -150,7 +153,7 @@ quiet-active (Opened d i x) H (Some a) q f k = moved-is (Opened d i x) H a a k r
     (halting-later a.issued.now (Opened d i x) H a.halting refl refl k.halting)
 quiet-active (Arrive r) H None q f k = k
 quiet-active (Arrive r) H (Some a) q f k =
-    let s = new-name r a.name H f k.arrived in
+    let s = new-name r a.name H f.0 k.arrived in
     moved-is (Arrive r) H a a k refl refl (rw s refl) refl refl refl k.halted
     (halting-later a.issued.now (Arrive r) H a.halting refl refl k.halting)
 quiet-active (Start n) H o q f k = absurd q
@@ -241,9 +244,9 @@ before-length es done few = length-reverse (take done es) ∙ length-take-le don
 
 -- ONE ENTRY MORE
 pub knows-next : (p q : Past) (e : Entry) → Knows p → slice_get p.trace.now p.done ≡ Some e → q.trace.now ≡ p.trace.now →
-    q.done ≡ p.done + 1 → is_doom q.cause ≡ true → DoomsBy (e ∷ before p) q.cause →
-    ActiveIs (e ∷ before p) q.active → Knows q
-knows-next p q e k here t d m w a =
+    q.done ≡ p.done + 1 → room_past q ≡ room_past p → is_doom q.cause ≡ true → DoomsBy (room_past p) (e ∷ before p) q.cause →
+    KnowsDcbs (e ∷ before p) q.dcbs.now → ActiveIs (e ∷ before p) q.active → Knows q
+knows-next p q e k here t d r m w b a =
     let more : before q ≡ e ∷ before p =
     ap (λ (x : List Entry). entries_so_far x q.done) t ∙ ap (entries_so_far p.trace.now) d ∙ before-next p.trace.now p.done e here in
     let within = slice_get_within p.trace.now p.done e here in
@@ -252,7 +255,8 @@ knows-next p q e k here t d m w a =
       few = omega (arith, within, d, ap length t);
       active_is = subst (λ (x : List Entry). ActiveIs x q.active) (sym more) a;
       doom = m;
-      dooms = subst (λ (x : List Entry). DoomsBy x q.cause) (sym more) w;
+      dooms = subst (λ (x : ℕ). DoomsBy x (before q) q.cause) (sym r) (subst (λ (x : List Entry). DoomsBy (room_past p) x q.cause) (sym more) w);
+      dcbs = subst (λ (x : List Entry). KnowsDcbs x q.dcbs.now) (sym more) b;
     }
 
 -- TURNS
@@ -262,21 +266,26 @@ at-first [] (suc i) = refl
 at-first (x ∷ xs) zero = refl
 at-first (x ∷ xs) (suc i) = at-first xs i
 
-turn-active : (n : Name) (j : ℕ) (e : Entry) (H : List Entry) (o : Option Active) (c : Cause) → turn n e ≡ Some j →
-    ActiveIs H o × DoomsBy H c → ActiveIs (e ∷ H) o × DoomsBy (e ∷ H) c
-turn-active n j (Opened d i x) H o w t a = absurd cc
-turn-active n j (Arrive r) H o w t a = absurd cc
-turn-active n j (Start m) H o w t a = absurd cc
-turn-active n j (Ran m i) H o w t a = (quiet-active (Ran m i) H o tt tt a.0, dooms-ran m i H w a.1)
-turn-active n j (Halted m) H o w t a = absurd cc
-turn-active n j (Purge s m) H o w t a = absurd cc
-turn-active n j (Close d) H o w t a = absurd cc
-turn-active n j (Reset d) H o w t a = absurd cc
-turn-active n j (Post m c s k) H o w t a = absurd cc
+-- what holds at a place, but for its own number
+abbrev pub HoldsAt : ℕ → Option Active → Cause → Dcbs → List Entry → Type 0
+HoldsAt room o c table H = ActiveIs H o × DoomsBy room H c × KnowsDcbs H table
 
-module _ (n : Name) (es : List Entry) (o : Option Active) (cause : Cause) where
+turn-active : (n : Name) (j : ℕ) (e : Entry) (H : List Entry) (room : ℕ) (o : Option Active) (c : Cause) (table : Dcbs) → turn n e ≡ Some j →
+    HoldsAt room o c table H → HoldsAt room o c table (e ∷ H)
+turn-active n j (Opened d i x) H room o c table t a = absurd cc
+turn-active n j (Arrive r) H room o c table t a = absurd cc
+turn-active n j (Start m) H room o c table t a = absurd cc
+turn-active n j (Ran m i) H room o c table t a =
+    (quiet-active (Ran m i) H o tt tt a.0, dooms-ran room m i H c a.1, knows-other (Ran m i) H table tt a.2)
+turn-active n j (Halted m) H room o c table t a = absurd cc
+turn-active n j (Purge s m) H room o c table t a = absurd cc
+turn-active n j (Close d) H room o c table t a = absurd cc
+turn-active n j (Reset d) H room o c table t a = absurd cc
+turn-active n j (Post m k s i) H room o c table t a = absurd cc
+
+module _ (n : Name) (es : List Entry) (room : ℕ) (o : Option Active) (cause : Cause) (table : Dcbs) where
   abbrev Holds : ℕ → Type 0
-  Holds at = ActiveIs (entries_so_far es at) o × DoomsBy (entries_so_far es at) cause
+  Holds at = HoldsAt room o cause table (entries_so_far es at)
 
   -- one turn, and what holds after more of them
   turned : (k done : ℕ) →
@@ -290,8 +299,8 @@ module _ (n : Name) (es : List Entry) (o : Option Active) (cause : Cause) where
         let z = turns-more n e rest j t in
         let r : rest ≡ drop (done + 1) es = (let x : e ∷ rest ≡ e ∷ drop (done + 1) es = sym d ∙ rest-at es done e g in cc) in
         let few : k ≤ length (turns n (drop (done + 1) es)) = rw (← r) (omega (arith, rw z at h)) in
-        let next = subst (λ (x : List Entry). ActiveIs x o × DoomsBy x cause) (sym (before-next es done e g))
-        (turn-active n j e (entries_so_far es done) o cause t a) in
+        let next = subst (HoldsAt room o cause table) (sym (before-next es done e g))
+        (turn-active n j e (entries_so_far es done) room o cause table t a) in
         let i : done + 1 + k ≡ done + suc k = omega arith in
         subst Holds i (more few next)
 
@@ -305,19 +314,21 @@ module _ (n : Name) (es : List Entry) (o : Option Active) (cause : Cause) where
   active-turns (suc k) done h a = turned k done (λ x y. active-turns k (done + 1) x y) h a
 
 pub knows-turns : (p q : Past) (n : Name) (count : ℕ) → Knows p → count ≡ length (turns n (drop p.done p.trace.now)) →
-    q.trace.now ≡ p.trace.now → q.active ≡ p.active → q.done ≡ p.done + count → q.cause ≡ p.cause → Knows q
-knows-turns p q n count k c t b d m =
+    q.trace.now ≡ p.trace.now → q.active ≡ p.active → q.done ≡ p.done + count → q.cause ≡ p.cause → q.dcbs.now ≡ p.dcbs.now → Knows q
+knows-turns p q n count k c t b d m s =
     let few = turns-few n (drop p.done p.trace.now) in
     let l = length-drop p.done p.trace.now in
     let pf = k.few in
-    let a = active-turns n p.trace.now p.active p.cause count p.done (omega (arith, c)) (k.active_is, k.dooms) in
+    let a = active-turns n p.trace.now (room_past p) p.active p.cause p.dcbs.now count p.done (omega (arith, c)) (k.active_is, k.dooms, k.dcbs) in
     let place : entries_so_far p.trace.now (p.done + count) ≡ before q = ap (entries_so_far p.trace.now) (sym d) ∙ ap (λ (x : List Entry). entries_so_far x q.done) (sym t) in
+    let w : HoldsAt (room_past p) p.active p.cause p.dcbs.now (before q) = subst (HoldsAt (room_past p) p.active p.cause p.dcbs.now) place a in
     record {
       orderly = subst (λ (x : List Entry). Orderly (reverse x)) (sym t) k.orderly;
       few = omega (arith, few, l, pf, c, d, ap length t);
-      active_is = subst (ActiveIs (before q)) (sym b) (subst (λ (x : List Entry). ActiveIs x p.active) place a.0);
+      active_is = subst (ActiveIs (before q)) (sym b) w.0;
       doom = ap is_doom m ∙ k.doom;
-      dooms = subst (DoomsBy (before q)) (sym m) (subst (λ (x : List Entry). DoomsBy x p.cause) place a.1);
+      dooms = subst (λ (x : ℕ). DoomsBy x (before q) q.cause) (sym (ap room_of s)) (subst (DoomsBy (room_past p) (before q)) (sym m) w.1);
+      dcbs = subst (KnowsDcbs (before q)) (sym s) w.2;
     }
 
 -- nothing is active before the first entry
@@ -327,64 +338,64 @@ none-before [] = refl
 none-before (e ∷ es) = refl
 
 -- CAUSES
-code-cause : (H : List Entry) (n : Name) (code : Code) (halted : Bool) (o : Option ℕ) → active H ≡ Some n → is_halted n H ≡ false →
-    code ≢ Purged → IsCauseOfPost H n code (ended_cause code halted o)
-code-cause H n CodeEnded halted o a h c = record { active = a; halted = h; code_is = c }
-code-cause H n PermanentError halted o a h c = record { active = a; halted = h; code_is = c }
-code-cause H n ExtentViolated halted o a h c = record { active = a; halted = h; code_is = c }
-code-cause H n Purged halted o a h c = absurd (c refl)
+code-cause : (room : ℕ) (H : List Entry) (n : Name) (code : Code) (halted : Bool) (o : Option ℕ) → active H ≡ Some n → is_halted n H ≡ false →
+    code ≢ Purged → IsCauseOfPost room H n code (ended_cause code halted o)
+code-cause room H n CodeEnded halted o a h c = record { active = a; halted = h; code_is = c }
+code-cause room H n PermanentError halted o a h c = record { active = a; halted = h; code_is = c }
+code-cause room H n ExtentViolated halted o a h c = record { active = a; halted = h; code_is = c }
+code-cause room H n Purged halted o a h c = absurd (c refl)
 
-halt-cause : (H : List Entry) (n : Name) (halted : Bool) (o : Option ℕ) → active H ≡ Some n → is_halted n H ≡ halted →
-    is_covered (request_named n H) H ≡ true → HaltingIs (request_named n H) H o → IsCauseOfPost H n Purged (ended_cause Purged halted o)
-halt-cause H n halted None a h c o = no_both (is_covered (request_named n H) H) c o
-halt-cause H n true (Some k) a h c o = record { active = a; halted = h; code_is = refl; purge = o }
-halt-cause H n false (Some k) a h c o = record { active = a; halted = h; code_is = refl; purge = o }
+halt-cause : (room : ℕ) (H : List Entry) (n : Name) (halted : Bool) (o : Option ℕ) → active H ≡ Some n → is_halted n H ≡ halted →
+    is_covered (request_named n H) H ≡ true → HaltingIs (request_named n H) H o → IsCauseOfPost room H n Purged (ended_cause Purged halted o)
+halt-cause room H n halted None a h c o = no_both (is_covered (request_named n H) H) c o
+halt-cause room H n true (Some k) a h c o = record { active = a; halted = h; code_is = refl; purge = o }
+halt-cause room H n false (Some k) a h c o = record { active = a; halted = h; code_is = refl; purge = o }
 
 -- why the active request is posted
-pub cause-active : (H : List Entry) (n : Name) (code : Code) (o : Option Active) (a : Active) → ActiveIs H o → IfNamed n o (Some a) →
-    IsPostedNext n code H → IsCauseOfPost H n code (ended_cause code a.is_halted a.halting)
-cause-active H n code o a k f p = by_post p.follows where
+pub cause-active : (room : ℕ) (H : List Entry) (n : Name) (code : Code) (o : Option Active) (a : Active) → ActiveIs H o → IfNamed n o (Some a) →
+    IsPostedNext n code H → IsCauseOfPost room H n code (ended_cause code a.is_halted a.halting)
+cause-active room H n code o a k f p = by_post p.follows where
   w : IsActive H a
   w = subst (ActiveIs H) f.0 k
 
   is : active H ≡ Some n
   is = w.is ∙ ap Some f.1
 
-  by_post : PostFollows n code H p.after → IsCauseOfPost H n code (ended_cause code a.is_halted a.halting)
-  by_post (Ended b e h c) = code-cause H n code a.is_halted a.halting b h c
+  by_post : PostFollows n code H p.after → IsCauseOfPost room H n code (ended_cause code a.is_halted a.halting)
+  by_post (Ended b e h c) = code-cause room H n code a.is_halted a.halting b h c
   by_post (Stopped b e h c) =
       let r : a.issued.now ≡ request_named n H = w.request ∙ ap (λ (x : Name). request_named x H) f.1 in
       let halted : is_halted n H ≡ a.is_halted = ap (λ (x : Name). is_halted x H) (sym f.1) ∙ sym w.halted in
-      let t = halt-cause H n a.is_halted a.halting b halted h (subst (λ (x : Piece). HaltingIs x H a.halting) r w.halting) in
-      subst (λ (x : Code). IsCauseOfPost H n x (ended_cause x a.is_halted a.halting)) (sym c) t
+      let t = halt-cause room H n a.is_halted a.halting b halted h (subst (λ (x : Piece). HaltingIs x H a.halting) r w.halting) in
+      subst (λ (x : Code). IsCauseOfPost room H n x (ended_cause x a.is_halted a.halting)) (sym c) t
   by_post (Failed b e h v c) = absurd (let x : None ≡ Some n = sym b ∙ is in cc)
   by_post (Doomed b e h x d c) = absurd (b is)
 
-doom-cause : (H : List Entry) (n : Name) (code : Code) (cause : Cause) → is_doom cause ≡ true → WasDoomed cause H n code → IsCauseOfPost H n code cause
-doom-cause H n code Program d w = absurd cc
-doom-cause H n code OutsideExtents d w = absurd cc
-doom-cause H n code (CausePurge k) d w = w
-doom-cause H n code (CauseClose k) d w = w
-doom-cause H n code (NotOpen k) d w = w
-doom-cause H n code (RelatedError k) d w = w
-doom-cause H n code (CauseHalt k) d w = absurd cc
-doom-cause H n code (NotTriedAgain k) d w = absurd cc
-doom-cause H n code Unknown d w = w
+doom-cause : (room : ℕ) (H : List Entry) (n : Name) (code : Code) (cause : Cause) → is_doom cause ≡ true → WasDoomed room cause H n code → IsCauseOfPost room H n code cause
+doom-cause room H n code Program d w = absurd cc
+doom-cause room H n code OutsideExtents d w = absurd cc
+doom-cause room H n code (CausePurge k) d w = w
+doom-cause room H n code (CauseClose k) d w = w
+doom-cause room H n code (NotOpen k) d w = w
+doom-cause room H n code (RelatedError k) d w = w
+doom-cause room H n code (CauseHalt k) d w = absurd cc
+doom-cause room H n code (NotTriedAgain k) d w = absurd cc
+doom-cause room H n code Unknown d w = w
 
 -- why another is
-pub cause-waiting : (H : List Entry) (n : Name) (code : Code) (o : Option Active) (doom : Cause) → ActiveIs H o → IfNamed n o None →
-    is_doom doom ≡ true → DoomsBy H doom → IsPostedNext n code H → IsCauseOfPost H n code (waiting_cause code doom)
-cause-waiting H n code o doom k f d all p = by_post p.follows where
+pub cause-waiting : (room : ℕ) (H : List Entry) (n : Name) (code : Code) (o : Option Active) (doom : Cause) → ActiveIs H o → IfNamed n o None →
+    is_doom doom ≡ true → DoomsBy room H doom → IsPostedNext n code H → IsCauseOfPost room H n code (waiting_cause code doom)
+cause-waiting room H n code o doom k f d all p = by_post p.follows where
   other : (o : Option Active) → ActiveIs H o → IfNamed n o None → active H ≡ Some n → ⊥
   other None k f a = let e : None ≡ Some n = sym k ∙ a in absurd cc
   other (Some b) k f a = let e : Some b.name ≡ Some n = sym k.is ∙ a in no_both (same b.name n) (same-is b.name n cc) f
 
-  by_post : PostFollows n code H p.after → IsCauseOfPost H n code (waiting_cause code doom)
+  by_post : PostFollows n code H p.after → IsCauseOfPost room H n code (waiting_cause code doom)
   by_post (Ended b e h c) = absurd (other o k f b)
   by_post (Stopped b e h c) = absurd (other o k f b)
   by_post (Failed b e h v c) =
-      subst (λ (x : Code). IsCauseOfPost H n x (waiting_cause x doom)) (sym c) (record { none = b; first = v; code_is = refl })
+      subst (λ (x : Code). IsCauseOfPost room H n x (waiting_cause x doom)) (sym c) (record { none = b; first = v; code_is = refl })
   by_post (Doomed b e h rest first c) =
-      let each : Each (λ r. IsDoom H r doom) (request_named n H ∷ rest) = subst (Each (λ (r : Piece). IsDoom H r doom)) first all in
-      subst (λ (x : Code). IsCauseOfPost H n x (waiting_cause x doom)) (sym c)
-      (doom-cause H n Purged doom d (record { inactive = b; doom = each.0; code_is = refl }))
+      let each : Each (λ r. IsDoom room H r doom) (request_named n H ∷ rest) = subst (Each (λ (r : Piece). IsDoom room H r doom)) first all in
+      subst (λ (x : Code). IsCauseOfPost room H n x (waiting_cause x doom)) (sym c)
+      (doom-cause room H n Purged doom d (record { inactive = b; doom = each.0; code_is = refl }))

@@ -60,13 +60,13 @@ turns-few n (e ∷ es) = by_turn (turn n e) (turns-few n es) where
   by_turn (Some j) h = omega (arith, h)
 
 -- an event is of one entry at least
-pub entries-some : (H : List Entry) (e : Entry) (es : List Entry) (told : Told) → TellsEntry H e (e ∷ es) told → 1 ≤ entries_of told
+pub entries-some : (room : ℕ) (H : List Entry) (e : Entry) (es : List Entry) (told : Told) → TellsEntry room H e (e ∷ es) told → 1 ≤ entries_of told
 unfolding turns
-entries-some H e es told h = grind (arith, common_steps, same-refl)
+entries-some room H e es told h = grind (arith, common_steps, same-refl)
 
 -- and of no more than there are
-pub entries-few : (H : List Entry) (e : Entry) (es : List Entry) (told : Told) → TellsEntry H e (e ∷ es) told → entries_of told ≤ length (e ∷ es)
-entries-few H e es told h = grind (arith, common_steps, turns-few)
+pub entries-few : (room : ℕ) (H : List Entry) (e : Entry) (es : List Entry) (told : Told) → TellsEntry room H e (e ∷ es) told → entries_of told ≤ length (e ∷ es)
+entries-few room H e es told h = grind (arith, common_steps, turns-few)
 
 -- a sum that stops at a largest number
 pub least-more : (m c j s t c' : ℕ) → c' ≡ min (c + j) m → min m (c + (j + s)) ≡ min m t → min m (c' + s) ≡ min m t
@@ -79,23 +79,23 @@ pub sum-cons : (j : ℕ) (js : List ℕ) → sum (j ∷ js) ≡ j + sum js
 sum-cons j js = sum_by-cons (λ x. x) j js
 
 -- THE NEXT EVENT: it is of one entry at least, and of no more than there are
-pub record NextEvent (H es : List Entry) (done : ℕ) (e : Entry) (told : Told) : Type 0 where
+pub record NextEvent (room : ℕ) (H es : List Entry) (done : ℕ) (e : Entry) (told : Told) : Type 0 where
   pub some : 1 ≤ entries_of told
   pub few : done + entries_of told ≤ length es
   pub here : slice_get es done ≡ Some e
-  pub tells : TellsEntry H e (drop done es) told
+  pub tells : TellsEntry room H e (drop done es) told
 
-pub next-event : (H es : List Entry) (done : ℕ) (e : Entry) (told : Told) → done < length es →
-    e ≡ slice_index_or es done e → TellsEntry H e (take (length es - done) (drop done es)) told → NextEvent H es done e told
-next-event H es done e told below is tells =
+pub next-event : (room : ℕ) (H es : List Entry) (done : ℕ) (e : Entry) (told : Told) → done < length es →
+    e ≡ slice_index_or es done e → TellsEntry room H e (take (length es - done) (drop done es)) told → NextEvent room H es done e told
+next-event room H es done e told below is tells =
     let here = slice_get_read es (length es) done e refl below is in
     let rest = rest-at es done e here in
     let all : take (length es - done) (drop done es) ≡ drop done es = take_all _ _ (rw length-drop (omega arith)) in
-    let t : TellsEntry H e (drop done es) told = subst (λ xs. TellsEntry H e xs told) all tells in
-    let u : TellsEntry H e (e ∷ drop (done + 1) es) told = subst (λ xs. TellsEntry H e xs told) rest t in
+    let t : TellsEntry room H e (drop done es) told = subst (λ xs. TellsEntry room H e xs told) all tells in
+    let u : TellsEntry room H e (e ∷ drop (done + 1) es) told = subst (λ xs. TellsEntry room H e xs told) rest t in
     record {
-      some = entries-some H e (drop (done + 1) es) told u;
-      few = omega (arith, entries-few H e (drop (done + 1) es) told u, below, length-drop (done + 1) es);
+      some = entries-some room H e (drop (done + 1) es) told u;
+      few = omega (arith, entries-few room H e (drop (done + 1) es) told u, below, length-drop (done + 1) es);
       here = here;
       tells = t;
     }

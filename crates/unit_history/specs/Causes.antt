@@ -1,14 +1,17 @@
 -- THE CAUSE OF A POST: why a request ended as it did, and the number of the entry that brought it about (DFSMSdfp Advanced
 -- Services, PURGE and CLOSE, and profile).
-use Rattle.std.specs.Prelude.{[], Option, ◌≡◌, ◌≢◌, ℕ, ◌+◌, Bool, true, false, Some, None, List, ◌∷◌, ◌++◌, length, slice_get}
+use Rattle.std.specs.Prelude.{[], Option, ◌≡◌, ◌≢◌, ℕ, ◌+◌, ◌≤◌, ◌==◌, ◌&&◌, Bool, true, false, if◌then◌else◌, Some, None, List, ◌∷◌, ◌++◌, length}
+use Rattle.std.specs.Prelude.{slice_get}
 use Rattle.std.specs.List.{list_any}
+use Rattle.io_images.specs.Codes.{is_error}
 use Rattle.io_images.specs.declared.code.Code.{Code}
 use Rattle.io_images.specs.declared.code.Code.TheVariants.{ExtentViolated, Purged}
 use Rattle.request_piece.specs.declared.piece.Name.{Name}
 use Rattle.request_piece.specs.declared.piece.Piece.{Piece}
-use Rattle.unit_book.specs.Trace.{active, closes, purges, is_covered, is_halted, purges_halting, request_named, starts, waiting}
-use Rattle.unit_book.specs.Dcbs.{doomed, is_doomed}
+use Rattle.unit_book.specs.Trace.{active, closes, has_arrived, purges, is_covered, is_halted, purges_halting, request_named, starts, waiting}
+use Rattle.unit_book.specs.Dcbs.{doomed, flag, is_doomed, is_open, opened_count}
 use Rattle.unit_book.specs.declared.entry.Entry.{Entry}
+use Rattle.unit_book.specs.declared.entry.Entry.TheVariants.{Arrive, Close as CloseEntry, Post, Reset}
 use Rattle.unit_history.specs.declared.event.Cause.{Cause}
 use Rattle.unit_history.specs.declared.event.Cause.TheVariants.{Program, OutsideExtents, Purge, Close, NotOpen, RelatedError, Halt, NotTriedAgain, Unknown}
 
@@ -54,15 +57,10 @@ is_doom (Halt number) = false
 is_doom (NotTriedAgain number) = false
 is_doom _ = true
 
--- a cause of which no entry is said yet
-abbrev pub is_arrival_doom : Cause → Bool
-is_arrival_doom (NotOpen entry) = true
-is_arrival_doom (RelatedError entry) = true
-is_arrival_doom _ = false
-
--- THE ENTRY THAT DOOMED a request: nothing was doomed before it, and the request is after it
+-- THE ENTRY THAT DOOMED a request: the request arrived before it, nothing was doomed before it, and the request is after it
 pub record DoomedAt (H : List Entry) (r : Piece) (number : ℕ) : Type 0 where
   pub at : EntryAt H number
+  pub arrived : has_arrived r.name at.earlier ≡ true
   pub spared : doomed at.earlier ≡ []
   pub is_after : is_doomed (at.entry ∷ at.earlier) r ≡ true
 
@@ -76,25 +74,61 @@ pub record IsClose (H : List Entry) (r : Piece) (number : ℕ) : Type 0 where
   pub dooms : DoomedAt H r number
   pub is : closes r.dcb dooms.at.entry ≡ true
 
--- WHY a request is doomed. Of a DCB that was not open, and of a related error, no entry is said.
-abbrev pub IsDoom : List Entry → Piece → Cause → Type 0
-IsDoom H r (Purge number) = IsPurge H r number
-IsDoom H r (Close number) = IsClose H r number
-IsDoom H r cause = is_doom cause ≡ true
+-- THE CLOSE of a DCB, by its number, if it was closed
+unfoldable pub closed_by : ℕ → List Entry → Option ℕ
+closed_by d [] = None
+closed_by d (CloseEntry c ∷ H) = if c == d then Some (length H + 1) else closed_by d H
+closed_by d (_ ∷ H) = closed_by d H
+
+-- THE POST THAT LAST SET THE FLAG of a DCB, by its number, if no reset came after it
+unfoldable pub flagged_by : ℕ → List Entry → Option ℕ
+flagged_by d [] = None
+flagged_by d (Reset c ∷ H) = if c == d then None else flagged_by d H
+flagged_by d (Post n csw sense code ∷ H) =
+    if is_error code && (request_named n H).related && ((request_named n H).dcb == d) then Some (length H + 1) else flagged_by d H
+flagged_by d (_ ∷ H) = flagged_by d H
+
+-- THE ARRIVAL of a request, with the entries after it and those before it
+pub record ArrivalOf (H : List Entry) (r : Piece) : Type 0 where
+  pub later : List Entry
+  pub earlier : List Entry
+  pub parts : H ≡ later ++ Arrive r ∷ earlier
+
+-- its DCB was not open when it arrived: this entry had closed it, or none had opened it
+pub record ArrivedShut (H : List Entry) (r : Piece) (close : Option ℕ) : Type 0 where
+  pub arrival : ArrivalOf H r
+  pub shut : is_open r.dcb arrival.earlier ≡ false
+  pub by : closed_by r.dcb arrival.earlier ≡ close
+
+-- it is related, and its DCB is open and has the flag, which this post set
+pub record HasRelatedError (H : List Entry) (r : Piece) (post : Option ℕ) : Type 0 where
+  pub related : r.related ≡ true
+  pub opened : is_open r.dcb H ≡ true
+  pub flagged : flag r.dcb H ≡ true
+  pub by : flagged_by r.dcb H ≡ post
+
+-- WHY a request is doomed, told by a table with room for this many DCBs. What a table tells of a DCB counts while it has room
+-- for all that were opened.
+abbrev pub IsDoom : ℕ → List Entry → Piece → Cause → Type 0
+IsDoom room H r (Purge number) = IsPurge H r number
+IsDoom room H r (Close number) = IsClose H r number
+IsDoom room H r (NotOpen close) = opened_count H ≤ room → ArrivedShut H r close
+IsDoom room H r (RelatedError post) = opened_count H ≤ room → HasRelatedError H r post
+IsDoom room H r _ = ⊥
 
 -- it was doomed while it waited
-pub record WasDoomed (cause : Cause) (H : List Entry) (n : Name) (code : Code) : Type 0 where
+pub record WasDoomed (room : ℕ) (cause : Cause) (H : List Entry) (n : Name) (code : Code) : Type 0 where
   pub inactive : active H ≢ Some n
-  pub doom : IsDoom H (request_named n H) cause
+  pub doom : IsDoom room H (request_named n H) cause
   pub code_is : code ≡ Purged
 
 -- WHY a request is posted with a code, after the entries before
-abbrev pub IsCauseOfPost : List Entry → Name → Code → Cause → Type 0
-IsCauseOfPost H n code Program = EndedByProgram H n code
-IsCauseOfPost H n code OutsideExtents = FailedCheck H n code
-IsCauseOfPost H n code (Halt number) = PurgedByHalt true H n code number
-IsCauseOfPost H n code (NotTriedAgain number) = PurgedByHalt false H n code number
-IsCauseOfPost H n code cause = WasDoomed cause H n code
+abbrev pub IsCauseOfPost : ℕ → List Entry → Name → Code → Cause → Type 0
+IsCauseOfPost room H n code Program = EndedByProgram H n code
+IsCauseOfPost room H n code OutsideExtents = FailedCheck H n code
+IsCauseOfPost room H n code (Halt number) = PurgedByHalt true H n code number
+IsCauseOfPost room H n code (NotTriedAgain number) = PurgedByHalt false H n code number
+IsCauseOfPost room H n code cause = WasDoomed room cause H n code
 
 -- the cause for the active request, which was halted or not, with its halting purge
 abbrev pub ended_cause : Code → Bool → Option ℕ → Cause

@@ -10,10 +10,12 @@ use Rattle.unit_history.specs.declared.event.Event.{Event}
 use Rattle.unit_history.specs.declared.event.Told.{Told}
 use Rattle.unit_history.specs.declared.event.Told.TheVariants.{Opened as ToldOpened, Arrived, Started, Ran as ToldRan, Halted as ToldHalted, Purged, Closed, Reset as ToldReset, Posted}
 
--- THE PLACE of events in a trace, whose entries are the oldest first: how many entries the events so far are of
+-- THE PLACE of events in a trace, whose entries are the oldest first: how many entries the events so far are of. Their table has
+-- room for this many DCBs.
 pub record EventsPlace : Type 0 where
   pub entries : List Entry
   pub done : ℕ
+  pub room : ℕ
 
 -- the entries before a place, newest first
 abbrev pub entries_so_far : List Entry → ℕ → List Entry
@@ -39,25 +41,26 @@ turns n (e ∷ es) = turns_by (turn n e) (turns n es)
 abbrev pub most_commands : ℕ
 most_commands = 2 ^ 64 - 1
 
--- WHAT AN ENTRY TELLS, with the entries before it, newest first, and those from it on, oldest first
-abbrev pub TellsEntry : List Entry → Entry → List Entry → Told → Type 0
-TellsEntry H (Opened d m x) es (ToldOpened dcb method extents) = (dcb ≡ d) × (method ≡ m) × (extents.now ≡ x)
-TellsEntry H (Arrive r) es (Arrived issued) = issued.now ≡ r
-TellsEntry H (Start n) es (Started name attempt) = (name ≡ n) × (attempt ≡ starts_of n H + 1)
-TellsEntry H (Ran n j) es (ToldRan name commands count) =
+-- WHAT AN ENTRY TELLS, with the entries before it, newest first, and those from it on, oldest first, by a table with room for
+-- this many DCBs
+abbrev pub TellsEntry : ℕ → List Entry → Entry → List Entry → Told → Type 0
+TellsEntry room H (Opened d m x) es (ToldOpened dcb method extents) = (dcb ≡ d) × (method ≡ m) × (extents.now ≡ x)
+TellsEntry room H (Arrive r) es (Arrived issued) = issued.now ≡ r
+TellsEntry room H (Start n) es (Started name attempt) = (name ≡ n) × (attempt ≡ starts_of n H + 1)
+TellsEntry room H (Ran n j) es (ToldRan name commands count) =
     (name ≡ n) × (commands ≡ min most_commands (sum (turns n es))) × (count ≡ length (turns n es))
-TellsEntry H (Halted n) es (ToldHalted name) = name ≡ n
-TellsEntry H (Purge s m) es (Purged scope mode busy) = (scope ≡ s) × (mode ≡ m) × (busy ≡ active H)
-TellsEntry H (Close d) es (Closed dcb) = dcb ≡ d
-TellsEntry H (Reset d) es (ToldReset dcb) = dcb ≡ d
-TellsEntry H (Post n csw sense code) es (Posted name end cause) =
-    (name ≡ n) × (end ≡ record { code = code; csw = csw; sense = sense }) × IsCauseOfPost H n code cause
-TellsEntry H _ es _ = ⊥
+TellsEntry room H (Halted n) es (ToldHalted name) = name ≡ n
+TellsEntry room H (Purge s m) es (Purged scope mode busy) = (scope ≡ s) × (mode ≡ m) × (busy ≡ active H)
+TellsEntry room H (Close d) es (Closed dcb) = dcb ≡ d
+TellsEntry room H (Reset d) es (ToldReset dcb) = dcb ≡ d
+TellsEntry room H (Post n csw sense code) es (Posted name end cause) =
+    (name ≡ n) × (end ≡ record { code = code; csw = csw; sense = sense }) × IsCauseOfPost room H n code cause
+TellsEntry room H _ es _ = ⊥
 
 -- the event of the first of these entries
-abbrev pub TellsFirst : List Entry → List Entry → Told → Type 0
-TellsFirst H [] told = ⊥
-TellsFirst H (e ∷ es) told = TellsEntry H e (e ∷ es) told
+abbrev pub TellsFirst : ℕ → List Entry → List Entry → Told → Type 0
+TellsFirst room H [] told = ⊥
+TellsFirst room H (e ∷ es) told = TellsEntry room H e (e ∷ es) told
 
 -- how many entries an event is of: each turn, or one
 abbrev pub entries_of : Told → ℕ
@@ -69,5 +72,5 @@ entries_of _ = 1
 abbrev pub GivesEvent : EventsPlace → Option Event → EventsPlace → Type 0
 GivesEvent p given q =
     MatchOption given ((length p.entries ≤ p.done) × (q ≡ p))
-    (λ event. (event.entry ≡ p.done + 1) × TellsFirst (entries_so_far p.entries p.done) (drop p.done p.entries) event.told
+    (λ event. (event.entry ≡ p.done + 1) × TellsFirst p.room (entries_so_far p.entries p.done) (drop p.done p.entries) event.told
     × (q ≡ record p { done = p.done + entries_of event.told }))

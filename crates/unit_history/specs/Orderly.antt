@@ -1,11 +1,12 @@
 -- WHAT FOLLOWS WHAT in a legal trace, with no word of its device: laws of each entry and those before it.
-use Rattle.std.specs.Prelude.{◌≡◌, ◌≢◌, ◌≤◌, ◌⊎◌, true, false, Option, Some, None, List, [], ◌∷◌, slice_get}
+use Rattle.std.specs.Prelude.{◌≡◌, ◌≢◌, ℕ, ◌+◌, ◌≤◌, ◌⊎◌, true, false, Option, Some, None, List, [], ◌∷◌, slice_get}
+use Rattle.io_images.specs.Codes.{is_error}
 use Rattle.io_images.specs.declared.code.Code.{Code}
 use Rattle.io_images.specs.declared.code.Code.TheVariants.{ExtentViolated, Purged}
 use Rattle.request_piece.specs.declared.piece.Name.{Name}
 use Rattle.unit_book.specs.Trace.{active, has_arrived, has_started, is_covered, is_halted, request_named, starts_of, waiting}
 use Rattle.request_piece.specs.declared.piece.Piece.{Piece}
-use Rattle.unit_book.specs.Dcbs.{doomed}
+use Rattle.unit_book.specs.Dcbs.{doomed, is_open, is_opened, opened_count}
 use Rattle.unit_book.specs.declared.entry.Entry.{Entry}
 use Rattle.unit_book.specs.declared.entry.Entry.TheVariants.{Opened, Arrive, Start, Purge, Close, Reset, Post}
 
@@ -29,13 +30,25 @@ pub record IsPostedNext (n : Name) (code : Code) (H : List Entry) : Type 0 where
   pub after : Option Name
   pub follows : PostFollows n code H after
 
+-- a request is posted with an error: nothing is doomed, and the DCB of a related request was opened
+pub record ErrorFollows (n : Name) (H : List Entry) : Type 0 where
+  pub arrived : has_arrived n H ≡ true
+  pub spared : doomed H ≡ []
+  pub opened : (request_named n H).related ≡ true → is_opened (request_named n H).dcb H ≡ true
+
+-- a DCB is opened under the next number, and nothing is doomed
+pub record OpenFollows (d : ℕ) (e : Entry) (H : List Entry) : Type 0 where
+  pub spared : doomed (e ∷ H) ≡ []
+  pub next : d ≡ opened_count H + 1
+  pub new : is_opened d H ≡ false
+
 abbrev pub IsAfter : Entry → List Entry → Type 0
-IsAfter (Arrive r) H = has_arrived r.name H ≡ false
+IsAfter (Arrive r) H = (has_arrived r.name H ≡ false) × (doomed H ≡ [])
 IsAfter (Start n) H = StartFollows n H
-IsAfter (Post n csw sense code) H = PostFollows n code H (active (Post n csw sense code ∷ H))
-IsAfter (Opened d method extents) H = doomed (Opened d method extents ∷ H) ≡ []
+IsAfter (Post n csw sense code) H = PostFollows n code H (active (Post n csw sense code ∷ H)) × (is_error code ≡ true → ErrorFollows n H)
+IsAfter (Opened d method extents) H = OpenFollows d (Opened d method extents) H
 IsAfter (Purge scope mode) H = doomed H ≡ []
-IsAfter (Close d) H = doomed H ≡ []
+IsAfter (Close d) H = (doomed H ≡ []) × (is_open d H ≡ true)
 IsAfter (Reset d) H = doomed (Reset d ∷ H) ≡ []
 IsAfter _ H = Unit {0}
 

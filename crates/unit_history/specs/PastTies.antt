@@ -11,6 +11,7 @@ use Rattle.unit_history.specs.declared.event.Cause.{Cause}
 use Rattle.unit_book.specs.declared.entry.Entry.{Entry}
 use Rattle.unit_book.specs.declared.entry.Mode.{Mode}
 use Rattle.unit_history.specs.Causes.{IsDoom, IsHalting, is_doom}
+use Rattle.unit_history.specs.Dcbs.{KnowsDcbs, room_of}
 use Rattle.unit_history.specs.Events.{entries_so_far}
 use Rattle.unit_history.specs.Orderly.{Orderly}
 use Rattle.unit_history.specs.declared.past.Active.{Active}
@@ -67,8 +68,12 @@ abbrev pub before : Past → List Entry
 before past = entries_so_far past.trace.now past.done
 
 -- each request that is doomed is so by this cause
-abbrev pub DoomsBy : List Entry → Cause → Type 0
-DoomsBy H cause = Each (λ r. IsDoom H r cause) (doomed H)
+abbrev pub DoomsBy : ℕ → List Entry → Cause → Type 0
+DoomsBy room H cause = Each (λ r. IsDoom room H r cause) (doomed H)
+
+-- how many DCBs the table of what is known has room for
+abbrev pub room_past : Past → ℕ
+room_past past = room_of past.dcbs.now
 
 -- what is known is what the entries before leave to be known
 pub record Knows (past : Past) : Type 0 where
@@ -76,4 +81,5 @@ pub record Knows (past : Past) : Type 0 where
   pub few : past.done ≤ length past.trace.now
   pub active_is : ActiveIs (before past) past.active
   pub doom : is_doom past.cause ≡ true
-  pub dooms : DoomsBy (before past) past.cause
+  pub dooms : DoomsBy (room_past past) (before past) past.cause
+  pub dcbs : KnowsDcbs (before past) past.dcbs.now

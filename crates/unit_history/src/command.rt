@@ -1,5 +1,7 @@
 //! A command of a history: its CCWs, the first of the bytes that it moved, and how it ended.
 
+ghost use Rattle.std.specs.Prelude.{◌≡◌};
+
 use ccw_programs::{Context, Link, Listing, Rule, State};
 use command_table::{command_name, mnemonic};
 use device_port::{Flow, Kind, Segment};
@@ -85,7 +87,9 @@ impl<'c> Command<'c> {
         context: &'c Context,
         area: &'c Area,
         fault: Option<usize>,
-    ) -> Command<'c> {
+    ) -> Command<'c>
+        ensures { result ≡ record { kind = kind; listing = listing.entry; context = context.entry; area = area.entry; fault = fault } }
+    {
         Command {
             kind,
             listing,

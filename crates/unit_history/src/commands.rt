@@ -1,5 +1,9 @@
 //! The commands of a unit's programs, replayed from its trace one by one.
 
+ghost use Rattle.std.specs.Prelude.{◌≡◌, ◌≢◌, ◌-◌, ◌==◌, ◌||◌, not, false, true, IfOk, OnErr, OnOk};
+ghost use Rattle.trace_replay.specs.Replayed.{ListsNext};
+ghost use Rattle.unit_history.specs.Commands.{GivesNext, IsUnreplayed, PassesEntry, StartsNext};
+
 use crate::command::Command;
 use ccw_programs::{Listing, Workspace};
 use device_port::{Device, Fault, Kind};
@@ -48,7 +52,9 @@ impl<'t, D: Device> Commands<'t, D> {
     pub fn of(
         book: &'t UnitBook<D>,
         commands: &CommandList<'t>,
-    ) -> Result<Commands<'t, D>, AllocError> {
+    ) -> Result<Commands<'t, D>, AllocError>
+        ensures { IfOk result (IsUnreplayed book.now commands.now.most) }
+    {
         Ok(Commands {
             replay: Replay::of(book)?,
             listed: Workspace::new(),
@@ -62,12 +68,20 @@ impl<'t, D: Device> Commands<'t, D> {
     }
 
     /// Whether a command was left out.
-    pub fn is_cut(&self) -> bool {
+    pub fn is_cut(&self) -> bool
+        ensures { result ≡ self.now.is_cut }
+    {
         self.is_cut
     }
 
-    /// Replays the next entry, which is not of commands.
-    pub fn pass(&mut self) -> Result<(), AllocError> {
+    /// Replays the next entry, which is not of commands, unless a command was left out.
+    pub fn pass(&mut self) -> Result<(), AllocError>
+        ensures ok { OnOk result (PassesEntry self.old self.new) }
+        ensures err { OnErr result (self.new.replay ≡ self.old.replay) }
+        ensures full { OnErr result ((self.old.is_cut ≡ false) × StartsNext self.old.replay) }
+        ensures left { self.new.left ≡ self.old.left }
+        ensures cut { self.new.is_cut ≡ self.old.is_cut }
+    {
         if !self.is_cut {
             self.replay.step()?;
         }
@@ -76,12 +90,13 @@ impl<'t, D: Device> Commands<'t, D> {
 
     /// Replays the next command, and describes it: what is listed of it before, and then the places of its program and its
     /// storage.
-    pub fn next_command(&mut self) -> Result<Next<'_>, AllocError> {
-        if self.left == 0 {
-            self.is_cut = true;
+    pub fn next_command(&mut self) -> Result<Next<'_>, AllocError>
+        ensures ok { IfOk result (GivesNext D.meaning self.old.replay self.old.left) }
+        ensures err { OnErr result ((self.old.left ≢ 0) × StartsNext self.old.replay) }
+    {
+        if !self.count() {
             return Ok(Next::LeftOut);
         }
-        self.left -= 1;
         let Commands {
             replay,
             listed,
@@ -97,6 +112,21 @@ impl<'t, D: Device> Commands<'t, D> {
         let fault = met_by(&listing, faults, met, acted);
         described(replay, *kind, listing, fault)
     }
+
+    /// Counts one more command, and returns whether it is described. The first that is not is a cut.
+    fn count(&mut self) -> bool
+        ensures counted { result ≡ not (self.old.left == 0) }
+        ensures left { self.new.left ≡ self.old.left - 1 }
+        ensures cut { self.new.is_cut ≡ (self.old.is_cut || self.old.left == 0) }
+        ensures replay { self.new.replay ≡ self.old.replay }
+    {
+        if self.left == 0 {
+            self.is_cut = true;
+            return false;
+        }
+        self.left -= 1;
+        true
+    }
 }
 
 /// Replays the command of this listing, and describes it.
@@ -105,7 +135,11 @@ fn described<'c, 't, D: Device>(
     kind: Kind,
     listing: Listing<'c>,
     fault: Option<usize>,
-) -> Result<Next<'c>, AllocError> {
+) -> Result<Next<'c>, AllocError>
+    requires { ListsNext D.meaning replay.old listing.links.now listing.flow listing.parts.now listing.refusal }
+    ensures ok { IfOk result (GivesNext D.meaning replay.old 1) }
+    ensures err { OnErr result (StartsNext replay.old) }
+{
     replay.step()?;
     let (Some(context), Some(area)) = (replay.context(), replay.area()) else {
         return Ok(Next::Idle);

@@ -1,5 +1,11 @@
 //! The DCBs of a unit, at each place of its trace: which entry closed one, and which set its error flag.
 
+ghost use Rattle.std.specs.Prelude.{◌≡◌, ◌≤◌, All, IfOk, length, vec_len};
+ghost use Rattle.std.specs.List.{filter};
+ghost use Rattle.unit_book.specs.Dcbs.{opened_count};
+ghost use Rattle.unit_book.specs.Trace.{is_opening};
+ghost use Rattle.unit_history.specs.Dcbs.{ChangesDcb, OpensDcb, closed_at, closed_of, flagged_at, flagged_of, is_open_dcb, known_at, dcb_place, room_of};
+
 use device_port::Device;
 use std::alloc::{AllocError, Global};
 use unit_book::{Entry, UnitBook};
@@ -28,7 +34,9 @@ pub struct Dcbs {
 
 impl Dcbs {
     /// Room for the DCBs of each of these units, so that their histories take no memory.
-    pub fn of_units<D: Device>(alloc: Global, books: &[UnitBook<D>]) -> Result<Dcbs, AllocError> {
+    pub fn of_units<D: Device>(alloc: Global, books: &[UnitBook<D>]) -> Result<Dcbs, AllocError>
+        ensures { IfOk result (λ dcbs. All (λ book. opened_count book.trace ≤ room_of dcbs) books.now) }
+    {
         let mut most: usize = 0;
         for book in books {
             most = most.max(openings(book.trace()));
@@ -37,41 +45,54 @@ impl Dcbs {
     }
 
     /// Room for `room` DCBs of a unit.
-    pub fn new(alloc: Global, room: usize) -> Result<Dcbs, AllocError> {
+    pub fn new(alloc: Global, room: usize) -> Result<Dcbs, AllocError>
+        ensures { IfOk result (λ dcbs. room_of dcbs ≡ room) }
+    {
         let mut rows = Vec::new(alloc);
         rows.resize(room, OPENED)?;
         Ok(Dcbs { rows, opened: 0 })
     }
 
     /// No DCB was opened yet.
-    pub(crate) fn clear(&mut self) {
+    pub(crate) fn clear(&mut self)
+        ensures room { room_of self.new ≡ room_of self.old }
+        ensures opened { self.new.opened ≡ 0 }
+    {
         self.opened = 0;
     }
 
     /// The DCB with the next number is opened.
-    pub(crate) fn open_next(&mut self) {
-        if let Some(row) = self.rows.get_mut(self.opened) {
-            *row = OPENED;
-            self.opened = self.opened.saturating_add(1);
+    pub(crate) fn open_next(&mut self)
+        ensures { OpensDcb self.old self.new }
+    {
+        if self.opened < self.rows.len() {
+            self.rows[self.opened] = OPENED;
+            self.opened += 1;
         }
     }
 
     /// An entry closes a DCB.
-    pub(crate) fn close(&mut self, dcb: u16, entry: usize) {
-        if let Some(row) = self.row(dcb) {
-            row.closed = Some(entry);
+    pub(crate) fn close(&mut self, dcb: u16, entry: usize)
+        ensures { ChangesDcb self.old self.new dcb (closed_at entry) }
+    {
+        if let Some(place) = self.place(dcb) {
+            self.rows[place].closed = Some(entry);
         }
     }
 
-    /// A post sets the error flag of a DCB. It was off, since a DCB with the flag starts no related request.
-    pub(crate) fn flag(&mut self, dcb: u16, entry: usize) {
-        if let Some(row) = self.row(dcb) {
-            row.flagged = Some(entry);
+    /// A post sets the error flag of a DCB.
+    pub(crate) fn flag(&mut self, dcb: u16, entry: usize)
+        ensures { ChangesDcb self.old self.new dcb (flagged_at entry) }
+    {
+        if let Some(place) = self.place(dcb) {
+            self.rows[place].flagged = Some(entry);
         }
     }
 
     /// Whether a DCB was opened and not closed since.
-    pub(crate) fn is_open(&self, dcb: u16) -> bool {
+    pub(crate) fn is_open(&self, dcb: u16) -> bool
+        ensures { result ≡ is_open_dcb (known_at dcb self.now) }
+    {
         match self.get(dcb) {
             Some(row) => row.closed.is_none(),
             None => false,
@@ -79,43 +100,52 @@ impl Dcbs {
     }
 
     /// The number of the entry that closed a DCB.
-    pub(crate) fn closed_by(&self, dcb: u16) -> Option<usize> {
+    pub(crate) fn closed_by(&self, dcb: u16) -> Option<usize>
+        ensures { result ≡ closed_of (known_at dcb self.now) }
+    {
         self.get(dcb)?.closed
     }
 
     /// The number of the post that last set the error flag of a DCB.
-    pub(crate) fn flagged_by(&self, dcb: u16) -> Option<usize> {
+    pub(crate) fn flagged_by(&self, dcb: u16) -> Option<usize>
+        ensures { result ≡ flagged_of (known_at dcb self.now) }
+    {
         self.get(dcb)?.flagged
     }
 
     /// A DCB that was opened.
-    fn get(&self, dcb: u16) -> Option<Dcb> {
-        let place = usize::from(dcb).checked_sub(1)?;
-        if place < self.opened {
-            self.rows.get(place).copied()
-        } else {
-            None
-        }
+    fn get(&self, dcb: u16) -> Option<Dcb>
+        ensures { result ≡ known_at dcb self.now }
+    {
+        let place = self.place(dcb)?;
+        Some(self.rows[place])
     }
 
-    /// The row of a DCB, if it was opened.
-    fn row(&mut self, dcb: u16) -> Option<&mut Dcb> {
+    /// The place of a DCB, if it was opened.
+    fn place(&self, dcb: u16) -> Option<usize>
+        ensures { result ≡ dcb_place dcb (vec_len self.now.rows) self.now.opened }
+    {
         let place = usize::from(dcb).checked_sub(1)?;
-        if place < self.opened {
-            self.rows.get_mut(place)
-        } else {
-            None
-        }
+        (place < self.opened && place < self.rows.len()).then_some(place)
     }
 }
 
 /// How many DCBs these entries open.
-fn openings(trace: &[Entry]) -> usize {
+fn openings(trace: &[Entry]) -> usize
+    ensures { result ≡ length (filter is_opening trace.now) }
+{
     let mut count: usize = 0;
     for entry in trace {
-        if let Entry::Opened(_, _, _) = entry {
-            count = count.saturating_add(1);
+        if is_opening(entry) {
+            count += 1;
         }
     }
     count
+}
+
+/// Whether an entry opens a DCB.
+fn is_opening(entry: &Entry) -> bool
+    ensures { result ≡ is_opening entry.now }
+{
+    matches!(entry, Entry::Opened(_, _, _))
 }

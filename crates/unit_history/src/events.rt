@@ -2,9 +2,10 @@
 
 ghost use Rattle.std.specs.Prelude.{◌≡◌, ◌+◌, ◌-◌, Some, drop, length, min, reverse, slice_get, sum};
 ghost use Rattle.std.specs.Iterator.{at_most};
+ghost use Rattle.unit_history.specs.Dcbs.{room_of};
 ghost use Rattle.unit_history.specs.Events.{GivesEvent, TellsEntry, entries_of, most_commands, turn, turns};
 ghost use Rattle.unit_history.specs.Orderly.{IsAfter};
-ghost use Rattle.unit_history.specs.PastTies.{Knows, before};
+ghost use Rattle.unit_history.specs.PastTies.{Knows, before, room_past};
 
 use crate::dcbs::Dcbs;
 use crate::event::{End, Event, Told};
@@ -25,18 +26,19 @@ impl<'t, 'd> Model for Events<'t, 'd> {
 
     ghost Value = { EventsPlace };
 
-    ghost use Rattle.unit_history.specs.PastTies.{Knows};
+    ghost use Rattle.unit_history.specs.PastTies.{Knows, room_past};
 
-    ghost view = { λ events. record { entries = events.past.trace.now; done = events.past.done } };
+    ghost view = { λ events. record { entries = events.past.trace.now; done = events.past.done; room = room_past events.past } };
 
     ghost invariant = { λ events. Knows events.past };
 }
 
 impl<'t, 'd> Events<'t, 'd> {
-    /// The events of a book. The table has to have room for the DCBs that its trace opens.
+    /// The events of a book. What they tell of DCBs counts while the table has room for those that the trace opens.
     pub fn of<D: Device>(book: &'t UnitBook<D>, dcbs: &'d mut Dcbs) -> Events<'t, 'd>
         ensures trace { reverse result.entries ≡ book.now.trace }
         ensures start { result.done ≡ 0 }
+        ensures room { result.room ≡ room_of dcbs.old }
     {
         book.holds();
         Events {
@@ -49,7 +51,7 @@ impl<'t, 'd> Events<'t, 'd> {
 fn told<'t>(past: &Past<'t, '_>, entry: &'t Entry, later: &[Entry]) -> Told<'t>
     requires knows { Knows past.now }
     requires follows { IsAfter entry.now (before past.now) }
-    ensures { TellsEntry (before past.now) entry.now later.now result }
+    ensures { TellsEntry (room_past past.now) (before past.now) entry.now later.now result }
 {
     match entry {
         Entry::Opened(dcb, method, extents) => Told::Opened {
@@ -93,7 +95,7 @@ fn ran<'t>(name: Name, entries: &[Entry]) -> Told<'t>
         let Some(count) = turn(entry, name) else {
             break;
         };
-        commands = commands.saturating_add(u64::from(count));
+        commands = with_turn(commands, count);
         turns += 1;
     }
     Told::Ran {
@@ -101,6 +103,13 @@ fn ran<'t>(name: Name, entries: &[Entry]) -> Told<'t>
         commands,
         turns,
     }
+}
+
+/// A sum of commands with one turn more.
+fn with_turn(commands: u64, turn: u32) -> u64
+    ensures { result ≡ min (commands + turn) most_commands }
+{
+    commands.saturating_add(u64::from(turn))
 }
 
 /// The commands of a turn of this request.
@@ -118,10 +127,11 @@ fn go_on<'t>(past: &mut Past<'t, '_>, entry: &'t Entry, told: &Told<'t>)
     requires knows { Knows past.old }
     requires next { slice_get past.old.trace.now past.old.done ≡ Some entry.now }
     requires follows { IsAfter entry.now (before past.old) }
-    requires told { TellsEntry (before past.old) entry.now (drop past.old.done past.old.trace.now) told.now }
+    requires told { TellsEntry (room_past past.old) (before past.old) entry.now (drop past.old.done past.old.trace.now) told.now }
     ensures knows { Knows past.new }
     ensures trace { past.new.trace.now ≡ past.old.trace.now }
     ensures done { past.new.done ≡ past.old.done + entries_of told.now }
+    ensures room { room_past past.new ≡ room_past past.old }
 {
     match told {
         Told::Ran { name, turns, .. } => past.pass(*name, *turns as usize),

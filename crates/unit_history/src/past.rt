@@ -7,10 +7,11 @@ ghost use Rattle.std.specs.Prelude.{◌≡◌, ◌≤◌, ◌+◌, ◌∷◌, So
 ghost use Rattle.io_images.specs.Codes.{is_error};
 ghost use Rattle.request_piece.specs.Scope.{covers};
 ghost use Rattle.unit_book.specs.Trace.{active, has_arrived, request_named, starts_of};
-ghost use Rattle.unit_history.specs.Causes.{IsCauseOfPost, ended_cause, is_arrival_doom, is_doom, waiting_cause};
+ghost use Rattle.unit_history.specs.Causes.{IsCauseOfPost, ended_cause, is_doom, waiting_cause};
+ghost use Rattle.unit_history.specs.Dcbs.{ChangesDcb, KnowsDcbs, NotesError, arrival_cause, closed_at, known_at, room_of};
 ghost use Rattle.unit_history.specs.Events.{turns};
-ghost use Rattle.unit_history.specs.Orderly.{IsAfter, IsPostedNext, Orderly, StartFollows};
-ghost use Rattle.unit_history.specs.PastTies.{ActiveIs, DoomsBy, IfNamed, IsActive, Knows, UnlessNamed, before, active_halted, halting_after, purged_by};
+ghost use Rattle.unit_history.specs.Orderly.{ErrorFollows, IsAfter, IsPostedNext, Orderly, StartFollows};
+ghost use Rattle.unit_history.specs.PastTies.{ActiveIs, DoomsBy, IfNamed, IsActive, Knows, UnlessNamed, before, active_halted, halting_after, purged_by, room_past};
 
 use crate::dcbs::Dcbs;
 use crate::event::Cause;
@@ -57,6 +58,7 @@ impl<'t, 'd> Past<'t, 'd> {
         ensures knows { Knows result }
         ensures trace { result.trace.now ≡ trace.now }
         ensures done { result.done ≡ 0 }
+        ensures room { room_past result ≡ room_of dcbs.old }
     {
         dcbs.clear();
         Past {
@@ -106,7 +108,7 @@ impl<'t, 'd> Past<'t, 'd> {
     pub fn cause(&self, name: Name, code: Code) -> Cause
         requires knows { Knows self.now }
         requires follows { IsPostedNext name code (before self.now) }
-        ensures { IsCauseOfPost (before self.now) name code result }
+        ensures { IsCauseOfPost (room_past self.now) (before self.now) name code result }
     {
         match self.active_named(name) {
             Some(active) => active.cause(code),
@@ -122,6 +124,7 @@ impl<'t, 'd> Past<'t, 'd> {
         ensures knows { Knows self.new }
         ensures trace { self.new.trace.now ≡ self.old.trace.now }
         ensures done { self.new.done ≡ self.old.done + 1 }
+        ensures room { room_past self.new ≡ room_past self.old }
     {
         let number = self.done + 1;
         let active = self.active_after(entry, number);
@@ -138,6 +141,7 @@ impl<'t, 'd> Past<'t, 'd> {
         ensures knows { Knows self.new }
         ensures trace { self.new.trace.now ≡ self.old.trace.now }
         ensures done { self.new.done ≡ self.old.done + count }
+        ensures room { room_past self.new ≡ room_past self.old }
     {
         // A slice that is read has a length that fits.
         let _trace = self.trace;
@@ -167,10 +171,7 @@ impl<'t, 'd> Past<'t, 'd> {
         ensures { IsActive (Entry.Start name ∷ before self.now) result }
     {
         let starts = self.attempt(name);
-        let (place, issued) = match self.active_named(name) {
-            Some(active) => (active.place, active.issued),
-            None => self.arrival(name),
-        };
+        let (place, issued) = self.request(name);
         Active {
             name,
             issued,
@@ -220,7 +221,9 @@ impl<'t, 'd> Past<'t, 'd> {
         requires follows { IsAfter entry.now (before self.old) }
         requires number { number ≡ self.old.done + 1 }
         ensures doom { is_doom self.new.cause ≡ true }
-        ensures dooms { DoomsBy (entry.now ∷ before self.old) self.new.cause }
+        ensures dooms { DoomsBy (room_past self.old) (entry.now ∷ before self.old) self.new.cause }
+        ensures dcbs { KnowsDcbs (entry.now ∷ before self.old) self.new.dcbs.now }
+        ensures room { room_past self.new ≡ room_past self.old }
         ensures trace { self.new.trace.now ≡ self.old.trace.now }
         ensures done { self.new.done ≡ self.old.done }
         ensures active { self.new.active ≡ self.old.active }
@@ -228,7 +231,7 @@ impl<'t, 'd> Past<'t, 'd> {
         match entry {
             Entry::Opened(_, _, _) => self.dcbs.open_next(),
             Entry::Arrive(issued) => self.cause = self.on_arrival(issued.dcb()),
-            Entry::Purge(_, _) => self.cause = Cause::Purge(number),
+            Entry::Purge(_, _) => self.note_purge(number),
             Entry::Close(dcb) => self.note_close(*dcb, number),
             Entry::Post(name, _, _, code) => self.note_post(*name, *code, number),
             _ => {}
@@ -237,7 +240,7 @@ impl<'t, 'd> Past<'t, 'd> {
 
     /// Why a request that arrives for this DCB is posted at once, if it is.
     fn on_arrival(&self, dcb: u16) -> Cause
-        ensures { is_arrival_doom result ≡ true }
+        ensures { result ≡ arrival_cause (known_at dcb self.now.dcbs.now) }
     {
         if self.dcbs.is_open(dcb) {
             Cause::RelatedError(self.dcbs.flagged_by(dcb))
@@ -246,8 +249,19 @@ impl<'t, 'd> Past<'t, 'd> {
         }
     }
 
+    fn note_purge(&mut self, number: usize)
+        ensures cause { self.new.cause ≡ Cause.Purge number }
+        ensures dcbs { self.new.dcbs.now ≡ self.old.dcbs.now }
+        ensures trace { self.new.trace.now ≡ self.old.trace.now }
+        ensures done { self.new.done ≡ self.old.done }
+        ensures active { self.new.active ≡ self.old.active }
+    {
+        self.cause = Cause::Purge(number);
+    }
+
     fn note_close(&mut self, dcb: u16, number: usize)
         ensures cause { self.new.cause ≡ Cause.Close number }
+        ensures dcbs { ChangesDcb self.old.dcbs.now self.new.dcbs.now dcb (closed_at number) }
         ensures trace { self.new.trace.now ≡ self.old.trace.now }
         ensures done { self.new.done ≡ self.old.done }
         ensures active { self.new.active ≡ self.old.active }
@@ -258,8 +272,13 @@ impl<'t, 'd> Past<'t, 'd> {
 
     /// A request ends, with this code.
     fn note_post(&mut self, name: Name, code: Code, number: usize)
-        ensures error { is_error code ≡ true → is_arrival_doom self.new.cause ≡ true }
+        requires knows { Knows self.old }
+        requires error { is_error code ≡ true → ErrorFollows name (before self.old) }
+        ensures error { is_error code ≡ true → self.new.cause ≡ Cause.RelatedError (Some number) }
+        ensures dcbs { is_error code ≡ true →
+            NotesError (request_named name (before self.old)) number self.old.dcbs.now self.new.dcbs.now }
         ensures other { is_error code ≡ false → self.new.cause ≡ self.old.cause }
+        ensures other_dcbs { is_error code ≡ false → self.new.dcbs.now ≡ self.old.dcbs.now }
         ensures trace { self.new.trace.now ≡ self.old.trace.now }
         ensures done { self.new.done ≡ self.old.done }
         ensures active { self.new.active ≡ self.old.active }
@@ -269,39 +288,37 @@ impl<'t, 'd> Past<'t, 'd> {
         }
     }
 
-    /// A request ends in error.
+    /// A request ends in error. Requests are started in the order of their arrivals, so the next search goes on from its own.
     fn note_error(&mut self, name: Name, number: usize)
-        ensures cause { is_arrival_doom self.new.cause ≡ true }
+        requires knows { Knows self.old }
+        requires arrived { has_arrived name (before self.old) ≡ true }
+        ensures cause { self.new.cause ≡ Cause.RelatedError (Some number) }
+        ensures dcbs { NotesError (request_named name (before self.old)) number self.old.dcbs.now self.new.dcbs.now }
         ensures trace { self.new.trace.now ≡ self.old.trace.now }
         ensures done { self.new.done ≡ self.old.done }
         ensures active { self.new.active ≡ self.old.active }
     {
+        let (place, issued) = self.request(name);
+        self.searched = place;
         self.cause = Cause::RelatedError(Some(number));
-        let issued = match self.active_named(name) {
-            Some(active) => Some(active.issued),
-            None => self.waiting(name),
-        };
-        if let Some(issued) = issued {
-            if issued.is_related() {
-                self.dcbs.flag(issued.dcb(), number);
-            }
+        if issued.is_related() {
+            self.dcbs.flag(issued.dcb(), number);
         }
     }
 
-    /// The request of this name, as issued, which waits. Requests are started in the order of their arrivals, so the search
-    /// goes on where the last one ended.
-    fn waiting(&mut self, name: Name) -> Option<&'t Issued>
-        ensures cause { self.new.cause ≡ self.old.cause }
-        ensures trace { self.new.trace.now ≡ self.old.trace.now }
-        ensures done { self.new.done ≡ self.old.done }
-        ensures active { self.new.active ≡ self.old.active }
+    /// The request of this name, as issued, and the place of its arrival.
+    fn request(&self, name: Name) -> (usize, &'t Issued)
+        requires knows { Knows self.now }
+        requires arrived { has_arrived name (before self.now) ≡ true }
+        ensures { result.1.now ≡ request_named name (before self.now) }
     {
-        let (place, issued) = find_arrival(self.trace, self.searched, name)?;
-        self.searched = place;
-        Some(issued)
+        match self.active_named(name) {
+            Some(active) => (active.place, active.issued),
+            None => self.arrival(name),
+        }
     }
 
-    /// The request of this name, as issued, and the place of its arrival.
+    /// The same, found in the trace.
     fn arrival(&self, name: Name) -> (usize, &'t Issued)
         requires knows { Knows self.now }
         requires arrived { has_arrived name (before self.now) ≡ true }

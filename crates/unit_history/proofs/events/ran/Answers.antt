@@ -16,7 +16,7 @@ loop-entry-preserved c =
       all_turns = omega (arith, t);
       all_commands = least-more most_commands c.loop-entry.commands c.in-Some.count
           (sum (turns c.args.name (drop (c.loop-entry.entry-index + 1) c.args.entries.now))) (sum (turns c.args.name c.args.entries.now))
-          c.saturating_add-commands.result (rw (← c.from.ensures) c.saturating_add-commands.ensures) s;
+          c.with_turn-commands.result c.with_turn-commands.ensures s;
       most = omega arith;
     }
 

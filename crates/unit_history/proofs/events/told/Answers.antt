@@ -12,5 +12,5 @@ cause-requires-clause-follows c =
     let w = c.in-Post in
     record {
       after = active (Post w.name w.csw w.sense w.code ∷ H);
-      follows = subst (λ (e : Entry). IsAfter e H) w.is c.requires.follows;
+      follows = (subst (λ (e : Entry). IsAfter e H) w.is c.requires.follows).0;
     }

@@ -1,12 +1,16 @@
-use Rattle.std.proofs.Common.{refl}
-use Rattle.job_world.specs.Making.{Leaves, Purges}
+use Rattle.std.proofs.Common.{◌≡◌, ◌≤◌, false, length, refl, rules}
+use Rattle.job_world.specs.Commands.{Purges, PurgesNone}
+use Rattle.unit_book.specs.Dcbs.{is_opened}
+use Rattle.job_world.proofs.Nothing.{absent-part}
 use Rattle.job_world.proofs.world.JobWorld.purge.Goals as goal
 
-pub returns-then-not-has_unit-clause-makes : goal.returns-then-not-has_unit-clause-makes
-returns-then-not-has_unit-clause-makes c = λ task. Leaves refl
+pub returns-then-not-has_unit-clause-controls : goal.returns-then-not-has_unit-clause-controls
+returns-then-not-has_unit-clause-controls c =
+    let none : length c.args.self.now.site.units ≤ c.args.unit = search rules in
+    PurgesNone refl refl (absent-part (λ p. is_opened c.args.dcb p.book.trace ≡ false) c.args.self.now.site c.args.unit none)
 
-pub returns-in-Ok-clause-makes : goal.returns-in-Ok-clause-makes
-returns-in-Ok-clause-makes c = λ task. Purges c.args.unit c.args.dcb c.args.mode c.in-Ok.field-0 c.in-Ok.ensures.opened c.in-Ok.ensures.ok
+pub returns-in-Ok-clause-controls : goal.returns-in-Ok-clause-controls
+returns-in-Ok-clause-controls c = Purges c.in-Ok.field-0 refl c.in-Ok.ensures.opened c.in-Ok.ensures.ok
 
-pub returns-in-Err-NoSuchDcb-clause-makes : goal.returns-in-Err-NoSuchDcb-clause-makes
-returns-in-Err-NoSuchDcb-clause-makes c = λ task. Leaves c.in-Err-NoSuchDcb.ensures.err
+pub returns-in-Err-NoSuchDcb-clause-controls : goal.returns-in-Err-NoSuchDcb-clause-controls
+returns-in-Err-NoSuchDcb-clause-controls c = PurgesNone {unit = c.args.unit} {dcb = c.args.dcb} {mode = c.args.mode} refl c.in-Err-NoSuchDcb.ensures.err (rw c.in-Err-NoSuchDcb.field-0-is at c.in-Err-NoSuchDcb.ensures.refused)

@@ -1,6 +1,6 @@
 use Rattle.std.proofs.Common.{arith, ap, length, refl}
 use Rattle.std.proofs.lemmas.Option.{slice_get_read}
-use Rattle.unit_history.specs.PastTies.{before}
+use Rattle.unit_history.specs.PastTies.{before, room_past}
 use Rattle.unit_history.proofs.OrderlyLaws.{follows-at}
 use Rattle.unit_history.proofs.TurnLaws.{next-event}
 use Rattle.unit_history.proofs.events.EventsIterator.next.Goals as goal
@@ -27,7 +27,7 @@ go_on-requires-clause-follows c =
 pub returns-clause-goes : goal.returns-clause-goes
 returns-clause-goes c =
     let p = c.self.inside.past in
-    let e = next-event (before p) p.trace.now p.done c.index-entries-done.result c.told-told.result c.if-done-entries.false
+    let e = next-event (room_past p) (before p) p.trace.now p.done c.index-entries-done.result c.told-told.result c.if-done-entries.false
     c.index-entries-done.is c.told-told.ensures in
     let t = ap length c.go_on.ensures.trace in
     rw (← c.self.view_is) (record { on = λ h. (tt, tt, omega (arith, e.few, e.some, c.go_on.ensures.done, t)); keeps = tt; rests = λ h. tt })

@@ -11,7 +11,7 @@ returns-in-Post c =
     let w = c.in-Post in
     let f = subst (λ (e : Entry). IsAfter e H) w.is c.requires.follows in
     subst (λ (e : Entry). ActiveIs (e ∷ H) c.active_but.result) (sym w.is)
-    (posted-active w.name w.field-1 w.field-2 w.field-3 H f c.args.self.now.active c.active_but.result c.requires.knows.active_is
+    (posted-active w.name w.field-1 w.field-2 w.field-3 H f.0 c.args.self.now.active c.active_but.result c.requires.knows.active_is
     c.active_but.ensures)
 
 pub returns-in_default : goal.returns-in_default

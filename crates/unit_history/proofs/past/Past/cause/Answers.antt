@@ -1,7 +1,7 @@
 use Rattle.std.proofs.Common.{subst, sym}
 use Rattle.unit_history.specs.declared.event.Cause.{Cause}
 use Rattle.unit_history.specs.Causes.{IsCauseOfPost}
-use Rattle.unit_history.specs.PastTies.{IfNamed, before}
+use Rattle.unit_history.specs.PastTies.{IfNamed, before, room_past}
 use Rattle.unit_history.proofs.PastLaws.{cause-active, cause-waiting}
 use Rattle.unit_history.proofs.past.Past.cause.Goals as goal
 
@@ -10,14 +10,14 @@ returns-in-Some c =
     let H = before c.args.self.now in
     let o = c.args.self.now.active in
     let f = subst (IfNamed c.args.name o) c.in-Some.is c.active_named.ensures in
-    subst (λ (x : Cause). IsCauseOfPost H c.args.name c.args.code x) (sym c.cause.ensures)
-    (cause-active H c.args.name c.args.code o c.in-Some.active c.requires.knows.active_is f c.requires.follows)
+    subst (λ (x : Cause). IsCauseOfPost (room_past c.args.self.now) H c.args.name c.args.code x) (sym c.cause.ensures)
+    (cause-active (room_past c.args.self.now) H c.args.name c.args.code o c.in-Some.active c.requires.knows.active_is f c.requires.follows)
 
 pub returns-in-None : goal.returns-in-None
 returns-in-None c =
     let H = before c.args.self.now in
     let o = c.args.self.now.active in
     let f = subst (IfNamed c.args.name o) c.in-None.is c.active_named.ensures in
-    subst (λ (x : Cause). IsCauseOfPost H c.args.name c.args.code x) (sym c.waiting_cause.ensures)
-    (cause-waiting H c.args.name c.args.code o c.args.self.now.cause c.requires.knows.active_is f c.requires.knows.doom c.requires.knows.dooms
+    subst (λ (x : Cause). IsCauseOfPost (room_past c.args.self.now) H c.args.name c.args.code x) (sym c.waiting_cause.ensures)
+    (cause-waiting (room_past c.args.self.now) H c.args.name c.args.code o c.args.self.now.cause c.requires.knows.active_is f c.requires.knows.doom c.requires.knows.dooms
     c.requires.follows)

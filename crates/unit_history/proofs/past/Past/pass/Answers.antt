@@ -10,4 +10,4 @@ overflow_add-self c =
     omega (arith, few, length-drop c.args.self.now.done es, c.requires.turns, c.requires.knows.few)
 
 pub returns-clause-knows : goal.returns-clause-knows
-returns-clause-knows c = knows-turns c.args.self.now _ c.args.name c.args.count c.requires.knows c.requires.turns refl refl refl refl
+returns-clause-knows c = knows-turns c.args.self.now _ c.args.name c.args.count c.requires.knows c.requires.turns refl refl refl refl refl

@@ -1,0 +1,2 @@
+-- Lemmas on numbering.
+pub mod Numbered

@@ -1,0 +1,3 @@
+-- Lemmas on steps that are carried out.
+pub mod Carried
+pub mod Runs

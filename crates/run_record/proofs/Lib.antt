@@ -1,0 +1,2 @@
+-- The lemmas of run_record.
+pub mod PostLaws

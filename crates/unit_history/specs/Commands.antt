@@ -1,0 +1,40 @@
+-- THE COMMANDS of a unit's programs, replayed (profile).
+use Rattle.std.specs.Prelude.{◌≡◌, ◌≢◌, ◌⊎◌, ℕ, false, if◌then◌else◌, Some, reverse, slice_get}
+use Rattle.device_port.specs.Meaning.{Meaning}
+use Rattle.trace_replay.specs.Replayed.{IsBetweenPrograms, IsFirstStart, ListsNext, ReplayPlace, ShowsArea, ShowsContext, next_place, so_far}
+use Rattle.unit_book.specs.Book.{Book}
+use Rattle.unit_history.specs.declared.command.Command.{Command as Described}
+use Rattle.unit_history.specs.declared.commands.Commands.{Commands}
+use Rattle.unit_history.specs.declared.commands.Next.{Next}
+use Rattle.unit_history.specs.declared.commands.Next.TheVariants.{Command, Idle, LeftOut}
+
+-- what is described of a command: what its program was to do next at a place of the replay, and where the program and its
+-- storage are after it
+pub record Describes {D : Type 0} (meaning : Meaning D) (place : ReplayPlace D) (command : Described) : Type 0 where
+  pub listed : ListsNext meaning place command.listing.links.now command.listing.flow command.listing.parts.now command.listing.refusal
+  pub context : ShowsContext meaning (next_place place) (Some command.context.now)
+  pub area : ShowsArea meaning (next_place place) (Some command.area.now)
+
+-- no program runs before the next place, or none is active after it
+abbrev pub RunsNothing : {D : Type 0} → Meaning D → ReplayPlace D → Type 0
+RunsNothing meaning place = IsBetweenPrograms meaning place ⊎ (IsBetweenPrograms meaning (next_place place))
+
+-- WHAT COMES NEXT of a replay at a place, where this many commands more are described
+abbrev pub GivesNext : {D : Type 0} → Meaning D → ReplayPlace D → ℕ → Next → Type 0
+GivesNext meaning place left (Command command) = (left ≢ 0) × Describes meaning place command
+GivesNext meaning place left Idle = (left ≢ 0) × RunsNothing meaning place
+GivesNext meaning place left LeftOut = left ≡ 0
+
+-- the next entry is the first start of a request. A replay takes memory for this alone.
+abbrev pub StartsNext : {D : Type 0} → ReplayPlace D → Type 0
+StartsNext place = IsFirstStart (so_far place) (slice_get (reverse place.book.trace) place.done)
+
+-- nothing of a book is replayed yet, and this many commands are described
+pub record IsUnreplayed {D : Type 0} (book : Book D) (most : ℕ) (commands : Commands D) : Type 0 where
+  pub replay : commands.replay ≡ record { book = book; done = 0; ran = 0 }
+  pub left : commands.left ≡ most
+  pub cut : commands.is_cut ≡ false
+
+-- AN ENTRY IS PASSED: the replay goes on after it, unless a command was left out
+abbrev pub PassesEntry : {D : Type 0} → Commands D → Commands D → Type 0
+PassesEntry old new = new.replay ≡ (if old.is_cut then old.replay else next_place old.replay)
