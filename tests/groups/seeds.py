@@ -84,6 +84,18 @@ def leaves_its_script(setup):
             require(read(f"{folder}/a.script") == script, "the script is no longer what it was", ran)
 
 
+def leaves_script_named_as_input(setup):
+    """A script whose name is the one that messages have for standard input is a file as any other."""
+    with tempfile.TemporaryDirectory() as folder:
+        script = small_job(1, tasks=2, units=1, requests=2, controls=0, waits=0)
+        with open(f"{folder}/<stdin>", "w", encoding="utf-8") as it:
+            it.write(script)
+        words = "report", "--posts", "--seed", "1", "<stdin>", "--scenario", "./<stdin>"
+        ran = run([os.path.abspath(setup.program), *words], cwd=folder)
+        expect(ran, (1, "", f"excp_job: ./<stdin>: {TAKEN}\n"))
+        require(read(f"{folder}/<stdin>") == script, "the script is no longer what it was", ran)
+
+
 def leaves_its_image(setup):
     """It is not written to an image that is loaded or saved either, and no image is saved then."""
     with tempfile.TemporaryDirectory() as folder:
@@ -112,6 +124,7 @@ def other_seed_differs(setup):
 def cases(setup):
     yield Case("another seed", lambda: other_seed_differs(setup), ORIGIN)
     yield Case("a scenario leaves its script", lambda: leaves_its_script(setup), ORIGIN)
+    yield Case("a scenario leaves a script named <stdin>", lambda: leaves_script_named_as_input(setup), ORIGIN)
     yield Case("a scenario leaves images", lambda: leaves_its_image(setup), ORIGIN)
     for name, script, _ in stored():
         for seed in SEEDS:

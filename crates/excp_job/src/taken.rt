@@ -23,11 +23,10 @@ impl<'a> Taken<'a> {
             rt,
             names: Vec::new(rt.alloc()),
         };
-        taken.add(if script == STANDARD_INPUT {
-            INPUT_FILE
-        } else {
-            script
-        })?;
+        taken.add(script)?;
+        if script == STANDARD_INPUT {
+            taken.add(INPUT_FILE)?;
+        }
         taken.add_all(&media.loads)?;
         taken.add_all(&media.saves)?;
         Ok(taken)

@@ -1,4 +1,4 @@
-use Rattle.std.proofs.Common.{◌≡◌, Some, None, slice_get, rules, sym}
+use Rattle.std.proofs.Common.{◌≡◌, Some, None, slice_get, rules}
 use Rattle.job_world.specs.Making.{Collects}
 use Rattle.unit_world.specs.PostLists.{list_of}
 use Rattle.job_world.proofs.world.JobWorld.collect_post.Goals as goal

@@ -1,4 +1,4 @@
-use Rattle.std.proofs.Common.{◌≡◌, [], rules}
+use Rattle.std.proofs.Common.{◌≡◌, []}
 use Rattle.job_world.proofs.Nothing.{absent-part, none-left}
 use Rattle.job_world.proofs.world.JobWorld.has_flight.Goals as goal
 

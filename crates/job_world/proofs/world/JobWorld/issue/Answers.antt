@@ -1,7 +1,6 @@
 use Rattle.std.proofs.Common.{◌≡◌, ◌<◌, ℕ, IfOk, List, Result, Some, ap, get_or, inr, length, refl, slice_get, subst, sym}
 use Rattle.std.proofs.lemmas.Option.{slice_get_read}
 use Rattle.std.specs.declared.alloc.AllocError.{AllocError}
-use Rattle.any_device.specs.declared.device.AnyDevice.{AnyDevice}
 use Rattle.numbered_job.specs.declared.request.NumberedRequest.{NumberedRequest}
 use Rattle.request_piece.specs.declared.piece.Piece.{Piece}
 use Rattle.unit_world.specs.Parts.{PartAccepts}

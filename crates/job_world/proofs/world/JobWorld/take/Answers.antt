@@ -1,4 +1,4 @@
-use Rattle.std.proofs.Common.{◌≡◌, refl, sym, true}
+use Rattle.std.proofs.Common.{refl}
 use Rattle.job_world.specs.Making.{MakesNone, Takes}
 use Rattle.job_world.proofs.world.JobWorld.take.Goals as goal
 
