@@ -7,7 +7,7 @@ use Rattle.line_printer.specs.Paper.{Line, first_line}
 use Rattle.line_printer.specs.Printer.{PrinterState}
 use Rattle.medium_image.specs.declared.characters.TheConstants.{GRAPHICS}
 
--- the character of a byte: that of code page 1047, or U+FFFD for a control character
+-- the character of a byte: that of code page 037, or U+FFFD for a control character
 abbrev pub character : ℕ → ℕ
 character byte = if nat_lt byte 0x40 then 0xFFFD else slice_index GRAPHICS (byte - 0x40)
 

@@ -1,4 +1,4 @@
-//! The characters of EBCDIC code page 1047.
+//! The characters of EBCDIC code page 037.
 
 ghost use Rattle.std.specs.Prelude.{◌≡◌};
 ghost use Rattle.medium_image.specs.Paper.{character};
@@ -11,7 +11,7 @@ static GRAPHICS: [char; 192] = [
     // 40 to 4F
     ' ', '\u{a0}', 'â', 'ä', 'à', 'á', 'ã', 'å', 'ç', 'ñ', '¢', '.', '<', '(', '+', '|',
     // 50 to 5F
-    '&', 'é', 'ê', 'ë', 'è', 'í', 'î', 'ï', 'ì', 'ß', '!', '$', '*', ')', ';', '^',
+    '&', 'é', 'ê', 'ë', 'è', 'í', 'î', 'ï', 'ì', 'ß', '!', '$', '*', ')', ';', '¬',
     // 60 to 6F
     '-', '/', 'Â', 'Ä', 'À', 'Á', 'Ã', 'Å', 'Ç', 'Ñ', '¦', ',', '%', '_', '>', '?',
     // 70 to 7F
@@ -21,9 +21,9 @@ static GRAPHICS: [char; 192] = [
     // 90 to 9F
     '°', 'j', 'k', 'l', 'm', 'n', 'o', 'p', 'q', 'r', 'ª', 'º', 'æ', '¸', 'Æ', '¤',
     // A0 to AF
-    'µ', '~', 's', 't', 'u', 'v', 'w', 'x', 'y', 'z', '¡', '¿', 'Ð', '[', 'Þ', '®',
+    'µ', '~', 's', 't', 'u', 'v', 'w', 'x', 'y', 'z', '¡', '¿', 'Ð', 'Ý', 'Þ', '®',
     // B0 to BF
-    '¬', '£', '¥', '·', '©', '§', '¶', '¼', '½', '¾', 'Ý', '¨', '¯', ']', '´', '×',
+    '^', '£', '¥', '·', '©', '§', '¶', '¼', '½', '¾', '[', ']', '¯', '¨', '´', '×',
     // C0 to CF
     '{', 'A', 'B', 'C', 'D', 'E', 'F', 'G', 'H', 'I', '\u{ad}', 'ô', 'ö', 'ò', 'ó', 'õ',
     // D0 to DF
@@ -34,7 +34,7 @@ static GRAPHICS: [char; 192] = [
     '0', '1', '2', '3', '4', '5', '6', '7', '8', '9', '³', 'Û', 'Ü', 'Ù', 'Ú', '\u{fffd}',
 ];
 
-/// The character of a byte: that of code page 1047, or U+FFFD for a control character.
+/// The character of a byte: that of code page 037, or U+FFFD for a control character.
 pub(crate) fn character(byte: u8) -> char
     ensures { result ≡ character byte }
 {
