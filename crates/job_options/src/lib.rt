@@ -6,15 +6,17 @@
 #![tactic(auto)]
 
 mod commands;
+mod entries;
 mod unit_file;
 
 ghost use Rattle.std.specs.Prelude.{◌≤◌, IfSome};
 
 use clap::error::ErrorKind;
 use clap::{ArgMatches, Command, Error};
-use commands::{
+use commands::command;
+use entries::{
     CHANNELS, FILE, HANDLERS, IMAGES, LOAD, MOST_STATES, SAVE, SCENARIOS, SCHEDULE, SCRIPT, SEED,
-    TURN, WHOLE, command,
+    TURN, WHOLE,
 };
 use std::alloc::{AllocError, Global};
 pub use unit_file::UnitFile;

@@ -13,7 +13,7 @@ use job_world::ScriptLines;
 use numbered_job::opened_job;
 use outcome_search::{Limits, Search};
 use outcome_witness::Bench;
-use std::alloc::Global;
+use std::alloc::{AllocError, Global};
 use std::io::Write;
 
 /// Searches for every outcome of the job of a script, whose text this is, and writes them. `given` has the device that each
@@ -33,23 +33,61 @@ pub fn write_outcomes<W: Write, K: ScenarioKeeper>(
 {
     let (job, books) = opened_job(alloc, script, given)?;
     let bench = Bench::new(alloc, &job, books);
-    let mut search = Search::new(alloc, &job, bench.books()?, asked.turn, asked.whole)?;
-    let limits = Limits {
+    search_and_tell(alloc, text, script, &bench, asked, out, keeper)
+}
+
+/// Searches for the outcomes of this job, and writes them.
+fn search_and_tell<'t, W: Write, K: ScenarioKeeper>(
+    alloc: Global,
+    text: &'t [u8],
+    script: &'t Script,
+    bench: &'t Bench<'t>,
+    asked: &Asked,
+    out: &mut W,
+    keeper: &mut K,
+) -> Result<(), JobError> {
+    let mut search = new_search(alloc, bench, asked)?;
+    // without memory the search is not complete
+    let _ = search.explore(limits_of(asked));
+    tell_found(alloc, text, script, bench, &mut search, asked, out, keeper)
+}
+
+fn new_search<'t>(
+    alloc: Global,
+    bench: &'t Bench<'t>,
+    asked: &Asked,
+) -> Result<Search<'t>, AllocError> {
+    Search::new(alloc, bench.job(), bench.books()?, asked.turn, asked.whole)
+}
+
+fn limits_of(asked: &Asked) -> Limits {
+    Limits {
         states: asked.most_states,
         bytes: asked.most_bytes,
-    };
-    // without memory the search is not complete
-    let _ = search.explore(limits);
-    let requests = in_order(alloc, &job)?;
+    }
+}
+
+/// Tells what a search found.
+fn tell_found<'t, W: Write, K: ScenarioKeeper>(
+    alloc: Global,
+    text: &'t [u8],
+    script: &'t Script,
+    bench: &'t Bench<'t>,
+    search: &mut Search<'_>,
+    asked: &Asked,
+    out: &mut W,
+    keeper: &mut K,
+) -> Result<(), JobError> {
+    let requests = in_order(alloc, bench.job())?;
     let lines = ScriptLines::new(alloc, text)?;
     let scenes = Scenes {
         alloc,
-        bench: &bench,
+        bench,
         script,
         lines: &lines,
     };
-    let lost = tell_all(scenes, &mut search, &requests, out, keeper)?;
-    written(write_summary(out, &search, &requests, asked, lost))
+    let lost = tell_all(scenes, search, &requests, out, keeper)?;
+    written(write_summary(out, search, &requests, asked, lost))
 }
 
 /// Tells the outcomes of these requests, and the whole outputs that were sought. Returns how many have no witness.

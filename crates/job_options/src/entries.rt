@@ -1,0 +1,375 @@
+//! The subcommands and their options, as data.
+
+/// The argument that names the file of a script.
+pub const SCRIPT: &str = "SCRIPT";
+
+/// The argument that names the files of images to describe.
+pub const IMAGES: &str = "IMAGE";
+
+/// The argument that names the file of an image or of a script to convert.
+pub const FILE: &str = "FILE";
+
+/// The options that name the files of media, which are loaded before a run and saved after it.
+pub const LOAD: &str = "load";
+
+pub const SAVE: &str = "save";
+
+/// The options of the numbers of workers.
+pub const CHANNELS: &str = "channels";
+
+pub const HANDLERS: &str = "handlers";
+
+/// The options of a run by a seed: the seed, and the file of its scenario. `check` has a flag of the second name.
+pub const SEED: &str = "seed";
+
+pub const SCHEDULE: &str = "schedule";
+
+/// The options of a search for outcomes.
+pub const TURN: &str = "turn";
+
+pub const MOST_STATES: &str = "most-states";
+
+pub const WHOLE: &str = "whole";
+
+pub const SCENARIOS: &str = "scenarios";
+
+/// The group of the forms that have commands.
+const DETAILED: &str = "detailed";
+
+const HTML: &str = "html";
+
+/// The formats of images, as words of `--to`.
+pub const FORMATS: &[&str] = &["aws", "ckd"];
+
+/// The lines of a script in brief (docs/MANUAL.md).
+pub(crate) const LINES: &str =
+    "Lines of a script; tasks, units and areas are numbered from 0, DCBs from 1:
+  tasks N                            so many tasks; the first line
+  disk U ISC CYLINDERS HEADS BYTES   a disk with tracks of so many bytes
+  rec U CYLINDER HEAD R KEY DATA     a record on it, in hexadecimal, - for none
+  tape U ISC BYTES                   a tape; block U DATA and mark U lie on it
+  printer U ISC LINES PAGES          a printer
+  fault U N STATUS STATUS SENSE      the unit's N-th command meets a fault
+  open U in|out EXTENT ...           the next DCB of a unit; extents of a disk alone
+  area A ADDR HEX ...                storage of requests: IOB, ECB, channel program
+  excp T U DCB IOB A SHOW LEN        task T issues a request, shows LEN bytes of it
+  wait T                             task T waits for its requests
+  purge T U DCB halt|quiesce         purgetask T OTHER halt|quiesce
+  close T U DCB                      reset T U DCB
+  # ...                              a comment";
+
+/// What an argument takes.
+#[derive(Clone, Copy)]
+pub(crate) enum Takes {
+    Nothing,
+    Text,
+    Texts,
+    OneOrMore,
+    Required,
+    Format,
+    Number(u64, u64),
+}
+
+/// An option or an argument, as data.
+#[derive(Clone, Copy)]
+pub(crate) struct Entry {
+    pub name: &'static str,
+    pub long: &'static str,
+    pub value: &'static str,
+    pub help: &'static str,
+    pub default: &'static str,
+    pub takes: Takes,
+    pub group: &'static str,
+    pub needs: &'static str,
+    pub conflicts: &'static [&'static str],
+}
+
+/// A flag without relations.
+const FLAG: Entry = Entry {
+    name: "",
+    long: "",
+    value: "",
+    help: "",
+    default: "",
+    takes: Takes::Nothing,
+    group: "",
+    needs: "",
+    conflicts: &[],
+};
+
+/// A subcommand, as data.
+#[derive(Clone, Copy)]
+pub(crate) struct Subcommand {
+    pub name: &'static str,
+    pub about: &'static str,
+    pub entries: &'static [Entry],
+}
+
+const CHANNELS_ENTRY: Entry = Entry {
+    name: CHANNELS,
+    long: CHANNELS,
+    value: "N",
+    help: "How many channel workers serve the units, 1 to 16",
+    default: "1",
+    takes: Takes::Number(1, 16),
+    ..FLAG
+};
+
+const HANDLERS_ENTRY: Entry = Entry {
+    name: HANDLERS,
+    long: HANDLERS,
+    value: "N",
+    help: "How many handlers serve interruptions, 1 to 8",
+    default: "1",
+    takes: Takes::Number(1, 8),
+    ..FLAG
+};
+
+const LOAD_ENTRY: Entry = Entry {
+    name: LOAD,
+    long: LOAD,
+    value: "U=FILE",
+    help: "Loads the medium of unit U from an image; its line has its size, or - for the image's",
+    takes: Takes::Texts,
+    ..FLAG
+};
+
+const SAVE_ENTRY: Entry = Entry {
+    name: SAVE,
+    long: SAVE,
+    value: "U=FILE",
+    help: "Saves the medium of unit U at the end: a tape in AWS, a disk in CKD, a printer as text",
+    takes: Takes::Texts,
+    ..FLAG
+};
+
+const SCRIPT_ENTRY: Entry = Entry {
+    name: SCRIPT,
+    help: "The file of the script; without it, or with -, standard input",
+    takes: Takes::Text,
+    ..FLAG
+};
+
+const MOST_STEPS: Entry = Entry {
+    name: "most-steps",
+    long: "most-steps",
+    value: "N",
+    takes: Takes::Number(1, u64::MAX),
+    needs: DETAILED,
+    ..FLAG
+};
+
+pub(crate) const SUBCOMMANDS: &[Subcommand] = &[
+    Subcommand {
+        name: "run",
+        about: "Reads a script from standard input and prints its posts",
+        entries: &[CHANNELS_ENTRY, HANDLERS_ENTRY],
+    },
+    Subcommand {
+        name: "report",
+        about: "Prints the posts of a script, the history of each unit and what lies on its medium",
+        entries: &[
+            CHANNELS_ENTRY,
+            HANDLERS_ENTRY,
+            Entry {
+                name: "steps",
+                long: "steps",
+                help: "Every command of each history too: some 200 bytes each, and up to 4,096 an attempt",
+                group: DETAILED,
+                ..FLAG
+            },
+            Entry {
+                name: "json",
+                long: "json",
+                help: "All of a report as JSON, with every command (docs/REPORT.md)",
+                group: DETAILED,
+                ..FLAG
+            },
+            Entry {
+                help: "With --steps or --json: only the first N commands of each unit",
+                ..MOST_STEPS
+            },
+            Entry {
+                name: HTML,
+                long: HTML,
+                help: "All of a report as one page for a browser: a picture of the run, and a panel for each request",
+                conflicts: &[DETAILED],
+                ..FLAG
+            },
+            Entry {
+                name: "posts",
+                long: "posts",
+                help: "The posts and their count alone, as `run` prints them",
+                conflicts: &[DETAILED, HTML],
+                ..FLAG
+            },
+            Entry {
+                name: SEED,
+                long: SEED,
+                value: "N",
+                help: "Runs on one thread, by the schedule of this seed: the same run each time",
+                takes: Takes::Number(0, u64::MAX),
+                conflicts: &[CHANNELS, HANDLERS],
+                ..FLAG
+            },
+            Entry {
+                name: SCHEDULE,
+                long: "scenario",
+                value: "FILE",
+                help: "With --seed: writes the schedule as a scenario, which `step` runs to the same end",
+                takes: Takes::Text,
+                needs: SEED,
+                ..FLAG
+            },
+            LOAD_ENTRY,
+            SAVE_ENTRY,
+            SCRIPT_ENTRY,
+        ],
+    },
+    Subcommand {
+        name: "check",
+        about: "Prints every fault of a script, and warnings, as FILE:LINE: TEXT; runs nothing",
+        entries: &[
+            Entry {
+                name: "scenario",
+                long: "scenario",
+                help: "Reads a scenario, as `step` does",
+                ..FLAG
+            },
+            LOAD_ENTRY,
+            SCRIPT_ENTRY,
+        ],
+    },
+    Subcommand {
+        name: "assemble",
+        about: "Prints the plain script of one with symbolic areas, or every fault of it",
+        entries: &[SCRIPT_ENTRY],
+    },
+    Subcommand {
+        name: "step",
+        about: "Carries out a scenario event by event, and prints each answer at once",
+        entries: &[
+            Entry {
+                name: "plain",
+                long: "plain",
+                help: "Units and rows without locks; the answers are the same",
+                ..FLAG
+            },
+            Entry {
+                name: "trace",
+                long: "trace",
+                help: "The entries that each event adds to the traces of units",
+                conflicts: &[DETAILED, HTML],
+                ..FLAG
+            },
+            Entry {
+                name: "state",
+                long: "state",
+                help: "The state of each unit after each event",
+                conflicts: &[DETAILED, HTML],
+                ..FLAG
+            },
+            Entry {
+                name: "json",
+                long: "json",
+                help: "No answers; at the end all that happened as JSON (docs/REPORT.md)",
+                group: DETAILED,
+                ..FLAG
+            },
+            Entry {
+                help: "With --json: only the first N commands of each unit",
+                ..MOST_STEPS
+            },
+            Entry {
+                name: HTML,
+                long: HTML,
+                help: "No answers; at the end all that happened as one page for a browser",
+                conflicts: &[DETAILED],
+                ..FLAG
+            },
+            LOAD_ENTRY,
+            SAVE_ENTRY,
+            SCRIPT_ENTRY,
+        ],
+    },
+    Subcommand {
+        name: "outcomes",
+        about: "Prints the posts that each request can have, over all orders of steps, with steps that lead to each; of eight or more, the first of each completion code",
+        entries: &[
+            Entry {
+                name: TURN,
+                long: TURN,
+                value: "N",
+                help: "A program does N commands between two steps of others; 1 covers every place of a halt",
+                default: "64",
+                takes: Takes::Number(1, 65_535),
+                ..FLAG
+            },
+            Entry {
+                name: MOST_STATES,
+                long: MOST_STATES,
+                value: "N",
+                help: "The search ends after N states, and says that it has not found all",
+                default: "1000000",
+                takes: Takes::Number(1, 4_294_967_295),
+                ..FLAG
+            },
+            Entry {
+                name: WHOLE,
+                long: WHOLE,
+                help: "Prints the whole outputs too: the posts that all requests can have together",
+                ..FLAG
+            },
+            Entry {
+                name: SCENARIOS,
+                long: SCENARIOS,
+                value: "DIR",
+                help: "Writes a scenario for each outcome into this directory, which `step` runs to that post",
+                takes: Takes::Text,
+                ..FLAG
+            },
+            LOAD_ENTRY,
+            SCRIPT_ENTRY,
+        ],
+    },
+    Subcommand {
+        name: "describe",
+        about: "Prints what images of tapes and disks hold: size, label, data sets, and the first fault",
+        entries: &[Entry {
+            name: IMAGES,
+            help: "Files of AWS tape images and CKD disk images",
+            takes: Takes::OneOrMore,
+            ..FLAG
+        }],
+    },
+    Subcommand {
+        name: "convert",
+        about: "Prints an image as the lines of a script, or makes an image of such lines",
+        entries: &[
+            Entry {
+                name: "to",
+                long: "to",
+                value: "FORMAT",
+                help: "Makes an image of the one unit of a script, in this format",
+                takes: Takes::Format,
+                needs: "output",
+                ..FLAG
+            },
+            Entry {
+                name: "output",
+                long: "output",
+                value: "OUT",
+                help: "The file of the image that is made",
+                takes: Takes::Text,
+                needs: "to",
+                ..FLAG
+            },
+            Entry {
+                name: FILE,
+                help: "The file of an image, or with --to of a script",
+                takes: Takes::Required,
+                ..FLAG
+            },
+        ],
+    },
+];
