@@ -6,7 +6,8 @@ EXTENT = "18000000000000000000000000000001"
 
 FAULTS = "0E 00 1000", "0E 00 0800", "00 08 0000", "0E 00 8000", "00 04 0000"
 
-# What programs do, by the kind of a unit: three doublewords at 001030, where the data is at 001068 and a search argument at 001060.
+# What programs do, by the kind of a unit: up to six doublewords at 001030, where the data is at 001068 and a search argument at 001060.
+# The last one of a disk writes R1, and then restores it.
 PROGRAMS = {
     "disk": (
         ("3100106040000005", "0800103000000000", "0600106800000002"),
@@ -14,6 +15,7 @@ PROGRAMS = {
         ("3100106040000005", "0800103000000000", "0500106A00000002"),
         ("0300106020000001", "0" * 16, "0" * 16),
         ("0300106060000001", "0300106060000001", "0300106020000001"),
+        ("3100106040000005", "0800103000000000", "0500106A40000002", "3100106040000005", "0800104800000000", "0500106C00000002"),
     ),
     "tape": (
         ("0200106820000002", "0" * 16, "0" * 16),
@@ -36,7 +38,8 @@ def area_of(chance, kind, dcb):
     record = "09" if kind == "disk" and chance.random() < 0.12 else "01"
     iob = f"{flags}00000000001028" + "0" * 16 + f"00001030{dcb:08X}" + "0" * 16 + f"{bad_seek}00000000000000"
     data = f"{chance.choice((0xA1, 0xA2)):02X}" * 2
-    return iob + "0" * 16 + "".join(chance.choice(PROGRAMS[kind])) + "0" * 48 + f"00000000{record}000000" + f"0000{data}00000000"
+    program = "".join(chance.choice(PROGRAMS[kind])).ljust(96, "0")
+    return iob + "0" * 16 + program + f"00000000{record}000000" + f"0000{data}C1C20000"
 
 
 def unit_lines(chance, unit, kind):
@@ -67,7 +70,7 @@ class Maker:
         lines = [f"tasks {self.tasks}"]
         for unit, kind in enumerate(self.kinds):
             lines += unit_lines(self.chance, unit, kind)
-            for dcb in range(1, self.chance.randint(1, 2) + 1):
+            for dcb in range(1, self.chance.randint(1, 3) + 1):
                 self.dcbs.append((unit, dcb))
                 lines.append(f"open {unit} {self.chance.choice(('in', 'out', 'out'))}" + (f" {EXTENT}" if kind == "disk" else ""))
         return lines

@@ -67,6 +67,14 @@ BY_HAND = {
     "a close": (DISK + "fault 0 1 0E 00 1000\n" + OPEN + PLAIN + EXCP.format(0, 0) + "close 1 0 1\n", (), {"0 0 1": {ENDED, WAITED}}),
 }
 
+# Jobs of tests/cases/outcomes, each with an outcome that a search loses if it saves too much: the options, the request and its post.
+# A program that writes a record and restores it is halted between its writes, and another one reads the record. A request arrives at
+# an idle unit before one that is posted on arrival, and is purged before it is started; so a later one reads the first block.
+SELDOM = {
+    "halted-between-writes": (("--turn", "1"), "2 0 1", "7F 0010A0 0C00 0000 0000 AAAAAAAA"),
+    "arrival-before-doomed": ((), "1 0 3", "7F 0010D0 0C00 0000 0000 B0"),
+}
+
 # Two tapes, of each of which the first request reads the block 01 and the second the block 02. Task 0 issues to both; task 1 issues to
 # the second one, waits, and issues to the first. So if task 0 is first at the second tape, it is first at the first one too: of the
 # four outputs there are three. An order of a whole row that is chosen too early loses one.
@@ -141,6 +149,11 @@ def is_by_hand(setup, script, words, wanted):
     several = sum(len(posts) > 1 for posts in told.values())
     plural = "request has" if several == 1 else "requests have"
     require(last.startswith(f"{several} {plural} more than one outcome (turns of "), f"the last line is {last!r}")
+
+
+def has_outcome(setup, name, words, request, post):
+    told, _ = outcomes_of(setup, read(f"{TOP}/tests/cases/outcomes/{name}.script"), *words)
+    require(post in told.get(request, []), f"the outcomes of {request} are {told.get(request)}")
 
 
 def has_outputs(setup, script, wanted):
@@ -265,6 +278,8 @@ def cases(setup):
     yield Case("an image wants a unit", lambda: rejects_no_unit(setup), ORIGIN)
     for name, (script, words, wanted) in BY_HAND.items():
         yield Case(f"by hand, {name}", lambda s=script, w=words, o=wanted: is_by_hand(setup, s, w, o), ORIGIN)
+    for name, seldom in SELDOM.items():
+        yield Case(f"tests/cases/outcomes/{name}.script", lambda n=name, s=seldom: has_outcome(setup, n, *s), ORIGIN)
     for name, (script, wanted) in OUTPUTS.items():
         yield Case(f"whole outputs, {name}", lambda s=script, w=wanted: has_outputs(setup, s, w), ORIGIN)
     yield Case("a search that is cut", lambda: is_cut(setup), ORIGIN)
