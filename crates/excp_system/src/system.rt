@@ -15,7 +15,7 @@ use device_port::Device;
 use fifo_row::Taker;
 use std::alloc::{AllocError, AllocFailed, Global};
 use std::sync::{Mutex, Wait};
-use unit_book::{Mode, Purging, UnitBook};
+use unit_book::{Entry, Mode, Purging, UnitBook};
 
 /// The units of a site, each under its lock.
 #[derive(Drop)]
@@ -72,10 +72,29 @@ impl<'r, S: Site, D: Device> System<'r, S, D> {
     ) -> Result<Vec<Result<Purging, AllocError>>, AllocError>
         ensures { IfOk result (λ answers. vec_len answers ≡ S.rows.units) }
     {
+        self.purge_task_and(rt, task, mode, |purging, _| purging)
+    }
+
+    /// Purges as [`System::purge_task`], and returns for each purged unit what `tell` returns of the purge's answer and
+    /// the unit's trace, under the same lock.
+    pub fn purge_task_and<R: Wait, T, F: Fn(Purging, &[Entry]) -> T>(
+        &self,
+        rt: &R,
+        task: u16,
+        mode: Mode,
+        tell: F,
+    ) -> Result<Vec<Result<T, AllocError>>, AllocError>
+        requires { F.IsAlwaysCallable tell }
+        ensures { IfOk result (λ answers. vec_len answers ≡ S.rows.units) }
+    {
         let count = self.locks.len();
         let mut answers = Vec::with_capacity(self.alloc, count)?;
         for place in 0..count {
-            answers.push_reserved(self.locks[place].lock(rt).purge_task(rt, task, mode));
+            let mut unit = self.locks[place].lock(rt);
+            answers.push_reserved(match unit.purge_task(rt, task, mode) {
+                Ok(purging) => Ok(tell(purging, unit.book().trace())),
+                Err(error) => Err(error),
+            });
         }
         Ok(answers)
     }

@@ -1,4 +1,8 @@
--- The books of a script, by what a run ends, and what commands send.
+-- The books of a script, by what a run ends, what commands send, and where tasks stop.
 pub mod Books
 pub mod Ends
 pub mod Sent
+pub mod Stops
+pub mod Noted
+pub mod Requested
+pub mod Rans

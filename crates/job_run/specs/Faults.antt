@@ -6,14 +6,13 @@ use Rattle.job_script.specs.declared.fault.FaultName.TheVariants as names
 use Rattle.job_run.specs.declared.task_error.TaskError.{TaskError}
 use Rattle.job_run.specs.declared.task_error.TaskError.TheVariants as errors
 use Rattle.job_run.specs.declared.command_fault.CommandFault.{CommandFault}
-use Rattle.job_run.specs.declared.command_fault.CommandFault.TheVariants.{NoNumber, NotOpen, NoMemory}
+use Rattle.job_run.specs.declared.command_fault.CommandFault.TheVariants.{NoNumber, NoMemory}
 use Rattle.job_run.specs.declared.output.Output.{Output}
 use Rattle.job_run.specs.declared.output.Output.TheVariants.{Posts, Report}
 
 -- what ends the task, by the line of the command
 abbrev pub fault_at : CommandFault → ℕ → TaskError
 fault_at NoNumber line = errors.Line line names.Request
-fault_at NotOpen line = errors.Line line names.Name
 fault_at NoMemory line = errors.NoMemory
 
 -- what ends the run, if a task ends by this

@@ -3,3 +3,6 @@ pub mod Ending
 pub mod Faults
 pub mod Rooms
 pub mod Sending
+pub mod Noting
+pub mod Requests
+pub mod Ran

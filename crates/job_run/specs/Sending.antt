@@ -13,7 +13,7 @@ use Rattle.job_script.specs.declared.command.Excp.{Excp as OneExcp}
 use Rattle.job_run.specs.declared.task_error.TaskError.{TaskError}
 use Rattle.job_run.specs.declared.task_error.TaskError.TheVariants as errors
 use Rattle.job_run.specs.declared.command_fault.CommandFault.{CommandFault}
-use Rattle.job_run.specs.declared.command_fault.CommandFault.TheVariants.{NoNumber, NotOpen, NoMemory}
+use Rattle.job_run.specs.declared.command_fault.CommandFault.TheVariants.{NoNumber, NoMemory}
 use Rattle.job_run.specs.Faults.{fault_at}
 
 -- an EXCP sends its request to its unit, under the task's next number there; `sent` is what the task has sent to each unit
@@ -40,22 +40,14 @@ sends_all task (c ∷ others) sent = sends_all task others (if c.task == task th
 -- an EXCP fails if memory runs out, or if the task has used its last number at the unit
 abbrev pub ExcpFails : OneExcp → List (List Piece) → CommandFault → Type 0
 ExcpFails e sent NoNumber = 2 ^ 32 - 1 ≤ length (slice_index_or sent e.dcb.unit [])
-ExcpFails e sent NotOpen = ⊥
 ExcpFails e sent NoMemory = Unit {0}
 
--- a purge or a close fails if memory runs out, or if its DCB is not open
-abbrev pub DcbFails : CommandFault → Type 0
-DcbFails NoNumber = ⊥
-DcbFails NotOpen = Unit {0}
-DcbFails NoMemory = Unit {0}
-
--- why a command fails, when the task has sent this; all but an EXCP, a purge of a DCB and a close fail only if memory
--- runs out
+-- why a command fails, when the task has sent this: all but an EXCP fail only if memory runs out
 abbrev pub Fails : Action → List (List Piece) → CommandFault → Type 0
 Fails (Excp e) sent fault = ExcpFails e sent fault
-Fails (Purge dcb mode) sent fault = DcbFails fault
+Fails (Purge dcb mode) sent fault = fault ≡ NoMemory
 Fails (PurgeTask other mode) sent fault = fault ≡ NoMemory
-Fails (Close dcb) sent fault = DcbFails fault
+Fails (Close dcb) sent fault = fault ≡ NoMemory
 Fails (Reset dcb) sent fault = fault ≡ NoMemory
 Fails Wait sent fault = fault ≡ NoMemory
 

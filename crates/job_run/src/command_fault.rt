@@ -2,21 +2,17 @@
 
 ghost use Rattle.std.specs.Prelude.{◌≡◌};
 ghost use Rattle.job_run.specs.Faults.{fault_at};
-ghost use Rattle.job_run.specs.Sending.{DcbFails};
 ghost use Rattle.job_run.specs.declared.command_fault.CommandFault.TheVariants as command_faults;
 
 use crate::task_error::TaskError;
 use job_script::FaultName;
 use std::alloc::AllocError;
-use unit_book::DcbError;
 
 /// Why a command of a task is not done.
 #[derive(Clone, Copy)]
 pub(crate) enum CommandFault {
     /// The task has used the last number of a request to the unit.
     NoNumber,
-    /// The DCB is not open.
-    NotOpen,
     NoMemory,
 }
 
@@ -27,7 +23,6 @@ impl CommandFault {
     {
         let name = match self {
             CommandFault::NoNumber => FaultName::Request,
-            CommandFault::NotOpen => FaultName::Name,
             CommandFault::NoMemory => return TaskError::NoMemory,
         };
         TaskError::Line { line, name }
@@ -39,16 +34,5 @@ impl From<AllocError> for CommandFault {
 
     fn from(_error: AllocError) -> Self {
         CommandFault::NoMemory
-    }
-}
-
-impl From<DcbError> for CommandFault {
-    ghost from_gives = { λ _ e. DcbFails e };
-
-    fn from(error: DcbError) -> Self {
-        match error {
-            DcbError::NoSuchDcb => CommandFault::NotOpen,
-            DcbError::NoMemory => CommandFault::NoMemory,
-        }
     }
 }

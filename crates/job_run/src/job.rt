@@ -4,6 +4,8 @@ ghost use Rattle.std.specs.Prelude.{◌≡◌, ◌<◌, All, IfErr, OnErr, OnOk,
 ghost use Rattle.excp_system.specs.States.{awaited_count};
 ghost use Rattle.job_mount.specs.Requests.{CanBeDone, CanIssue};
 ghost use Rattle.job_script.specs.Commands.{NamesUnits};
+ghost use Rattle.run_record.specs.Record.{NotesPost};
+ghost use Rattle.job_run.specs.Noting.{Notes};
 ghost use Rattle.job_run.specs.Sending.{EndsEarly, ExcpFails, Fails, StopsAt, sends, sends_all, sends_excp};
 
 use crate::command_fault::CommandFault;
@@ -84,6 +86,7 @@ impl<'a, 'r, S: Site> Job<'a, 'r, S> {
         record: &mut TaskRecord,
     ) -> Result<(), TaskError>
         ensures number { client.new.number ≡ client.old.number }
+        ensures noted { Notes client.old.got «record».old client.new.got «record».new }
         ensures sent { OnOk result (client.new.sent ≡ sends_all client.old.number self.now.script.now.commands.items client.old.sent) }
         ensures stopped { IfErr result (StopsAt client.old.number self.now.script.now.commands.items client.old.sent client.new.sent) }
     {
@@ -108,6 +111,7 @@ impl<'a, 'r, S: Site> Job<'a, 'r, S> {
         requires units { NamesUnits S.rows.units command.now }
         requires request { CanBeDone command.now }
         ensures number { client.new.number ≡ client.old.number }
+        ensures noted { Notes client.old.got «record».old client.new.got «record».new }
         ensures sent { OnOk result (client.new.sent ≡ sends client.old.number command.now.action client.old.sent) }
         ensures unsent { OnErr result (client.new.sent ≡ client.old.sent) }
         ensures fails { IfErr result (Fails command.now.action client.old.sent) }
@@ -115,10 +119,7 @@ impl<'a, 'r, S: Site> Job<'a, 'r, S> {
         match &command.action {
             Action::Excp(excp) => self.issue(rt, alloc, client, record, excp)?,
             Action::Purge(dcb, mode) => purge(rt, self.system, *dcb, *mode, record)?,
-            Action::PurgeTask(task, mode) => {
-                let units = self.script.set_up.units.len() as u16;
-                purge_task(rt, self.system, units, *task, *mode, record)?;
-            }
+            Action::PurgeTask(task, mode) => purge_task(rt, self.system, *task, *mode, record)?,
             Action::Close(dcb) => close(rt, self.system, *dcb, record)?,
             Action::Reset(dcb) => reset(rt, self.system, *dcb, record)?,
             Action::Wait => {
@@ -142,6 +143,7 @@ impl<'a, 'r, S: Site> Job<'a, 'r, S> {
         requires unit { excp.now.dcb.unit < S.rows.units }
         requires request { CanIssue excp.now }
         ensures number { client.new.number ≡ client.old.number }
+        ensures noted { Notes client.old.got «record».old client.new.got «record».new }
         ensures sent { OnOk result (client.new.sent ≡ sends_excp client.old.number excp.now client.old.sent) }
         ensures unsent { OnErr result (client.new.sent ≡ client.old.sent) }
         ensures fails { IfErr result (ExcpFails excp.now client.old.sent) }
@@ -183,6 +185,7 @@ impl<'a, 'r, S: Site> Job<'a, 'r, S> {
         record: &mut TaskRecord,
     ) -> Result<(), AllocError>
         ensures number { client.new.number ≡ client.old.number }
+        ensures noted { Notes client.old.got «record».old client.new.got «record».new }
         ensures sent { client.new.sent ≡ client.old.sent }
         ensures awaits_none { OnOk result (awaited_count client.new ≡ 0) }
     {
@@ -197,6 +200,8 @@ impl<'a, 'r, S: Site> Job<'a, 'r, S> {
 }
 
 /// Notes a post that the task collected. What its record holds then is no matter of the loops that call this.
-fn note_collected(record: &mut TaskRecord, posted: &Posted) {
+fn note_collected(record: &mut TaskRecord, posted: &Posted)
+    ensures { NotesPost «record».old «record».new posted.now }
+{
     record.collect(posted);
 }

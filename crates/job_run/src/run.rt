@@ -5,8 +5,9 @@ ghost use Rattle.job_mount.specs.Requests.{CanBeDone};
 ghost use Rattle.job_script.specs.Reading.{ReadsAtMost};
 ghost use Rattle.job_script.specs.Views.{said};
 ghost use Rattle.run_record.specs.Complete.{IsComplete};
-ghost use Rattle.job_run.specs.Ending.{EndsBy, EndsParsed, IsFaultlessWith, IsLate, RunsWhole};
+ghost use Rattle.job_run.specs.Ending.{EndsBeside, EndsBy, EndsParsed, IsFaultlessWith, IsLate, IsOfTask, RanWhole};
 ghost use Rattle.job_run.specs.Faults.{LeavesWriter};
+ghost use Rattle.job_run.specs.Ran.{IsDone, Ran};
 ghost use Rattle.excp_system.specs.Opening.{AreBooks, AreFresh};
 ghost use Rattle.post_ledger.specs.Report.{IsFor};
 ghost use Rattle.post_ledger.specs.Work.{lists_of};
@@ -47,7 +48,7 @@ pub fn run_script<R: Threads + Wait + Sync, I: Read, W: Write>(
 ) -> Result<(), JobError>
     ensures bounded { ReadsAtMost (LIMIT + 1) (I.remaining reader.old) (I.remaining reader.new) }
     ensures unwritten { IfErr result (λ fault. LeavesWriter fault writer.old writer.new) }
-    ensures ran { OnOk result (RunsWhole LIMIT (I.remaining reader.old) (I.remaining reader.new)) }
+    ensures ran { OnOk result (RanWhole LIMIT (I.remaining reader.old) (I.remaining reader.new)) }
     ensures fault { IfErr result (EndsBy LIMIT (I.remaining reader.old) (I.remaining reader.new)) }
 {
     match read_and_run(rt, alloc, reader, workers) {
@@ -70,7 +71,7 @@ pub fn report_script<R: Threads + Wait + Sync, I: Read, W: Write>(
 ) -> Result<(), JobError>
     ensures bounded { ReadsAtMost (LIMIT + 1) (I.remaining reader.old) (I.remaining reader.new) }
     ensures unwritten { steps ≡ None → IfErr result (λ fault. LeavesWriter fault writer.old writer.new) }
-    ensures ran { OnOk result (RunsWhole LIMIT (I.remaining reader.old) (I.remaining reader.new)) }
+    ensures ran { OnOk result (RanWhole LIMIT (I.remaining reader.old) (I.remaining reader.new)) }
     ensures fault { IfErr result (EndsBy LIMIT (I.remaining reader.old) (I.remaining reader.new)) }
 {
     let (script, run) = read_and_run(rt, alloc, reader, workers)?;
@@ -90,7 +91,7 @@ fn read_and_run<R: Threads + Wait + Sync, I: Read>(
     workers: Workers,
 ) -> Result<(Script, Finished), JobError>
     ensures bounded { ReadsAtMost (LIMIT + 1) (I.remaining reader.old) (I.remaining reader.new) }
-    ensures ran { OnOk result (RunsWhole LIMIT (I.remaining reader.old) (I.remaining reader.new)) }
+    ensures ran { OnOk result (RanWhole LIMIT (I.remaining reader.old) (I.remaining reader.new)) }
     ensures fault { IfErr result (EndsBy LIMIT (I.remaining reader.old) (I.remaining reader.new)) }
 {
     let text = read_script(alloc, reader)?;
@@ -112,6 +113,7 @@ pub fn run_parsed<R: Threads + Wait + Sync>(
     requires tasks { (1 ≤ script.now.set_up.tasks) × (script.now.set_up.tasks ≤ 64) }
     requires units { (1 ≤ vec_len script.now.set_up.units) × (vec_len script.now.set_up.units ≤ 64) }
     ensures ran { OnOk result (IsFaultlessWith given.items (said script.now)) }
+    ensures units { IfOk result (λ finished. Ran script.now finished.report.books) }
     ensures fault { IfErr result (EndsParsed given.items (said script.now)) }
 {
     let (rows, books) = rows_and_books(alloc, script, given)?;
@@ -132,8 +134,10 @@ pub fn run_on<R: Threads + Wait + Sync>(
     requires books { AreBooks rows.units books.items }
     requires units { vec_len script.now.set_up.units ≡ rows.units }
     requires few { (rows.units ≤ 64) × (rows.tasks ≤ 64) }
+    requires tasks { script.now.set_up.tasks ≡ rows.tasks }
     requires requests { All CanBeDone script.now.commands.items }
-    ensures { IfErr result IsLate }
+    ensures ran { IfOk result (λ finished. Ran script.now finished.report.books) }
+    ensures fault { IfErr result (IsLate script.now) }
 {
     let tasks = ScriptTasks::new(script);
     match run_program(rt, alloc, rows, books, workers, &tasks) {
@@ -156,7 +160,8 @@ pub fn ended(
     requires few_units { length report.books ≤ 64 }
     requires few_tasks { length outcomes.items ≤ 64 }
     ensures report { IfOk result (λ finished. finished.report ≡ report) }
-    ensures fault { IfErr result IsLate }
+    ensures done { OnOk result (All IsDone outcomes.items) }
+    ensures fault { IfErr result (EndsBeside outcomes.items) }
 {
     let mut tasks = records_of(alloc, outcomes)?;
     add_rest(&mut tasks, &report);
@@ -171,7 +176,9 @@ fn records_of(
     alloc: Global,
     outcomes: Vec<Result<TaskRecord, TaskError>>,
 ) -> Result<Vec<TaskRecord>, TaskError>
-    ensures { IfOk result (λ tasks. length tasks.items ≡ length outcomes.items) }
+    ensures count { IfOk result (λ tasks. length tasks.items ≡ length outcomes.items) }
+    ensures done { OnOk result (All IsDone outcomes.items) }
+    ensures fault { IfErr result (IsOfTask outcomes.items) }
 {
     if outcomes.iter().any(wants_memory) {
         return Err(TaskError::NoMemory);

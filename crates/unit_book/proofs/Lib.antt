@@ -30,6 +30,7 @@ pub mod WorldBooks
 pub mod WorldSteps
 pub mod WorldOrder
 pub mod Worlds
+pub mod Counted
 mod WorldRows
 pub mod Settling
 pub mod Kept

@@ -3,9 +3,10 @@ use Rattle.std.specs.Prelude.{◌≡◌, ◌≤◌, ℕ, ◌+◌, ◌==◌, Some
 use Rattle.std.specs.List.{filter}
 use Rattle.device_port.specs.Meaning.{Meaning}
 use Rattle.request_piece.specs.declared.piece.Name.{Name}
+use Rattle.request_piece.specs.PostedState.{PostedState}
 use Rattle.request_piece.specs.declared.piece.Piece.{Piece}
 use Rattle.unit_book.specs.declared.entry.Entry.{Entry}
-use Rattle.unit_book.specs.Trace.{posts, arrivals, waiting, active, has_started}
+use Rattle.unit_book.specs.Trace.{posts, same, arrivals, waiting, active, has_started}
 use Rattle.unit_book.specs.Legal.{Legal, Settled}
 use Rattle.unit_book.specs.Posts.{posted}
 use Rattle.unit_book.specs.Lists.{Each}
@@ -16,7 +17,16 @@ use Rattle.unit_book.specs.World.{World, IsOpening, IsFinished, Reaches, request
 abbrev pub posts_of : Name → List Entry → ℕ
 posts_of n H = length (filter (posts n) H)
 
+-- how many of these posted values have a name
+abbrev pub values_named : Name → List PostedState → ℕ
+values_named n ps = length (filter (λ p. same p.name n) ps)
+
 module _ {D : Type 0} (meaning : Meaning D) where
+  -- A LEGAL TRACE HAS AS MANY POSTED VALUES of a name as Posts of it
+  abbrev pub HaveValues : Type 0
+  HaveValues = (mounted : D) (n : Name) (H : List Entry) → Legal meaning mounted H →
+      values_named n (posted meaning mounted H) ≡ posts_of n H
+
   -- A FINISHED TRACE HAS ONE POST FOR EACH ARRIVAL: one in which nothing waits and nothing is active
   abbrev pub FinishedOnce : Type 0
   FinishedOnce = (mounted : D) (H : List Entry) → Legal meaning mounted H → waiting H ≡ [] → active H ≡ None →

@@ -1,7 +1,7 @@
 //! Laws of every legal trace, those with halts, purges and closed DCBs included, and of the world of a unit.
 
 ghost use Rattle.unit_book.specs.Laws.{FewStarts, NoDoomedStarts, OnePlace, PostsLast, StartsInOrder};
-ghost use Rattle.unit_book.specs.WorldLaws.{FinishedOnce, WorldLaws};
+ghost use Rattle.unit_book.specs.WorldLaws.{FinishedOnce, HaveValues, WorldLaws};
 
 use device_port::Device;
 
@@ -30,6 +30,11 @@ pub fn doomed_are_not_started<D: Device>()
 /// At most one request is active, and each has at most eleven starts.
 pub fn starts_are_few<D: Device>()
     ensures { FewStarts D.meaning }
+{}
+
+/// A trace has as many posted values of a name as posts of it.
+pub fn posts_have_values<D: Device>()
+    ensures { HaveValues D.meaning }
 {}
 
 /// Where nothing waits and nothing is active, each request that arrived has just one post.

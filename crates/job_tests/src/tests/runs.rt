@@ -1,5 +1,5 @@
 //! Runs on rows and books of one. Runs whose tasks wait for their posts or do not. Runs in which a worker or a task
-//! ran out of memory, for some turns or for good. And one in which a task ends early.
+//! ran out of memory, for some turns or for good. And one whose commands name a DCB that is not open.
 
 ghost use Rattle.std.specs.Prelude.{◌≡◌, ◌<◌, ◌≤◌, All, IfOk, vec_len};
 ghost use Rattle.excp_system.specs.Opening.{AreBooks, AreFresh, site_of};
@@ -91,10 +91,8 @@ end 12
 /// A second DCB of unit 0, which its book does not have.
 const SECOND: &str = "open 0 out 18000000000000000000000000000001\n";
 
-/// Task 0 purges it, and task 1 does.
-const PURGE: &str = "purge 0 0 2 halt\n";
-
-const OTHERS_PURGE: &str = "purge 1 0 2 halt\n";
+/// A purge, a close and a reset of it.
+const UNOPENED: [&str; 3] = ["purge 0 0 2 halt\n", "close 0 0 2\n", "reset 0 0 2\n"];
 
 /// A purge of a DCB, a purge of a task, a close and a reset, and how many units' traces are to tell of it.
 const CONTROLS: [(&str, usize); 4] = [
@@ -385,7 +383,9 @@ fn run<R: Threads + Wait + Sync + AllocGlobal>(
     let script = Script::parse(alloc, &text)?;
     // its requests can be made
     books(alloc, &script, Vec::new(alloc), room)?;
-    if script.set_up.units.len() != mounted.set_up.units.len() {
+    if script.set_up.units.len() != mounted.set_up.units.len()
+        || script.set_up.tasks != mounted.set_up.tasks
+    {
         return Err(JobError::Unmatched);
     }
     let (mut rows, books) = rows_and_books(alloc, &mounted, room)?;
@@ -445,12 +445,6 @@ fn want_of_memory_ends_the_tasks(rt: HostRuntime) -> Result<(), Fail> {
     }
     let outcome = run(&rt, set_up, &parts, 1, Way::Alone)?;
     assert_eq!(rt; outcome, Outcome::Ended(2, 2));
-    // it outranks the fault of a line, behind which the task does no more
-    for (first, last, told) in [(EXCPS, PURGE, 12), (PURGE, EXCPS, 6)] {
-        let parts = [SECOND, AREAS, first, last];
-        let outcome = run(&rt, set_up, &parts, 8, Way::Raised)?;
-        assert_eq!(rt; outcome, Outcome::Ended(2, told));
-    }
     Ok(())
 }
 
@@ -468,20 +462,62 @@ fn controls_without_memory(rt: HostRuntime) -> Result<(), Fail> {
     Ok(())
 }
 
-/// The first fault of the first task that has one.
+/// What a run of two tasks without commands ends by, if its tasks had ended by these faults.
+fn ended_by<R: Threads + Wait + Sync + AllocGlobal>(
+    rt: &R,
+    first: TaskError,
+    second: TaskError,
+) -> Result<(), JobError> {
+    let alloc = rt.alloc();
+    let mut text = Vec::from_slice(alloc, TWO_TASKS.as_bytes())?;
+    text.extend_from_slice(UNITS.as_bytes())?;
+    let script = Script::parse(alloc, &text)?;
+    // its requests can be made
+    books(alloc, &script, Vec::new(alloc), 1)?;
+    let (rows, books) = rows_and_books(alloc, &script, 1)?;
+    let program = ScriptTasks::new(&script);
+    let Ok((report, outcomes)) = run_program(rt, alloc, rows, books, two_of_each(), &program) else {
+        return Err(JobError::NoMemory);
+    };
+    let mut faults = Vec::new(alloc);
+    faults.push(Err(first))?;
+    faults.push(Err(second))?;
+    if outcomes.len() != faults.len() {
+        return Err(JobError::Unmatched);
+    }
+    ended(alloc, report, faults)?;
+    Ok(())
+}
+
+/// Out of memory outranks the fault of a line; of two faults that of the first task comes, whatever their lines are.
 #[test]
-fn task_that_ends_early_is_told(rt: HostRuntime) -> Result<(), Fail> {
-    for (commands, line) in [
-        ([PURGE, EXCPS], 9),
-        ([EXCPS, PURGE], 21),
-        ([PURGE, PURGE], 9),
-        ([OTHERS_PURGE, PURGE], 10),
-    ] {
-        let [first, last] = commands;
-        let parts = [SECOND, AREAS, first, last];
-        let ended = run(&rt, [TWO_TASKS, UNITS], &parts, 1, Way::Whole);
-        let name = FaultName::Name;
-        assert_eq!(rt; ended, Err(JobError::Line { line, name }));
+fn first_fault_of_the_first_task(rt: HostRuntime) -> Result<(), Fail> {
+    let late = TaskError::Line {
+        line: 9,
+        name: FaultName::Request,
+    };
+    let early = TaskError::Line {
+        line: 3,
+        name: FaultName::Request,
+    };
+    assert_eq!(rt; ended_by(&rt, late, early), Err(JobError::from(late)));
+    assert_eq!(rt; ended_by(&rt, early, late), Err(JobError::from(early)));
+    assert_eq!(rt;
+        ended_by(&rt, late, TaskError::NoMemory),
+        Err(JobError::NoMemory)
+    );
+    Ok(())
+}
+
+/// A DCB that the books do not have is passed over, and the task goes on.
+#[test]
+fn unopened_dcb_is_passed_over(rt: HostRuntime) -> Result<(), Fail> {
+    let posts = Vec::from_slice(rt.alloc(), POSTS.as_bytes())?;
+    let printed = Outcome::Printed(posts);
+    for command in UNOPENED {
+        let parts = [SECOND, AREAS, command, EXCPS];
+        let outcome = run(&rt, [TWO_TASKS, UNITS], &parts, 8, Way::Whole)?;
+        assert!(rt; outcome == printed, "{command}");
     }
     Ok(())
 }

@@ -24,8 +24,14 @@ returns-clause-ran g c =
     let new = g.I.Read.remaining c.read_script.new.reader in
     let script = said c.in_ok-script.script in
     record {
-      text = c.deref.result.now;
-      whole = subst (ReadsAll LIMIT old new) (sym c.deref.ensures.value) c.in_ok-text.ensures.whole;
-      faultless = faultless c.deref.result.now script c.in_ok-script.ensures.grammar
-          (subst (λ (given : List (Option AnyDevice)). IsFaultlessWith given script) c.new.ensures.items c.in_ok-run.ensures.ran);
+      runs = record {
+        text = c.deref.result.now;
+        whole = subst (ReadsAll LIMIT old new) (sym c.deref.ensures.value) c.in_ok-text.ensures.whole;
+        faultless = faultless c.deref.result.now script c.in_ok-script.ensures.grammar
+            (subst (λ (given : List (Option AnyDevice)). IsFaultlessWith given script) c.new.ensures.items c.in_ok-run.ensures.ran);
+      };
+      script = c.in_ok-script.script;
+      parsed = c.in_ok-script.ensures.grammar;
+      books = c.in_ok-run.run'.report.books;
+      ran = c.in_ok-run.ensures.units;
     }

@@ -30,4 +30,4 @@ pub returns-clause-fault : goal.returns-clause-fault
 returns-clause-fault g c =
     let runs : IsFaultlessWith c.args.given.items (said c.args.script.now) =
     (room_of_a_unit c.args.script.now, all_without_spare c.in_ok-rows.books, c.in_ok-rows.ensures.exact) in
-    late_result c.run_on.result c.args.given.items (said c.args.script.now) runs c.run_on.ensures
+    late_result c.run_on.result c.args.given.items c.args.script.now runs c.run_on.ensures.fault

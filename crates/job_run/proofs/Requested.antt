@@ -1,0 +1,94 @@
+-- What a task has sent to a unit are the requests of its EXCPs to the unit, in order.
+use Rattle.std.proofs.Common.{◌≡◌, ℕ, ◌+◌, ◌<◌, ◌==◌, Bool, true, false, if◌then◌else◌, List, [], ◌∷◌, ◌++◌, length, set, get_or, refl, sym, ap, ◌∙◌, arith, append_assoc, append-nil, length-append, ◌≢◌}
+use Rattle.std.specs.Prelude.{slice_index_or, slice_set}
+use Rattle.std.proofs.lemmas.Bool.{eqb-true}
+use Rattle.std.proofs.lemmas.Bool.Decides.{nat_tests}
+use Rattle.std.proofs.lemmas.List.{get_or-set_other, length-set}
+use Rattle.std.proofs.lemmas.Grind.{get_or-set_at}
+use Rattle.request_piece.specs.declared.piece.Piece.{Piece}
+use Rattle.job_script.specs.declared.command.Action.{Action}
+use Rattle.job_script.specs.declared.command.Action.TheVariants.{Excp, Purge, PurgeTask, Close, Reset, Wait}
+use Rattle.job_script.specs.declared.command.Command.{Command}
+use Rattle.job_script.specs.declared.command.Excp.{Excp as OneExcp}
+use Rattle.job_run.specs.Requests.{excp_to, excps, excp_piece, requests_from}
+use Rattle.job_run.specs.Sending.{sends, sends_all, sends_excp}
+
+-- what stands at a unit
+abbrev at : List (List Piece) → ℕ → List Piece
+at sent unit = slice_index_or sent unit []
+
+-- the requests of these EXCPs come behind
+abbrev grown : ℕ → List Piece → List OneExcp → List Piece
+grown task before es = before ++ requests_from task (length before + 1) es
+
+grown_none : (task : ℕ) (before : List Piece) → grown task before [] ≡ before
+unfolding requests_from
+grown_none task before = append-nil before
+
+grown_one : (task : ℕ) (before : List Piece) (e : OneExcp) (es : List OneExcp) →
+    grown task before (e ∷ es) ≡ grown task (before ++ excp_piece task (length before + 1) e ∷ []) es
+unfolding requests_from
+grown_one task before e es =
+    let r : Piece = excp_piece task (length before + 1) e in
+    let size : length (before ++ r ∷ []) ≡ length before + 1 = length-append before (r ∷ []) in
+    sym (append_assoc before (r ∷ []) (requests_from task (length before + 1 + 1) es))
+    ∙ ap (λ (n : ℕ). (before ++ r ∷ []) ++ requests_from task (n + 1) es) (sym size)
+
+-- what an EXCP sends to the unit
+excp_by : (task unit : ℕ) (e : OneExcp) (sent : List (List Piece)) (rest : List OneExcp) → unit < length sent →
+    (b : Bool) → (e.dcb.unit == unit) ≡ b →
+    grown task (at (sends_excp task e sent) unit) rest ≡ grown task (at sent unit) ((if b then e ∷ [] else []) ++ rest)
+excp_by task unit e sent rest within true same =
+    let is : e.dcb.unit ≡ unit = eqb-true e.dcb.unit unit same in
+    let before : List Piece = at sent e.dcb.unit in
+    let all : List Piece = before ++ excp_piece task (length before + 1) e ∷ [] in
+    let inside : e.dcb.unit < length sent = omega (arith, is, within) in
+    let put : at (sends_excp task e sent) unit ≡ at sent unit ++ excp_piece task (length (at sent unit) + 1) e ∷ [] =
+    get_or-set_at sent e.dcb.unit unit all [] (sym is) inside
+    ∙ ap (λ (i : ℕ). at sent i ++ excp_piece task (length (at sent i) + 1) e ∷ []) is in
+    ap (λ (l : List Piece). grown task l rest) put ∙ sym (grown_one task (at sent unit) e rest)
+excp_by task unit e sent rest within false other =
+    let before : List Piece = at sent e.dcb.unit in
+    let apart : unit ≢ e.dcb.unit = grind (arith, nat_tests, other) in
+    ap (λ (l : List Piece). grown task l rest)
+    (get_or-set_other sent e.dcb.unit unit (before ++ excp_piece task (length before + 1) e ∷ []) [] apart)
+
+-- what an action sends to the unit
+sends_to : (task unit : ℕ) (a : Action) (sent : List (List Piece)) (rest : List OneExcp) → unit < length sent →
+    grown task (at (sends task a sent) unit) rest ≡ grown task (at sent unit) (excp_to unit a ++ rest)
+sends_to task unit (Excp e) sent rest within = excp_by task unit e sent rest within (e.dcb.unit == unit) refl
+sends_to task unit (Purge dcb mode) sent rest within = refl
+sends_to task unit (PurgeTask n mode) sent rest within = refl
+sends_to task unit (Close dcb) sent rest within = refl
+sends_to task unit (Reset dcb) sent rest within = refl
+sends_to task unit Wait sent rest within = refl
+
+sends_keep : (task : ℕ) (a : Action) (sent : List (List Piece)) → length (sends task a sent) ≡ length sent
+sends_keep task (Excp e) sent = length-set sent e.dcb.unit _
+sends_keep task (Purge dcb mode) sent = refl
+sends_keep task (PurgeTask n mode) sent = refl
+sends_keep task (Close dcb) sent = refl
+sends_keep task (Reset dcb) sent = refl
+sends_keep task Wait sent = refl
+
+one_by : (task unit : ℕ) (b : Bool) (c : Command) (sent : List (List Piece)) (rest : List OneExcp) → unit < length sent →
+    grown task (at (if b then sends task c.action sent else sent) unit) rest
+    ≡ grown task (at sent unit) ((if b then excp_to unit c.action else []) ++ rest)
+one_by task unit true c sent rest within = sends_to task unit c.action sent rest within
+one_by task unit false c sent rest within = refl
+
+keep_by : (task : ℕ) (b : Bool) (c : Command) (sent : List (List Piece)) → length (if b then sends task c.action sent else sent) ≡ length sent
+keep_by task true c sent = sends_keep task c.action sent
+keep_by task false c sent = refl
+
+-- WHAT A TASK SENDS to a unit: the requests of its EXCPs to the unit, behind what it had sent
+pub sends_requests : (task unit : ℕ) (commands : List Command) (sent : List (List Piece)) → unit < length sent →
+    at (sends_all task commands sent) unit ≡ grown task (at sent unit) (excps task unit commands)
+unfolding sends_all excps
+sends_requests task unit [] sent within = sym (grown_none task (at sent unit))
+sends_requests task unit (c ∷ others) sent within =
+    let b : Bool = c.task == task in
+    let next : List (List Piece) = if b then sends task c.action sent else sent in
+    let size : length next ≡ length sent = keep_by task b c sent in
+    sends_requests task unit others next (omega (arith, size, within))
+    ∙ one_by task unit b c sent (excps task unit others) within
