@@ -80,6 +80,10 @@ closed_by d [] = None
 closed_by d (CloseEntry c ∷ H) = if c == d then Some (length H + 1) else closed_by d H
 closed_by d (_ ∷ H) = closed_by d H
 
+-- A POST SETS THE FLAG of its DCB: its request is related, and its code is of an error
+abbrev pub sets_flag : List Entry → Name → Code → Bool
+sets_flag H n code = is_error code && (request_named n H).related
+
 -- THE POST THAT LAST SET THE FLAG of a DCB, by its number, if no reset came after it
 unfoldable pub flagged_by : ℕ → List Entry → Option ℕ
 flagged_by d [] = None

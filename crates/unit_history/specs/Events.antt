@@ -5,7 +5,7 @@ use Rattle.request_piece.specs.declared.piece.Name.{Name}
 use Rattle.unit_book.specs.Trace.{active, same, starts_of}
 use Rattle.unit_book.specs.declared.entry.Entry.{Entry}
 use Rattle.unit_book.specs.declared.entry.Entry.TheVariants.{Opened, Arrive, Start, Ran, Halted, Purge, Close, Reset, Post}
-use Rattle.unit_history.specs.Causes.{IsCauseOfPost}
+use Rattle.unit_history.specs.Causes.{IsCauseOfPost, sets_flag}
 use Rattle.unit_history.specs.declared.event.Event.{Event}
 use Rattle.unit_history.specs.declared.event.Told.{Told}
 use Rattle.unit_history.specs.declared.event.Told.TheVariants.{Opened as ToldOpened, Arrived, Started, Ran as ToldRan, Halted as ToldHalted, Purged, Closed, Reset as ToldReset, Posted}
@@ -53,8 +53,8 @@ TellsEntry room H (Halted n) es (ToldHalted name) = name ≡ n
 TellsEntry room H (Purge s m) es (Purged scope mode busy) = (scope ≡ s) × (mode ≡ m) × (busy ≡ active H)
 TellsEntry room H (Close d) es (Closed dcb) = dcb ≡ d
 TellsEntry room H (Reset d) es (ToldReset dcb) = dcb ≡ d
-TellsEntry room H (Post n csw sense code) es (Posted name end cause) =
-    (name ≡ n) × (end ≡ record { code = code; csw = csw; sense = sense }) × IsCauseOfPost room H n code cause
+TellsEntry room H (Post n csw sense code) es (Posted name end cause sets) =
+    (name ≡ n) × (end ≡ record { code = code; csw = csw; sense = sense }) × IsCauseOfPost room H n code cause × (sets ≡ sets_flag H n code)
 TellsEntry room H _ es _ = ⊥
 
 -- the event of the first of these entries

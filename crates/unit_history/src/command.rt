@@ -7,6 +7,7 @@ use command_table::{command_name, mnemonic};
 use device_port::{Flow, Kind, Segment};
 use io_area::Area;
 use io_images::Csw;
+use step_places::Place;
 
 /// The most bytes of a command's data that are shown.
 const SHOWN: u32 = 16;
@@ -19,6 +20,7 @@ pub struct Command<'c> {
     context: &'c Context,
     area: &'c Area,
     fault: Option<usize>,
+    place: Option<Place<'c>>,
 }
 
 /// The bytes that a command moved, and the first of them.
@@ -87,8 +89,9 @@ impl<'c> Command<'c> {
         context: &'c Context,
         area: &'c Area,
         fault: Option<usize>,
+        place: Option<Place<'c>>,
     ) -> Command<'c>
-        ensures { result ≡ record { kind = kind; listing = listing.entry; context = context.entry; area = area.entry; fault = fault } }
+        ensures { result ≡ record { kind = kind; listing = listing.entry; context = context.entry; area = area.entry; fault = fault; place = place.entry } }
     {
         Command {
             kind,
@@ -96,6 +99,7 @@ impl<'c> Command<'c> {
             context,
             area,
             fault,
+            place,
         }
     }
 
@@ -112,17 +116,24 @@ impl<'c> Command<'c> {
         }
     }
 
-    /// The mnemonic of the command, or `?` if the device has no such command.
-    pub fn mnemonic(&self) -> &'static str {
-        match self.listing.links.first() {
-            Some(link) => mnemonic(self.kind, link.ccw.command).unwrap_or("?"),
-            None => "",
+    /// The mnemonic of the command of a CCW, by its place in the chain. A CCW that continues data has none, nor has a command that
+    /// the device does not have.
+    pub fn mnemonic(&self, place: usize) -> Option<&'static str> {
+        match self.listing.links.get(place) {
+            Some(link) if place == 0 => mnemonic(self.kind, link.ccw.command),
+            _ => None,
         }
     }
 
     /// The number of the fault of the unit that it met, from 1.
     pub fn fault(&self) -> Option<usize> {
         self.fault
+    }
+
+    /// Where on the medium it was, as the medium is after it. None of a command that was at no place of it, that met a fault of
+    /// the unit, or whose CCWs break a rule.
+    pub fn place(&self) -> Option<Place<'c>> {
+        self.place
     }
 
     /// The rule that a CCW of it breaks. The device did nothing then.

@@ -5,9 +5,11 @@ ghost use Rattle.trace_replay.specs.Replayed.{ListsNext};
 ghost use Rattle.unit_history.specs.Commands.{GivesNext, IsUnreplayed, PassesEntry, StartsNext};
 
 use crate::command::Command;
+use crate::done::done;
 use ccw_programs::{Listing, Workspace};
 use device_port::{Device, Fault, Kind};
 use std::alloc::AllocError;
+use step_places::{Before, Placed};
 use trace_replay::Replay;
 use unit_book::UnitBook;
 
@@ -26,6 +28,8 @@ pub struct Commands<'t, D: Device> {
     /// Where the next command is put together.
     listed: Workspace,
     kind: Kind,
+    /// What the place of the next command depends on.
+    before: Before,
     faults: &'t [Fault],
     /// How many of the faults were met.
     met: usize,
@@ -59,6 +63,7 @@ impl<'t, D: Device> Commands<'t, D> {
             replay: Replay::of(book)?,
             listed: Workspace::new(),
             kind: book.mounted().kind(),
+            before: Before::new(),
             faults: commands.faults,
             met: 0,
             acted: 0,
@@ -88,31 +93,6 @@ impl<'t, D: Device> Commands<'t, D> {
         Ok(())
     }
 
-    /// Replays the next command, and describes it: what is listed of it before, and then the places of its program and its
-    /// storage.
-    pub fn next_command(&mut self) -> Result<Next<'_>, AllocError>
-        ensures ok { IfOk result (GivesNext D.meaning self.old.replay self.old.left) }
-        ensures err { OnErr result ((self.old.left ≢ 0) × StartsNext self.old.replay) }
-    {
-        if !self.count() {
-            return Ok(Next::LeftOut);
-        }
-        let Commands {
-            replay,
-            listed,
-            kind,
-            faults,
-            met,
-            acted,
-            ..
-        } = self;
-        let Some(listing) = replay.next_command(listed) else {
-            return Ok(Next::Idle);
-        };
-        let fault = met_by(&listing, faults, met, acted);
-        described(replay, *kind, listing, fault)
-    }
-
     /// Counts one more command, and returns whether it is described. The first that is not is a cut.
     fn count(&mut self) -> bool
         ensures counted { result ≡ not (self.old.left == 0) }
@@ -129,12 +109,42 @@ impl<'t, D: Device> Commands<'t, D> {
     }
 }
 
+impl<'t, D: Placed> Commands<'t, D> {
+    /// Replays the next command, and describes it: what is listed of it before, and then the places of its program and its
+    /// storage, and where it was on the medium.
+    pub fn next_command(&mut self) -> Result<Next<'_>, AllocError>
+        ensures ok { IfOk result (GivesNext D.meaning self.old.replay self.old.left) }
+        ensures err { OnErr result ((self.old.left ≢ 0) × StartsNext self.old.replay) }
+    {
+        if !self.count() {
+            return Ok(Next::LeftOut);
+        }
+        let Commands {
+            replay,
+            listed,
+            kind,
+            before,
+            faults,
+            met,
+            acted,
+            ..
+        } = self;
+        before.note(replay.device().as_any());
+        let Some(listing) = replay.next_command(listed) else {
+            return Ok(Next::Idle);
+        };
+        let fault = met_by(&listing, faults, met, acted);
+        described(replay, *kind, listing, fault, before)
+    }
+}
+
 /// Replays the command of this listing, and describes it.
-fn described<'c, 't, D: Device>(
+fn described<'c, 't, D: Placed>(
     replay: &'c mut Replay<'t, D>,
     kind: Kind,
     listing: Listing<'c>,
     fault: Option<usize>,
+    before: &mut Before,
 ) -> Result<Next<'c>, AllocError>
     requires { ListsNext D.meaning replay.old listing.links.now listing.flow listing.parts.now listing.refusal }
     ensures ok { IfOk result (GivesNext D.meaning replay.old 1) }
@@ -144,7 +154,11 @@ fn described<'c, 't, D: Device>(
     let (Some(context), Some(area)) = (replay.context(), replay.area()) else {
         return Ok(Next::Idle);
     };
-    Ok(Next::Command(Command::new(kind, listing, context, area, fault)))
+    let place = match done(&listing, context, fault) {
+        Some(done) => before.place(replay.device().as_any(), &done),
+        None => None,
+    };
+    Ok(Next::Command(Command::new(kind, listing, context, area, fault, place)))
 }
 
 /// The number of the fault that a command met, from 1, if it met one.

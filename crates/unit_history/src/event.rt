@@ -47,10 +47,12 @@ pub enum Told<'t> {
     Reset {
         dcb: u16,
     },
+    /// A post, and whether it sets the error flag of its DCB.
     Posted {
         name: Name,
         end: End,
         cause: Cause,
+        sets_flag: bool,
     },
 }
 

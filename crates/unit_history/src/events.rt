@@ -81,6 +81,7 @@ fn told<'t>(past: &Past<'t, '_>, entry: &'t Entry, later: &[Entry]) -> Told<'t>
                 sense: *sense,
             },
             cause: past.cause(*name, *code),
+            sets_flag: past.sets_flag(*name, *code),
         },
     }
 }

@@ -13,11 +13,12 @@ use device_port::{Device, Kind};
 use request_piece::{Issued, Name, Scope};
 use std::io;
 use std::io::Write;
+use step_places::Placed;
 use unit_book::{Mode, ProcessingMethod, UnitBook};
 
 /// Writes what happened at a unit, oldest first, as comments of a script, and its commands if they are asked for. The
 /// table has to have room for the DCBs of the unit.
-pub fn write_history<W: Write, D: Device>(
+pub fn write_history<W: Write, D: Placed>(
     out: &mut W,
     unit: usize,
     book: &UnitBook<D>,
@@ -54,7 +55,7 @@ pub fn kind_in_words(kind: Kind) -> &'static str {
 }
 
 /// Writes the events, each with the number of its entry. The commands of an event follow its line.
-fn write_events<W: Write, D: Device>(
+fn write_events<W: Write, D: Placed>(
     out: &mut W,
     book: &UnitBook<D>,
     dcbs: &mut Dcbs,
@@ -96,7 +97,12 @@ fn write_event<W: Write>(out: &mut W, event: &Event<'_>) -> io::Result<()> {
         } => write_purge(out, *scope, *mode, *active),
         Told::Closed { dcb } => writeln!(out, "DCB {dcb} closed"),
         Told::Reset { dcb } => writeln!(out, "DCB {dcb} reset"),
-        Told::Posted { name, end, cause } => write_post(out, *name, end, *cause),
+        Told::Posted {
+            name,
+            end,
+            cause,
+            ..
+        } => write_post(out, *name, end, *cause),
     }
 }
 

@@ -7,7 +7,7 @@ ghost use Rattle.std.specs.Prelude.{◌≡◌, ◌≤◌, ◌+◌, ◌∷◌, So
 ghost use Rattle.io_images.specs.Codes.{is_error};
 ghost use Rattle.request_piece.specs.Scope.{covers};
 ghost use Rattle.unit_book.specs.Trace.{active, has_arrived, request_named, starts_of};
-ghost use Rattle.unit_history.specs.Causes.{IsCauseOfPost, ended_cause, is_doom, waiting_cause};
+ghost use Rattle.unit_history.specs.Causes.{IsCauseOfPost, ended_cause, is_doom, sets_flag, waiting_cause};
 ghost use Rattle.unit_history.specs.Dcbs.{ChangesDcb, KnowsDcbs, NotesError, arrival_cause, closed_at, known_at, room_of};
 ghost use Rattle.unit_history.specs.Events.{turns};
 ghost use Rattle.unit_history.specs.Orderly.{ErrorFollows, IsAfter, IsPostedNext, Orderly, StartFollows};
@@ -114,6 +114,16 @@ impl<'t, 'd> Past<'t, 'd> {
             Some(active) => active.cause(code),
             None => waiting_cause(code, self.cause),
         }
+    }
+
+    /// Whether the next entry, which posts this request with this code, sets the error flag of its DCB: the request is related,
+    /// and ends in error.
+    pub fn sets_flag(&self, name: Name, code: Code) -> bool
+        requires knows { Knows self.now }
+        requires error { is_error code ≡ true → ErrorFollows name (before self.now) }
+        ensures { result ≡ sets_flag (before self.now) name code }
+    {
+        code.is_error() && self.request(name).1.is_related()
     }
 
     /// Goes on behind the next entry, which is this one.

@@ -8,13 +8,13 @@ use crate::names::{NORMAL_END, SENSE, STATUS};
 use crate::words::Count;
 use ccw_programs::Link;
 use command_table::CCW_FLAGS;
-use device_port::Device;
 use digits::write_bytes;
 use std::io;
 use std::io::Write;
+use step_places::{Passed, Place, Placed, RecordPlace};
 
 /// Replays an event, which is the next one, and writes its commands.
-pub(crate) fn write_commands<W: Write, D: Device>(
+pub(crate) fn write_commands<W: Write, D: Placed>(
     out: &mut W,
     told: &Told<'_>,
     commands: &mut Commands<'_, D>,
@@ -47,7 +47,7 @@ fn write_left_out<W: Write>(out: &mut W) -> io::Result<()> {
     )
 }
 
-/// Writes a command: a line for each CCW, one for its data, and one for its end.
+/// Writes a command: a line for each CCW, one for its data, one for its place on the medium, and one for its end.
 fn write_command<W: Write>(out: &mut W, command: &Command<'_>) -> io::Result<()> {
     let links = command.links();
     for place in 0..links.len() {
@@ -58,6 +58,9 @@ fn write_command<W: Write>(out: &mut W, command: &Command<'_>) -> io::Result<()>
     }
     if let Some(moved) = command.moved() {
         write_moved(out, &moved)?;
+    }
+    if let Some(place) = command.place() {
+        write_place(out, &place)?;
     }
     write_ending(out, &command.ending())?;
     if let Some(number) = command.fault() {
@@ -111,6 +114,56 @@ fn write_moved<W: Write>(out: &mut W, moved: &Moved<'_>) -> io::Result<()> {
         Shown::Outside => out.write_all(b"-")?,
     }
     out.write_all(if moved.has_more { b" ...\n" } else { b"\n" })
+}
+
+/// Writes where on the medium a command was.
+fn write_place<W: Write>(out: &mut W, place: &Place<'_>) -> io::Result<()> {
+    out.write_all(b"#           ")?;
+    match place {
+        Place::Record(record) => write_record(out, record),
+        Place::NoRecord(passed) => write_passed(out, passed),
+        Place::Item(number) => writeln!(out, "item {number}"),
+        Place::Line(at) => writeln!(out, "page {} line {}", at.page, at.line),
+    }
+}
+
+/// Writes a record, and of a search also its key and whether it matched.
+fn write_record<W: Write>(out: &mut W, record: &RecordPlace<'_>) -> io::Result<()> {
+    write!(out, "cylinder {} head {} ", record.cylinder, record.head)?;
+    match record.number() {
+        Some(number) => write!(out, "record {number}")?,
+        None => {
+            out.write_all(b"ID ")?;
+            write_bytes(out, record.id)?;
+        }
+    }
+    let Some(is_equal) = record.is_equal else {
+        return out.write_all(b"\n");
+    };
+    if !record.key.is_empty() {
+        out.write_all(b", key ")?;
+        write_bytes(out, record.key)?;
+    }
+    out.write_all(if is_equal {
+        b": equal\n"
+    } else {
+        b": not equal\n"
+    })
+}
+
+/// Writes that a search found no record.
+fn write_passed<W: Write>(out: &mut W, passed: &Passed<'_>) -> io::Result<()> {
+    let Passed {
+        cylinder,
+        head,
+        passed,
+        ..
+    } = passed;
+    let count = Count::new(*passed, "record", "records");
+    writeln!(
+        out,
+        "no record found on cylinder {cylinder} head {head} after {count}"
+    )
 }
 
 /// Writes how a command ended: unit status, subchannel status and residual count, the names of what is more than a normal

@@ -14,3 +14,8 @@ cause-requires-clause-follows c =
       after = active (Post w.name w.csw w.sense w.code ∷ H);
       follows = (subst (λ (e : Entry). IsAfter e H) w.is c.requires.follows).0;
     }
+
+pub sets_flag-requires-clause-error : goal.sets_flag-requires-clause-error
+sets_flag-requires-clause-error c =
+    let w = c.in-Post in
+    (subst (λ (e : Entry). IsAfter e (before c.args.past.now)) w.is c.requires.follows).1
