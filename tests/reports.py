@@ -5,13 +5,22 @@ report that it comes to.
 import json
 import re
 
+import commands
+import places
 from harness import TOP, Failed, read, require
 
 DOCUMENT = f"{TOP}/docs/REPORT.md"
 
 # Texts of hexadecimal digits, with their number of digits if it is always the same.
 HEXADECIMAL = {"address": 6, "status": 4, "residual": 4, "sense": 4, "iob_at": 6, "iob": 80, "image": 16, "id": 10,
-               "shown": None, "key": None, "data": None, "code": 2}
+               "shown": None, "key": None, "data": None, "code": 2, "seek": 16, "start": 6}
+
+# What tells the kinds of media and of places: a member that only one of them has.
+MEDIA = {"cylinders": "disk", "count": "tape in part", "items": "tape", "lines": "printer"}
+PLACES = "passed", "record", "item", "page"
+
+# The most bytes of keys and data, or of blocks, of a medium that is whole.
+WHOLE_BYTES = 1 << 20
 
 
 # --- the form
@@ -20,9 +29,14 @@ HEXADECIMAL = {"address": 6, "status": 4, "residual": 4, "sense": 4, "iob_at": 6
 def kind_of(value, path):
     """The kind of an object: its path, and what tells it from others at the same path."""
     told = [str(value[key]) for key in ("what", "kind") if key in value]
-    if path.endswith("steps") or path.endswith("loop"):
+    path = {"loop": "steps", "last_place": "place"}.get(path, path)
+    if path == "steps":
         told.append("loop" if "loop" in value else "rule" if "rule" in value else "command")
-    return " ".join([path.replace("loop", "steps"), *told])
+    elif path == "medium":
+        told.append(next(kind for key, kind in MEDIA.items() if key in value))
+    elif path == "place":
+        told.append(next(key for key in PLACES if key in value))
+    return " ".join([path, *told])
 
 
 def name_of(value):
@@ -89,11 +103,26 @@ def posts_of(run):
     return "".join(f"{line}\n" for line in [*lines, f"end {len(lines)}"])
 
 
+def steps_of(run, event):
+    """The steps of an event."""
+    return run["steps"][event["steps"]] if event["what"] == "ran" else []
+
+
+def at_time(step, time, times):
+    """A step at one of the times that a loop comes. Its place is known of the first and the last time."""
+    found = {key: it for key, it in step.items() if key not in ("place", "last_place")}
+    if "place" in step:
+        last = step.get("last_place", step["place"])
+        found["place"] = step["place"] if time == 0 else last if time == times - 1 else None
+    return found
+
+
 def unfolded(steps):
     """Steps without loops."""
     for step in steps:
         if "loop" in step:
-            yield from step["loop"] * step["times"]
+            for time in range(step["times"]):
+                yield from (at_time(it, time, step["times"]) for it in step["loop"])
         else:
             yield step
 
@@ -104,9 +133,77 @@ def each(steps):
         yield from step.get("loop", [step])
 
 
+def check_lists(run):
+    """Each list of steps is there once, in the order in which events first have them."""
+    numbers = [event["steps"] for unit in run["units"] for event in unit["events"] if event["what"] == "ran"]
+    require(list(dict.fromkeys(numbers)) == list(range(len(run["steps"]))), f"of {len(run['steps'])} lists events have {numbers}")
+    texts = {json.dumps(it, sort_keys=True) for it in run["steps"]}
+    require(len(texts) == len(run["steps"]), f"of {len(run['steps'])} lists of steps {len(texts)} differ")
+
+
+def check_columns(run):
+    """Each event has its column, or its place in the order of the run. Columns keep the order of each unit, and what each task did
+    one after another: what it issued or controlled comes after the posts that it collected before, and after what it controlled
+    before."""
+    columns, taken = {}, []
+    for unit in run["units"]:
+        number, last, is_set_up = unit["unit"], 0, True
+        for event in unit["events"]:
+            require(("at" in event, "column" in event) == (run["order"] == "run", run["order"] == "units"), f"no such order: {event}")
+            if run["order"] == "run":
+                continue
+            is_set_up = is_set_up and event["what"] == "opened"
+            column = event["column"]
+            right = column == 0 if is_set_up else column > last
+            require(right, f"unit {number}, entry {event['entry']} has column {column} after {last}")
+            last = column
+            taken += [column] if column else []
+            columns[number, event["entry"]] = column
+            if event["what"] in ("arrived", "posted"):
+                columns[event["what"], number, event["task"], event["request"]] = column
+    require(sorted(taken) == list(range(1, len(taken) + 1)), f"the columns are {sorted(taken)}")
+    for task, events in enumerate(run["task_events"] if columns else []):
+        latest = 0
+        for event in events:
+            what, unit = event["what"], event.get("unit")
+            if what == "collected":
+                latest = max(latest, columns["posted", unit, task, event["request"]])
+            elif what in ("issued", "controlled"):
+                key = ("arrived", unit, task, event["request"]) if what == "issued" else (unit, event["entry"])
+                require(columns[key] > latest, f"{key} has column {columns[key]}, and its task waited for {latest}")
+                latest = columns[key] if what == "controlled" else latest
+
+
+def size_of(medium):
+    """How many bytes of keys and data, or of blocks, a medium shows."""
+    parts = [it["key"] + it["data"] for it in medium.get("records", ())] + [it or "" for it in medium.get("items", ())]
+    return sum(len(it) for it in parts) // 2
+
+
+def check_media(run):
+    """A medium is whole up to its bound. Of another one the tracks or items are there that steps name, as far as these are known."""
+    for unit in run["units"]:
+        medium, named = unit["medium"], []
+        size = size_of(medium)
+        require(not medium["whole"] or size <= WHOLE_BYTES, f"unit {unit['unit']} has {size} bytes, and is whole")
+        if medium["whole"]:
+            continue
+        for event in unit["events"]:
+            for step in each(steps_of(run, event)):
+                named += [step[key] for key in ("place", "last_place") if key in step]
+        if unit["kind"] == "disk":
+            named = {(it["cylinder"], it["head"]) for it in named if "record" in it}
+            there = {(it["cylinder"], it["head"]) for it in medium["records"]}
+        else:
+            require(len(medium["items"]) == len(medium["numbers"]), f"unit {unit['unit']}: items without a number")
+            named = {it["item"] for it in named if it["item"] <= medium["count"]}
+            there = set(medium["numbers"])
+        require(named <= there, f"unit {unit['unit']}: steps were at {named}, and {there} are there")
+
+
 def causes(unit):
-    """Of each post of a unit why it was posted and by which entry, by the rules of docs/SPECIFICATION.md: from its events, one
-    after another, with all that waits."""
+    """Of each post of a unit why it was posted, by which entry, and whether it sets the error flag, by the rules of
+    docs/SPECIFICATION.md: from its events, one after another, with all that waits."""
     dcbs, waiting, active, halting, found = {}, [], None, None, {}
     last = None
 
@@ -160,7 +257,9 @@ def causes(unit):
                 waiting.remove(request)
                 outside = "its disk address is outside the extents", None
                 found[entry] = outside if event["code"] == "42" else request["doom"]
-            if event["code"] in ("41", "42") and request["related"]:
+            sets_flag = event["code"] in ("41", "42") and request["related"]
+            found[entry] = *found[entry], sets_flag
+            if sets_flag:
                 dcb = dcbs[request["dcb"]]
                 dcb["flag"] = dcb["flag"] or entry
                 for it in waiting:
@@ -174,7 +273,7 @@ def check_causes(run):
         due = causes(unit)
         for event in unit["events"]:
             if event["what"] == "posted":
-                actual, wanted = (event["why"], event["doomed_by"]), due[event["entry"]]
+                actual, wanted = (event["why"], event["doomed_by"], "sets_flag" in event), due[event["entry"]]
                 require(actual == wanted, f"unit {unit['unit']}, entry {event['entry']}: {actual}, and by the rules {wanted}")
 
 
@@ -204,7 +303,7 @@ def check_parts(run):
                 by = controls.pop((number, event["entry"]), None)
                 require(event["by"] == by, f"unit {number}, entry {event['entry']} is by {event['by']}, and task {by} made it")
             if event["what"] == "ran" and "left_out" not in event:
-                steps = sum(len(step["loop"]) * step["times"] if "loop" in step else 1 for step in event["steps"])
+                steps = sum(len(step["loop"]) * step["times"] if "loop" in step else 1 for step in steps_of(run, event))
                 require(steps == event["commands"], f"unit {number}, entry {event['entry']}: {steps} of {event['commands']} commands")
         require(entries == unit["entries"], f"unit {number} has {entries} of {unit['entries']} entries")
     require(seen == len(posts), f"{seen} of {len(posts)} posts are in the histories")
@@ -265,7 +364,7 @@ def check_iobs(run, due):
     stored = {}
     for unit in run["units"]:
         for event in unit["events"]:
-            for step in each(event.get("steps", [])):
+            for step in each(steps_of(run, event)):
                 if step.get("way", "from") != "from":
                     key = event["task"], unit["unit"], event["request"]
                     stored.setdefault(key, set()).add((int(step["address"], 16), step["moved"]))
@@ -284,10 +383,15 @@ def check_iobs(run, due):
 def check(run, script):
     """Fails if the JSON of a run has another form, or its parts disagree."""
     check_form(run, "run", FORM)
+    check_lists(run)
     check_parts(run)
+    check_columns(run)
+    check_media(run)
     check_causes(run)
     check_tasks(run, script)
-    check_iobs(run, requests_of(script))
+    requests = requests_of(script)
+    check_iobs(run, requests)
+    places.check(script, requests, commands.of_json(run))
 
 
 # --- the text report of it
@@ -333,6 +437,18 @@ def names(bits, table):
     return "".join(f", {name}" for bit, name in table.items() if bits & bit)
 
 
+# The line of a step's place, and what stands for it if the place is not known: between the first and the last time of a loop.
+PLACE = re.compile(r"#           (cylinder \d.*|no record found .*|item \d+|page \d+ line \d+)")
+UNKNOWN = "#           a place"
+
+
+def is_text(actual, due):
+    """Whether a text is that which is due, but for the places that are not known."""
+    lines, others = actual.splitlines(), due.splitlines()
+    known = (one == other or one == UNKNOWN and PLACE.fullmatch(other) for one, other in zip(lines, others))
+    return len(lines) == len(others) and all(known)
+
+
 def step_lines(step):
     """The lines of a command."""
     for ccw in step["ccws"]:
@@ -346,6 +462,8 @@ def step_lines(step):
     if "moved" in step:
         more = " ..." if step["more"] else ""
         yield f"#           {count(step['moved'], 'byte')} {step['way']} {step['address']}: {step['bytes'] or '-'}{more}"
+    if "place" in step:
+        yield f"#           {places.line_of(step['place'])}" if step["place"] else UNKNOWN
     status = int(step["status"], 16)
     end = f"#           status {step['status']} residual {step['residual']}{names(status, STATUS)}"
     if step["next"]:
@@ -389,7 +507,7 @@ def text_of(run, with_steps):
         lines.append(f"# unit {unit['unit']}: {unit['kind']}, {count(unit['entries'], 'entry', 'entries')}")
         for event in unit["events"]:
             lines.append(f"# {event['entry']:5} {told(event)}")
-            for step in unfolded(event.get("steps", [])) if with_steps else []:
+            for step in unfolded(steps_of(run, event)) if with_steps else []:
                 lines += step_lines(step)
         lines += medium_lines(unit)
     return posts_of(run) + "".join(f"{line}\n" for line in lines)

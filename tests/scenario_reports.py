@@ -2,6 +2,8 @@
 did, and the posts.
 """
 
+import commands
+import places
 import reports
 from harness import require
 
@@ -127,9 +129,13 @@ def check(run, script, text):
     """Fails if the JSON of a scenario has another form, its parts disagree, or `step --trace` prints something else of it."""
     answers = answers_of(text)
     reports.check_form(run, "run", reports.FORM)
+    reports.check_lists(run)
     reports.check_parts(run)
+    reports.check_columns(run)
+    reports.check_media(run)
     reports.check_causes(run)
     check_order(run, script, answers)
     check_tasks(run, script, answers)
     check_posts(run, answers)
     reports.check_iobs(run, requests_of(script, answers))
+    places.check(script, requests_of(script, answers), commands.of_json(run))

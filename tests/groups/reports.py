@@ -3,7 +3,8 @@ scenario.
 
 tests/reports.py judges each without the program: its form, by the example of docs/REPORT.md; the posts, which are those that are
 stored; what its parts say of one another and of the script; the cause of each post, by the rules of docs/SPECIFICATION.md; and the
-text report that it comes to, which is the stored one if its history is. tests/scenario_reports.py judges that of a scenario by what
+text report that it comes to, which is the stored one if its history is. tests/places.py judges where on its medium each command
+was, in the JSON and in the text with steps. tests/scenario_reports.py judges that of a scenario by what
 `step --trace` prints, too.
 """
 
@@ -12,8 +13,12 @@ import json
 import os
 import random
 import re
+import struct
 import tempfile
 
+import commands
+import formats
+import places
 import reports
 import scenario_reports
 from groups import random as at_random
@@ -26,6 +31,12 @@ from harness import SAMPLES, TOP, Case, Failed, expect, expect_text, files, mult
 JOBS = 100
 JOBS_LONG = 2000
 BATCH = 25
+
+# How many commands of each unit of a text with steps are judged.
+MOST_STEPS = "1000"
+
+# The line of a place in a text with steps.
+PLACE = re.compile("#           (cylinder|no record found on|item|page) ")
 
 # How many events a scenario at random has.
 EVENTS = 150
@@ -51,8 +62,36 @@ def as_json(ran):
         raise Failed(f"this is no JSON: {error}", ran, None, ran.out[:2000]) from error
 
 
+def changed(line):
+    """A line of a place with another place: the next number, and the other answer of a search."""
+    if "equal" in line:
+        yield line.replace("not equal", "equal") if "not equal" in line else line.replace("equal", "not equal")
+    numbers = list(re.finditer(r"(?<= )[0-9]+(?=\b)", line))
+    for it in numbers:
+        yield f"{line[:it.start()]}{int(it[0]) + 1}{line[it.end():]}"
+
+
+def judge_is_strict():
+    """The judge of places rejects each stored place that is changed, or left out."""
+    for file in files("histories", ".steps"):
+        for name, script, wanted, _ in multiple(file):
+            lines, requests = wanted.splitlines(), reports.requests_of(script)
+            for at in (at for at, line in enumerate(lines) if PLACE.match(line)):
+                for other in [[], *([it] for it in changed(lines[at]))]:
+                    text = "\n".join([*lines[:at], *other, *lines[at + 1 :]])
+                    try:
+                        places.check(script, requests, commands.of_text(text), places.line_of)
+                    except Failed:
+                        continue
+                    raise Failed(f"the judge accepts {other or 'no place'} of {name} in place of {lines[at]}")
+
+
 def is_right(setup, script, texts):
-    """The JSON of a script is right, and comes to one of some stored texts: posts, or a report, with steps or without."""
+    """The JSON of a script is right, and comes to one of some stored texts: posts, or a report, with steps or without. The commands
+    of its report with steps were at the right places."""
+    ran = setup.run("report", "--steps", "--most-steps", MOST_STEPS, script=script)
+    require((ran.status, ran.err) == (0, ""), "the report fails", ran)
+    places.check(script, reports.requests_of(script), commands.of_text(ran.out), places.line_of)
     ran = setup.run("report", "--json", script=script)
     found = as_json(ran)
     reports.check(found, script)
@@ -63,10 +102,19 @@ def is_right(setup, script, texts):
         else:
             actual = reports.text_of(found, "\n#         " in text)
             due = text
-        if actual == due:
+        if reports.is_text(actual, due):
             return
     if texts:
         expect_text("another text", ran, texts[0], actual)
+
+
+def agree(setup, script):
+    """The JSON and the text of a script, by one schedule, say the same of each step."""
+    text = setup.run("report", "--steps", "--seed", "1", script=script)
+    ran = setup.run("report", "--json", "--seed", "1", script=script)
+    actual = reports.text_of(as_json(ran), True)
+    if not reports.is_text(actual, text.out):
+        expect_text("another text", ran, text.out, actual)
 
 
 def are_right(setup, seed):
@@ -147,14 +195,19 @@ def ends_early(setup, script, wanted):
         expect(setup.run("step", "--json", script=script), (1, "", wanted))
 
 
+def without_places(found, unit):
+    """The steps of a unit, without their places."""
+    steps = (it for event in unit["events"] for it in reports.unfolded(reports.steps_of(found, event)))
+    return [{key: it for key, it in step.items() if key not in ("place", "last_place")} for step in steps]
+
+
 def is_shortened(setup, script, words=("report",)):
     """With `--most-steps N`, each unit has its first N commands."""
     whole = as_json(setup.run(*words, "--json", script=script))
     for most in 1, 3:
         part = as_json(setup.run(*words, "--json", "--most-steps", str(most), script=script))
         for long, short in zip(whole["units"], part["units"]):
-            steps = [it for event in long["events"] for it in reports.unfolded(event.get("steps", []))]
-            left = [it for event in short["events"] for it in reports.unfolded(event.get("steps", []))]
+            steps, left = without_places(whole, long), without_places(part, short)
             require(left == steps[:most], f"unit {long['unit']} has other commands than the first {most}")
             is_cut = any("left_out" in event for event in short["events"])
             require(is_cut == (len(steps) > most), f"unit {long['unit']}: left_out is {is_cut}, of {len(steps)} commands")
@@ -180,6 +233,50 @@ def seen(byte):
     """A byte in code page 037, with a dot for what cannot be seen."""
     text = bytes([byte]).decode("cp037")
     return "." if text < " " or "\x7f" <= text <= "\xa0" or text == "\xad" else text
+
+
+def large_disk(last):
+    """The image of a disk with 17 tracks, of which the last has a record with this many bytes, and each other one with 63,000; and
+    the rest of a script that reads the records of tracks 3 and 5."""
+    image, lines = b"CKD_P370" + struct.pack("<IIB", 17, 63488, 0x90).ljust(504, b"\0"), ["disk 0 0 -"]
+    for head in range(17):
+        at, size = bytes([0, 0, 0, head]), last if head == 16 else 63000
+        image += formats.bytes_of(formats.Track(0, [(at + b"\0", b"", bytes(8)), (at + b"\1", b"", b"A" * size)], b""), 63488, 0, head)
+    lines.append("open 0 in 18000000000000000000000000100011")
+    for number, head in enumerate((3, 5)):
+        iob = f"4200000000001028{'00' * 8}0000103000000001{'00' * 8}000000000000{head:02X}01"
+        ccws = "3100105040000005" "0800103000000000" "0600106020000004"
+        lines.append(f"area {number} 001000 {iob}{'00' * 8}{ccws}{'00' * 8}000000{head:02X}01{'00' * 15}")
+    return image, [*lines, *(f"excp 0 0 1 001000 {number} 001060 4" for number in range(2))]
+
+
+def large_tape(last):
+    """The image of a tape with 16 blocks of 65,535 bytes, and one of this many; and the rest of a script that reads the first two."""
+    sizes = [65535] * 16 + [last]
+    image = formats.image_of(formats.Tape([b"A" * it for it in sizes], [[it] for it in sizes]))
+    area = f"4200000000001028{'00' * 8}0000103000000001{'00' * 24}02001040600000100200104020000010{'00' * 16}"
+    return image, ["tape 0 0 -", "open 0 in", f"area 0 001000 {area}", "excp 0 0 1 001000 0 001040 16"]
+
+
+def is_bounded(setup, give, rest, parts):
+    """A medium with 1 MiB is whole. With one byte more it has the parts that the run touched, also by commands that are left out."""
+    media = []
+    for last, words in ((rest, ()), (rest + 1, ()), (rest + 1, ("--most-steps", "1"))):
+        image, lines = give(last)
+        with tempfile.NamedTemporaryFile(prefix="image-") as file:
+            file.write(image)
+            file.flush()
+            ran = setup.run("report", "--json", "--load", f"0={file.name}", *words, script="\n".join(["tasks 1", *lines, "wait 0", ""]))
+        found = as_json(ran)
+        require(all(post["code"] == "7F" for post in found["posts"]), "a request fails", ran)
+        reports.check_form(found, "run", reports.FORM)
+        reports.check_media(found)
+        media.append(found["units"][0]["medium"])
+    whole, part, short = media
+    require(whole["whole"] and reports.size_of(whole) == reports.WHOLE_BYTES, "a medium with 1 MiB is not whole")
+    require(not part["whole"] and part == short, "with some steps the medium is another one")
+    numbers = [it["head"] for it in part["records"]] if "records" in part else part["numbers"]
+    require(numbers == parts, f"of the medium there are {numbers}, and {parts} were touched")
 
 
 def writes_to_its_end(setup, word, file):
@@ -208,14 +305,18 @@ def stored():
 def cases(setup):
     for name, script, texts in stored():
         yield Case(f"JSON of {name}", lambda s=script, t=texts: is_right(setup, s, t), ORIGIN)
+        yield Case(f"JSON and text of {name}", lambda s=script: agree(setup, s), ORIGIN)
     for file in sorted(glob.glob(f"{SAMPLES}/*.steps")):
         script, text = read(file.removesuffix(".steps") + ".script"), read(file)
         texts = [text if "# unit " in text else without_history(text)]
         yield Case(f"JSON of {os.path.relpath(file, TOP)}", lambda s=script, t=texts: is_right(setup, s, t), ORIGIN)
         yield Case(f"some steps of {os.path.relpath(file, TOP)}", lambda s=script: is_shortened(setup, s), ORIGIN)
+    yield Case("the judge of places rejects each changed place", judge_is_strict, "tests/places.py")
     for seed in range((JOBS_LONG if setup.is_long else JOBS) // BATCH):
         yield Case(f"JSON of {BATCH} jobs at random, {seed}", lambda s=seed: are_right(setup, s), ORIGIN)
     yield Case("hostile names and bytes", lambda: escapes(setup), f"{ORIGIN}, and Python's cp037")
+    yield Case("a disk over the bound", lambda: is_bounded(setup, large_disk, reports.WHOLE_BYTES - 16 * 63000, [3, 5]), ORIGIN)
+    yield Case("a tape over the bound", lambda: is_bounded(setup, large_tape, reports.WHOLE_BYTES - 16 * 65535, [1, 2]), ORIGIN)
     for word, file in (("report", f"{SAMPLES}/read-a-tape.script"), ("step", HALT)):
         yield Case(f"a writer that fails: {word}", lambda w=word, f=file: writes_to_its_end(setup, w, f), "docs/MANUAL.md")
     yield from scenario_cases(setup)

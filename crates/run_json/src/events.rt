@@ -1,9 +1,10 @@
 //! The events of a unit.
 
-use crate::form::{Commas, OrNull};
+use crate::form::{Commas, OrNull, write_hex};
+use crate::lists::Lists;
 use crate::posts::write_end;
 use crate::steps::Steps;
-use any_device::AnyDevice;
+use crate::touched::Touched;
 use io_images::Extent;
 use request_piece::{Issued, Name, Scope};
 use run_record::{Controls, UnitRecord};
@@ -21,7 +22,9 @@ pub(crate) struct UnitEvents<'a> {
     number: usize,
     unit: &'a UnitRecord<'a>,
     controls: &'a Controls,
-    steps: Steps<'a, AnyDevice>,
+    /// Their places in the order that is made up, if the run has none.
+    columns: &'a [usize],
+    steps: Steps<'a>,
 }
 
 impl<'a> UnitEvents<'a> {
@@ -31,45 +34,61 @@ impl<'a> UnitEvents<'a> {
         number: usize,
         unit: &'a UnitRecord<'a>,
         controls: &'a Controls,
+        columns: &'a [usize],
         most_steps: u64,
     ) -> Result<UnitEvents<'a>, AllocError> {
         Ok(UnitEvents {
             number,
             unit,
             controls,
-            steps: Steps::of(alloc, unit.book, unit.faults, most_steps)?,
+            columns,
+            steps: Steps::of(alloc, unit, most_steps)?,
         })
     }
 
+    /// What the commands touched of the medium, once the events are written.
+    pub fn touched(&self) -> &Touched {
+        self.steps.touched()
+    }
+
     /// Writes the events. The table has room for the DCBs of the unit.
-    pub fn write<W: Write>(self, out: &mut W, dcbs: &mut Dcbs) -> Result<(), HistoryError> {
-        let mut unit = self;
+    pub fn write<W: Write>(
+        &mut self,
+        out: &mut W,
+        dcbs: &mut Dcbs,
+        lists: &mut Lists,
+    ) -> Result<(), HistoryError> {
         let mut commas = Commas::new();
-        for event in Events::of(unit.unit.book, dcbs) {
+        for (place, event) in Events::of(self.unit.book, dcbs).enumerate() {
             commas.next(out)?;
-            unit.write_event(out, &event)?;
+            self.write_place(out, place, event.entry)?;
+            self.write_event(out, &event)?;
+            self.steps.write(out, &event.told, lists)?;
+            out.write_all(b"}")?;
         }
         Ok(())
     }
 
-    /// Writes an event: where it stands, what happened, and its commands.
-    fn write_event<W: Write>(
-        &mut self,
-        out: &mut W,
-        event: &Event<'_>,
-    ) -> Result<(), HistoryError> {
+    /// Writes where an event is in the order of all units: its place, or else the column that it was given.
+    fn write_place<W: Write>(&self, out: &mut W, place: usize, entry: usize) -> io::Result<()> {
         out.write_all(b"\n{")?;
-        if let Some(place) = self.unit.place_of(event.entry) {
-            write!(out, "\"at\":{place},")?;
+        if let Some(at) = self.unit.place_of(entry) {
+            write!(out, "\"at\":{at},")?;
         }
+        match self.columns.get(place) {
+            Some(column) => write!(out, "\"column\":{column},"),
+            None => Ok(()),
+        }
+    }
+
+    /// Writes what happened.
+    fn write_event<W: Write>(&self, out: &mut W, event: &Event<'_>) -> io::Result<()> {
         write!(out, "\"entry\":{},\"what\":", event.entry)?;
         write_told(out, &event.told)?;
         if is_control(&event.told) {
             let task = self.controls.task_of(self.number, event.entry);
             write!(out, ",\"by\":{}", OrNull(task))?;
         }
-        self.steps.write(out, &event.told)?;
-        out.write_all(b"}")?;
         Ok(())
     }
 }
@@ -111,7 +130,15 @@ fn write_told<W: Write>(out: &mut W, told: &Told<'_>) -> io::Result<()> {
         } => write_purge(out, *scope, *mode, *active),
         Told::Closed { dcb } => write!(out, "\"closed\",\"dcb\":{dcb}"),
         Told::Reset { dcb } => write!(out, "\"reset\",\"dcb\":{dcb}"),
-        Told::Posted { name, end, cause } => write_posting(out, *name, end, *cause),
+        Told::Posted {
+            name,
+            end,
+            cause,
+            sets_flag,
+        } => {
+            write_posting(out, *name, end, *cause)?;
+            write_flag(out, *sets_flag)
+        }
     }
 }
 
@@ -161,7 +188,12 @@ fn write_arrival<W: Write>(out: &mut W, issued: &Issued) -> io::Result<()> {
         ",\"dcb\":{},\"related\":{}",
         issued.dcb(),
         issued.is_related()
-    )
+    )?;
+    let mut seek = [0; 8];
+    issued.seek().write(&mut seek);
+    out.write_all(b",\"seek\":")?;
+    write_hex(out, &seek)?;
+    write!(out, ",\"start\":\"{:06X}\"", issued.start().get())
 }
 
 fn write_purge<W: Write>(
@@ -190,4 +222,12 @@ fn write_posting<W: Write>(out: &mut W, name: Name, end: &End, cause: Cause) -> 
         None => out.write_all(b",\"why\":null")?,
     }
     write!(out, ",\"doomed_by\":{}", OrNull(cause.entry()))
+}
+
+/// Says that a post sets the error flag of its DCB, if it does.
+fn write_flag<W: Write>(out: &mut W, sets_flag: bool) -> io::Result<()> {
+    if sets_flag {
+        out.write_all(b",\"sets_flag\":true")?;
+    }
+    Ok(())
 }

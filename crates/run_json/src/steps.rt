@@ -1,14 +1,17 @@
 //! The commands of a unit's programs. Equal commands in a row are written once, with how often they come.
 
 use crate::form::{Commas, OrNull, Quoted, write_hex};
+use crate::lists::Lists;
+use crate::places::write_place;
+use crate::touched::Touched;
+use any_device::AnyDevice;
 use ccw_programs::Link;
 use command_table::CCW_FLAGS;
-use device_port::{Device, Fault};
+use run_record::UnitRecord;
 use std::alloc::{AllocError, Global};
 use std::io;
 use std::io::{ErrorKind, Write};
-use step_folds::{Fold, Sink};
-use unit_book::UnitBook;
+use step_folds::{Fold, Sink, Step};
 use unit_history::{
     After, Broken, Command, CommandList, Commands, Ending, HistoryError, Moved, Next, Shown, Told,
     Way,
@@ -16,69 +19,113 @@ use unit_history::{
 
 /// The commands of a unit, replayed.
 #[derive(Drop)]
-pub(crate) struct Steps<'t, D: Device> {
-    commands: Commands<'t, D>,
+pub(crate) struct Steps<'t> {
+    commands: Commands<'t, AnyDevice>,
+    /// How many commands more are written.
+    left: u64,
+    /// Whether a command was left out, and with it all that follow.
+    is_cut: bool,
+    touched: Touched,
     fold: Fold,
+    /// The list of an event, as text.
+    list: Vec<u8>,
 }
 
-impl<'t, D: Device> Steps<'t, D> {
-    /// The first `most` commands of a unit that was to meet these faults.
-    pub fn of(
-        alloc: Global,
-        book: &'t UnitBook<D>,
-        faults: &'t [Fault],
-        most: u64,
-    ) -> Result<Steps<'t, D>, AllocError> {
+impl<'t> Steps<'t> {
+    /// The first `most` commands of a unit.
+    pub fn of(alloc: Global, unit: &'t UnitRecord<'t>, most: u64) -> Result<Steps<'t>, AllocError> {
+        let list = CommandList {
+            faults: unit.faults,
+            most: u64::MAX,
+        };
         Ok(Steps {
-            commands: Commands::of(book, &CommandList { faults, most })?,
+            commands: Commands::of(unit.book, &list)?,
+            left: most,
+            is_cut: false,
+            touched: Touched::new(alloc, unit.book.device()),
             fold: Fold::new(alloc),
+            list: Vec::new(alloc),
         })
     }
 
-    /// Replays the next event, and writes the member of its commands, if it is of commands.
-    pub fn write<W: Write>(&mut self, out: &mut W, told: &Told<'_>) -> Result<(), HistoryError> {
+    /// Replays the next event. If it is of commands, writes the member with the number of their list.
+    pub fn write<W: Write>(
+        &mut self,
+        out: &mut W,
+        told: &Told<'_>,
+        lists: &mut Lists,
+    ) -> Result<(), HistoryError> {
         let Told::Ran { commands, .. } = told else {
-            self.commands.pass()?;
-            return Ok(());
+            return self.pass();
         };
-        out.write_all(b",\"steps\":[")?;
-        let mut list = List {
-            out,
-            commas: Commas::new(),
-        };
-        let is_whole = self.write_steps(*commands, &mut list)?;
-        self.fold.end(&mut list).map_err(why_unwritten)?;
-        list.out.write_all(b"]")?;
-        if !is_whole {
-            list.out.write_all(b",\"left_out\":true")?;
+        self.collect(*commands).map_err(why_unwritten)?;
+        let number = lists.number_of(self.list.as_slice())?;
+        write!(out, ",\"steps\":{number}")?;
+        if self.is_cut {
+            out.write_all(b",\"left_out\":true")?;
         }
         Ok(())
     }
 
-    /// Writes the next commands of a unit, and returns whether all were written.
-    fn write_steps<W: Write>(
-        &mut self,
-        count: u64,
-        list: &mut List<'_, W>,
-    ) -> Result<bool, HistoryError> {
-        for _ in 0..count {
-            if self.commands.is_cut() {
-                return Ok(false);
-            }
-            let mut text = self.fold.text();
-            match self.commands.next_command()? {
-                Next::Command(command) => {
-                    write_command(&mut text, &command).map_err(why_unwritten)?;
-                    self.fold.add(text, list).map_err(why_unwritten)?;
-                }
-                Next::Idle | Next::LeftOut => {}
-            }
+    /// What the commands touched of the medium.
+    pub fn touched(&self) -> &Touched {
+        &self.touched
+    }
+
+    /// Replays the next event, which is not of commands.
+    fn pass(&mut self) -> Result<(), HistoryError> {
+        if !self.is_over() {
+            self.commands.pass()?;
         }
-        Ok(!self.commands.is_cut())
+        Ok(())
+    }
+
+    /// Whether the replay is over: the other commands are left out, and the whole medium is written.
+    fn is_over(&self) -> bool {
+        self.is_cut && self.touched.is_whole()
+    }
+
+    /// Makes the list of the next commands of the unit.
+    fn collect(&mut self, count: u64) -> io::Result<()> {
+        self.list.clear();
+        for _ in 0..count {
+            self.is_cut = self.is_cut || self.left == 0;
+            if self.is_over() {
+                break;
+            }
+            self.add_next()?;
+        }
+        self.fold.end(&mut List {
+            text: &mut self.list,
+        })
+    }
+
+    /// Replays the next command, and adds it to the list unless it is left out.
+    fn add_next(&mut self) -> io::Result<()> {
+        let Next::Command(command) = self.commands.next_command()? else {
+            return Ok(());
+        };
+        let place = command.place();
+        if let Some(place) = &place {
+            self.touched.note(place)?;
+        }
+        if self.is_cut {
+            return Ok(());
+        }
+        self.left = self.left.saturating_sub(1);
+        let mut step = self.fold.step();
+        write_command(&mut step.text, &command)?;
+        if let Some(place) = &place {
+            write_place(&mut step.place, place)?;
+        }
+        let mut list = List {
+            text: &mut self.list,
+        };
+        self.fold.add(step, &mut list)
     }
 }
 
-/// Why a step was not written: a buffer found no memory, or the writer failed.
+/// Why a list was not made: memory ran out.
 fn why_unwritten(error: io::Error) -> HistoryError {
     match error.kind() {
         ErrorKind::OutOfMemory => HistoryError::NoMemory,
@@ -86,39 +133,59 @@ fn why_unwritten(error: io::Error) -> HistoryError {
     }
 }
 
-/// A list of steps that is written.
+/// A list of steps, as text.
 #[derive(Drop)]
-struct List<'a, W> {
-    out: &'a mut W,
-    commas: Commas,
+struct List<'a> {
+    text: &'a mut Vec<u8>,
 }
 
-impl<'a, W: Write> Sink for List<'a, W> {
-    fn take(&mut self, texts: &[Vec<u8>], times: u64) -> io::Result<()> {
-        self.commas.next(self.out)?;
+impl<'a> Sink for List<'a> {
+    fn take(&mut self, steps: &[Step], times: u64) -> io::Result<()> {
+        if !self.text.is_empty() {
+            self.text.write_all(b",")?;
+        }
         if times > 1 {
-            self.out.write_all(b"\n{\"loop\":[")?;
+            self.text.write_all(b"\n{\"loop\":[")?;
         }
         let mut commas = Commas::new();
-        for text in texts {
-            commas.next(self.out)?;
-            self.out.write_all(text)?;
+        for step in steps {
+            commas.next(self.text)?;
+            write_step(self.text, step)?;
         }
         if times > 1 {
-            write!(self.out, "],\"times\":{times}}}")?;
+            write!(self.text, "],\"times\":{times}}}")?;
         }
         Ok(())
     }
 }
 
-/// Writes a command: its CCWs, the bytes that it moved, and how it ended.
+/// Writes a step with its places.
+fn write_step<W: Write>(out: &mut W, step: &Step) -> io::Result<()> {
+    out.write_all(step.text.as_slice())?;
+    write_member(out, "place", step.place.as_slice())?;
+    if step.last_place != step.place {
+        write_member(out, "last_place", step.last_place.as_slice())?;
+    }
+    out.write_all(b"}")
+}
+
+/// Writes a member, if it has a text.
+fn write_member<W: Write>(out: &mut W, name: &str, text: &[u8]) -> io::Result<()> {
+    if text.is_empty() {
+        return Ok(());
+    }
+    write!(out, ",\"{name}\":")?;
+    out.write_all(text)
+}
+
+/// Writes a command, without its closing brace: its CCWs, the bytes that it moved, and how it ended.
 fn write_command<W: Write>(out: &mut W, command: &Command<'_>) -> io::Result<()> {
     out.write_all(b"\n{\"ccws\":[")?;
     let mut commas = Commas::new();
     let links = command.links();
     for place in 0..links.len() {
         commas.next(out)?;
-        write_ccw(out, command.name(place), &links[place])?;
+        write_ccw(out, command, place, &links[place])?;
     }
     out.write_all(b"]")?;
     match command.broken() {
@@ -131,15 +198,26 @@ fn write_command<W: Write>(out: &mut W, command: &Command<'_>) -> io::Result<()>
             write!(out, ",\"fault\":{}", OrNull(command.fault()))?;
         }
     }
-    out.write_all(b"}")
+    Ok(())
 }
 
-fn write_ccw<W: Write>(out: &mut W, name: &str, link: &Link) -> io::Result<()> {
+/// Writes a CCW of a command, which is at a place of its chain.
+fn write_ccw<W: Write>(
+    out: &mut W,
+    command: &Command<'_>,
+    place: usize,
+    link: &Link,
+) -> io::Result<()> {
     let mut image = [0; 8];
     link.ccw.write(&mut image);
     write!(out, "{{\"at\":\"{:06X}\",\"image\":", link.at)?;
     write_hex(out, &image)?;
-    write!(out, ",\"name\":{},\"flags\":[", Quoted(name))?;
+    write!(out, ",\"name\":{}", Quoted(command.name(place)))?;
+    match command.mnemonic(place) {
+        Some(mnemonic) => write!(out, ",\"mnemonic\":\"{mnemonic}\"")?,
+        None => out.write_all(b",\"mnemonic\":null")?,
+    }
+    out.write_all(b",\"flags\":[")?;
     let mut commas = Commas::new();
     for (bit, flag) in CCW_FLAGS {
         if image[4] & bit != 0 {

@@ -1,34 +1,35 @@
-//! Texts in a row, folded as they come.
+//! Steps in a row, folded as they come.
 
 ghost use Rattle.std.specs.Prelude.{◌+◌, ◌*◌, ◌≤◌, vec_len};
 
+use crate::step::Step;
 use std::alloc::{AllocError, Global};
 use std::io;
 
-/// The most texts of a row that is folded.
+/// The most steps of a row that is folded.
 const LONGEST: usize = 4;
 
-/// Takes the folded texts.
+/// Takes the folded steps.
 pub trait Sink {
-    /// Takes some texts, which come this often in a row.
-    fn take(&mut self, texts: &[Vec<u8>], times: u64) -> io::Result<()>;
+    /// Takes some steps, which come this often in a row.
+    fn take(&mut self, steps: &[Step], times: u64) -> io::Result<()>;
 }
 
-/// Texts that are folded as they come. It holds at most eight of them, and uses the memory of texts again.
+/// Steps that are folded as they come. It holds at most eight of them, and uses the memory of steps again.
 #[derive(Drop)]
 pub struct Fold {
     alloc: Global,
-    /// The texts that were not taken. If a row repeats, they begin with the row, once.
-    held: Vec<Vec<u8>>,
-    /// Memory of texts that were taken.
-    spare: Vec<Vec<u8>>,
-    /// How many texts the row has that repeats, or 0, and how often it came.
+    /// The steps that were not taken. If a row repeats, they begin with the row, once.
+    held: Vec<Step>,
+    /// Memory of steps that were taken.
+    spare: Vec<Step>,
+    /// How many steps the row has that repeats, or 0, and how often it came.
     period: usize,
     times: u64,
 }
 
 impl Fold {
-    /// No text.
+    /// No step.
     pub fn new(alloc: Global) -> Fold {
         Fold {
             alloc,
@@ -39,20 +40,20 @@ impl Fold {
         }
     }
 
-    /// An empty text, to be filled and then added.
-    pub fn text(&mut self) -> Vec<u8> {
+    /// A step with empty texts, to be filled and then added.
+    pub fn step(&mut self) -> Step {
         match self.spare.pop() {
-            Some(mut text) => {
-                text.clear();
-                text
+            Some(mut step) => {
+                step.clear();
+                step
             }
-            None => Vec::new(self.alloc),
+            None => Step::new(self.alloc),
         }
     }
 
-    /// Adds a text. What cannot change any more goes to the sink.
-    pub fn add<S: Sink>(&mut self, text: Vec<u8>, sink: &mut S) -> io::Result<()> {
-        if self.held.push(text).is_err() {
+    /// Adds a step. What cannot change any more goes to the sink.
+    pub fn add<S: Sink>(&mut self, step: Step, sink: &mut S) -> io::Result<()> {
+        if self.held.push(step).is_err() {
             return Err(io::Error::from(io::ErrorKind::OutOfMemory));
         }
         for _ in 0..2 * LONGEST {
@@ -73,14 +74,14 @@ impl Fold {
         Ok(())
     }
 
-    /// Folds the held texts once, or gives the sink the first of them. `is_last` says that no text follows them. Returns
+    /// Folds the held steps once, or gives the sink the first of them. `is_last` says that no step follows them. Returns
     /// whether something changed.
     fn go_on<S: Sink>(&mut self, is_last: bool, sink: &mut S) -> io::Result<bool> {
         if self.period > 0 {
             return self.repeat(is_last, sink);
         }
         if let Some(period) = self.begun() {
-            self.drop_after(period);
+            self.fold_after(period);
             self.period = period;
             self.times = 2;
             return Ok(true);
@@ -96,7 +97,7 @@ impl Fold {
     fn repeat<S: Sink>(&mut self, is_last: bool, sink: &mut S) -> io::Result<bool> {
         let period = self.period;
         if self.repeats(period) {
-            self.drop_after(period);
+            self.fold_after(period);
             self.times = self.times.saturating_add(1);
             return Ok(true);
         }
@@ -109,38 +110,52 @@ impl Fold {
         Ok(false)
     }
 
-    /// How many texts the row has with which the held texts begin twice.
+    /// How many steps the row has with which the held steps begin twice.
     fn begun(&self) -> Option<usize> {
         (1..=LONGEST).find(|period| self.repeats(*period))
     }
 
-    /// Whether the held texts begin twice with the same row of `period` texts.
+    /// Whether the held steps begin twice with the same row of `period` steps.
     fn repeats(&self, period: usize) -> bool {
         let both = period.saturating_mul(2);
         match (self.held.get(..period), self.held.get(period..both)) {
-            (Some(first), Some(second)) => first == second,
+            (Some(first), Some(second)) => {
+                first
+                    .iter()
+                    .zip(second)
+                    .all(|(one, other)| one.is_equal(other))
+            }
             _ => false,
         }
     }
 
-    /// Drops the `period` texts after the first row.
-    fn drop_after(&mut self, period: usize) {
-        for _ in 0..period {
+    /// Drops the `period` steps after the first row. The row keeps their places as its last.
+    fn fold_after(&mut self, period: usize) {
+        for place in 0..period {
             if period < self.held.len() {
-                let text = self.held.remove(period);
-                let _ = self.spare.push(text);
+                let step = self.held.remove(period);
+                self.keep_last(place, step);
             }
         }
     }
 
-    /// Gives the sink the first texts, and drops them.
+    /// The held step at a place comes once more, as this step.
+    fn keep_last(&mut self, place: usize, step: Step) {
+        let mut step = step;
+        if let Some(held) = self.held.get_mut(place) {
+            held.come_again(&mut step);
+        }
+        let _ = self.spare.push(step);
+    }
+
+    /// Gives the sink the first steps, and drops them.
     fn give<S: Sink>(&mut self, count: usize, times: u64, sink: &mut S) -> io::Result<()> {
-        let texts = self.held.get(..count).unwrap_or(&[]);
-        sink.take(texts, times)?;
+        let steps = self.held.get(..count).unwrap_or(&[]);
+        sink.take(steps, times)?;
         for _ in 0..count {
             if !self.held.is_empty() {
-                let text = self.held.remove(0);
-                let _ = self.spare.push(text);
+                let step = self.held.remove(0);
+                let _ = self.spare.push(step);
             }
         }
         Ok(())
