@@ -16,6 +16,14 @@ NAMES = "chromium", "chromium-browser", "google-chrome"
 # The most seconds that a page may take to load, and that an answer may take.
 SECONDS = 120
 
+# Waits until the script of a page (viewer/page.js) has built it, or half a minute, and for two frames more.
+BUILT = """(async () => {
+  const frame = () => new Promise(done => requestAnimationFrame(done));
+  for (let at = performance.now(); document.body.dataset.state !== "built" && performance.now() < at + 30000;) await frame();
+  await frame();
+  await frame();
+})()"""
+
 
 def program():
     """The path of the browser."""
@@ -87,16 +95,22 @@ class Browser:
                     raise Failed(f"{method}: {message['error']}")
                 return message["result"]
 
-    def open(self, path, part="", width=1280, is_dark=False, has_scripts=True):
-        """Opens a file, or a part of it, as `#posts`, in a window of this width. What the page says on the console is in
-        `said`."""
+    def open(self, path, part="", width=1280, height=900, is_dark=False, has_scripts=True):
+        """Opens a file, or a part of it, as `#posts`, and waits until its script has built it. What the page says on the console
+        is in `said`."""
         self.said.clear()
         self.call("Emulation.setScriptExecutionDisabled", value=not has_scripts)
-        self.call("Emulation.setDeviceMetricsOverride", width=width, height=900, deviceScaleFactor=1, mobile=False)
-        scheme = "dark" if is_dark else "light"
-        self.call("Emulation.setEmulatedMedia", features=[{"name": "prefers-color-scheme", "value": scheme}])
+        self.look(width, height, is_dark)
         self.go("about:blank")
         self.go(f"file://{os.path.realpath(path)}{part}")
+        if has_scripts:
+            self.value(BUILT)
+
+    def look(self, width, height=900, is_dark=False):
+        """Gives the window a size, and the page a light or a dark room."""
+        self.call("Emulation.setDeviceMetricsOverride", width=width, height=height, deviceScaleFactor=1, mobile=False)
+        scheme = "dark" if is_dark else "light"
+        self.call("Emulation.setEmulatedMedia", features=[{"name": "prefers-color-scheme", "value": scheme}])
 
     def go(self, url):
         """Goes to an address, and waits until it is loaded."""
@@ -112,10 +126,15 @@ class Browser:
             raise Failed(f"{expression}: {json.dumps(answer['exceptionDetails'])[:400]}")
         return answer["result"].get("value")
 
-    def screenshot(self, file, most=4000):
-        """Writes a picture of the page, or of its first `most` pixels."""
+    def screenshot(self, file, whole=True, most=4000):
+        """Writes a picture of the window, or of the page down to `most` pixels."""
         size = self.call("Page.getLayoutMetrics")["cssContentSize"]
         part = {"x": 0, "y": 0, "width": size["width"], "height": min(size["height"], most), "scale": 1}
-        data = self.call("Page.captureScreenshot", format="png", captureBeyondViewport=True, clip=part)["data"]
+        words = {"captureBeyondViewport": True, "clip": part} if whole else {}
         with open(file, "wb") as it:
-            it.write(base64.b64decode(data))
+            it.write(base64.b64decode(self.call("Page.captureScreenshot", format="png", **words)["data"]))
+
+    def print(self, file):
+        """Prints the page as PDF."""
+        with open(file, "wb") as it:
+            it.write(base64.b64decode(self.call("Page.printToPDF", preferCSSPageSize=True)["data"]))

@@ -1,171 +1,286 @@
-"""The page of a run (docs/REPORT.md), judged without the program and without a browser: that it is one file that runs nothing but
-its own script and names no address, that its links lead somewhere, and that it shows the posts and the entries of the run.
+"""The page of a run (docs/REPORT.md). Without a browser: that it runs nothing but its own script, loads nothing, and holds the JSON
+and the posts of the run. With a browser: what it shows, against what an independent reader takes from the JSON alone.
 """
 
 import base64
+import collections
 import hashlib
+import json
 import re
 from html.parser import HTMLParser
 
 from harness import require
 
-# What a page is made of. Nothing of this can load a file.
-ELEMENTS = set("""html head meta title style body svg defs pattern path rect circle line text use g a header main section nav article
-    footer h1 h2 h3 p div span ul li b i u em small bdi code pre table thead tbody tr th td input label details summary script""".split())
+# What a page has before its script runs.
+ELEMENTS = set("html head meta title style body header h1 noscript p main section script h2 code pre footer".split())
 
-# What has no end tag in a page.
-VOID = {"meta", "input"}
+POLICY = "default-src 'none'; base-uri 'none'; form-action 'none'; style-src '{}'; script-src '{}'"
 
-# How many steps of an attempt a panel shows before it leaves some out (docs/REPORT.md).
+# How many steps of an attempt, and requests that something ended, a panel shows.
 FIRST_STEPS = 120
+NAMED = 40
 
-POLICY = "default-src 'none';style-src 'unsafe-inline';script-src 'sha256-{}'"
+SENSE = {0x8000: "command reject", 0x4000: "intervention required", 0x1000: "equipment check", 0x0800: "data check",
+         0x0040: "invalid track format", 0x0008: "no record found", 0x0004: "file protected"}
+
+# The most DCBs of a unit that have strips.
+STRIPS = 6
 
 
 class Page(HTMLParser):
-    """The elements of a page in their order, with their attributes, and the text of each section, article and heading."""
+    """The elements of a page with their attributes, and the text of each by its name."""
 
     def __init__(self, text):
         super().__init__(convert_charrefs=True)
-        self.elements, self.texts, self.under_way = [], {}, []
+        self.elements, self.texts, self.open = [], {}, []
         self.feed(text)
         self.close()
 
     def handle_starttag(self, tag, attributes):
-        named = dict(attributes)
-        require(len(named) == len(attributes), f"<{tag}> has an attribute twice: {attributes}")
-        self.elements.append((tag, named))
-        if tag in ("section", "article", "title", "h1", "script", "style") and (tag != "title" or "title" not in self.texts):
-            self.under_way.append((tag, named.get("id", tag), []))
+        self.elements.append((tag, dict(attributes)))
+        if tag != "meta":
+            self.open.append((tag, dict(attributes).get("id", tag), []))
 
     def handle_endtag(self, tag):
-        if self.under_way and self.under_way[-1][0] == tag:
-            _, name, parts = self.under_way.pop()
-            self.texts[name] = "".join(parts)
+        require(self.open and self.open[-1][0] == tag, f"</{tag}> ends no element")
+        _, name, parts = self.open.pop()
+        self.texts[name] = "".join(parts)
 
     def handle_data(self, data):
-        for _, _, parts in self.under_way:
+        for _, _, parts in self.open:
             parts.append(data)
 
-    def shape(self):
-        """The elements, with the names of their attributes."""
-        return [(tag, *sorted(named)) for tag, named in self.elements]
+    def run(self):
+        """The run, of both parts of its JSON."""
+        return {**json.loads(self.texts["front"]), **json.loads(self.texts["rest"])}
 
 
-def check_safe(text, page):
-    """Fails if a page can run or load anything but its own style and script, or leads anywhere else."""
-    require(text.startswith("<!DOCTYPE html><html lang=en>"), "the page begins otherwise")
-    scripts = [named for tag, named in page.elements if tag == "script"]
-    require(scripts == [{}], f"the script elements are {scripts}")
-    digest = base64.b64encode(hashlib.sha256(page.texts["script"].encode()).digest()).decode()
-    policies = [named["content"] for tag, named in page.elements if tag == "meta" and "http-equiv" in named]
-    require(policies == [POLICY.format(digest)], f"the policy is {policies}")
-    for tag, named in page.elements:
-        require(tag in ELEMENTS, f"there is an element <{tag}>")
-        for key, value in named.items():
-            require(not key.startswith("on") and key not in ("src", "srcset", "action", "formaction"), f"<{tag}> has {key}={value}")
-            require(not key.endswith("href") or value.startswith("#"), f"<{tag}> leads to {value}")
-    style = page.texts["style"]
-    require("url(" not in re.sub(r"url\(#\w+\)", "", style) and "@import" not in style, "the style names a file")
-
-
-def check_links(page):
-    """Fails if two elements have one name, or if a link leads nowhere."""
-    names = [named["id"] for _, named in page.elements if "id" in named]
-    require(len(names) == len(set(names)), f"names of two elements: {sorted({it for it in names if names.count(it) > 1})[:5]}")
-    known = {f"#{name}" for name in names} | {"#_"}
-    lost = {named[key] for _, named in page.elements for key in ("href", "for") if key in named
-            and (named[key] if key == "href" else f"#{named[key]}") not in known}
-    require(not lost, f"links that lead nowhere: {sorted(lost)[:5]}")
-
-
-def posts_of(page):
-    """The lines of `run` that the page shows."""
-    return "".join(f"{line}\n" for line in re.findall(r"(?:post \d|end \d).*", page.texts["posts"]))
-
-
-def panel_of(page, name):
-    """What the panel of a request says: its entries, each with what it was, then how it was posted and why."""
-    text = page.texts[name]
-    return {int(entry): words for entry, words in re.findall(r"^ *(\d+)  (arrived|started|posted)", text, re.M)}
+def digest(text):
+    return f"sha256-{base64.b64encode(hashlib.sha256(text.encode()).digest()).decode()}"
 
 
 def check(text):
-    """The page, if it is safe and whole."""
+    """The page, if it can run and load nothing but its own style and script, and its JSON cannot end an element."""
     page = Page(text)
-    check_safe(text, page)
-    check_links(page)
+    require(text.startswith("<!DOCTYPE html>\n") and not page.open, "the page is not whole")
+    scripts = [named for tag, named in page.elements if tag == "script"]
+    data = [{"type": "application/json", "id": name} for name in ("front", "rest")]
+    require(scripts == [data[0], {}, data[1]], f"the script elements are {scripts}")
+    policies = [named["content"] for tag, named in page.elements if tag == "meta" and "http-equiv" in named]
+    require(policies == [POLICY.format(digest(page.texts["style"]), digest(page.texts["script"]))], f"the policy is {policies}")
+    for tag, named in page.elements:
+        require(tag in ELEMENTS, f"there is an element <{tag}>")
+        require(set(named) <= {"lang", "charset", "name", "content", "http-equiv", "id", "aria-label", "type", "class", "tabindex"},
+                f"<{tag}> has {named}")
+    require("<" not in page.texts["front"] + page.texts["rest"], "the JSON has a <")
+    for words in page.texts["style"], page.texts["script"]:
+        require(not re.search(r"https?:(?!//www\.w3\.org/2000/svg\b)|@import|\binnerHTML\b|\beval\b|url\((?!#)", words), "the page names a place")
     return page
 
 
-def check_ended(text, event):
-    """Fails if a panel shows another end than that of a post."""
-    for name, value in (("CCW address", event["address"]), ("unit status", event["status"][:2]), ("subchannel", event["status"][2:]),
-                        ("residual", event["residual"]), ("sense", event["sense"])):
-        require(re.search(rf"^{name} +{value}\b", text, re.M), f"the panel does not show {name} {value}")
+def posts_of(run):
+    """The lines that `run` prints of the posts of a run."""
+    names = "task", "unit", "request", "code", "address", "status", "residual", "sense"
+    lines = [" ".join(["post", *(str(post[it]) for it in names), post["shown"] or "-"]) for post in run["posts"]]
+    return "".join(f"{line}\n" for line in [*lines, f"end {len(lines)}"])
 
 
-def check_iob(text, post):
-    """Fails if a panel shows another beginning of an IOB: two flags, the sense bytes, the code and the address of the ECB."""
-    iob = post["iob"]
-    row = " ".join([f"{post['iob_at']} ", iob[:2], iob[2:4], iob[4:8], iob[8:10], iob[10:16]])
-    require(row in text, f"the panel does not show the IOB {row}")
+# --- what a page shows, from the JSON alone
 
 
-def check_steps(text, steps):
-    """Fails if a panel lacks a CCW, or its first or last steps. Of many the others are left out."""
-    at = 0
-    for step in steps[:FIRST_STEPS]:
-        for ccw in step.get("loop", [step])[0]["ccws"]:
-            line = f"{ccw['at']}  {ccw['image'][:8]} {ccw['image'][8:]}  "
-            found = text.find(line, at)
-            require(found >= 0, f"the panel lacks the CCW {line}")
-            at = found + len(line)
-
-
-def check_run(page, run):
-    """Fails if a page shows other requests, entries, ends, causes or steps than the JSON of the same run."""
-    due, marks = {}, set()
+def lanes_of(run):
+    """Of each lane how many bars, marks, strips and waits it has; the requests that something else ended; the codes."""
+    lanes = [f"task{task}" for task in range(run["tasks"])] + [f"unit{unit['unit']}" for unit in run["units"]]
+    counts = {what: collections.Counter() for what in ("bars", "marks", "strips", "waits", "collects")}
+    dooms, codes = [], collections.Counter()
     for unit in run["units"]:
-        named = {event["entry"]: event for event in unit["events"]}
+        number = unit["unit"]
+        counts["strips"][f"unit{number}"] = strips_of(unit)
+        for event in unit["events"]:
+            what, column = event["what"], event.get("column", event.get("at"))
+            if what == "arrived":
+                counts["bars"].update([f"unit{number}", f"task{event['task']}"])
+            elif what in ("purge", "closed", "reset", "opened") and column:
+                counts["marks"].update([f"unit{number}", *([f"task{event['by']}"] if event.get("by") is not None else [])])
+            elif what == "posted":
+                codes[event["code"]] += 1
+                dooms += [f"q{event['task']}-{number}-{event['request']}"] if event["doomed_by"] else []
+    for task, events in enumerate(run["task_events"]):
+        kinds = [event["what"] for event in events]
+        counts["collects"][f"task{task}"] = kinds.count("collected")
+        # a wait after which nothing is collected has no length
+        counts["waits"][f"task{task}"] = len(re.findall("w(?=c)", "".join(kind[0] if kind != "controlled" else "x" for kind in kinds)))
+    return {**{what: {lane: count[lane] for lane in lanes} for what, count in counts.items()}, "dooms": sorted(dooms), "codes": dict(codes)}
+
+
+def strips_of(unit):
+    """How many times DCBs of a unit are in error or closed, of its first six that ever are."""
+    state, found, owner = {}, collections.Counter(), {}
+    for event in unit["events"]:
+        if event["what"] == "arrived":
+            owner[event["task"], event["request"]] = event["dcb"]
+        dcb = event.get("dcb") if event["what"] != "posted" else owner.get((event["task"], event["request"]))
+        if event["what"] == "closed" and state.get(dcb) != "closed":
+            state[dcb] = "closed"
+            found[dcb] += 1
+        elif event.get("sets_flag") and dcb not in state:
+            state[dcb] = "flagged"
+            found[dcb] += 1
+        elif event["what"] == "reset" and state.get(dcb) == "flagged":
+            del state[dcb]
+    return sum(found[dcb] for dcb in sorted(found)[:STRIPS])
+
+
+def requests_of(run):
+    """Of each request its name on the page, its events, its post if it was collected, and the name of what ended it."""
+    collected = {(it["task"], it["unit"], it["request"]): it for it in run["posts"]}
+    for unit in run["units"]:
+        entries = {event["entry"]: event for event in unit["events"]}
+        of = {}
         for event in unit["events"]:
             if "request" in event:
-                name = f"q{event['task']}-{unit['unit']}-{event['request']}"
-                panel = due.setdefault(name, {"entries": {}, "by": None, "end": None, "steps": []})
-                if event["what"] in ("arrived", "started", "posted"):
-                    panel["entries"][event["entry"]] = event["what"]
-                panel["steps"] += event.get("steps", [])
-                if event["what"] == "posted":
-                    panel["end"] = event
-                    by = named.get(event["doomed_by"])
-                    if by and by["what"] == "posted":
-                        panel["by"] = f"q{by['task']}-{unit['unit']}-{by['request']}"
-                    elif by:
-                        panel["by"] = f"m{unit['unit']}-{by['entry']}"
-            elif event["what"] in ("purge", "closed", "reset"):
-                marks.add(f"m{unit['unit']}-{event['entry']}")
-    collected = {f"q{it['task']}-{it['unit']}-{it['request']}": it for it in run["posts"]}
-    found = {named["id"] for tag, named in page.elements if tag == "section" and named.get("class") == "q"}
-    require(found == set(due) | marks, f"the panels are {sorted(found ^ (set(due) | marks))[:5]} off")
-    links, inside = {}, None
-    for tag, named in page.elements:
-        if tag == "section":
-            inside = named.get("id")
-        elif tag == "a" and inside in found:
-            links.setdefault(inside, []).append(named["href"][1:])
-    for name, panel in due.items():
-        text, entries = page.texts[name], panel_of(page, name)
-        # of many starts the first ones and the last are shown
-        starts = [entry for entry, what in panel["entries"].items() if what == "started"]
-        needed = set(panel["entries"]) - set(starts[1:-1])
-        is_right = entries.items() <= panel["entries"].items() and needed <= set(entries)
-        require(is_right, f"panel {name} has the entries {entries}, and its request {panel['entries']}")
-        if panel["end"]:
-            require(f"posted {panel['end']['code']}" in text, f"panel {name} lacks its code {panel['end']['code']}")
-            check_ended(text, panel["end"])
-            if name in collected:
-                check_iob(text, collected[name])
-        check_steps(text, panel["steps"])
-        if panel["by"]:
-            require(panel["by"] in links.get(name, []), f"panel {name} does not lead to {panel['by']}")
-            require(name in links.get(panel["by"], []), f"panel {panel['by']} does not lead to {name}")
+                of.setdefault((event["task"], event["request"]), []).append(event)
+        for (task, number), events in of.items():
+            end = next((event for event in events if event["what"] == "posted"), None)
+            by = entries.get(end["doomed_by"]) if end else None
+            cause = by and (f"q{by['task']}-{unit['unit']}-{by['request']}" if by["what"] == "posted" else f"m{unit['unit']}-{by['entry']}")
+            yield f"q{task}-{unit['unit']}-{number}", unit, events, end, collected.get((task, unit["unit"], number)), cause
+
+
+def sense_names(sense):
+    """The names of the bits of sense bytes that are on."""
+    return [name for bit, name in SENSE.items() if int(sense, 16) & bit]
+
+
+def grouped(image):
+    return " ".join(image[at : at + 8] for at in range(0, len(image), 8))
+
+
+def seek_in_words(seek):
+    """The track and the record of MBBCCHHR as a panel has them."""
+    return f"seeks cylinder {int(seek[6:10], 16)}, head {int(seek[10:14], 16)}, R{int(seek[14:], 16)}"
+
+
+def place_in_words(place):
+    """The place of a step as a panel has it."""
+    if "item" in place:
+        return f"item {place['item']:,} of the tape"
+    if "page" in place:
+        return f"page {place['page']:,}, line {place['line']}"
+    track = f"track {place['cylinder']} {place['head']}"
+    if "passed" in place:
+        return f"{track}, passed {place['passed']:,} record"
+    name = f"ID {place['id']}" if "id" in place else f"R{place['record']}"
+    return f"{track}, {name}" + (f", key {place['key']} |" if "key" in place else "")
+
+
+def steps_in_words(steps):
+    """What a panel has of some steps, in this order."""
+    for step in steps:
+        for it in step.get("loop", [step]):
+            for place, ccw in enumerate(it["ccws"]):
+                yield f"{ccw['at']} {grouped(ccw['image'])} " + (f"{ccw['mnemonic'] or ''} {ccw['name']}" if place == 0 else "…")
+            if "rule" in it:
+                yield f"program check at {it['rule']['at']}"
+                yield it["rule"]["text"]
+            if "moved" in it:
+                yield f"{it['way']} {it['address']}"
+            if "status" in it:
+                yield f"{it['status']} residual {it['residual']}"
+            if "place" in it:
+                yield place_in_words(it["place"])
+            if "last_place" in it:
+                yield place_in_words(it["last_place"])
+        if "loop" in step:
+            yield f"× {step['times']:,}"
+
+
+def check_panel(run, request, panel):
+    """Fails if the panel of a request lacks its code, an entry, its CSW, its IOB, a step, or a link to what ended it."""
+    name, unit, events, end, post, cause = request
+    title, text, links, places = panel
+    require(title.startswith(end["code"] if end else "–"), f"{name} has the title {title}")
+    starts = [event["entry"] for event in events if event["what"] == "started"]
+    arrival = events[0]
+    due = [f"{arrival['entry']:,}arrived for DCB {arrival['dcb']}", f"program at {arrival['start']}",
+           *([seek_in_words(arrival["seek"])] if unit["kind"] == "disk" else [])]
+    due += [f"{entry:,}started" for entry in starts[:1] + starts[-1:]] + ([f"{end['entry']:,}posted {end['code']}"] if end else [])
+    if end:
+        due += [f"CCW address{end['address']}", f"unit status{end['status'][:2]}", f"subchannel{end['status'][2:]}",
+                f"residual{end['residual']}", f"sense{end['sense']}{', '.join(sense_names(end['sense']))}"]
+    if post:
+        iob = post["iob"]
+        due.append(f"{post['iob_at']}{iob[:2]} {iob[2:4]} {iob[4:8]} {iob[8:10]} {iob[10:16]}")
+    for words in due:
+        require(words in text, f"the panel of {name} lacks {words!r}")
+    require(cause is None or cause in links, f"the panel of {name} does not lead to {cause}")
+    all_steps = (step for event in events if event["what"] == "ran" for step in run["steps"][event["steps"]])
+    right = {target for step in all_steps for found in places_in(step) for target in place_on(unit, *found)}
+    for target in places:
+        require(target in right, f"the panel of {name} leads to {target}, which no step of it has")
+    at = 0
+    for steps in shown_steps(run, events):
+        for words in steps_in_words(steps):
+            found = text.find(words, at)
+            require(found >= 0, f"the panel of {name} lacks {words!r} in its steps")
+            at = found + len(words)
+        for it, place in (found for step in steps for found in places_in(step)):
+            for target in place_on(unit, it, place):
+                require(target in places, f"the panel of {name} does not lead to {target} after {place}")
+                del places[: places.index(target) + 1]
+
+
+def shown_steps(run, events):
+    """The steps that a panel has of each attempt, but for attempts with joined loops and long ones. Attempts in a row with equal
+    steps are once in it."""
+    last, attempt = None, []
+    for event in [*events, {"what": "started"}]:
+        if event["what"] == "ran":
+            attempt += [event["steps"]]
+        elif event["what"] == "started" and attempt:
+            steps = [step for number in attempt for step in run["steps"][number]]
+            key = re.sub(r'"fault": \d+', '"fault": 1', json.dumps(steps))
+            is_joined = len(attempt) > 1 and any("loop" in run["steps"][number][0] for number in attempt[1:] if run["steps"][number])
+            if key != last and not is_joined and len(steps) <= FIRST_STEPS:
+                yield steps
+            last, attempt = key, []
+
+
+def places_in(step):
+    """The places of a step, or of those of a loop, which lead to a medium, each with its step."""
+    for it in step.get("loop", [step]):
+        yield from ((it, place) for place in (it.get("place"), it.get("last_place")) if place and "passed" not in place)
+
+
+def places_of(run):
+    """The places of all steps that the media still have: the name on the page, and words that its drawing has."""
+    found = {}
+    for _, unit, events, *_ in requests_of(run):
+        for step in (step for event in events if event["what"] == "ran" for step in run["steps"][event["steps"]]):
+            for it, place in places_in(step):
+                found.update(place_on(unit, it, place))
+    return found
+
+
+def place_on(unit, step, place):
+    """The place of a step as `places_of` has it, if the medium still has what was there."""
+    number, medium = unit["unit"], unit["medium"]
+    if "item" in place:
+        items = dict(zip(medium.get("numbers", range(1, len(medium["items"]) + 1)), medium["items"], strict=True))
+        is_begin = step.get("way") in ("from", "to") and not any("SKIP" in ccw["flags"] for ccw in step["ccws"])
+        begin = step["bytes"].replace("skipped", "") if is_begin else ""
+        is_there = place["item"] in items and (items[place["item"]] or "").startswith(begin)
+        return {f"i{number}-{place['item']}": f"item {place['item']}:"} if is_there else {}
+    if "page" in place:
+        page, line = place["page"], place["line"]
+        lines = [it["line"] for it in medium["printed"] if it["page"] == page] + [medium["line"]] * (medium["page"] == page)
+        drawn = (66 if max(lines) > 54 else -(-max(lines) // 3) * 3) if lines else 0
+        text = "".join(it["text"] for it in medium["printed"] if (it["page"], it["line"]) == (page, line))
+        return {f"l{number}-{page}-{line}": text} if line <= drawn else {}
+    where = place["cylinder"], place["head"]
+    track = [it for it in medium["records"] if (it["cylinder"], it["head"]) == where]
+    first = 0 if track and track[0]["record"] == 0 else 1
+    record = next(iter(track[place["nth"] - first :]), None) if place["nth"] >= first else {"record": 0, "key": "", "data": "00" * 8}
+    if not record or any(record.get(what, other) != place.get(what, other) for what, other in (("record", 0), ("id", None), ("key", ""))):
+        return {}
+    return {f"r{number}-{where[0]}-{where[1]}-{place['nth']}": f"R{record['record']}, bytes"}

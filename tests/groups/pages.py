@@ -1,35 +1,31 @@
 """Reports as a page for a browser (docs/REPORT.md): of every sample, every script of tests/cases that runs, every stored history
 and every scenario.
 
-tests/pages.py judges each without a browser: it runs nothing but its own script, its links lead somewhere, it shows the posts that
-are stored, and what a scenario's page shows is what its JSON says. Bytes of requests and media that look like HTML change no
-element. Headless Chromium (Debian's package `chromium`; without it these cases are skipped) then opens them, wide and narrow, light
-and dark, with scripts and without.
+Without a browser: the page is safe and whole, its JSON and its posts are those of the run, and its memory does not grow with equal
+requests. In headless Chromium (Debian's package `chromium`; without it these cases are skipped), wide and light, and narrow and
+dark: what the page shows is what tests/pages.py takes from the JSON alone. Bytes and names that look like HTML stay text.
 """
 
-import glob
+import json
 import os
-import random
-import re
+import struct
+import subprocess
+import sys
 import tempfile
 
 import browser
 import pages
-from groups import random as at_random
+from groups.costs import STARTER
 from groups.reports import as_json, stored
 from groups.scenarios import scenarios
 from harness import SAMPLES, TOP, Case, Failed, expect_text, read, require, run
 
-# How many jobs at random there are, also in the long form, and how many are one case.
-JOBS = 50
-JOBS_LONG = 1000
-BATCH = 25
-
 # How many pages one browser opens.
-SHEAF = 20
+SHEAF = 25
 
-# The widths of windows, in pixels.
-WIDTHS = 1280, 400
+# The windows: their pixels, and whether the room is dark. The lanes are as high as they need.
+WINDOWS = (1280, False), (400, True)
+HEIGHT = 9000
 
 ORIGIN = "docs/REPORT.md and docs/MANUAL.md"
 
@@ -44,8 +40,40 @@ MEANINGS = str.maketrans("<>&\"'", "abcde")
 # An IOB at 001000 whose channel program is at 001030.
 IOB = "42000000" "00001028" "0000000000000000" "00001030" "00000001" + "00" * 16
 
+# The IOBs and programs of GONE.
+GONE_AREA = ("42000000000010A00000000000000000000010A8000000010000000000000000000000000000000042000000000010A00000000000000000000010C8"
+         "000000010000000000000000000000000000000042000000000010A00000000000000000000010E00000000100000000000000000000000000000000"
+         "42000000000010A00000000000000000000010F8000000010000000000000000000000000000000000000000000000003100112D40000005080010A8"
+         "00000000060011434000000206001143000000023100112840000005080010C8000000001D0011370000000C3100113240000005080010E000000000"
+         "060011430000000202001143400000040200114340000004020011434000000427000000400000012700000040000001010011370000000600000000"
+         "02000000000300000000040000000007000004E6E7E8E90000000000000000")
+
+# Reads records 3 and 4 of a track, and the blocks 1 to 3 of a tape. Then record 7 comes after record 2, and block 2 is written anew.
+GONE = f"""tasks 1
+disk 0 0 1 1 200
+rec 0 0 0 1 - C1C1
+rec 0 0 0 2 - C2C2
+rec 0 0 0 3 - C3C3
+rec 0 0 0 4 - C4C4
+tape 1 0 200
+block 1 C1C1C1C1
+block 1 C2C2C2C2
+block 1 C3C3C3C3
+open 0 out 18000000000000000000000000000001
+open 1 out
+area 0 001000 {GONE_AREA}
+excp 0 0 1 001000 0 001143 2
+wait 0
+excp 0 0 1 001028 0 001143 2
+excp 0 1 1 001078 0 001143 4
+wait 0
+"""
+
 # The most bytes of a page of 20,000 requests, by the kind of its requests.
-SIZES = {"small": 22_000_000, "different": 30_000_000}
+SIZES = {"small": 19_000_000, "different": 25_000_000}
+
+# The most memory that a page of 20,000 equal requests takes beside their posts alone, in MiB.
+MEMORY = 4
 
 
 def page_of(setup, *words, script):
@@ -61,29 +89,26 @@ def posts_in(text):
 
 
 def is_right(setup, script, texts):
-    """The page of a script is safe and whole, and shows one of some stored posts."""
+    """The page of a script is safe and whole, and has one of some stored posts."""
     page = pages.check(page_of(setup, "report", "--html", script=script))
-    actual = pages.posts_of(page)
+    actual = page.texts["post-lines"]
+    expect_text("other posts than the JSON", None, pages.posts_of(page.run()), actual)
     if texts and actual not in map(posts_in, texts):
         expect_text("other posts", None, posts_in(texts[0]), actual)
 
 
-def are_right(setup, seed):
-    """The pages of jobs at random are safe and whole, with few workers or many."""
-    chance = random.Random(seed)
-    for number in range(BATCH):
-        lines = at_random.job_at_random(chance, at_random.STEPS).lines
-        script = "\n".join([*at_random.SET_UP, *lines, ""])
-        channels, handlers = [("1", "1"), ("4", "2")][number % 2]
-        text = page_of(setup, "report", "--html", "--channels", channels, "--handlers", handlers, script=script)
-        require(pages.posts_of(pages.check(text)).endswith(f"end {script.count('excp ')}\n"), "not each request is posted")
+def has_its_json(setup, script):
+    """The page of a scenario is safe and whole, and has the JSON of the same scenario."""
+    page = pages.check(page_of(setup, "step", "--html", script=script))
+    expected = as_json(setup.run("step", "--json", script=script))
+    require(page.run() == expected, "the page has another JSON")
+    expect_text("other posts than the JSON", None, pages.posts_of(expected), page.texts["post-lines"])
 
 
-def shows_its_json(setup, script):
-    """The page of a scenario shows what its JSON says, with locks and without."""
-    for words in (), ("--plain",):
-        text = page_of(setup, "step", "--html", *words, script=script)
-        pages.check_run(pages.check(text), as_json(setup.run("step", "--json", *words, script=script)))
+def is_generated(_):
+    """The template is what viewer/ comes to."""
+    ran = run([sys.executable, f"{TOP}/tools/viewer.py", "--check"])
+    require(ran.status == 0, "another template", ran)
 
 
 def with_bytes(data):
@@ -99,53 +124,52 @@ def with_bytes(data):
     return "\n".join([*lines, ""])
 
 
-def in_code(text, code):
-    return text.encode(code, "replace")
-
-
 def keeps_its_shape(setup, code):
-    """Bytes that look like HTML come to the same elements as harmless ones, and to the same text but for these characters."""
-    text = HOSTILE.replace("\n", " ")
-    harmless, hostile = (pages.check(page_of(setup, "report", "--html", script=with_bytes(in_code(it, code))))
-                         for it in (text.translate(MEANINGS), text))
-    require(harmless.shape() == hostile.shape(), "the page has other elements")
-    if code == "cp037":
-        require("<script>alert(1)</script>" in hostile.texts["u0"], "the paper does not show the text")
+    """Bytes that look like HTML make no other element, and stay the same text."""
+    for text in HOSTILE.replace("\n", " ").translate(MEANINGS), HOSTILE.replace("\n", " "):
+        page = pages.check(page_of(setup, "report", "--html", script=with_bytes(text.encode(code, "replace"))))
+        require(text.encode(code, "replace").hex().upper() in json.dumps(page.run()), "the bytes are not in the JSON")
+
+
+def hostile_name(setup, folder):
+    """The name of a script that looks like HTML, and its page."""
+    name = f"{folder}/\"'><b>&amp;\x01\u00e9<!--<script>.script"
+    with open(name, "w", encoding="ascii") as it:
+        it.write(read(f"{SAMPLES}/read.script"))
+    ran = run([setup.program, "report", "--html", name])
+    require((ran.status, ran.err) == (0, ""), "the report fails", ran)
+    return name.replace("\x01", "\ufffd"), ran.out
 
 
 def escapes_the_title(setup):
     """The name of a script is text."""
     with tempfile.TemporaryDirectory() as folder:
-        name = f"{folder}/\"'><b>&amp;\x01\u00e9.script"
-        with open(name, "w", encoding="ascii") as it:
-            it.write(read(f"{SAMPLES}/read.script"))
-        ran = run([setup.program, "report", "--html", name])
-    require((ran.status, ran.err) == (0, ""), "the report fails", ran)
-    page = pages.check(ran.out)
-    shown = name.replace("\x01", "\ufffd")
-    require(page.texts["h1"] in (name, shown), f"the heading is {page.texts['h1']!r}", ran)
-    require(page.texts["title"] in (f"{it}: a run of excp_job" for it in (name, shown)), f"the title is {page.texts['title']!r}", ran)
+        name, text = hostile_name(setup, folder)
+    page = pages.check(text)
+    require((page.texts["h1"], page.texts["title"]) == (name, f"{name}: a run of excp_job"), f"the heading is {page.texts['h1']!r}")
+    require(page.run()["title"].replace("\x01", "\ufffd") == name, "the JSON has another title")
 
 
-def counts_dcbs(setup, dcbs):
-    """The lane of a unit whose DCBs are all closed has strips of six of them, and says how many more there are."""
-    lines = ["tasks 1", "tape 0 0 100", *["open 0 in"] * (dcbs + 1), *(f"close 0 0 {dcb}" for dcb in range(1, dcbs + 1)),
-             f"purge 0 0 {dcbs + 1} halt", ""]
-    text = page_of(setup, "report", "--html", script="\n".join(lines))
-    more = {6: [], 7: ["and 1 DCB more in error or closed"], 9: ["and 3 DCBs more in error or closed"]}
-    require(re.findall(r"and \d+ DCBs? more[^<]*", text) == more[dcbs], "another count of DCBs")
-    require(len(re.findall(r"<title>DCB \d+ closed, events", text)) == 6, "not six strips")
+def memory(setup, script, *words):
+    """The most memory of a run, in MiB, and how many bytes it prints."""
+    with tempfile.TemporaryFile() as out:
+        words = [sys.executable, "-S", "-E", "-c", STARTER, setup.program, "report", *words]
+        ran = subprocess.run(words, input=script.encode(), stdout=out, stderr=subprocess.PIPE, check=True)
+        status, _, most = ran.stderr.split()[-3:]
+        require(status == b"0", f"the report ends with {status}")
+        return int(most) / 1024, out.seek(0, os.SEEK_END)
 
 
 def fits(setup, kind):
-    """A page of 20,000 requests is at most this large."""
+    """A page of 20,000 requests is at most this large, and takes memory only for different lists of steps."""
     script = many(20_000, kind == "different")
-    with tempfile.TemporaryFile() as out:
-        ran = run([setup.program, "report", "--html"], script, stdout=out)
-        require((ran.status, ran.err) == (0, ""), "the report fails", ran)
-        size = out.tell()
-    text = f"{kind}: {size / 1e6:.1f} MB, at most {SIZES[kind] / 1e6:.0f}"
+    most, size = memory(setup, script, "--html")
+    beside = most - memory(setup, script, "--posts")[0]
+    text = f"{kind}: {size / 1e6:.1f} MB, at most {SIZES[kind] / 1e6:.0f}; {beside:.1f} MiB of memory beside --posts"
     require(size <= SIZES[kind], text)
+    with open(setup.program, "rb") as it:
+        is_sanitized = b"AddressSanitizer" in it.read()
+    require(kind == "different" or beside <= MEMORY or is_sanitized, text)
     return text
 
 
@@ -169,71 +193,189 @@ def many(count, is_different):
 
 # --- with a browser
 
+# What the lanes, the filter and the posts of a page show, with the whole run in view.
+SHOWN = """(async () => {
+  document.querySelector('.zooms button').click();
+  await new Promise(done => requestAnimationFrame(() => requestAnimationFrame(done)));
+  const lanes = [...document.querySelectorAll('.drawing .lane')];
+  const count = (selector) => Object.fromEntries(lanes.map(lane => [lane.dataset.lane, lane.querySelectorAll(selector).length]));
+  const chips = [...document.querySelectorAll('.filters .chip')];
+  return {
+    bars: count('.bar'), marks: count('.mark'), strips: count('.strip'), waits: count('.pause'), collects: count('.collect'),
+    deep: lanes.filter(lane => lane.querySelector('.flight')).map(lane => lane.dataset.lane),
+    dooms: [...document.querySelectorAll('.doom[data-doom]')].map(line => line.dataset.doom).sort(),
+    codes: Object.fromEntries(chips.map(chip => [chip.textContent, parseInt(chip.nextSibling.data.replace(/,/g, ''))])),
+    posts: document.getElementById('post-lines').textContent,
+    wide: document.documentElement.scrollWidth,
+    others: document.querySelectorAll('script:not([type]), img, iframe, object, embed, link, base').length,
+  };
+})()"""
+
+# Goes to parts of the page by their names. Gives of each panel its title, its text, and where its links and its steps lead.
+PANELS = """%s.map(id => {
+  history.replaceState(null, '', '#' + id);
+  dispatchEvent(new HashChangeEvent('hashchange'));
+  const panel = document.querySelector('aside.panel');
+  return [panel.querySelector('h3').textContent, panel.querySelector('.content').textContent.replace(/\\u00a0/g, ' '),
+    [...panel.querySelectorAll('section p a')].map(a => a.hash.slice(1)),
+    [...panel.querySelectorAll('.place a')].map(a => a.hash.slice(1))];
+})"""
+
+# The same of records, blocks and lines: what is lit, and what it says.
+PLACES = """%s.map(id => {
+  history.replaceState(null, '', '#' + id);
+  dispatchEvent(new HashChangeEvent('hashchange'));
+  const it = document.querySelector('.lit');
+  return it && it.id === id ? (it.dataset.tip || it.querySelector('.over').textContent) : null;
+})"""
+
+# All folds open, and what is in the page then.
+SHAPE = """(async () => {
+  for (const it of document.querySelectorAll('section.unit')) it.build();
+  for (const it of document.querySelectorAll('details')) it.open = true;
+  await new Promise(done => setTimeout(done, 50));
+  const tags = [...document.querySelectorAll('body *')].filter(it => it.namespaceURI.endsWith('xhtml')).map(it => it.localName);
+  return {tags: tags.sort().join(' '), text: document.body.textContent, h1: document.querySelector('h1').textContent};
+})()"""
+
+
+def written(folder, text):
+    with open(f"{folder}/page.html", "w", encoding="utf-8", errors="surrogateescape") as page:
+        page.write(text)
+    return f"{folder}/page.html"
+
 
 def opened(setup, sheets):
-    """Opens pages, each of which is named: nothing is said on the console, nothing is wider than the window, and the posts that the
-    browser shows are those of the run. A panel opens without scripts."""
+    """Pages show what their JSON says, each of which is named."""
     with tempfile.TemporaryDirectory() as folder, browser.Browser() as it:
         for name, words, script in sheets:
-            file = f"{folder}/page.html"
             text = page_of(setup, *words, script=script)
-            with open(file, "w", encoding="utf-8", errors="surrogateescape") as page:
-                page.write(text)
             try:
-                looks_right(it, file, pages.posts_of(pages.Page(text)))
+                shows_its_facts(it, written(folder, text), pages.Page(text).run())
             except Failed as error:
                 raise Failed(f"{name}: {error}", error.ran, error.expected, error.actual) from error
 
 
-def looks_right(it, file, posts):
-    for width in WIDTHS:
-        for is_dark in False, True:
-            it.open(file, width=width, is_dark=is_dark)
-            require(not it.said, f"on the console at {width} pixels: {it.said[:3]}")
-            wide = it.value("document.documentElement.scrollWidth")
-            require(wide <= width, f"the page is {wide} pixels wide in a window of {width}")
-    lines = it.value("[...document.querySelectorAll('#posts .posts')].map(e => e.textContent).join('')")
-    shown = "".join(f"{line}\n" for line in lines.split("\n") if line)
-    expect_text("the browser shows other posts", None, posts, shown)
-    scripts = it.value("document.querySelectorAll('script, img, iframe, object, embed, link, base').length")
-    require(scripts == 1, f"{scripts} elements that run or load something")
-    panel = it.value("(document.querySelector('.q') || {}).id")
-    for has_scripts in (True, False) if panel else ():
-        it.open(file, f"#{panel}", has_scripts=has_scripts)
-        display = it.value(f"getComputedStyle(document.getElementById('{panel}')).display")
-        require(display == "block", f"panel {panel} does not open, scripts {has_scripts}")
+def shows_its_facts(it, file, run_of_page):
+    """The lanes in both windows, each panel and each place of a step show what the JSON says, and nothing is on the console."""
+    wanted = {**pages.lanes_of(run_of_page), "posts": pages.posts_of(run_of_page), "others": 1}
+    it.open(file, width=WINDOWS[0][0], height=HEIGHT)
+    for width, is_dark in WINDOWS:
+        it.look(width, HEIGHT, is_dark)
+        actual = it.value(SHOWN)
+        if actual.pop("deep"):  # a deep lane has no line from one request to another
+            del actual["dooms"]
+        wide = actual.pop("wide")
+        require(wide <= width, f"the page is {wide} pixels wide in a window of {width}")
+        for what, value in actual.items():
+            require(value == wanted[what], f"{what} at {width} pixels: {value}, and not {wanted[what]}")
+    requests = list(pages.requests_of(run_of_page))
+    for request, panel in zip(requests, it.value(PANELS % json.dumps([request[0] for request in requests])), strict=True):
+        pages.check_panel(run_of_page, request, panel)
+    causes = {}
+    for name, *_, cause in requests:
+        if cause:
+            causes.setdefault(cause, []).append(name)
+    for (cause, ended), (_, _, links, _) in zip(causes.items(), it.value(PANELS % json.dumps(list(causes))), strict=True):
+        require(set(ended[: pages.NAMED]) <= set(links), f"the panel of {cause} does not lead to {ended}")
+    places = pages.places_of(run_of_page)
+    for (place, words), text in zip(places.items(), it.value(PLACES % json.dumps(list(places))), strict=True):
+        require(text is not None and text.startswith(words), f"the place {place} has {text!r}, and not {words!r}")
+    require(not it.said, f"on the console: {it.said[:3]}")
 
 
-def hostile_sheets():
-    for code in "cp037", "ascii":
-        yield f"hostile bytes, {code}", ("report", "--html"), with_bytes(in_code(HOSTILE.replace("\n", " "), code))
+# How many dots of collected posts are in no wait.
+OUTSIDE = """[...document.querySelectorAll('.lane.task')].reduce((sum, lane) => {
+  const middleOf = (box) => (box.left + box.right) / 2;
+  const waits = [...lane.querySelectorAll('.pause')].map(it => it.getBoundingClientRect());
+  const dots = [...lane.querySelectorAll('.collect')].map(it => middleOf(it.getBoundingClientRect()));
+  return sum + dots.filter(x => !waits.some(({left, right}) => x > left - 1 && x < right + 1)).length;
+}, 0)"""
+
+
+def leads_to_what_was_there(setup):
+    """No link leads to a record or block that came later to the place of another one. Each dot is in its wait."""
+    with tempfile.TemporaryDirectory() as folder, browser.Browser() as it:
+        text = page_of(setup, "report", "--html", script=GONE)
+        shows_its_facts(it, written(folder, text), pages.Page(text).run())
+        require(it.value(OUTSIDE) == 0, "a dot is in no wait")
+
+
+def notices(setup):
+    """The reader of facts notices a broken address of a program check."""
+    text = page_of(setup, "report", "--html", script=read(f"{SAMPLES}/how-programs-end.script"))
+    run_of_page = pages.Page(text).run()
+    rule = next(step["rule"] for steps in run_of_page["steps"] for step in steps if "rule" in step)
+    with tempfile.TemporaryDirectory() as folder, browser.Browser() as it:
+        file = written(folder, text)
+        shows_its_facts(it, file, run_of_page)
+        rule["at"] = f"{int(rule['at'], 16) ^ 8:06X}"
+        try:
+            shows_its_facts(it, file, run_of_page)
+        except Failed as error:
+            return require("program check at" in str(error), f"another failure: {error}")
+    raise Failed("a broken address of a program check is not noticed")
+
+
+def stays_text(setup):
+    """Bytes and names that look like HTML make no element. Without scripts the page has its posts."""
+    with tempfile.TemporaryDirectory() as folder, browser.Browser() as it:
+        for code in "cp037", "ascii":
+            shapes = []
+            for text in HOSTILE.replace("\n", " ").translate(MEANINGS), HOSTILE.replace("\n", " "):
+                it.open(written(folder, page_of(setup, "report", "--html", script=with_bytes(text.encode(code, "replace")))), "#q0-0-1")
+                shapes.append(it.value(SHAPE))
+                require(not it.said, f"on the console: {it.said[:3]}")
+            require(shapes[0]["tags"] == shapes[1]["tags"], f"hostile bytes in {code} make other elements")
+            require(code == "ascii" or "<script>alert(1)</script>" in shapes[1]["text"], "the paper does not show the text")
+        name, text = hostile_name(setup, folder)
+        it.open(written(folder, text))
+        require(it.value(SHAPE)["h1"] == name and not it.said, "the name is not text")
+        it.open(written(folder, text), has_scripts=False)
+        shown = it.value("document.getElementById('post-lines').innerText")
+        expect_text("without scripts", None, pages.Page(text).texts["post-lines"].strip(), shown.strip())
+
+
+def says_its_bound(setup):
+    """The page of a tape over the bound of a page says so, and has the blocks that the run touched."""
+    block, script = bytes(32_760), many(1, True).replace("tape 0 0 1000000", "tape 0 0 4000000").replace("block 0 00000000\n", "")
+    with tempfile.TemporaryDirectory() as folder, browser.Browser() as it:
+        with open(f"{folder}/tape.aws", "wb") as image:
+            for number in range(40):
+                image.write(struct.pack("<HHBB", len(block), len(block) if number else 0, 0xA0, 0) + block)
+        text = page_of(setup, "report", "--html", "--load", f"0={folder}/tape.aws", script=script)
+        run_of_page = pages.Page(text).run()
+        medium = run_of_page["units"][0]["medium"]
+        require((medium["whole"], medium["count"], medium["numbers"]) == (False, 40, [1]), f"the medium has {medium['numbers']}")
+        shows_its_facts(it, written(folder, text), run_of_page)
+        shown = it.value("[document.querySelector('.partial').textContent, document.querySelectorAll('.block').length]")
+        require("more than 1 MiB" in shown[0] and shown[1] == 1, f"the page says {shown}")
 
 
 def sheets():
-    """The pages that a browser opens: of each sample and scenario, of a job of many requests, of hostile bytes."""
-    for file in sorted(glob.glob(f"{SAMPLES}/*.script")):
-        yield os.path.relpath(file, TOP), ("report", "--html"), read(file)
+    """The pages that a browser opens: of each script that runs and each scenario."""
+    for name, script, _ in stored():
+        yield name, ("report", "--html"), script
     for file in scenarios():
         yield os.path.relpath(file, TOP), ("step", "--html"), read(file)
-    yield "2,000 requests", ("report", "--html"), many(2_000, False)
-    yield from hostile_sheets()
 
 
 def cases(setup):
+    yield Case("the template", lambda: is_generated(setup), "tools/viewer.py")
     for name, script, texts in stored():
         yield Case(f"page of {name}", lambda s=script, t=texts: is_right(setup, s, t), ORIGIN)
     for file in scenarios():
-        yield Case(f"page of {os.path.relpath(file, TOP)}", lambda s=read(file): shows_its_json(setup, s), ORIGIN)
-    for seed in range((JOBS_LONG if setup.is_long else JOBS) // BATCH):
-        yield Case(f"pages of {BATCH} jobs at random, {seed}", lambda s=seed: are_right(setup, s), ORIGIN)
+        yield Case(f"page of {os.path.relpath(file, TOP)}", lambda s=read(file): has_its_json(setup, s), ORIGIN)
     for code in "cp037", "ascii":
         yield Case(f"hostile bytes in {code}", lambda c=code: keeps_its_shape(setup, c), f"{ORIGIN}, and the HTML standard")
     yield Case("a hostile name", lambda: escapes_the_title(setup), ORIGIN)
-    for dcbs in 6, 7, 9:
-        yield Case(f"{dcbs} closed DCBs", lambda d=dcbs: counts_dcbs(setup, d), ORIGIN)
     for kind in SIZES:
         yield Case(f"20,000 requests, {kind}", lambda k=kind: fits(setup, k), ORIGIN)
     all_sheets = list(sheets())
     for at in range(0, len(all_sheets), SHEAF):
         part = all_sheets[at : at + SHEAF]
         yield Case(f"in a browser, from {part[0][0]}", lambda p=part: opened(setup, p), f"{ORIGIN}, and Chromium")
+    yield Case("in a browser, records that are gone", lambda: leads_to_what_was_there(setup), ORIGIN)
+    yield Case("in a browser, a broken address", lambda: notices(setup), ORIGIN)
+    yield Case("in a browser, a tape over the bound", lambda: says_its_bound(setup), ORIGIN)
+    yield Case("in a browser, hostile texts", lambda: stays_text(setup), f"{ORIGIN}, and the HTML standard")

@@ -1,18 +1,12 @@
-//! A run as one HTML page: its lanes, how its requests ended, its units with their media and histories, its posts, and a panel
-//! for each request. It is written as a stream: memory holds the index of the run, and never the page.
+//! A run as one HTML page: its title and its posts as text, its JSON, and the viewer that draws it in a browser (viewer/ of this
+//! repository). The page is written as a stream. Memory holds the different lists of steps, and never the page.
 //!
 //! Tests: the group pages of tests/run.
 #![tactic(auto)]
 
-mod counts;
-mod ends;
-mod header;
-mod limits;
-mod manner;
 mod page;
-mod parts;
-mod rules;
-mod tallies;
-mod units;
+mod posts;
+mod template;
+mod text;
 
 pub use page::write_page;

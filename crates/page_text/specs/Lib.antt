@@ -1,3 +1,0 @@
--- The text of a page.
-pub mod Escape
-pub mod Share
