@@ -1,293 +1,51 @@
-//! `excp_job` reads a script of EXCP requests, runs it on models of devices, and prints the post of each request. `report`
-//! also prints what the run left behind. `check` runs nothing and prints what is wrong in the script. `assemble` prints the
-//! plain script of one with symbolic areas. `step` carries out a scenario event by event. The script is standard input; all
-//! but `run` also take a file. Media are loaded from images of tapes and disks, and saved to such. `describe` prints what
-//! images hold, and `convert` turns them into lines of a script and back.
+//! `excp_job run` reads a script of EXCP requests from standard input, runs it on models of devices, and prints the post of each
+//! request. It is the program that the promises are about. `excp_tools` has all other words.
 //!
 //! Tests: `tests/run command_line`, and every group that runs the program.
 #![tactic(auto)]
 
-mod convert;
-mod describe;
-mod images;
-mod outcomes;
-mod pictures;
-mod progress;
-mod replacement;
-mod report;
-mod saver;
-mod scenario;
-mod screen;
-mod script;
-mod taken;
 mod words;
 
-use convert::{make_image, print_lines};
-use describe::describe_all;
-use images::load_all;
-use job_assembler::assemble_script;
-use job_check::{Source, check_script_on};
-use job_options::{Counts, Format, Order, OutcomeOptions, RunFiles, Words};
 use job_run::{Workers, run_script};
 use job_script::JobError;
-use job_step::check_scenario_on;
-use medium_image::Image;
-use outcomes::{OutcomeOrder, outcomes};
-use report::{ReportOrder, report};
-use scenario::{StepOrder, step};
-use screen::Screen;
-use std::cell::Cell;
-use std::env;
-use std::fs::File;
-use std::io::{ErrorKind, IsTerminal, Read};
+use run_options::Counts;
+use std::io::BufWriter;
 use std::process::ExitCode;
 use std::sync::Wait;
 use std::thread::Threads;
 
-/// The exit status of a script that is rejected, and of a file that cannot be read.
-const REJECTED: u8 = 1;
-
-/// The name of a script that is standard input.
-const STANDARD_INPUT: &str = "<stdin>";
-
 fn main(rt: HostRuntime) -> ExitCode {
     let status = match words::read(&rt) {
-        Ok(Words::Script { order, file, media }) => match file {
-            Some(file) => of_file(&rt, &rt, order, &media, &file),
-            None => carry_out(&rt, &rt, order, &media, &mut rt.stdin(), STANDARD_INPUT),
-        },
-        Ok(
-            Words::Outcomes {
-                options,
-                file,
-                media,
-                scenarios,
-            },
-        ) => {
-            let asked = Exploring {
-                options,
-                media,
-                scenarios,
-            };
-            explored(&rt, &asked, file)
-        }
-        Ok(Words::Describe(names)) => of_images(&rt, &names),
-        Ok(Words::Convert { to, file, output }) => converted(&rt, to, &file, output),
+        Ok(counts) => run(&rt, &rt, counts),
         Err(status) => status,
     };
     ExitCode::from(status)
 }
 
-/// What is asked of a search for outcomes.
-#[derive(Drop)]
-struct Exploring {
-    options: OutcomeOptions,
-    media: RunFiles,
-    scenarios: Option<String>,
-}
-
-/// Prints every outcome of the script in a file or of standard input, and returns the exit status.
-fn explored(rt: &HostRuntime, asked: &Exploring, file: Option<String>) -> u8 {
-    match file {
-        Some(name) => match opened(rt, name.as_str()) {
-            Ok(mut file) => explore(rt, asked, &mut file, name.as_str()),
-            Err(status) => status,
-        },
-        None => explore(rt, asked, &mut rt.stdin(), STANDARD_INPUT),
-    }
-}
-
-/// Prints every outcome of the script that is read, and returns the exit status.
-fn explore<I: Read>(rt: &HostRuntime, asked: &Exploring, input: &mut I, name: &str) -> u8 {
-    let images = match load_all(rt, &asked.media) {
-        Ok(images) => images,
-        Err(status) => return status,
-    };
-    let is_broken = Cell::new(false);
-    let order = OutcomeOrder {
-        options: asked.options,
-        name,
-        media: &asked.media,
-        directory: match &asked.scenarios {
-            Some(name) => Some(name.as_str()),
-            None => None,
-        },
-        is_broken: &is_broken,
-    };
-    ended(rt, outcomes(rt, input, order, images), is_broken.get())
-}
-
-/// Describes images, and returns the exit status.
-fn of_images(rt: &HostRuntime, names: &[String]) -> u8 {
-    let is_broken = Cell::new(false);
-    ended(rt, describe_all(rt, names, &is_broken), is_broken.get())
-}
-
-/// Converts an image to lines, or lines to an image, and returns the exit status.
-fn converted(rt: &HostRuntime, to: Option<Format>, name: &str, output: Option<String>) -> u8 {
-    let is_broken = Cell::new(false);
-    let done = match (to, output) {
-        (Some(format), Some(output)) => make_image(rt, format, name, &output),
-        _ => print_lines(rt, name, &is_broken),
-    };
-    ended(rt, done, is_broken.get())
-}
-
-/// The exit status of what was done, after its fault was printed. If what reads the output has gone, nothing is printed.
-fn ended(rt: &HostRuntime, done: Result<u8, JobError>, is_broken: bool) -> u8 {
-    match done {
-        Ok(status) => status,
-        Err(JobError::NotWritten) if is_broken => 0,
+/// Runs the script of standard input, prints its posts or its fault, and returns the exit status.
+fn run<R: Threads + Wait + Sync>(rt: &HostRuntime, threads: &R, counts: Counts) -> u8 {
+    match printed(rt, threads, counts) {
+        Ok(()) => 0,
         Err(fault) => words::ended_by(rt, fault),
     }
 }
 
-/// Carries out an order on the script in a file.
-fn of_file<R: Threads + Wait + Sync>(
+/// Runs the script of standard input, and prints its posts.
+fn printed<R: Threads + Wait + Sync>(
     rt: &HostRuntime,
     threads: &R,
-    order: Order,
-    media: &RunFiles,
-    name: &str,
-) -> u8 {
-    match opened(rt, name) {
-        Ok(mut file) => carry_out(rt, threads, order, media, &mut file, name),
-        Err(status) => status,
-    }
-}
-
-/// The script in a file.
-///
-/// Error: why it is not read was printed; the exit status.
-fn opened(rt: &HostRuntime, name: &str) -> Result<File, u8> {
-    match File::open(rt, name) {
-        Ok(file) if is_directory(&file) => Err(unreadable(rt, name, "it is a directory")),
-        Ok(file) => Ok(file),
-        Err(error) => Err(unreadable(rt, name, why_unopened(error.kind()))),
-    }
-}
-
-fn is_directory(file: &File) -> bool {
-    match file.metadata() {
-        Ok(metadata) => metadata.is_dir(),
-        Err(_) => false,
-    }
-}
-
-/// Why a file was not opened.
-fn why_unopened(kind: ErrorKind) -> &'static str {
-    match kind {
-        ErrorKind::NotFound | ErrorKind::NotADirectory => "there is no such file",
-        ErrorKind::PermissionDenied => "this user has no permission to read it",
-        _ => "the file cannot be opened",
-    }
-}
-
-/// Prints why the script in a file is not read, and returns the exit status.
-fn unreadable(rt: &HostRuntime, name: &str, why: &str) -> u8 {
-    let _ = eprintln!(rt; "excp_job: {name}: {why}");
-    REJECTED
-}
-
-/// Carries out an order on the script that is read, and returns the exit status. If what reads the output has gone, all but
-/// `run` end without a text; `check` had something to print, so it does not end with status 0.
-fn carry_out<R: Threads + Wait + Sync, I: Read>(
-    rt: &HostRuntime,
-    threads: &R,
-    order: Order,
-    media: &RunFiles,
-    input: &mut I,
-    name: &str,
-) -> u8 {
-    let images = match load_all(rt, media) {
-        Ok(images) => images,
-        Err(status) => return status,
-    };
-    let is_broken = Cell::new(false);
-    let done = match order {
-        Order::Run(counts) => run(rt, threads, input, counts),
-        Order::Report {
-            counts,
-            print,
-            seed,
-        } => {
-            let asked = ReportOrder {
-                counts,
-                print,
-                seed,
-                files: media,
-                name,
-                is_broken: &is_broken,
-            };
-            report(rt, threads, input, asked, images)
-        }
-        Order::Check { scenario } => check(rt, input, scenario, images, name, &is_broken),
-        Order::Assemble => assemble(rt, input, name, &is_broken),
-        Order::Step(options) => {
-            let asked = StepOrder {
-                options,
-                media,
-                name,
-                is_broken: &is_broken,
-            };
-            step(rt, threads, input, asked, images)
-        }
-    };
-    if matches!(order, Order::Check { .. }) && is_broken.get() {
-        return REJECTED;
-    }
-    ended(rt, done, is_broken.get())
-}
-
-/// Runs a script, and prints its posts.
-fn run<R: Threads + Wait + Sync, I: Read>(
-    rt: &HostRuntime,
-    threads: &R,
-    input: &mut I,
     counts: Counts,
-) -> Result<u8, JobError> {
+) -> Result<(), JobError> {
+    let Ok(mut out) = BufWriter::new(rt.alloc(), rt.stdout()) else {
+        return Err(JobError::NoMemory);
+    };
     run_script(
         threads,
         rt.alloc(),
-        input,
-        &mut rt.stdout(),
+        &mut rt.stdin(),
+        &mut out,
         workers(counts),
-    )?;
-    Ok(0)
-}
-
-/// Prints what is wrong in a script, or in a scenario, and returns the exit status.
-fn check<I: Read>(
-    rt: &HostRuntime,
-    input: &mut I,
-    scenario: bool,
-    images: Vec<Option<Image>>,
-    name: &str,
-    is_broken: &Cell<bool>,
-) -> Result<u8, JobError> {
-    let is_coloured = takes_colour(rt, rt.stdout());
-    let source = Source { name, is_coloured };
-    let mut screen = Screen::new(rt.stdout(), false, is_broken);
-    let is_rejected = if scenario {
-        check_scenario_on(rt.alloc(), images, input, &mut screen, source)?
-    } else {
-        check_script_on(rt.alloc(), images, input, source, screen)?
-    };
-    Ok(if is_rejected { REJECTED } else { 0 })
-}
-
-/// Prints the plain script that a script comes to, or its faults, and returns the exit status.
-fn assemble<I: Read>(
-    rt: &HostRuntime,
-    input: &mut I,
-    name: &str,
-    is_broken: &Cell<bool>,
-) -> Result<u8, JobError> {
-    let is_coloured = takes_colour(rt, rt.stderr());
-    let source = Source { name, is_coloured };
-    let screen = Screen::new(rt.stdout(), false, is_broken);
-    let is_rejected = assemble_script(rt.alloc(), input, source, screen, rt.stderr())?;
-    Ok(if is_rejected { REJECTED } else { 0 })
+    )
 }
 
 /// The numbers of workers.
@@ -298,9 +56,4 @@ fn workers(counts: Counts) -> Workers {
         ..
     } = counts;
     Workers { channels, handlers }
-}
-
-/// Whether an output is a terminal, and `NO_COLOR` is unset or empty (no-color.org).
-fn takes_colour<T: IsTerminal + Drop>(rt: &HostRuntime, output: T) -> bool {
-    output.is_terminal() && env::var(rt, "NO_COLOR").map_or(true, |value| value.is_empty())
 }

@@ -1,27 +1,24 @@
 //! The command line, as `clap` takes it, made from the table of subcommands.
 
-use crate::VERSION;
-use crate::entries::{Entry, FORMATS, LINES, SUBCOMMANDS, Subcommand, Takes};
+use crate::entries::{Entry, FORMATS, SUBCOMMANDS, Subcommand, Takes};
 use clap::builder::ValueParser;
 use clap::{Arg, ArgAction, Command};
+use run_options::program;
 use std::alloc::{AllocError, Global};
+
+/// The name of the program, which only `--version` shows.
+const NAME: &str = "excp_tools";
+
+/// The command by which users call it, which usage lines show.
+const COMMAND: &str = "excp";
 
 /// The whole command line.
 pub fn command<'a>(alloc: Global) -> Result<Command<'a>, AllocError> {
-    let mut command = program(alloc);
+    let mut command = program(alloc, NAME).bin_name(COMMAND)?;
     for subcommand in SUBCOMMANDS {
         command = command.subcommand(made(alloc, subcommand)?)?;
     }
     Ok(command)
-}
-
-/// The program, without its subcommands.
-fn program<'a>(alloc: Global) -> Command<'a> {
-    Command::new(alloc, "excp_job")
-        .about("Runs a script of EXCP requests on models of disk, tape and printer")
-        .version(VERSION)
-        .after_help(LINES)
-        .subcommand_required(true)
 }
 
 /// A subcommand of the table.

@@ -1,5 +1,7 @@
 //! The subcommands and their options, as data.
 
+use run_options::{CHANNELS, CHANNELS_HELP, HANDLERS, HANDLERS_HELP, MOST_CHANNELS, MOST_HANDLERS};
+
 /// The argument that names the file of a script.
 pub const SCRIPT: &str = "SCRIPT";
 
@@ -13,11 +15,6 @@ pub const FILE: &str = "FILE";
 pub const LOAD: &str = "load";
 
 pub const SAVE: &str = "save";
-
-/// The options of the numbers of workers.
-pub const CHANNELS: &str = "channels";
-
-pub const HANDLERS: &str = "handlers";
 
 /// The options of a run by a seed: the seed, and the file of its scenario. `check` has a flag of the second name.
 pub const SEED: &str = "seed";
@@ -40,23 +37,6 @@ const HTML: &str = "html";
 
 /// The formats of images, as words of `--to`.
 pub const FORMATS: &[&str] = &["aws", "ckd"];
-
-/// The lines of a script in brief (docs/MANUAL.md).
-pub(crate) const LINES: &str =
-    "Lines of a script; tasks, units and areas are numbered from 0, DCBs from 1:
-  tasks N                            so many tasks; the first line
-  disk U ISC CYLINDERS HEADS BYTES   a disk with tracks of so many bytes
-  rec U CYLINDER HEAD R KEY DATA     a record on it, in hexadecimal, - for none
-  tape U ISC BYTES                   a tape; block U DATA and mark U lie on it
-  printer U ISC LINES PAGES          a printer
-  fault U N STATUS STATUS SENSE      the unit's N-th command meets a fault
-  open U in|out EXTENT ...           the next DCB of a unit; extents of a disk alone
-  area A ADDR HEX ...                storage of requests: IOB, ECB, channel program
-  excp T U DCB IOB A SHOW LEN        task T issues a request, shows LEN bytes of it
-  wait T                             task T waits for its requests
-  purge T U DCB halt|quiesce         purgetask T OTHER halt|quiesce
-  close T U DCB                      reset T U DCB
-  # ...                              a comment";
 
 /// What an argument takes.
 #[derive(Clone, Copy)]
@@ -109,9 +89,9 @@ const CHANNELS_ENTRY: Entry = Entry {
     name: CHANNELS,
     long: CHANNELS,
     value: "N",
-    help: "How many channel workers serve the units, 1 to 16",
+    help: CHANNELS_HELP,
     default: "1",
-    takes: Takes::Number(1, 16),
+    takes: Takes::Number(1, MOST_CHANNELS as u64),
     ..FLAG
 };
 
@@ -119,9 +99,9 @@ const HANDLERS_ENTRY: Entry = Entry {
     name: HANDLERS,
     long: HANDLERS,
     value: "N",
-    help: "How many handlers serve interruptions, 1 to 8",
+    help: HANDLERS_HELP,
     default: "1",
-    takes: Takes::Number(1, 8),
+    takes: Takes::Number(1, MOST_HANDLERS as u64),
     ..FLAG
 };
 
@@ -160,11 +140,6 @@ const MOST_STEPS: Entry = Entry {
 };
 
 pub(crate) const SUBCOMMANDS: &[Subcommand] = &[
-    Subcommand {
-        name: "run",
-        about: "Reads a script from standard input and prints its posts",
-        entries: &[CHANNELS_ENTRY, HANDLERS_ENTRY],
-    },
     Subcommand {
         name: "report",
         about: "Prints the posts of a script, the history of each unit and what lies on its medium",

@@ -1,6 +1,6 @@
-//! The command line. `run` and `report` take `--channels N` and `--handlers N`. `report` takes `--posts`, `--html`, or `--steps` or
-//! `--json` with `--most-steps N`; `step` takes `--html`, or `--json` with it. All but `run` take the name of a file.
-//! `--load U=FILE` and `--save U=FILE` name images of media.
+//! The command line of every word but `run`, which is in run_options. `report` takes `--channels N` and `--handlers N`, as `run`
+//! does; and `--posts`, `--html`, or `--steps` or `--json` with `--most-steps N`. `step` takes `--html`, or `--json` with it. All
+//! take the name of a file. `--load U=FILE` and `--save U=FILE` name images of media.
 //!
 //! Tests: `tests/run command_line`.
 #![tactic(auto)]
@@ -9,30 +9,16 @@ mod commands;
 mod entries;
 mod unit_file;
 
-ghost use Rattle.std.specs.Prelude.{◌≤◌, IfSome};
-
 use clap::error::ErrorKind;
 use clap::{ArgMatches, Command, Error};
 use commands::command;
 use entries::{
-    CHANNELS, FILE, HANDLERS, IMAGES, LOAD, MOST_STATES, SAVE, SCENARIOS, SCHEDULE, SCRIPT, SEED,
-    TURN, WHOLE,
+    FILE, IMAGES, LOAD, MOST_STATES, SAVE, SCENARIOS, SCHEDULE, SCRIPT, SEED, TURN, WHOLE,
 };
+use run_options::{Counts, counts_of};
 use std::alloc::{AllocError, Global};
 pub use unit_file::UnitFile;
 use unit_file::{UnitFileError, unit_files};
-
-/// The version of the program. `./excp` and the documents read it from this line.
-pub const VERSION: &str = "1.1";
-
-/// How many channel workers (1 to 16) and interruption handlers (1 to 8) are asked for.
-#[derive(Clone, Copy)]
-pub struct Counts {
-    pub channels: u8,
-    pub handlers: u8,
-    ghost channels_fit: { (1 ≤ channels) × (channels ≤ 16) },
-    ghost handlers_fit: { (1 ≤ handlers) × (handlers ≤ 8) },
-}
 
 /// How a scenario is carried out: with locks or without, and what it prints.
 #[derive(Clone, Copy)]
@@ -75,8 +61,6 @@ pub enum Print {
 /// What is asked for a script.
 #[derive(Clone, Copy)]
 pub enum Order {
-    /// To run it and print its posts.
-    Run(Counts),
     /// To run it and print a report. With a seed, the schedule is that of the seed, on one thread.
     Report {
         counts: Counts,
@@ -210,11 +194,7 @@ fn of_script(
         // no words get here: the numbers have defaults and ranges
         return Err(command.error(ErrorKind::ValueValidation, "no number of workers")?);
     };
-    let file = if name == "run" {
-        None
-    } else {
-        script_file(alloc, options)?
-    };
+    let file = script_file(alloc, options)?;
     let media = media_of(alloc, command, options)?;
     Ok(Words::Script { order, file, media })
 }
@@ -287,12 +267,11 @@ fn asked_for(name: &str, options: &ArgMatches<'_>) -> Option<Order> {
             plain: options.get_flag("plain"),
             print: step_print_of(options),
         })),
-        "report" => Some(Order::Report {
+        _ => Some(Order::Report {
             counts: counts_of(options)?,
             print: print_of(options),
             seed: options.get_one::<u64>(SEED),
         }),
-        _ => Some(Order::Run(counts_of(options)?)),
     }
 }
 
@@ -332,19 +311,4 @@ fn form_of(options: &ArgMatches<'_>) -> Option<Form> {
 /// The most commands of each unit that are printed.
 fn most_steps(options: &ArgMatches<'_>) -> u64 {
     options.get_one::<u64>("most-steps").unwrap_or(u64::MAX)
-}
-
-/// The numbers of workers.
-fn counts_of(options: &ArgMatches<'_>) -> Option<Counts> {
-    let channels = number(options, CHANNELS, 16)?;
-    let handlers = number(options, HANDLERS, 8)?;
-    Some(Counts { channels, handlers })
-}
-
-/// The value of an option, if it is from 1 to `most`.
-fn number(options: &ArgMatches<'_>, option: &str, most: u8) -> Option<u8>
-    ensures { IfSome result (λ value. (1 ≤ value) × (value ≤ most)) }
-{
-    let value = options.get_one::<u8>(option)?;
-    (1 <= value && value <= most).then_some(value)
 }

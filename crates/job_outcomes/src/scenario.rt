@@ -1,11 +1,11 @@
 //! The scenario of a witness.
 
 use crate::telling::written;
-use job_report::{shown, write_posted};
 use job_script::{JobError, Script};
 use job_world::{Done, JobWorld, ScriptLines, Step, write_set_up, write_step};
 use numbered_job::NumberedRequest;
 use outcome_witness::{Bench, Witness};
+use post_lines::{shown, write_posted};
 use request_piece::Posted;
 use std::alloc::{AllocError, Global};
 use std::io;
@@ -91,7 +91,11 @@ pub(crate) fn write_line<W: Write>(
     request: &NumberedRequest,
     posted: &Posted,
 ) -> io::Result<()> {
-    write_posted(out, posted, shown(posted, &request.excp))?;
+    write_posted(
+        out,
+        posted,
+        shown(posted, request.excp.show, request.excp.len),
+    )?;
     out.write_all(b"\n")
 }
 

@@ -5,11 +5,9 @@
 #![tactic(auto)]
 
 mod medium;
-mod post;
 mod records;
 mod units;
 
 pub use medium::{are_declarable, write_medium};
-pub use post::{shown, write_outcome, write_post, write_posted};
 pub use records::{unit_record, unit_records};
 pub use units::write_units;

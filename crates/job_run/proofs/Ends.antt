@@ -1,11 +1,11 @@
 -- By what a run of a script ends, from what its parts return.
-use Rattle.std.proofs.Common.{◌≡◌, ℕ, Option, Result, Ok, Err, IfErr, OnOk, List, [], subst, refl, sym, ap, ◌∙◌, inl, inr, ◌<◌, Some, length}
+use Rattle.std.proofs.Common.{◌≡◌, ℕ, Option, Result, Ok, Err, IfErr, OnOk, List, [], subst, refl, sym, ap, ◌∙◌, inl, inr}
 use Rattle.std.specs.Result.{IsErrAnd}
 use Rattle.unit_book.specs.Book.{Book}
 use Rattle.any_device.specs.declared.device.AnyDevice.{AnyDevice}
 use Rattle.job_script.specs.declared.fault.JobError.{JobError}
 use Rattle.job_script.specs.declared.fault.JobError.TheVariants as faults
-use Rattle.job_script.specs.Grammar.{FaultAt, script_of}
+use Rattle.job_script.specs.Grammar.{script_of}
 use Rattle.job_script.specs.Outcomes.{Gives}
 use Rattle.job_script.specs.Reading.{ReadsAll}
 use Rattle.job_script.specs.Said.{Said}
@@ -30,8 +30,7 @@ ends_parsed n old new text said (faults.Line _ _) whole parsed (inr (runs, stops
       parsed = parsed;
       stops = stops;
     })
-ends_parsed n old new text said faults.Unmatched whole parsed runs =
-    record { text = text; whole = whole; faultless = faultless text said parsed runs }
+ends_parsed n old new text said faults.Unmatched whole parsed ends = absurd ends
 ends_parsed n old new text said faults.NoMemory whole parsed ends = tt
 ends_parsed n old new text said faults.NoThread whole parsed ends = tt
 ends_parsed n old new text said faults.TooLong whole parsed ends = absurd ends
@@ -55,7 +54,7 @@ pub ends_late : (given : List (Option AnyDevice)) (script : Script) (fault : Job
 ends_late given script (faults.Line _ _) runs late = inr (runs, (script, refl, late))
 ends_late given script faults.NoMemory runs late = tt
 ends_late given script faults.NoThread runs late = tt
-ends_late given script faults.Unmatched runs late = runs
+ends_late given script faults.Unmatched runs late = absurd late
 ends_late given script faults.NotWritten runs late = absurd late
 ends_late given script faults.TooLong runs late = absurd late
 ends_late given script faults.Unreadable runs late = absurd late

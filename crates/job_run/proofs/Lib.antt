@@ -3,6 +3,6 @@ pub mod Books
 pub mod Ends
 pub mod Sent
 pub mod Stops
-pub mod Noted
+pub mod Filled
 pub mod Requested
 pub mod Rans

@@ -1,17 +1,15 @@
 -- What the units of a script have done, from what their run accounts for.
-use Rattle.std.proofs.Common.{◌≡◌, ◌<◌, ℕ, Result, Ok, Err, Some, IfOk, OnOk, List, [], length, get_or, map, replicate, refl, subst, sym, ap, ◌∙◌, arith, ◌++◌, ◌+◌}
+use Rattle.std.proofs.Common.{◌≡◌, ◌<◌, ℕ, Result, Ok, Err, Some, IfOk, OnOk, List, [], length, get_or, map, replicate, subst, sym, ap, ◌∙◌, arith, ◌++◌, ◌+◌}
 use Rattle.std.specs.Prelude.{slice_get, slice_index_or, vec_len}
 use Rattle.std.specs.List.{All}
 use Rattle.std.proofs.lemmas.List.{append-nil, length-replicate, nil_from_length}
 use Rattle.std.proofs.lemmas.Option.{slice_get_within, slice_get-get_or}
 use Rattle.any_device.specs.Devices.{any_device}
 use Rattle.any_device.specs.declared.device.AnyDevice.{AnyDevice}
-use Rattle.unit_book.specs.Book.{Book}
 use Rattle.unit_book.specs.Lists.{Each}
 use Rattle.unit_book.specs.WorldLaws.{posts_of}
 use Rattle.request_piece.specs.declared.piece.Piece.{Piece}
 use Rattle.excp_system.proofs.Places.{index_replicate}
-use Rattle.excp_system.specs.Drained.{ArePlaced}
 use Rattle.excp_system.specs.Opening.{fresh_task}
 use Rattle.excp_system.specs.States.{TaskState, sent_by}
 use Rattle.post_ledger.proofs.Pairs.{all_at_places, all_get, get_map, get_there}
@@ -78,7 +76,7 @@ pub with_done : {A E : Type 0} (r : Result A E) (P Q : Type 0) → OnOk r P → 
 with_done (Ok x) P Q p f = f p
 with_done (Err e) P Q p f = tt
 
-pub ran_of : (r : Result Finished JobError) (script : Script) (report : ReportState AnyDevice) →
+pub ran_of : {N : Type 0} (r : Result (Finished N) JobError) (script : Script) (report : ReportState AnyDevice) →
     IfOk r (λ finished. finished.report ≡ report) → OnOk r (Ran script report.books) →
     IfOk r (λ finished. Ran script finished.report.books)
 ran_of (Ok f) script report is ran = subst (λ (x : ReportState AnyDevice). Ran script x.books) (sym is) ran

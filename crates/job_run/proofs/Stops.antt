@@ -1,12 +1,11 @@
 -- The fault of a line that ends a run is that of a task which stops at a command of its own.
-use Rattle.std.proofs.Common.{◌≡◌, ◌<◌, ℕ, Result, Ok, Err, Some, IfErr, List, [], length, replicate, subst, sym, ap, ◌∙◌, arith}
-use Rattle.std.specs.Prelude.{slice_get, vec_len}
+use Rattle.std.proofs.Common.{◌≡◌, ◌<◌, ℕ, Result, Ok, Err, IfErr, List, [], length, replicate, subst, sym, arith}
+use Rattle.std.specs.Prelude.{vec_len}
 use Rattle.excp_system.specs.Drained.{ArePlaced}
 use Rattle.excp_system.specs.States.{TaskState}
 use Rattle.system_threads.specs.Running.{AreRun}
 use Rattle.post_ledger.proofs.Pairs.{get_there}
 use Rattle.std.proofs.lemmas.Option.{slice_get_within}
-use Rattle.request_piece.specs.declared.piece.Piece.{Piece}
 use Rattle.job_script.specs.declared.fault.JobError.{JobError}
 use Rattle.job_script.specs.declared.fault.JobError.TheVariants as faults
 use Rattle.job_script.specs.declared.script.Script.{Script}
@@ -32,7 +31,7 @@ late_by script units count outcomes tasks (faults.Line line name) placed run sam
     }
 late_by script units count outcomes tasks faults.NoMemory placed run same sized ends = tt
 late_by script units count outcomes tasks faults.NoThread placed run same sized ends = absurd ends
-late_by script units count outcomes tasks faults.Unmatched placed run same sized ends = tt
+late_by script units count outcomes tasks faults.Unmatched placed run same sized ends = absurd ends
 late_by script units count outcomes tasks faults.NotWritten placed run same sized ends = absurd ends
 late_by script units count outcomes tasks faults.TooLong placed run same sized ends = absurd ends
 late_by script units count outcomes tasks faults.Unreadable placed run same sized ends = absurd ends

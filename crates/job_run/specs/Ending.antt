@@ -75,7 +75,7 @@ IsOfTask outcomes errors.NoMemory = Unit {0}
 abbrev pub EndsBeside : {L : Type 0} → List (Result L TaskError) → JobError → Type 0
 EndsBeside outcomes (faults.Line line name) = IsOfTask outcomes (errors.Line line name)
 EndsBeside outcomes faults.NoMemory = Unit {0}
-EndsBeside outcomes faults.Unmatched = Unit {0}
+EndsBeside outcomes faults.Unmatched = ⊥
 EndsBeside outcomes faults.NoThread = ⊥
 EndsBeside outcomes faults.NotWritten = ⊥
 EndsBeside outcomes faults.TooLong = ⊥
@@ -88,7 +88,7 @@ EndsBy n old new (faults.Line line name) = RejectsWhole n old new (record { line
 EndsBy n old new faults.TooLong = ReadsMore n old new
 EndsBy n old new faults.Unreadable = ReadsAtMost n old new
 EndsBy n old new faults.NotWritten = RunsWhole n old new
-EndsBy n old new faults.Unmatched = RunsWhole n old new
+EndsBy n old new faults.Unmatched = ⊥
 EndsBy n old new faults.NoMemory = Unit {0}
 EndsBy n old new faults.NoThread = Unit {0}
 
@@ -105,19 +105,19 @@ HasFaultWith given s fault = (capacity : ℕ) × (books_with given capacity s �
 abbrev pub EndsParsed : List (Option AnyDevice) → Said → JobError → Type 0
 EndsParsed given s (faults.Line line name) = HasFaultWith given s (record { line = line; name = name })
     ⊎ (IsFaultlessWith given s × StopsSome s (errors.Line line name))
-EndsParsed given s faults.Unmatched = IsFaultlessWith given s
+EndsParsed given s faults.Unmatched = ⊥
 EndsParsed given s faults.NoMemory = Unit {0}
 EndsParsed given s faults.NoThread = Unit {0}
 EndsParsed given s faults.TooLong = ⊥
 EndsParsed given s faults.Unreadable = ⊥
 EndsParsed given s faults.NotWritten = ⊥
 
--- what ends a run after its script was read and mounted: a task stops, memory runs out, or posts do not match
+-- what ends a run after its script was read and mounted: a task stops, or memory runs out
 abbrev pub IsLate : Script → JobError → Type 0
 IsLate script (faults.Line line name) = StopsTask script (errors.Line line name)
 IsLate script faults.NoMemory = Unit {0}
 IsLate script faults.NoThread = Unit {0}
-IsLate script faults.Unmatched = Unit {0}
+IsLate script faults.Unmatched = ⊥
 IsLate script faults.NotWritten = ⊥
 IsLate script faults.TooLong = ⊥
 IsLate script faults.Unreadable = ⊥

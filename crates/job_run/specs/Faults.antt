@@ -1,5 +1,5 @@
 -- WHICH FAULT of a line the fault of its command is, and which faults leave the output as it was (profile).
-use Rattle.std.specs.Prelude.{◌≡◌, ℕ, None}
+use Rattle.std.specs.Prelude.{◌≡◌, ℕ}
 use Rattle.job_script.specs.declared.fault.JobError.{JobError}
 use Rattle.job_script.specs.declared.fault.JobError.TheVariants as faults
 use Rattle.job_script.specs.declared.fault.FaultName.TheVariants as names
@@ -7,8 +7,6 @@ use Rattle.job_run.specs.declared.task_error.TaskError.{TaskError}
 use Rattle.job_run.specs.declared.task_error.TaskError.TheVariants as errors
 use Rattle.job_run.specs.declared.command_fault.CommandFault.{CommandFault}
 use Rattle.job_run.specs.declared.command_fault.CommandFault.TheVariants.{NoNumber, NoMemory}
-use Rattle.job_run.specs.declared.output.Output.{Output}
-use Rattle.job_run.specs.declared.output.Output.TheVariants.{Posts, Report}
 
 -- what ends the task, by the line of the command
 abbrev pub fault_at : CommandFault → ℕ → TaskError
@@ -20,16 +18,6 @@ abbrev pub job_error : TaskError → JobError
 job_error (errors.Line line name) = faults.Line line name
 job_error errors.NoMemory = faults.NoMemory
 
--- why a report or posts are not written, after the run
-abbrev pub IsWriteFault : JobError → Type 0
-IsWriteFault faults.NotWritten = Unit {0}
-IsWriteFault faults.NoMemory = Unit {0}
-IsWriteFault (faults.Line _ _) = ⊥
-IsWriteFault faults.TooLong = ⊥
-IsWriteFault faults.Unreadable = ⊥
-IsWriteFault faults.Unmatched = ⊥
-IsWriteFault faults.NoThread = ⊥
-
 -- every fault but that of a write leaves the writer as it was
 abbrev pub LeavesWriter : {W : Type 0} → JobError → W → W → Type 0
 LeavesWriter faults.NotWritten old new = Unit {0}
@@ -39,8 +27,3 @@ LeavesWriter faults.Unreadable old new = new ≡ old
 LeavesWriter faults.Unmatched old new = new ≡ old
 LeavesWriter faults.NoMemory old new = new ≡ old
 LeavesWriter faults.NoThread old new = new ≡ old
-
--- what is printed has no command of a unit
-abbrev pub HasNoSteps : Output → Type 0
-HasNoSteps Posts = Unit {0}
-HasNoSteps (Report set_up books steps) = steps ≡ None

@@ -1,8 +1,8 @@
--- How large rows and books are, what a task sends, and which faults come when.
+-- How large rows and books are, what a task sends and collects, and which faults come when.
 pub mod Ending
 pub mod Faults
 pub mod Rooms
 pub mod Sending
-pub mod Noting
+pub mod Filling
 pub mod Requests
 pub mod Ran

@@ -4,12 +4,13 @@ ghost use Rattle.std.specs.Prelude.{◌≡◌, ◌<◌, All, IfErr, OnErr, OnOk,
 ghost use Rattle.excp_system.specs.States.{awaited_count};
 ghost use Rattle.job_mount.specs.Requests.{CanBeDone, CanIssue};
 ghost use Rattle.job_script.specs.Commands.{NamesUnits};
-ghost use Rattle.run_record.specs.Record.{NotesPost};
-ghost use Rattle.job_run.specs.Noting.{Notes};
+ghost use Rattle.post_slots.specs.Slots.{filled, slots_of};
+ghost use Rattle.job_run.specs.Filling.{FillsSlots};
 ghost use Rattle.job_run.specs.Sending.{EndsEarly, ExcpFails, Fails, StopsAt, sends, sends_all, sends_excp};
 
 use crate::command_fault::CommandFault;
-use crate::records::record_of;
+use crate::notes::Notes;
+use crate::task_end::TaskEnd;
 use crate::task_error::TaskError;
 use crate::unit_calls::{close, purge, purge_task, reset};
 use any_device::AnyDevice;
@@ -18,8 +19,8 @@ use excp_system::{Site, System};
 use fifo_row::Full;
 use job_mount::request;
 use job_script::{Action, Command, Excp, Script};
+use post_slots::Slots;
 use request_piece::Posted;
-use run_record::{TaskEvent, TaskRecord};
 use std::alloc::{AllocError, Global};
 use std::sync::Wait;
 use system_threads::{Alarm, Client};
@@ -57,42 +58,61 @@ impl<'a, 'r, S: Site> Job<'a, 'r, S> {
     }
 
     /// Does all that a task does: its commands, up to the first fault, and then waits until all its requests were posted.
-    /// Returns the record of that, or why it ended. Out of memory outranks the fault of a line.
-    pub fn task<R: Wait>(
+    /// Returns what that came to, or why it ended. Out of memory outranks the fault of a line.
+    pub fn task<R: Wait, N: Notes>(
         &self,
         rt: &R,
         alloc: Global,
         client: &mut Client<'_, S>,
-    ) -> Result<TaskRecord, TaskError>
+    ) -> Result<TaskEnd<N>, TaskError>
         ensures number { client.new.number ≡ client.old.number }
         ensures sent { OnOk result (client.new.sent ≡ sends_all client.old.number self.now.script.now.commands.items client.old.sent) }
         ensures awaits_none { OnOk result (awaited_count client.new ≡ 0) }
         ensures stopped { IfErr result (EndsEarly client.old.number self.now.script.now.commands.items client.old.sent client.new.sent) }
     {
-        let mut record = record_of(alloc, self.script, client.number())?;
-        let done = self.commands(rt, alloc, client, &mut record);
-        self.collect(rt, client, &mut record)?;
-        done?;
-        Ok(record)
+        let mut end = TaskEnd::new(alloc, self.script, client.number())?;
+        self.to_the_end(rt, alloc, client, &mut end.slots, &mut end.notes)?;
+        Ok(end)
     }
 
-    /// Does the commands of a task, in order, up to the first fault. Whatever other threads do, the task sends the requests
-    /// of its commands, in their order, and no other.
-    pub fn commands<R: Wait>(
+    /// Does so for a task whose posts come to these slots.
+    fn to_the_end<R: Wait, N: Notes>(
         &self,
         rt: &R,
         alloc: Global,
         client: &mut Client<'_, S>,
-        record: &mut TaskRecord,
+        slots: &mut Slots,
+        notes: &mut N,
     ) -> Result<(), TaskError>
         ensures number { client.new.number ≡ client.old.number }
-        ensures noted { Notes client.old.got «record».old client.new.got «record».new }
+        ensures noted { FillsSlots client.old.got slots.old client.new.got slots.new }
+        ensures sent { OnOk result (client.new.sent ≡ sends_all client.old.number self.now.script.now.commands.items client.old.sent) }
+        ensures awaits_none { OnOk result (awaited_count client.new ≡ 0) }
+        ensures stopped { IfErr result (EndsEarly client.old.number self.now.script.now.commands.items client.old.sent client.new.sent) }
+    {
+        let done = self.commands(rt, alloc, client, slots, notes);
+        self.collect(rt, client, slots, notes)?;
+        done
+    }
+
+    /// Does the commands of a task, in order, up to the first fault. Whatever other threads do, the task sends the requests
+    /// of its commands, in their order, and no other.
+    pub fn commands<R: Wait, N: Notes>(
+        &self,
+        rt: &R,
+        alloc: Global,
+        client: &mut Client<'_, S>,
+        slots: &mut Slots,
+        notes: &mut N,
+    ) -> Result<(), TaskError>
+        ensures number { client.new.number ≡ client.old.number }
+        ensures noted { FillsSlots client.old.got slots.old client.new.got slots.new }
         ensures sent { OnOk result (client.new.sent ≡ sends_all client.old.number self.now.script.now.commands.items client.old.sent) }
         ensures stopped { IfErr result (StopsAt client.old.number self.now.script.now.commands.items client.old.sent client.new.sent) }
     {
         for place in self.script.places_of(client.number()) {
             let command = &self.script.commands[*place];
-            if let Err(fault) = self.command(rt, alloc, client, record, command) {
+            if let Err(fault) = self.command(rt, alloc, client, slots, notes, command) {
                 return Err(fault.at(command.line));
             }
         }
@@ -100,31 +120,32 @@ impl<'a, 'r, S: Site> Job<'a, 'r, S> {
     }
 
     /// Does one command.
-    fn command<R: Wait>(
+    fn command<R: Wait, N: Notes>(
         &self,
         rt: &R,
         alloc: Global,
         client: &mut Client<'_, S>,
-        record: &mut TaskRecord,
+        slots: &mut Slots,
+        notes: &mut N,
         command: &Command,
     ) -> Result<(), CommandFault>
         requires units { NamesUnits S.rows.units command.now }
         requires request { CanBeDone command.now }
         ensures number { client.new.number ≡ client.old.number }
-        ensures noted { Notes client.old.got «record».old client.new.got «record».new }
+        ensures noted { FillsSlots client.old.got slots.old client.new.got slots.new }
         ensures sent { OnOk result (client.new.sent ≡ sends client.old.number command.now.action client.old.sent) }
         ensures unsent { OnErr result (client.new.sent ≡ client.old.sent) }
         ensures fails { IfErr result (Fails command.now.action client.old.sent) }
     {
         match &command.action {
-            Action::Excp(excp) => self.issue(rt, alloc, client, record, excp)?,
-            Action::Purge(dcb, mode) => purge(rt, self.system, *dcb, *mode, record)?,
-            Action::PurgeTask(task, mode) => purge_task(rt, self.system, *task, *mode, record)?,
-            Action::Close(dcb) => close(rt, self.system, *dcb, record)?,
-            Action::Reset(dcb) => reset(rt, self.system, *dcb, record)?,
+            Action::Excp(excp) => self.issue(rt, alloc, client, slots, notes, excp)?,
+            Action::Purge(dcb, mode) => purge(rt, self.system, *dcb, *mode, notes)?,
+            Action::PurgeTask(task, mode) => purge_task(rt, self.system, *task, *mode, notes)?,
+            Action::Close(dcb) => close(rt, self.system, *dcb, notes)?,
+            Action::Reset(dcb) => reset(rt, self.system, *dcb, notes)?,
             Action::Wait => {
-                record.note(TaskEvent::Waited);
-                self.collect(rt, client, record)?;
+                notes.waits();
+                self.collect(rt, client, slots, notes)?;
             }
         }
         Ok(())
@@ -132,18 +153,19 @@ impl<'a, 'r, S: Site> Job<'a, 'r, S> {
 
     /// Issues a request. If the most that may be are under way, or the row of its unit is full, it collects posts and
     /// tries again.
-    fn issue<R: Wait>(
+    fn issue<R: Wait, N: Notes>(
         &self,
         rt: &R,
         alloc: Global,
         client: &mut Client<'_, S>,
-        record: &mut TaskRecord,
+        slots: &mut Slots,
+        notes: &mut N,
         excp: &Excp,
     ) -> Result<(), CommandFault>
         requires unit { excp.now.dcb.unit < S.rows.units }
         requires request { CanIssue excp.now }
         ensures number { client.new.number ≡ client.old.number }
-        ensures noted { Notes client.old.got «record».old client.new.got «record».new }
+        ensures noted { FillsSlots client.old.got slots.old client.new.got slots.new }
         ensures sent { OnOk result (client.new.sent ≡ sends_excp client.old.number excp.now client.old.sent) }
         ensures unsent { OnErr result (client.new.sent ≡ client.old.sent) }
         ensures fails { IfErr result (ExcpFails excp.now client.old.sent) }
@@ -157,10 +179,7 @@ impl<'a, 'r, S: Site> Job<'a, 'r, S> {
             if client.awaited() < MOST_UNDER_WAY {
                 match client.excp(rt, request) {
                     Ok(()) => {
-                        record.note(TaskEvent::Issued {
-                            unit: excp.dcb.unit,
-                            number: name.seq,
-                        });
+                        notes.issued(excp.dcb.unit, name.seq);
                         return Ok(());
                     }
                     Err(Full(again)) => request = again,
@@ -168,7 +187,7 @@ impl<'a, 'r, S: Site> Job<'a, 'r, S> {
             }
             match client.next_post(rt, self.alarm)? {
                 Some(posted) => {
-                    note_collected(record, &posted);
+                    note_collected(slots, notes, &posted);
                     idle.reset();
                 }
                 None => idle.snooze(),
@@ -178,20 +197,21 @@ impl<'a, 'r, S: Site> Job<'a, 'r, S> {
     }
 
     /// Collects posts until their count is that of the requests that the task has issued.
-    pub fn collect<R: Wait>(
+    pub fn collect<R: Wait, N: Notes>(
         &self,
         rt: &R,
         client: &mut Client<'_, S>,
-        record: &mut TaskRecord,
+        slots: &mut Slots,
+        notes: &mut N,
     ) -> Result<(), AllocError>
         ensures number { client.new.number ≡ client.old.number }
-        ensures noted { Notes client.old.got «record».old client.new.got «record».new }
+        ensures noted { FillsSlots client.old.got slots.old client.new.got slots.new }
         ensures sent { client.new.sent ≡ client.old.sent }
         ensures awaits_none { OnOk result (awaited_count client.new ≡ 0) }
     {
         for _ in rt.forever() {
             match client.next_post(rt, self.alarm)? {
-                Some(posted) => note_collected(record, &posted),
+                Some(posted) => note_collected(slots, notes, &posted),
                 None => return Ok(()),
             }
         }
@@ -199,9 +219,10 @@ impl<'a, 'r, S: Site> Job<'a, 'r, S> {
     }
 }
 
-/// Notes a post that the task collected. What its record holds then is no matter of the loops that call this.
-fn note_collected(record: &mut TaskRecord, posted: &Posted)
-    ensures { NotesPost «record».old «record».new posted.now }
+/// Notes a post that the task collected. What its slot holds then is no matter of the loops that call this.
+fn note_collected<N: Notes>(slots: &mut Slots, notes: &mut N, posted: &Posted)
+    ensures { slots_of slots.new ≡ filled posted.now.unit posted.now (slots_of slots.old) }
 {
-    record.collect(posted);
+    slots.fill(posted.unit(), posted);
+    notes.collected(posted);
 }

@@ -1,10 +1,9 @@
 //! The run of a script: its tasks on threads of their own, beside channel workers and interruption handlers.
 
-ghost use Rattle.std.specs.Prelude.{◌≡◌, ◌≤◌, ◌<◌, ◌+◌, All, IfErr, IfOk, OnOk, false, length, vec_len};
+ghost use Rattle.std.specs.Prelude.{◌≡◌, ◌≤◌, ◌<◌, ◌+◌, All, IfErr, IfOk, OnOk, length, vec_len};
 ghost use Rattle.job_mount.specs.Requests.{CanBeDone};
 ghost use Rattle.job_script.specs.Reading.{ReadsAtMost};
 ghost use Rattle.job_script.specs.Views.{said};
-ghost use Rattle.run_record.specs.Complete.{IsComplete};
 ghost use Rattle.job_run.specs.Ending.{EndsBeside, EndsBy, EndsParsed, IsFaultlessWith, IsLate, IsOfTask, RanWhole};
 ghost use Rattle.job_run.specs.Faults.{LeavesWriter};
 ghost use Rattle.job_run.specs.Ran.{IsDone, Ran};
@@ -12,15 +11,16 @@ ghost use Rattle.excp_system.specs.Opening.{AreBooks, AreFresh};
 ghost use Rattle.post_ledger.specs.Report.{IsFor};
 ghost use Rattle.post_ledger.specs.Work.{lists_of};
 
-use crate::output::{Output, write};
+use crate::notes::Notes;
+use crate::output::write;
 use crate::rooms::rows_and_books;
 use crate::script_tasks::ScriptTasks;
+use crate::task_end::TaskEnd;
 use crate::task_error::TaskError;
 use any_device::AnyDevice;
 use excp_system::Rows;
 use job_script::{JobError, LIMIT, Script, read_script};
 use post_ledger::Report;
-use run_record::TaskRecord;
 use std::alloc::Global;
 use std::io::{Read, Write};
 use std::sync::Wait;
@@ -28,12 +28,11 @@ use std::thread::Threads;
 use system_threads::{RunError, Workers, run_program};
 use unit_book::UnitBook;
 
-/// A run that was brought to its end: the record of each task, and the account of its units.
+/// A run that was brought to its end: what each task left, and the account of its units.
 #[derive(Drop)]
-pub struct Finished {
-    pub tasks: Vec<TaskRecord>,
+pub struct Finished<N> {
+    pub tasks: Vec<TaskEnd<N>>,
     pub report: Report<AnyDevice>,
-    ghost complete: { All IsComplete tasks.items },
 }
 
 /// Reads a script, at most 1,048,576 bytes and one more. Runs its tasks beside these numbers of channel workers and
@@ -51,45 +50,21 @@ pub fn run_script<R: Threads + Wait + Sync, I: Read, W: Write>(
     ensures ran { OnOk result (RanWhole LIMIT (I.remaining reader.old) (I.remaining reader.new)) }
     ensures fault { IfErr result (EndsBy LIMIT (I.remaining reader.old) (I.remaining reader.new)) }
 {
-    match read_and_run(rt, alloc, reader, workers) {
-        Ok((_, run)) => write(alloc, &run.tasks, Output::Posts, writer),
+    match read_and_run::<R, (), I>(rt, alloc, reader, workers) {
+        Ok((_, run)) => write(&run.tasks, writer),
         // one text for both causes (profile)
         Err(JobError::NoThread) => Err(JobError::NoMemory),
         Err(fault) => Err(fault),
     }
 }
 
-/// Does so, and then writes of each unit its history, with `steps` that many of its commands too, and its medium. All of
-/// that is again text of a script: comments and set-up lines. With `steps`, memory may run out after a part was written.
-pub fn report_script<R: Threads + Wait + Sync, I: Read, W: Write>(
-    rt: &R,
-    alloc: Global,
-    reader: &mut I,
-    writer: &mut W,
-    workers: Workers,
-    steps: Option<u64>,
-) -> Result<(), JobError>
-    ensures bounded { ReadsAtMost (LIMIT + 1) (I.remaining reader.old) (I.remaining reader.new) }
-    ensures unwritten { steps ≡ None → IfErr result (λ fault. LeavesWriter fault writer.old writer.new) }
-    ensures ran { OnOk result (RanWhole LIMIT (I.remaining reader.old) (I.remaining reader.new)) }
-    ensures fault { IfErr result (EndsBy LIMIT (I.remaining reader.old) (I.remaining reader.new)) }
-{
-    let (script, run) = read_and_run(rt, alloc, reader, workers)?;
-    let output = Output::Report {
-        set_up: &script.set_up,
-        books: run.report.units(),
-        steps,
-    };
-    write(alloc, &run.tasks, output, writer)
-}
-
-/// Reads a script and runs it.
-fn read_and_run<R: Threads + Wait + Sync, I: Read>(
+/// Reads a script, at most 1,048,576 bytes and one more, and runs it to its end. Its tasks note what `N` does.
+pub fn read_and_run<R: Threads + Wait + Sync, N: Notes + Send + Sync, I: Read>(
     rt: &R,
     alloc: Global,
     reader: &mut I,
     workers: Workers,
-) -> Result<(Script, Finished), JobError>
+) -> Result<(Script, Finished<N>), JobError>
     ensures bounded { ReadsAtMost (LIMIT + 1) (I.remaining reader.old) (I.remaining reader.new) }
     ensures ran { OnOk result (RanWhole LIMIT (I.remaining reader.old) (I.remaining reader.new)) }
     ensures fault { IfErr result (EndsBy LIMIT (I.remaining reader.old) (I.remaining reader.new)) }
@@ -103,13 +78,13 @@ fn read_and_run<R: Threads + Wait + Sync, I: Read>(
 /// Runs a script that was parsed, to its end. `given` has for each unit, by its number, the device that it is given, as
 /// one from an image; a unit without one is mounted as its lines say. The books of the run have for each unit the
 /// device as it was mounted, and the device as the run left it. [`write`] prints the run.
-pub fn run_parsed<R: Threads + Wait + Sync>(
+pub fn run_parsed<R: Threads + Wait + Sync, N: Notes + Send + Sync>(
     rt: &R,
     alloc: Global,
     script: &Script,
     given: Vec<Option<AnyDevice>>,
     workers: Workers,
-) -> Result<Finished, JobError>
+) -> Result<Finished<N>, JobError>
     requires tasks { (1 ≤ script.now.set_up.tasks) × (script.now.set_up.tasks ≤ 64) }
     requires units { (1 ≤ vec_len script.now.set_up.units) × (vec_len script.now.set_up.units ≤ 64) }
     ensures ran { OnOk result (IsFaultlessWith given.items (said script.now)) }
@@ -122,14 +97,14 @@ pub fn run_parsed<R: Threads + Wait + Sync>(
 
 /// Runs a script on a system of these rows and books, to its end. Returns `NoThread` if no thread can be made for a
 /// worker, `NoMemory` if `run_program` fails for another cause, and else what [`ended`] returns.
-pub fn run_on<R: Threads + Wait + Sync>(
+pub fn run_on<R: Threads + Wait + Sync, N: Notes + Send + Sync>(
     rt: &R,
     alloc: Global,
     rows: Rows,
     books: Vec<UnitBook<AnyDevice>>,
     script: &Script,
     workers: Workers,
-) -> Result<Finished, JobError>
+) -> Result<Finished<N>, JobError>
     requires fresh { AreFresh rows }
     requires books { AreBooks rows.units books.items }
     requires units { vec_len script.now.set_up.units ≡ rows.units }
@@ -147,15 +122,14 @@ pub fn run_on<R: Threads + Wait + Sync>(
     }
 }
 
-/// The records of a run that was brought to its end: those of its tasks, with the posts that they had not collected.
+/// A run that was brought to its end: what its tasks left, with the posts that they had not collected.
 ///
-/// Errors: out of memory, if a task ended for that; the fault of the first task that ended before its last command; a
-/// request without a post of its own.
-pub fn ended(
+/// Errors: out of memory, if a task ended for that; the fault of the first task that ended before its last command.
+pub fn ended<N: Notes>(
     alloc: Global,
     report: Report<AnyDevice>,
-    outcomes: Vec<Result<TaskRecord, TaskError>>,
-) -> Result<Finished, JobError>
+    outcomes: Vec<Result<TaskEnd<N>, TaskError>>,
+) -> Result<Finished<N>, JobError>
     requires lists { IsFor (length report.books) (length outcomes.items) report }
     requires few_units { length report.books ≤ 64 }
     requires few_tasks { length outcomes.items ≤ 64 }
@@ -163,19 +137,16 @@ pub fn ended(
     ensures done { OnOk result (All IsDone outcomes.items) }
     ensures fault { IfErr result (EndsBeside outcomes.items) }
 {
-    let mut tasks = records_of(alloc, outcomes)?;
+    let mut tasks = ends_of(alloc, outcomes)?;
     add_rest(&mut tasks, &report);
-    if !tasks.iter().all(|record| record.is_complete()) {
-        return Err(JobError::Unmatched);
-    }
     Ok(Finished { tasks, report })
 }
 
-/// The record of each task. If a task ended for lack of memory it returns that, and else the first fault.
-fn records_of(
+/// What each task left. If a task ended for lack of memory it returns that, and else the first fault.
+fn ends_of<N: Notes>(
     alloc: Global,
-    outcomes: Vec<Result<TaskRecord, TaskError>>,
-) -> Result<Vec<TaskRecord>, TaskError>
+    outcomes: Vec<Result<TaskEnd<N>, TaskError>>,
+) -> Result<Vec<TaskEnd<N>>, TaskError>
     ensures count { IfOk result (λ tasks. length tasks.items ≡ length outcomes.items) }
     ensures done { OnOk result (All IsDone outcomes.items) }
     ensures fault { IfErr result (IsOfTask outcomes.items) }
@@ -191,12 +162,12 @@ fn records_of(
 }
 
 /// Whether a task ended because memory ran out.
-fn wants_memory(outcome: &Result<TaskRecord, TaskError>) -> bool {
+fn wants_memory<N>(outcome: &Result<TaskEnd<N>, TaskError>) -> bool {
     matches!(outcome, Err(TaskError::NoMemory))
 }
 
-/// Adds the posts that the report of a run lists to the record of each task.
-fn add_rest(tasks: &mut [TaskRecord], report: &Report<AnyDevice>)
+/// Adds the posts that the report of a run lists to those of each task.
+fn add_rest<N: Notes>(tasks: &mut [TaskEnd<N>], report: &Report<AnyDevice>)
     requires lists { IsFor (length report.now.books) (length tasks.old) report.now }
     requires few_units { length report.now.books ≤ 64 }
     requires few_tasks { length tasks.old ≤ 64 }
@@ -207,14 +178,15 @@ fn add_rest(tasks: &mut [TaskRecord], report: &Report<AnyDevice>)
     }
 }
 
-/// Adds the posts that the report of a run lists for a task to its record.
-fn add_listed(record: &mut TaskRecord, report: &Report<AnyDevice>, task: u16, units: u16)
+/// Adds the posts that the report of a run lists for a task to its own.
+fn add_listed<N: Notes>(end: &mut TaskEnd<N>, report: &Report<AnyDevice>, task: u16, units: u16)
     requires task { task < length report.now.lists }
     requires units { length (lists_of report.now.lists task) ≡ units }
 {
     for unit in 0..units {
         for posted in report.posts(task, unit) {
-            record.fill(posted);
+            end.slots.fill(unit, posted);
+            end.notes.left(posted);
         }
     }
 }

@@ -4,8 +4,8 @@ ghost use Rattle.std.specs.Prelude.{IfErr};
 ghost use Rattle.scenario_set_up.specs.Faults.{IsStepFault};
 
 use any_device::AnyDevice;
-use job_report::write_posted;
 use job_script::{JobError, SetUp};
+use post_lines::write_posted;
 use request_piece::Posted;
 use run_record::{Run, TaskRecord, UnitRecord};
 use scenario_past::{Keeper, Media, Past, Tasks};

@@ -8,11 +8,11 @@ use crate::answer::{
     write_running, write_starting,
 };
 use job_check::why_rejected;
-use job_report::write_posted;
 use job_scenario::{Event, ScenarioLine, UnitPurge};
 use job_script::{
     Action, Cause, Command, DcbName, ExcpLine, FaultName, JobError, Line, Opening, SetUp, SetUpLine,
 };
+use post_lines::write_posted;
 use scenario_past::Past;
 use scenario_set_up::{StepError, rejected};
 use scenario_site::{Carrier, Issuing, View};

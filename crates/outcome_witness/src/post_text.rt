@@ -1,7 +1,7 @@
 //! The text of an outcome.
 
-use job_report::{shown, write_outcome};
 use job_script::Excp;
+use post_lines::{shown, write_outcome};
 use request_piece::Posted;
 use std::alloc::AllocError;
 
@@ -14,7 +14,7 @@ pub fn has_outcome(
     outcome: &[u8],
 ) -> Result<bool, AllocError> {
     text.clear();
-    match write_outcome(text, posted, shown(posted, excp)) {
+    match write_outcome(text, posted, shown(posted, excp.show, excp.len)) {
         Ok(()) => Ok(text.as_slice() == outcome),
         Err(_) => Err(AllocError),
     }

@@ -6,6 +6,7 @@ use crate::posts::write_end;
 use crate::steps::Steps;
 use crate::touched::Touched;
 use io_images::Extent;
+use post_slots::End;
 use request_piece::{Issued, Name, Scope};
 use run_record::{Controls, UnitRecord};
 use std::alloc::{AllocError, Global};
@@ -13,7 +14,7 @@ use std::io;
 use std::io::Write;
 use unit_book::{Mode, ProcessingMethod};
 use unit_history::{
-    Cause, Dcbs, End, Event, Events, HistoryError, Told, method_in_words, mode_in_words,
+    Cause, Dcbs, Event, Events, HistoryError, Told, method_in_words, mode_in_words,
 };
 
 /// A unit whose events are written.

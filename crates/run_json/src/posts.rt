@@ -2,10 +2,10 @@
 
 use crate::form::{Commas, write_hex};
 use digits::digits_of;
+use post_slots::End;
 use run_record::{Ended, Run, TaskEvent, TaskRecord};
 use std::io;
 use std::io::Write;
-use unit_history::End;
 
 /// Writes the posts, in order of tasks, units and numbers.
 pub(crate) fn write_posts<W: Write>(out: &mut W, run: &Run<'_>) -> io::Result<()> {
@@ -24,7 +24,7 @@ fn write_posts_of<W: Write>(
     record: &TaskRecord,
     commas: &mut Commas,
 ) -> io::Result<()> {
-    for unit in 0..record.units.len() {
+    for unit in 0..record.slots.units.len() {
         write_posts_at(out, task, record, unit, commas)?;
     }
     Ok(())
@@ -56,8 +56,8 @@ fn write_ended<W: Write>(out: &mut W, ended: &Ended<'_>) -> io::Result<()> {
     write_end(out, &ended.end)?;
     out.write_all(b",\"shown\":")?;
     write_hex(out, ended.shown)?;
-    write!(out, ",\"iob_at\":\"{:06X}\",\"iob\":", ended.iob)?;
-    write_hex(out, ended.iob_image)?;
+    write!(out, ",\"iob_at\":\"{:06X}\",\"iob\":", ended.iob.address)?;
+    write_hex(out, &ended.iob.bytes)?;
     out.write_all(b"}")
 }
 
@@ -90,7 +90,7 @@ pub(crate) fn write_tasks<W: Write>(out: &mut W, run: &Run<'_>) -> io::Result<()
 fn write_task_events<W: Write>(out: &mut W, record: &TaskRecord) -> io::Result<()> {
     out.write_all(b"\n[")?;
     let mut commas = Commas::new();
-    for event in record.events() {
+    for event in record.notes.events() {
         commas.next(out)?;
         write_task_event(out, event)?;
     }

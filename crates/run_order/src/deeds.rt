@@ -101,7 +101,7 @@ impl Deeds {
 
     /// Adds what a task did.
     fn add(&mut self, task: usize, record: &TaskRecord) -> Result<(), AllocError> {
-        for (count, event) in record.events().iter().enumerate() {
+        for (count, event) in record.notes.events().iter().enumerate() {
             self.add_event(event, Deed { task, count })?;
         }
         Ok(())

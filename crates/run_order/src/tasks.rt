@@ -70,7 +70,7 @@ impl<'r> Tasks<'r> {
         };
         let before = self.done.get(task).copied().unwrap_or(0);
         let mut now = before;
-        for event in record.events().get(before..).unwrap_or(&[]) {
+        for event in record.notes.events().get(before..).unwrap_or(&[]) {
             if self.must_wait(task, event) {
                 break;
             }

@@ -5,7 +5,6 @@
 #![tactic(auto)]
 
 mod page;
-mod posts;
 mod template;
 mod text;
 

@@ -1,10 +1,9 @@
 //! The page as a whole.
 
-use crate::posts::write_posts;
 use crate::template::{BEFORE_FRONT, BEFORE_HEADING, BEFORE_POSTS, BEFORE_REST, BEFORE_TITLE, END};
 use crate::text::{Escaped, NoTags};
 use run_json::RunJson;
-use run_record::Run;
+use run_record::{Run, write_posts};
 use std::alloc::Global;
 use std::io;
 use std::io::Write;

@@ -1,4 +1,3 @@
 -- What is kept of the requests of a task.
-pub mod Complete
-pub mod Posts
+pub mod Iobs
 pub mod Record

@@ -47,7 +47,7 @@ impl Controls {
 
 /// Adds the controls of a task.
 fn add_task(list: &mut Vec<Control>, task: usize, record: &TaskRecord) -> Result<(), AllocError> {
-    for event in record.events() {
+    for event in record.notes.events() {
         if let TaskEvent::Controlled { unit, entry } = event {
             list.push(Control {
                 unit: usize::from(*unit),

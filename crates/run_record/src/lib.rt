@@ -5,13 +5,19 @@
 #![tactic(auto)]
 
 mod controls;
+mod iob_image;
+mod posts;
 mod run;
 mod task_event;
+mod task_notes;
 mod task_record;
 mod track;
 
 pub use controls::Controls;
+pub use iob_image::IobImage;
+pub use posts::write_posts;
 pub use run::{Room, Run, UnitRecord};
 pub use task_event::TaskEvent;
-pub use task_record::{Ended, Post, TaskRecord};
+pub use task_notes::TaskNotes;
+pub use task_record::{Ended, TaskRecord};
 pub use track::Track;

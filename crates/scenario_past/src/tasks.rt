@@ -8,6 +8,7 @@ use std::alloc::{AllocError, Global};
 /// The record of each task, by its number.
 #[derive(Drop)]
 pub struct Tasks {
+    alloc: Global,
     records: Vec<TaskRecord>,
 }
 
@@ -18,7 +19,7 @@ impl Tasks {
         for _ in 0..tasks {
             records.push(TaskRecord::new(alloc, units)?)?;
         }
-        Ok(Tasks { records })
+        Ok(Tasks { alloc, records })
     }
 
     /// The records, by the numbers of the tasks.
@@ -34,7 +35,14 @@ impl Tasks {
     /// Notes that a task issued the request of an EXCP under this name. Makes room for its post.
     pub fn issue(&mut self, name: Name, excp: &Excp) -> Result<(), AllocError> {
         match self.records.get_mut(usize::from(name.task)) {
-            Some(task) => issue(task, name.seq, excp),
+            Some(task) => task.issue(
+                self.alloc,
+                excp.dcb.unit,
+                name.seq,
+                excp.iob,
+                excp.show,
+                excp.len as usize,
+            ),
             None => Ok(()),
         }
     }
@@ -42,8 +50,8 @@ impl Tasks {
     /// Notes that a task purged, closed or reset at a unit: the entry with this number.
     pub fn control(&mut self, task: u16, unit: u16, entry: usize) -> Result<(), AllocError> {
         if let Some(task) = self.records.get_mut(usize::from(task)) {
-            task.make_room(1)?;
-            task.note(TaskEvent::Controlled { unit, entry });
+            task.notes.make_room(1)?;
+            task.notes.note(TaskEvent::Controlled { unit, entry });
         }
         Ok(())
     }
@@ -51,8 +59,8 @@ impl Tasks {
     /// Notes that a task began to wait for its requests.
     pub fn wait(&mut self, task: u16) -> Result<(), AllocError> {
         if let Some(task) = self.records.get_mut(usize::from(task)) {
-            task.make_room(1)?;
-            task.note(TaskEvent::Waited);
+            task.notes.make_room(1)?;
+            task.notes.note(TaskEvent::Waited);
         }
         Ok(())
     }
@@ -67,7 +75,7 @@ impl Tasks {
     /// Notes a post that its task had not collected at the end. Never allocates.
     pub fn leave(&mut self, posted: &Posted) {
         if let Some(task) = self.records.get_mut(usize::from(posted.name().task)) {
-            task.fill(posted);
+            task.leave(posted);
         }
     }
 
@@ -82,16 +90,4 @@ impl Tasks {
             None => &[],
         }
     }
-}
-
-/// Notes that a task issued its next request to a unit, with this number. Makes room for its post and its collection.
-fn issue(task: &mut TaskRecord, number: u32, excp: &Excp) -> Result<(), AllocError> {
-    let unit = excp.dcb.unit;
-    // every EXCP names a unit of the task
-    if usize::from(unit) < task.units.len() {
-        task.expect(unit, excp.iob, excp.show, excp.len as usize)?;
-        task.make_room(2)?;
-        task.note(TaskEvent::Issued { unit, number });
-    }
-    Ok(())
 }

@@ -2,12 +2,12 @@
 //! their states.
 
 use any_device::AnyDevice;
-use job_report::write_post;
+use post_lines::write_post;
+use post_slots::End;
 use request_piece::{Name, Scope};
 use std::alloc::{AllocError, Global};
 use std::io::{Result, Write};
 use unit_book::{DcbState, Entry, Mode, ProcessingMethod, UnitBook};
-use unit_history::End;
 use unit_world::{ActiveState, active_request};
 
 /// Which of them are printed.

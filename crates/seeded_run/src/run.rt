@@ -1,7 +1,6 @@
 //! A run by a seed.
 
-ghost use Rattle.std.specs.Prelude.{◌≤◌, All, vec_len};
-ghost use Rattle.run_record.specs.Complete.{IsComplete};
+ghost use Rattle.std.specs.Prelude.{◌≤◌, vec_len};
 
 use crate::recorder::{Recorder, note_wait};
 use any_device::AnyDevice;
@@ -22,7 +21,6 @@ pub struct SeededRun {
     pub order: Order,
     /// The schedule as a scenario, if that was wanted: the set-up of the script, and a line for each step.
     pub scenario: Vec<u8>,
-    ghost complete: { All IsComplete tasks.items },
 }
 
 /// Runs a script, whose text this is, by the schedule of a seed. `given` has the device that each unit is given, by its number.
@@ -98,7 +96,7 @@ fn ended(recorder: Recorder<'_>, books: Vec<UnitBook<AnyDevice>>) -> Result<Seed
     let Recorder { past, scenario, .. } = recorder;
     let Past { tasks, order } = past;
     let tasks = tasks.into_records();
-    if !tasks.iter().all(|record| record.is_complete()) {
+    if !tasks.iter().all(|task| task.slots.are_filled()) {
         return Err(JobError::Unmatched);
     }
     Ok(SeededRun {

@@ -1,9 +1,8 @@
 //! What a history tells of an entry.
 
-ghost use Rattle.std.specs.Prelude.{◌≡◌};
-
-use io_images::{Code, Csw, Extent};
-use request_piece::{Issued, Name, Posted, Scope};
+use io_images::Extent;
+use post_slots::End;
+use request_piece::{Issued, Name, Scope};
 use unit_book::{Mode, ProcessingMethod};
 
 /// An event of a unit: an entry of its trace, or the turns of a program that follow one another.
@@ -54,29 +53,6 @@ pub enum Told<'t> {
         cause: Cause,
         sets_flag: bool,
     },
-}
-
-/// How a request ended: its completion code, its CSW and its sense bytes.
-#[derive(Clone, Copy)]
-pub struct End {
-    pub code: Code,
-    pub csw: Csw,
-    pub sense: u16,
-}
-
-impl End {
-    /// How a request that was posted ended.
-    pub fn of(posted: &Posted) -> End
-        ensures code { result.code ≡ posted.now.code }
-        ensures csw { result.csw ≡ posted.now.csw }
-        ensures sense { result.sense ≡ posted.now.sense }
-    {
-        End {
-            code: posted.code(),
-            csw: posted.csw(),
-            sense: posted.sense(),
-        }
-    }
 }
 
 /// Why a request was posted, with the number of the entry that brought it about, if there is one.

@@ -8,9 +8,10 @@ ghost use Rattle.unit_history.specs.Orderly.{IsAfter};
 ghost use Rattle.unit_history.specs.PastTies.{Knows, before, room_past};
 
 use crate::dcbs::Dcbs;
-use crate::event::{End, Event, Told};
+use crate::event::{Event, Told};
 use crate::past::Past;
 use device_port::Device;
+use post_slots::End;
 use request_piece::Name;
 use std::marker::Model;
 use unit_book::{Entry, UnitBook};

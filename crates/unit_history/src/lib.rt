@@ -24,7 +24,7 @@ pub use command::{After, Broken, Command, Ending, Moved, Shown, Way};
 pub use commands::{CommandList, Commands, Next};
 pub use dcbs::Dcbs;
 pub use error::HistoryError;
-pub use event::{Cause, End, Event, Told};
+pub use event::{Cause, Event, Told};
 pub use events::Events;
 pub use history::{kind_in_words, method_in_words, mode_in_words, write_history};
 pub use names::{NORMAL_END, SENSE, STATUS};

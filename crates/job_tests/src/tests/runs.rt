@@ -4,18 +4,16 @@
 ghost use Rattle.std.specs.Prelude.{◌≡◌, ◌<◌, ◌≤◌, All, IfOk, vec_len};
 ghost use Rattle.excp_system.specs.Opening.{AreBooks, AreFresh, site_of};
 ghost use Rattle.job_mount.specs.Requests.{CanBeDone};
-ghost use Rattle.run_record.specs.Complete.{IsComplete};
 
 mod not_awaited;
 
 use any_device::AnyDevice;
 use excp_system::{Gate, IscTaker, Point, Rows, Site, System};
 use job_mount::books;
-use job_run::{Output, ScriptTasks, TaskError, ended, run_on, write};
+use job_run::{Finished, ScriptTasks, TaskEnd, TaskError, ended, run_on, write};
 use job_script::{FaultName, JobError, Script};
 use not_awaited::NotAwaited;
 use request_piece::Name;
-use run_record::TaskRecord;
 use std::alloc::{AllocError, Global};
 use std::marker::Brand;
 use std::sync::Wait;
@@ -247,7 +245,7 @@ fn tasks_alone<S: Site + Send + Sync, R: Threads + Wait + Sync + AllocGlobal>(
     run_out(&alarm, way.turns_before());
     let gate = Drill::new(&alarm, way);
     let crew = crew_of(alloc, units, takers, way)?;
-    let program = ScriptTasks::new(script);
+    let program: ScriptTasks<'_, ()> = ScriptTasks::new(script);
     let runners = run_beside(rt, alloc, &system, &alarm, &gate, crew, runners, &program).or(Err(
         JobError::NoMemory,
     ))?;
@@ -294,11 +292,11 @@ fn two_of_each() -> Workers {
 }
 
 /// How many tasks ran out of memory. The others are to have collected all their posts.
-fn how_many_short(outcomes: Vec<Result<TaskRecord, TaskError>>) -> Result<usize, JobError> {
+fn how_many_short(outcomes: Vec<Result<TaskEnd<()>, TaskError>>) -> Result<usize, JobError> {
     let mut short: usize = 0;
     for outcome in outcomes {
         match outcome {
-            Ok(record) if record.is_complete() => {}
+            Ok(end) if end.slots.are_filled() => {}
             Ok(_) => return Err(JobError::Unmatched),
             Err(TaskError::NoMemory) => short = short.saturating_add(1),
             Err(error) => return Err(JobError::from(error)),
@@ -308,11 +306,9 @@ fn how_many_short(outcomes: Vec<Result<TaskRecord, TaskError>>) -> Result<usize,
 }
 
 /// What is printed of the requests of each task.
-fn printed(alloc: Global, tasks: &[TaskRecord]) -> Result<Outcome, JobError>
-    requires { All IsComplete tasks.now }
-{
+fn printed(alloc: Global, tasks: &[TaskEnd<()>]) -> Result<Outcome, JobError> {
     let mut text = Vec::new(alloc);
-    write(alloc, tasks, Output::Posts, &mut text)?;
+    write(tasks, &mut text)?;
     Ok(Outcome::Printed(text))
 }
 
@@ -391,7 +387,7 @@ fn run<R: Threads + Wait + Sync + AllocGlobal>(
     let (mut rows, books) = rows_and_books(alloc, &mounted, room)?;
     match way {
         Way::Whole => {
-            let run = run_on(rt, alloc, rows, books, &script, two_of_each())?;
+            let run: Finished<()> = run_on(rt, alloc, rows, books, &script, two_of_each())?;
             printed(alloc, &run.tasks)
         }
         Way::Unawaited => unawaited(rt, rows, books, &script),
@@ -475,11 +471,11 @@ fn ended_by<R: Threads + Wait + Sync + AllocGlobal>(
     // its requests can be made
     books(alloc, &script, Vec::new(alloc), 1)?;
     let (rows, books) = rows_and_books(alloc, &script, 1)?;
-    let program = ScriptTasks::new(&script);
+    let program: ScriptTasks<'_, ()> = ScriptTasks::new(&script);
     let Ok((report, outcomes)) = run_program(rt, alloc, rows, books, two_of_each(), &program) else {
         return Err(JobError::NoMemory);
     };
-    let mut faults = Vec::new(alloc);
+    let mut faults: Vec<Result<TaskEnd<()>, TaskError>> = Vec::new(alloc);
     faults.push(Err(first))?;
     faults.push(Err(second))?;
     if outcomes.len() != faults.len() {

@@ -1,4 +1,4 @@
-use Rattle.std.proofs.Common.{◌≡◌, IfErr, subst, sym, ap, ◌∙◌}
+use Rattle.std.proofs.Common.{IfErr, subst, ap, ◌∙◌}
 use Rattle.std.specs.Prelude.{vec_len}
 use Rattle.job_script.specs.declared.script.Script.{Script}
 use Rattle.job_run.specs.Ending.{IsLate}

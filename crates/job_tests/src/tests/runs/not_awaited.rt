@@ -5,14 +5,13 @@ ghost use Rattle.job_mount.specs.Requests.{CanBeDone};
 
 use any_device::AnyDevice;
 use excp_system::{Site, System};
-use job_run::{Job, TaskError, record_of};
+use job_run::{Job, TaskEnd, TaskError};
 use job_script::Script;
-use run_record::TaskRecord;
 use std::alloc::Global;
 use std::sync::Wait;
 use system_threads::{Alarm, Client, TaskProgram};
 
-/// Each task leaves the record of its requests.
+/// Each task leaves the posts that it collected.
 #[derive(Drop)]
 pub struct NotAwaited<'a> {
     script: &'a Script,
@@ -29,7 +28,7 @@ impl<'a> NotAwaited<'a> {
 }
 
 impl<'a> TaskProgram<AnyDevice> for NotAwaited<'a> {
-    type Outcome = Result<TaskRecord, TaskError>;
+    type Outcome = Result<TaskEnd<()>, TaskError>;
 
     ghost units = { λ tasks. vec_len tasks.script.now.set_up.units };
 
@@ -42,9 +41,15 @@ impl<'a> TaskProgram<AnyDevice> for NotAwaited<'a> {
         system: &System<'_, S, AnyDevice>,
         alarm: &Alarm,
         client: &mut Client<'_, S>,
-    ) -> Result<TaskRecord, TaskError> {
-        let mut record = record_of(alloc, self.script, client.number())?;
-        Job::new(self.script, system, alarm).commands(rt, alloc, client, &mut record)?;
-        Ok(record)
+    ) -> Result<TaskEnd<()>, TaskError> {
+        let mut end = TaskEnd::new(alloc, self.script, client.number())?;
+        Job::new(self.script, system, alarm).commands(
+            rt,
+            alloc,
+            client,
+            &mut end.slots,
+            &mut end.notes,
+        )?;
+        Ok(end)
     }
 }

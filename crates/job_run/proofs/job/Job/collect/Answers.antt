@@ -1,11 +1,11 @@
-use Rattle.std.proofs.Common.{◌≡◌, refl, ap, ◌∙◌}
+use Rattle.std.proofs.Common.{refl, ap, ◌∙◌}
 use Rattle.excp_system.specs.States.{TaskState}
 use Rattle.excp_system.specs.Calls.{TaskCollects}
-use Rattle.job_run.proofs.Noted.{notes_none, notes_one}
+use Rattle.job_run.proofs.Filled.{fills_none, fills_one}
 use Rattle.job_run.proofs.job.Job.collect.Goals as goal
 
 pub loop-init : goal.loop-init
-loop-init g c = record { number = refl; sent = refl; noted = notes_none c.args.client.now.got c.args.record.now }
+loop-init g c = record { number = refl; sent = refl; noted = fills_none c.args.client.now.got c.args.slots.now }
 
 pub loop-preserved : goal.loop-preserved
 loop-preserved g c =
@@ -16,6 +16,6 @@ loop-preserved g c =
     record {
       number = ap (λ (t : TaskState). t.number) is ∙ i.number;
       sent = ap (λ (t : TaskState). t.sent) is ∙ i.sent;
-      noted = notes_one c.args.client.now.got c.loop.client.got new.got c.args.record.now c.loop.record c.note_collected.new.record p
+      noted = fills_one c.args.client.now.got c.loop.client.got new.got c.args.slots.now c.loop.slots c.note_collected.new.slots p
           i.noted (ap (λ (t : TaskState). t.got) is) c.note_collected.ensures;
     }

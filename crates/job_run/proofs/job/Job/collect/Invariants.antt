@@ -1,10 +1,10 @@
 use Rattle.std.proofs.Common.{◌≡◌}
-use Rattle.job_run.specs.Noting.{Notes}
+use Rattle.job_run.specs.Filling.{FillsSlots}
 use Rattle.job_run.proofs.job.Job.collect.Given as goal
 
 abbrev pub invariant-loop : goal.invariant-loop
 invariant-loop g l = record {
   number : l.client.number ≡ l.fn.client.number;
   sent : l.client.sent ≡ l.fn.client.sent;
-  noted : Notes l.fn.client.got l.fn.record l.client.got l.record;
+  noted : FillsSlots l.fn.client.got l.fn.slots l.client.got l.slots;
 }

@@ -1,7 +1,7 @@
 use Rattle.std.proofs.Common.{ap}
 use Rattle.job_mount.specs.Requests.{excp_of}
 use Rattle.job_script.specs.Commands.{named_dcb}
-use Rattle.job_run.proofs.Noted.{notes_none, notes_event, notes_more}
+use Rattle.job_run.proofs.Filled.{fills_none}
 use Rattle.job_run.proofs.job.Job.command.Goals as goal
 
 pub issue-requires-clause-unit : goal.issue-requires-clause-unit
@@ -20,33 +20,25 @@ pub reset-requires : goal.reset-requires
 reset-requires g c = c.requires.units c.in-Reset.dcb (ap named_dcb c.in-Reset.is)
 
 pub returns-in_err-purge-in-Purge-clause-noted : goal.returns-in_err-purge-in-Purge-clause-noted
-returns-in_err-purge-in-Purge-clause-noted g c = notes_event _ _ _ _ _ (notes_none _ _) c.purge.ensures
+returns-in_err-purge-in-Purge-clause-noted g c = fills_none _ _
 
 pub returns-in_err-purge_task-in-PurgeTask-clause-noted : goal.returns-in_err-purge_task-in-PurgeTask-clause-noted
-returns-in_err-purge_task-in-PurgeTask-clause-noted g c = notes_event _ _ _ _ _ (notes_none _ _) c.purge_task.ensures
+returns-in_err-purge_task-in-PurgeTask-clause-noted g c = fills_none _ _
 
 pub returns-in_err-close-in-Close-clause-noted : goal.returns-in_err-close-in-Close-clause-noted
-returns-in_err-close-in-Close-clause-noted g c = notes_event _ _ _ _ _ (notes_none _ _) c.close.ensures
+returns-in_err-close-in-Close-clause-noted g c = fills_none _ _
 
 pub returns-in_err-reset-in-Reset-clause-noted : goal.returns-in_err-reset-in-Reset-clause-noted
-returns-in_err-reset-in-Reset-clause-noted g c = notes_event _ _ _ _ _ (notes_none _ _) c.reset.ensures
-
-pub returns-in_err-collect-in-Wait-clause-noted : goal.returns-in_err-collect-in-Wait-clause-noted
-returns-in_err-collect-in-Wait-clause-noted g c =
-    notes_more _ _ _ _ _ _ (notes_event _ _ _ _ _ (notes_none _ _) c.note.ensures.posts) c.collect.ensures.noted
+returns-in_err-reset-in-Reset-clause-noted g c = fills_none _ _
 
 pub returns-in_ok-purge-in-Purge-clause-noted : goal.returns-in_ok-purge-in-Purge-clause-noted
-returns-in_ok-purge-in-Purge-clause-noted g c = notes_event _ _ _ _ _ (notes_none _ _) c.purge.ensures
+returns-in_ok-purge-in-Purge-clause-noted g c = fills_none _ _
 
 pub returns-in_ok-purge_task-in-PurgeTask-clause-noted : goal.returns-in_ok-purge_task-in-PurgeTask-clause-noted
-returns-in_ok-purge_task-in-PurgeTask-clause-noted g c = notes_event _ _ _ _ _ (notes_none _ _) c.purge_task.ensures
+returns-in_ok-purge_task-in-PurgeTask-clause-noted g c = fills_none _ _
 
 pub returns-in_ok-close-in-Close-clause-noted : goal.returns-in_ok-close-in-Close-clause-noted
-returns-in_ok-close-in-Close-clause-noted g c = notes_event _ _ _ _ _ (notes_none _ _) c.close.ensures
+returns-in_ok-close-in-Close-clause-noted g c = fills_none _ _
 
 pub returns-in_ok-reset-in-Reset-clause-noted : goal.returns-in_ok-reset-in-Reset-clause-noted
-returns-in_ok-reset-in-Reset-clause-noted g c = notes_event _ _ _ _ _ (notes_none _ _) c.reset.ensures
-
-pub returns-in_ok-collect-in-Wait-clause-noted : goal.returns-in_ok-collect-in-Wait-clause-noted
-returns-in_ok-collect-in-Wait-clause-noted g c =
-    notes_more _ _ _ _ _ _ (notes_event _ _ _ _ _ (notes_none _ _) c.note.ensures.posts) c.collect.ensures.noted
+returns-in_ok-reset-in-Reset-clause-noted g c = fills_none _ _

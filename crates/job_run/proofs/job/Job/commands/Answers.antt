@@ -3,7 +3,7 @@ use Rattle.std.proofs.lemmas.List.Elements.{All-get_or}
 use Rattle.job_mount.specs.Requests.{CanBeDone}
 use Rattle.job_script.specs.Tasks.{places_of}
 use Rattle.job_run.specs.Sending.{sends}
-use Rattle.job_run.proofs.Noted.{notes_none, notes_more}
+use Rattle.job_run.proofs.Filled.{fills_none, fills_more}
 use Rattle.job_run.proofs.Sent.{at_place, begins, ends, goes_on, stops}
 use Rattle.job_run.proofs.job.Job.commands.Goals as goal
 
@@ -18,7 +18,7 @@ command-requires-clause-request g c =
 
 pub loop-place-init : goal.loop-place-init
 loop-place-init g c =
-    record { number = refl; noted = notes_none _ _; reached = begins c.args.client.now.number c.args.self.now.script.now.commands.items c.args.client.now.sent }
+    record { number = refl; noted = fills_none _ _; reached = begins c.args.client.now.number c.args.self.now.script.now.commands.items c.args.client.now.sent }
 
 pub loop-place-preserved : goal.loop-place-preserved
 loop-place-preserved g c =
@@ -35,7 +35,7 @@ loop-place-preserved g c =
     c.loop-place-test.true c.loop-place.invariant.reached c.index-command.ensures in
     record {
       number = c.command.ensures.number ∙ number;
-      noted = notes_more _ _ _ _ _ _ c.loop-place.invariant.noted c.command.ensures.noted;
+      noted = fills_more _ _ _ _ _ _ c.loop-place.invariant.noted c.command.ensures.noted;
       reached = goes_on task commands old command (drop (i + 1) (places_of task commands)) sent c.command.new.client.sent n
           (done ∙ ap (λ t. sends t command.action sent) number);
     }
@@ -65,7 +65,7 @@ returns-in-Err g c =
     c.loop-place-test.true c.loop-place.invariant.reached c.index-command.ensures in
     record {
       number = c.command.ensures.number ∙ c.loop-place.invariant.number;
-      noted = notes_more _ _ _ _ _ _ c.loop-place.invariant.noted c.command.ensures.noted;
+      noted = fills_more _ _ _ _ _ _ c.loop-place.invariant.noted c.command.ensures.noted;
       sent = tt;
       stopped = stops task commands old command (drop (i + 1) (places_of task commands)) sent c.command.new.client.sent c.in-Err.fault
           c.at.result n

@@ -1,13 +1,13 @@
 use Rattle.std.proofs.Common.{◌≡◌, drop}
 use Rattle.job_script.specs.Tasks.{places_of}
-use Rattle.job_run.specs.Noting.{Notes}
+use Rattle.job_run.specs.Filling.{FillsSlots}
 use Rattle.job_run.proofs.Sent.{Reached}
 use Rattle.job_run.proofs.job.Job.commands.Given as goal
 
 abbrev pub invariant-loop-place : goal.invariant-loop-place
 invariant-loop-place g l = record {
   number : l.client.number ≡ l.fn.client.number;
-  noted : Notes l.fn.client.got l.fn.record l.client.got l.record;
+  noted : FillsSlots l.fn.client.got l.fn.slots l.client.got l.slots;
   reached : (let commands = l.self.script.now.commands.items in
       Reached l.fn.client.number commands l.fn.client.sent (drop l.place-index (places_of l.fn.client.number commands)) l.client.sent);
 }

@@ -1,22 +1,22 @@
-use Rattle.std.proofs.Common.{◌≡◌, ◌<◌, ℕ, refl, sym, ap, subst, ◌∙◌, rules}
+use Rattle.std.proofs.Common.{◌≡◌, ◌<◌, refl, sym, ap, subst, ◌∙◌, rules}
 use Rattle.excp_system.specs.States.{TaskState}
 use Rattle.excp_system.specs.Calls.{Issues, TaskCollects, next_name}
 use Rattle.request_piece.specs.declared.piece.Piece.{Piece}
-use Rattle.job_run.proofs.Noted.{notes_none, notes_event, notes_one, notes_same}
+use Rattle.job_run.proofs.Filled.{fills_none, fills_one, fills_same}
 use Rattle.job_run.proofs.job.Job.issue.Goals as goal
 use Rattle.job_run.proofs.job.Job.issue.Goals.{then-awaited-lt-MOST_UNDER_WAY+in-Err, else-awaited-lt-MOST_UNDER_WAY}
 
 pub returns-in_default-clause-noted : goal.returns-in_default-clause-noted
-returns-in_default-clause-noted g c = notes_none c.args.client.now.got c.args.record.now
+returns-in_default-clause-noted g c = fills_none c.args.client.now.got c.args.slots.now
 
 pub returns-in_err-request-clause-noted : goal.returns-in_err-request-clause-noted
-returns-in_err-request-clause-noted g c = notes_none c.args.client.now.got c.args.record.now
+returns-in_err-request-clause-noted g c = fills_none c.args.client.now.got c.args.slots.now
 
 pub loop-init : goal.loop-init
 loop-init g c = record {
   number = refl;
   sent = refl;
-  noted = notes_none c.args.client.now.got c.args.record.now;
+  noted = fills_none c.args.client.now.got c.args.slots.now;
   request = search rules;
   unit = search rules;
   name = search rules;
@@ -25,9 +25,8 @@ loop-init g c = record {
 pub returns-in-Ok-clause-noted : goal.returns-in-Ok-clause-noted
 returns-in-Ok-clause-noted g c =
     let issued : Issues c.loop.client c.loop.request c.excp.new.self = (c.in-Ok.ensures {u = tt}).accepted in
-    notes_event c.args.client.now.got c.excp.new.self.got c.args.record.now c.loop.record c.note.new.self
-    (notes_same c.args.client.now.got c.loop.client.got c.excp.new.self.got c.args.record.now c.loop.record c.loop.invariant.noted
-    (ap (λ (t : TaskState). t.got) issued)) c.note.ensures.posts
+    fills_same c.args.client.now.got c.loop.client.got c.excp.new.self.got c.args.slots.now c.loop.slots c.loop.invariant.noted
+    (ap (λ (t : TaskState). t.got) issued)
 
 pub loop-preserved-in-Some-3 : goal.loop-preserved-in-Some-3
 loop-preserved-in-Some-3 g c =
@@ -48,8 +47,8 @@ loop-preserved-in-Some-3 g c =
     record {
       number = ap (λ (t : TaskState). t.number) (is) ∙ ap (λ (t : TaskState). t.number) same ∙ i.number;
       sent = ap (λ (t : TaskState). t.sent) (is) ∙ ap (λ (t : TaskState). t.sent) same ∙ i.sent;
-      noted = notes_one c.args.client.now.got now.got new.got c.args.record.now c.loop.record c.note_collected.new.record p
-          (notes_same c.args.client.now.got c.loop.client.got now.got c.args.record.now c.loop.record i.noted
+      noted = fills_one c.args.client.now.got now.got new.got c.args.slots.now c.loop.slots c.note_collected.new.slots p
+          (fills_same c.args.client.now.got c.loop.client.got now.got c.args.slots.now c.loop.slots i.noted
           (ap (λ (t : TaskState). t.got) same)) (ap (λ (t : TaskState). t.got) is) c.note_collected.ensures;
       request = kept ∙ i.request;
       unit = subst (λ (r : Piece). r.unit < g.S.Site.rows.units) (sym kept) i.unit;

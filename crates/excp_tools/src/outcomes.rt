@@ -1,0 +1,146 @@
+//! Every outcome of a script, and the files of their scenarios.
+
+use crate::hint::with_hint;
+use crate::replacement::ReplaceError;
+use crate::saver::{said, undeclared};
+use crate::screen::Screen;
+use crate::script::{SizedScript, sized};
+use crate::taken::Taken;
+use job_media::{MountedImages, mount_images};
+use job_options::{OutcomeOptions, RunFiles};
+use job_outcomes::{Asked, ScenarioKeeper, write_outcomes};
+use job_script::{JobError, read_script};
+use medium_image::Image;
+use request_piece::Name;
+use std::cell::Cell;
+use std::fs;
+use std::io::{BufWriter, ErrorKind, Read, Write};
+
+/// The most bytes that a search takes, about.
+const MOST_BYTES: usize = 512 << 20;
+
+/// What is asked for: the options, the name of the script, the images of units, and the directory for scenarios.
+#[derive(Clone, Copy)]
+pub struct OutcomeOrder<'a> {
+    pub options: OutcomeOptions,
+    pub name: &'a str,
+    pub media: &'a RunFiles,
+    pub directory: Option<&'a str>,
+    /// Set once nothing reads any more what is printed.
+    pub is_broken: &'a Cell<bool>,
+}
+
+/// Writes scenarios into a directory. The first that cannot be written gives a message, and is the last.
+#[derive(Drop)]
+struct Directory<'a> {
+    rt: &'a HostRuntime,
+    name: Option<&'a str>,
+    taken: Taken<'a>,
+    /// The exit status.
+    status: u8,
+}
+
+impl<'a> ScenarioKeeper for Directory<'a> {
+    fn is_wanted(&self) -> bool {
+        self.name.is_some() && self.status == 0
+    }
+
+    fn keep(&mut self, unit: u16, name: Name, number: usize, text: &[u8]) -> Result<(), JobError> {
+        let Some(directory) = self.name else {
+            return Ok(());
+        };
+        let Name { task, seq } = name;
+        let file = format!(in self.rt.alloc();
+            "{directory}/post-{task}-{unit}-{seq}-{number}.scenario"
+        )?;
+        self.status = self.taken.replace(file.as_str(), text);
+        Ok(())
+    }
+
+    fn keep_output(&mut self, number: usize, text: &[u8]) -> Result<(), JobError> {
+        let Some(directory) = self.name else {
+            return Ok(());
+        };
+        let file = format!(in self.rt.alloc(); "{directory}/output-{number}.scenario")?;
+        self.status = self.taken.replace(file.as_str(), text);
+        Ok(())
+    }
+}
+
+/// Makes a directory, if it is not there. Returns the exit status.
+fn make_directory(rt: &HostRuntime, name: &str) -> u8 {
+    match fs::create_dir(rt, name) {
+        Ok(()) => 0,
+        Err(error) if error.kind() == ErrorKind::AlreadyExists => match fs::metadata(rt, name) {
+            Ok(metadata) if metadata.is_dir() => 0,
+            _ => said(rt, name, ReplaceError::NoDirectory),
+        },
+        Err(error) => said(rt, name, error.into()),
+    }
+}
+
+/// Prints every outcome of the script that is read, and returns the exit status.
+pub fn outcomes<I: Read>(
+    rt: &HostRuntime,
+    input: &mut I,
+    asked: OutcomeOrder<'_>,
+    images: Vec<Option<Image>>,
+) -> Result<u8, JobError> {
+    let text = read_script(rt.alloc(), input)?;
+    let done = outcomes_of_text(rt, &text, asked, images);
+    with_hint(rt, done, asked.name, &text)
+}
+
+/// Does so with the script of this text.
+fn outcomes_of_text(
+    rt: &HostRuntime,
+    text: &[u8],
+    asked: OutcomeOrder<'_>,
+    images: Vec<Option<Image>>,
+) -> Result<u8, JobError> {
+    let alloc = rt.alloc();
+    let SizedScript { text, script } = sized(alloc, text, &images)?;
+    let status = undeclared(rt, asked.media, &script.set_up.units);
+    if status != 0 {
+        return Ok(status);
+    }
+    let MountedImages { devices, .. } = mount_images(alloc, &script.set_up.units, images)?;
+    let mut directory = Directory {
+        rt,
+        name: asked.directory,
+        taken: Taken::of(rt, asked.name, asked.media)?,
+        status: match asked.directory {
+            Some(name) => make_directory(rt, name),
+            None => 0,
+        },
+    };
+    if directory.status != 0 {
+        return Ok(directory.status);
+    }
+    let screen = Screen::new(rt.stdout(), false, asked.is_broken);
+    let Ok(mut out) = BufWriter::new(alloc, screen) else {
+        return Err(JobError::NoMemory);
+    };
+    let asked = asked_of(asked.options);
+    write_outcomes(
+        alloc,
+        &text,
+        &script,
+        devices,
+        &asked,
+        &mut out,
+        &mut directory,
+    )?;
+    out.flush().or(Err(JobError::NotWritten))?;
+    Ok(directory.status)
+}
+
+/// What is asked of the search.
+fn asked_of(options: OutcomeOptions) -> Asked {
+    Asked {
+        turn: options.turn,
+        most_states: options.most_states,
+        most_bytes: MOST_BYTES,
+        whole: options.whole,
+    }
+}

@@ -1,0 +1,2 @@
+-- Lists that are changed at a place.
+pub mod Changes

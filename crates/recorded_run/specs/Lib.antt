@@ -1,0 +1,2 @@
+-- Why a report is not written.
+pub mod Writing

@@ -1,2 +1,0 @@
--- The lemmas of run_record.
-pub mod PostLaws
