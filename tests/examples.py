@@ -14,10 +14,10 @@ JOBS = ["docs/MANUAL.md"]
 # A line that is a command, and how the shell sees it.
 COMMAND = re.compile(r"(?:\$ )?(?:\./|tests/|tools/|cd |rt )")
 
-# ./excp of a folder in which commands run: it runs the program that is tested, on a file or with a subcommand.
+# ./excp of a folder in which commands run: it runs the programs that are tested, on a file or with a subcommand.
 EXCP = """#!/usr/bin/env bash
 case "$1" in
-    run | report | check | assemble | step | outcomes | describe | convert) exec {program} "$@" ;;
+    report | check | assemble | step | outcomes | describe | convert) exec {tools} "$@" ;;
     -) exec {program} run ;;
     *) exec {program} run < "$1" ;;
 esac
@@ -118,6 +118,7 @@ RUN = {
 # Blocks of commands that the tests do not run, and why.
 NOT_RUN = {
     ("README.md", "./excp --build"): "it proves every crate, which takes half an hour and more",
+    ("README.md", "tests/run --program out/quick/excp_job"): "it is the tests, on programs that a first use builds",
     ("docs/CLIENT.md", "cd crates/print_tape && rt run"): "`rt ci` proves the program and runs it",
     ("docs/CLIENT.md", "tools/library.py"): "the group library_clients builds and runs the examples",
     ("docs/MANUAL.md", "./excp describe tape.aws disk.ckd"): "it needs images; the group images runs such commands",
@@ -161,7 +162,7 @@ def prints_page(setup, block, following):
         for name in "samples", "tests":
             os.symlink(f"{TOP}/{name}", f"{folder}/{name}")
         files = {name: content(block.page, source) for name, source in sources.items()}
-        files["excp"] = EXCP.format(program=shlex.quote(os.path.abspath(setup.program)))
+        files["excp"] = EXCP.format(program=shlex.quote(setup.program), tools=shlex.quote(setup.tools))
         for name, text in files.items():
             with open(f"{folder}/{name}", "w", encoding="utf-8") as file:
                 file.write(text)

@@ -72,12 +72,22 @@ class Ran:
 
 @dataclass
 class Setup:
-    """What a run of the tests is given: the program, whether the long form is wanted, and how many runs go side by side."""
+    """What a run of the tests is given: the program excp_job, whether the long form is wanted, and how many runs go side by side."""
 
     program: str
     is_long: bool = False
     jobs: int = 1
     names: list = field(default_factory=list)
+
+    @property
+    def tools(self):
+        """The program excp_tools: beside excp_job, or as `rt ci` built it."""
+        beside = f"{os.path.dirname(self.program)}/excp_tools"
+        return beside if os.path.exists(beside) else f"{TOP}/crates/excp_tools/out/excp_tools"
+
+    def command(self, *words):
+        """These words, after the program that has the first."""
+        return [self.program if words[:1] == ("run",) else self.tools, *words]
 
     def skip_unproved(self):
         """Skips a case that an unproved program fails for its AddressSanitizer, which takes time and memory."""
@@ -86,10 +96,10 @@ class Setup:
                 raise Skipped("an unproved program has AddressSanitizer, and is too slow or too large for it")
 
     def run(self, *words, script=None, file=""):
-        """Runs the program on a script, or on the script in a file."""
+        """Runs the program that has the first word on a script, or on the script in a file."""
         if file:
             script = read(file)
-        return run([self.program, *words], script or "", os.path.relpath(file, TOP) if file else "")
+        return run(self.command(*words), script or "", os.path.relpath(file, TOP) if file else "")
 
 
 def run(words, script="", file="", **how):

@@ -107,6 +107,7 @@ def main(words):
     if not cc:
         say("there is no C compiler: install gcc or clang, or name one by CC")
         return NO_COMPILER
+    prove.end_by_signals()
     prove.locked("build")
     if not prove_exports():
         return FAILED

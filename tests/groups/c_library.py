@@ -143,7 +143,7 @@ def exports_alone():
 def runs(name, linked):
     """A program of tests/cases/c finds no fault, linked with one of the libraries."""
     built()
-    version = re.search(r'^pub const VERSION: &str = "(.*)";$', read(f"{TOP}/crates/job_options/src/lib.rt"), re.M)[1]
+    version = re.search(r'^pub const VERSION: &str = "(.*)";$', read(f"{TOP}/crates/run_options/src/lib.rt"), re.M)[1]
     with tempfile.TemporaryDirectory() as folder:
         words = [compiler(), "-std=c11", "-Wall", "-Wextra", "-Werror", f'-DVERSION="{version}"', f"-I{LIBRARY}", f"{CASES}/c/{name}.c"]
         words += ["-o", f"{folder}/{name}"]

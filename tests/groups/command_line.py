@@ -1,4 +1,4 @@
-"""The program with words of a command line.
+"""The programs with words of a command line. The first word chooses the program, or `excp_job` before it.
 
 A fault of the words is reported in the text of `clap` with status 2, before any byte of the input is read.
 """
@@ -102,22 +102,32 @@ REJECTED = [
     (["run", "read.script"], "error: unexpected argument 'read.script' found"),
     (["--channels", "2", "run"], "error: unexpected argument '--channels' found"),
     (["walk"], "error: unrecognized subcommand 'walk'"),
-    ([], "error: 'excp_job' requires a subcommand but one was not provided"),
+    ([], "error: 'excp' requires a subcommand but one was not provided"),
+]
+
+# Words that excp_job rejects, which has `run` alone.
+REJECTED_BY_JOB = [
+    *((["excp_job", it], f"error: unrecognized subcommand '{it}'") for it in ("walk", "report", "check", "step")),
+    (["excp_job", "--channels", "2", "run"], "error: unexpected argument '--channels' found"),
+    (["excp_job"], "error: 'excp_job' requires a subcommand but one was not provided"),
 ]
 
 # Words that ask for help, and texts that it has, each judged alone. Help of `run` and of the whole program goes to standard
 # error with status 2.
 HELP = [
-    (
-        [["--help"], ["-h"], ["help"]],
-        [
-            "Runs a script of EXCP requests",
-            "Usage: excp_job <COMMAND>",
-            "excp T U DCB IOB A SHOW LEN        task T issues a request, shows LEN bytes of it",
-        ],
+    *(
+        (
+            [[*program, it] for it in ("--help", "-h", "help")],
+            [
+                "Runs a script of EXCP requests",
+                f"Usage: {name} <COMMAND>",
+                "excp T U DCB IOB A SHOW LEN        task T issues a request, shows LEN bytes of it",
+            ],
+        )
+        for program, name in (([], "excp"), (["excp_job"], "excp_job"))
     ),
     (
-        [["run", "--help"], ["run", "-h"], ["help", "run"]],
+        [["run", "--help"], ["run", "-h"], ["excp_job", "help", "run"]],
         [
             "Reads a script from standard input and prints its posts",
             "How many channel workers serve the units, 1 to 16 [default: 1]",
@@ -130,7 +140,7 @@ HELP = [
 HELP_OF_OWN = [
     (
         [["assemble", "--help"], ["assemble", "-h"], ["help", "assemble"]],
-        ["Prints the plain script of one with symbolic areas, or every fault of it", "Usage: excp_job assemble"],
+        ["Prints the plain script of one with symbolic areas, or every fault of it", "Usage: excp assemble"],
     ),
     (
         [["report", "--help"], ["help", "report"]],
@@ -158,7 +168,8 @@ NAMED = [
 def run_on_file(setup, words, file=STORED):
     """Runs the program with a file as standard input, and gives the run and what it left of its input."""
     with open(file, "rb") as it:
-        ran = run([setup.program, *words], file=os.path.relpath(file, TOP), stdin=it.fileno())
+        command = [setup.program, *words[1:]] if words[:1] == ["excp_job"] else setup.command(*words)
+        ran = run(command, file=os.path.relpath(file, TOP), stdin=it.fileno())
         os.lseek(it.fileno(), 0, os.SEEK_CUR)
         rest = b""
         while part := os.read(it.fileno(), 1 << 16):
@@ -199,7 +210,7 @@ def shows(setup, words, text):
 
 def is_without(said, setup, words, **how):
     """The program ends with status 1, no output, and this text."""
-    expect(run([setup.program, *words], **how), (1, "", f"excp_job: {said}\n"))
+    expect(run(setup.command(*words), **how), (1, "", f"excp_job: {said}\n"))
 
 
 def without_input(setup):
@@ -216,7 +227,7 @@ def with_folder(setup):
 
 def with_full_output(setup):
     with open("/dev/full", "wb") as full, open(STORED, "rb") as script:
-        ran = run([setup.program, "assemble"], file=os.path.relpath(STORED, TOP), stdin=script, stdout=full)
+        ran = run(setup.command("assemble"), file=os.path.relpath(STORED, TOP), stdin=script, stdout=full)
         expect(ran, (1, "", "excp_job: output not written\n"))
 
 
@@ -225,7 +236,7 @@ def of_file(setup, words, script):
     due, _ = run_on_file(setup, words, script)
     require(due.out or due.err, "no output", due)
     expect(run_on_file(setup, [*words, "-"], script)[0], (due.status, due.out, due.err))
-    expect(run([setup.program, *words, script]), (due.status, *(it.replace("<stdin>:", f"{script}:") for it in (due.out, due.err))))
+    expect(run(setup.command(*words, script)), (due.status, *(it.replace("<stdin>:", f"{script}:") for it in (due.out, due.err))))
 
 
 def shows_own(setup, words, text):
@@ -237,19 +248,19 @@ def shows_own(setup, words, text):
 
 def as_stored(setup, word):
     """The help that `./excp` prints without the program is the program's own."""
-    expect(run([setup.program, word, "--help"]), (0, read(f"{TOP}/docs/help/{word}.txt")))
+    expect(run(setup.command(word, "--help")), (0, read(f"{TOP}/docs/help/{word}.txt")))
 
 
 def prints_version(setup, word):
-    """The version is that of crates/job_options."""
-    with open(f"{TOP}/crates/job_options/src/lib.rt", encoding="utf-8") as it:
-        version = re.search(r'^pub const VERSION: &str = "(.*)";$', it.read(), re.M)[1]
-    expect(run([setup.program, word]), (0, f"excp_job {version}\n"))
+    """The version of both programs is that of crates/run_options."""
+    version = re.search(r'^pub const VERSION: &str = "(.*)";$', read(f"{TOP}/crates/run_options/src/lib.rt"), re.M)[1]
+    for name, program in (("excp_job", setup.program), ("excp_tools", setup.tools)):
+        expect(run([program, word]), (0, f"{name} {version}\n"))
 
 
 def of_unusable(setup, word, name, why):
     """A file that cannot be read has its own text."""
-    expect(run([setup.program, word, name]), (1, "", f"excp_job: {name}: {why}\n"))
+    expect(run(setup.command(word, name)), (1, "", f"excp_job: {name}: {why}\n"))
 
 
 def of_locked(setup):
@@ -260,14 +271,30 @@ def of_locked(setup):
         with open(file, "w", encoding="utf-8") as it:
             it.write("tasks 1\n")
         os.chmod(file, 0)
-        program = shutil.copy(setup.program, work)
+        program = shutil.copy(setup.tools, work)
         how = {"user": 65534, "group": 65534} if os.geteuid() == 0 else {}
         expect(run([program, "check", file], **how), (1, "", f"excp_job: {file}: this user has no permission to read it\n"))
 
 
+def gives_hints(setup, words):
+    """After a fault of a line the program says what to type, by what the script is."""
+    with tempfile.TemporaryDirectory() as work:
+        fault, file = "excp_job: line 2: Words\n", f"{work}/a bad.script"
+        with open(file, "w", encoding="utf-8") as it:
+            it.write("tasks 1\nopne\n")
+        typed = file.replace(" ", "\\ ")
+        expect(run(setup.command(*words, file)), (1, "", f"{fault}excp: to see every fault, type: excp check {typed}\n"))
+        hint = "excp: to see every fault, save the script in a file and type: excp check FILE\n"
+        expect(setup.run(*words, file=file), (1, "", fault + hint))
+        symbolic = f"{SAMPLES}/read.symbolic"
+        ran = run(setup.command(*words, symbolic))
+        hint = f"excp: the script has symbols; to make a plain one, type: excp assemble {symbolic} > plain.script\n"
+        require(ran.status == 1 and ran.err.endswith(hint), "no hint", ran)
+
+
 def not_utf8(setup, words, status, text):
     """A word that is not UTF-8: of a file name and of the rest of the command line there are two texts."""
-    expect(run([setup.program, *words]), (status, "", f"excp_job: {text}\n"))
+    expect(run(setup.command(*words)), (status, "", f"excp_job: {text}\n"))
 
 
 def without_reader(setup, words, file, status, said):
@@ -276,7 +303,7 @@ def without_reader(setup, words, file, status, said):
     os.close(reader)
     try:
         with open(file, "rb") as script:
-            expect(run([setup.program, *words], stdin=script, stdout=writer), (status, "", said))
+            expect(run(setup.command(*words), stdin=script, stdout=writer), (status, "", said))
     finally:
         os.close(writer)
 
@@ -285,7 +312,7 @@ def on_terminal(setup, words, file, environment):
     """What the program writes to a terminal, with this environment."""
     parent, child = pty.openpty()
     with open(file, "rb") as script:
-        subprocess.run([setup.program, *words], stdin=script, stdout=child, stderr=child, env=environment, check=False, timeout=60)
+        subprocess.run(setup.command(*words), stdin=script, stdout=child, stderr=child, env=environment, check=False, timeout=60)
     os.close(child)
     text = b""
     try:
@@ -337,6 +364,8 @@ def cases(setup):
         script = f"{SAMPLES}/read.script" if word == "check" else STORED
         yield case(f"{word} to a reader that is gone", without_reader, setup, [word], script, 0, "")
         yield case(f"the stored help of {word}", as_stored, setup, word)
+    for words in (["report"], ["report", "--steps", "--channels", "2"], ["report", "--seed", "7"], ["outcomes", "--turn", "1"]):
+        yield case(f"hints of {' '.join(words)}", gives_hints, setup, words)
     yield case("check a file that may not be read", of_locked, setup)
     for words in (["run", b"\xff"], [b"\xff"], ["report", "--channels", b"\xff"], ["check", b"--\xff"]):
         yield case(f"not UTF-8: {words}", not_utf8, setup, words, 2, "a word of the command line is not UTF-8")
@@ -358,7 +387,7 @@ def cases(setup):
     yield case("assemble to a full output", with_full_output, setup)
     for words in REPORTS:
         yield case(" ".join(words), reports, setup, words)
-    for words, first in REJECTED:
+    for words, first in [*REJECTED, *REJECTED_BY_JOB]:
         yield case(" ".join(words) or "no words", rejects, setup, words, first)
     for rows, judge in ((HELP, shows), (HELP_OF_OWN, shows_own)):
         for asked, texts in rows:

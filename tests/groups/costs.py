@@ -183,7 +183,7 @@ def copies(setup):
         size = os.path.getsize(f"{folder}/image") / 2**20
         words = ["report", "--posts", "--load", f"0={folder}/image", "--save", f"0={folder}/saved", f"{folder}/job"]
         plain, _ = timed([f"{folder}/copy", f"{folder}/image", f"{folder}/other"])
-        longer, memory = timed([setup.program, *words])
+        longer, memory = timed(setup.command(*words))
     text = f"{plain:.2f} s by tests/copy.c, {longer:.2f} s, {longer / plain:.1f} times; {memory:.0f} MiB for {size:.0f} MiB"
     require(longer <= COPIES * plain and memory <= SIZES * size + SPARE, text)
     return f"load and save of a 3390-1: {text}"

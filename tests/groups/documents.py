@@ -3,9 +3,9 @@ examples; and whether the mutants still apply.
 
 tests/sentences measures the sentences, and tests/definitions finds names of definitions that several crates have. tests/closure
 has the definitions that the headline rests on. The layers of crates.txt, the steps of a request in ARCHITECTURE.md and the code
-that CLIENT.md and ADDING-A-DEVICE.md quote are compared with the sources. tests/comments measures the comments of the code, and
-finds phrases of tests/phrases. tests/edits applies the mutants to the code as it is. tests/examples.py has the jobs and the
-commands of the pages. A README that names another kit is a warning.
+that CLIENT.md and ADDING-A-DEVICE.md quote are compared with the sources, and so is what crates.txt lists. tests/comments measures
+the comments of the code, and finds phrases of tests/phrases. tests/edits applies the mutants to the code as it is.
+tests/examples.py has the jobs and the commands of the pages. A README that names another kit is a warning.
 """
 
 import os
@@ -33,8 +33,8 @@ def names_kit():
     return "" if kit in read(f"{TOP}/README.md") else f"warning: README.md does not name the kit of `rt version`: {kit}"
 
 
-def layers_hold():
-    """No crate of crates.txt stands on a crate of a layer above its own."""
+def listed():
+    """The layer of each crate of crates.txt, and the crates that it stands on."""
     layer, layers, below = "", {}, {}
     for line in read(f"{TOP}/crates.txt").splitlines()[1:]:
         if line.startswith("# "):
@@ -43,10 +43,77 @@ def layers_hold():
             head, _, rest = line.partition(":")
             layers[head.split()[0]] = layer
             below[head.split()[0]] = rest.split()
+    return layers, below
+
+
+def layers_hold():
+    """No crate of crates.txt stands on a crate of a layer above its own."""
+    layers, below = listed()
     order = list(dict.fromkeys(layers.values()))
     stands_above = lambda name, it: it in layers and order.index(layers[it]) > order.index(layers[name])
     wrong = [f"{name} on {it}" for name in below for it in below[name] if stands_above(name, it)]
     require(len(order) > 1 and not wrong, f"crates.txt: {len(order)} layers; {'; '.join(wrong)}")
+
+
+# What may be below excp_job, the program of the promises: what reads a script, and what its requests need. Nothing of reports,
+# histories, records, images, steps or outcomes.
+RUN = """digits io_images io_area device_port ckd_disk tape_unit line_printer any_device ccw_programs subchannel recovery request_piece
+unit_queue unit_book fifo_row excp_system post_ledger system_threads post_slots post_lines script_words job_script job_mount job_run run_options
+excp_job""".split()
+MOST = 28
+
+
+def run_is_small():
+    """The crates below excp_job, and itself, are few, and of these."""
+    _, below = listed()
+    found, rest = set(), ["excp_job"]
+    while rest:
+        name = rest.pop()
+        if name in below and name not in found:
+            found.add(name)
+            rest += below[name]
+    others = sorted(found.difference(RUN))
+    require(len(found) <= MOST and not others, f"{len(found)} crates, at most {MOST}; these are none of run: {' '.join(others)}")
+    return f"excp_job is {len(found)} crates"
+
+
+# How a source names a crate.
+NAMES_CRATE = re.compile(r"(?<![\w:.])([a-z]\w*)::|\bRattle[.·](\w+)[.·]")
+
+
+def used_by(crate):
+    """What a crate names as crates are named, comments apart."""
+    found = set()
+    for part, suffix, comment in (("src", ".rt", "//"), ("specs", ".antt", "--"), ("proofs", ".antt", "--")):
+        for folder, _, files in os.walk(f"{TOP}/crates/{crate}/{part}"):
+            for file in (it for it in files if it.endswith(suffix)):
+                text = re.sub(rf"{comment}.*", "", read(f"{folder}/{file}"))
+                found |= {name for names in NAMES_CRATE.findall(text) for name in names}
+    return found
+
+
+# What is listed and not used, until these low crates change for another reason (docs/PROGRESS.md): each change of a line has all
+# above it proved again.
+UNUSED = {
+    "aws_tape": "io_area io_images",
+    "ckd_image": "io_area io_images",
+    "unit_queue": "io_area io_images",
+    "unit_world": "io_area thiserror",
+    "excp_system": "io_area",
+    "numbered_job": "io_area",
+    "excp_c": "aws_tape ckd_image medium_image",
+}
+
+
+def lists_what_is_used():
+    """Each crate lists the crates of this repository that its sources use, and nothing that they do not use."""
+    _, below = listed()
+    wrong = []
+    for name, deps in below.items():
+        used = used_by(name) - {name}
+        wrong += [f"{name} does not use {it}" for it in deps if it not in used and it not in UNUSED.get(name, "").split()]
+        wrong += [f"{name} uses {it}, which is not listed" for it in sorted(used & below.keys()) if it not in deps]
+    require(not wrong, f"crates.txt: {'; '.join(wrong)}")
 
 
 PAGES = ["README.md", "CONTRIBUTING.md", "CHANGELOG.md", "samples/README.md"]
@@ -101,6 +168,8 @@ def cases(setup):
     yield Case("edits of mutants", lambda: passes("edits"), "docs/TESTING.md, by tests/edits")
     yield Case("the rules of edits", lambda: passes("edits", "--self-test"), "tests/edits, edits with known faults")
     yield Case("layers of crates.txt", layers_hold, "crates.txt, line 1")
+    yield Case("crates below excp_job", run_is_small, "tests/groups/documents.py, by docs/ARCHITECTURE.md")
+    yield Case("what crates.txt lists", lists_what_is_used, "crates.txt, by the sources")
     yield Case("steps of a request", steps_hold, "docs/ARCHITECTURE.md, by the sources")
     for page in QUOTING:
         yield Case(f"quotes of {page}", lambda page=page: quotes_hold(page), f"docs/{page}, by the sources")

@@ -1,4 +1,4 @@
-"""Every order of all steps of small jobs (crates/every_order) comes to the outcomes that `excp_job outcomes` finds.
+"""Every order of all steps of small jobs (crates/every_order) comes to the outcomes that `excp outcomes` finds.
 
 The search of `outcomes` leaves orders out, because they are argued to lose nothing. The program every_order goes through all of
 them, and takes two states for one only if all that the readers of their books tell is equal. The sets of posts and of

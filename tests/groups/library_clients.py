@@ -213,7 +213,7 @@ def are_saved(setup, script, *loaded):
         units = range(max(1, len(loaded)))
         words = [word for it in range(len(loaded)) for word in ("--load", f"{it}={it}")]
         words += [word for it in units for word in ("--save", f"{it}=program{it}")]
-        saved = run([setup.program, "report", "--posts", *words, "script"], cwd=folder, timeout=300)
+        saved = run(setup.command("report", "--posts", *words, "script"), cwd=folder, timeout=300)
         require((saved.status, saved.err) == (0, ""), "the program fails", saved)
         pairs = [f"{it}={it}" for it in range(len(loaded))] + [f"library{it}={it}" for it in units]
         ran = run([sys.executable, "-B", DRIVER, "run", *pairs, "script"], cwd=folder, timeout=300, env=without_words())

@@ -37,7 +37,7 @@ import time
 
 import batches
 import worked
-from harness import FEW, TOP, Case, Failed, Ran, decoded, read, require, run
+from harness import TOP, Case, Failed, Ran, decoded, read, require, run
 
 MUTANTS = f"{TOP}/tests/mutants"
 
@@ -164,8 +164,8 @@ def rejected_by_run(name, edit, group, case):
     words = [f"{TOP}/tests/run", group, "--case", case, "--jobs", "1", "--program"]
     if (group, case) not in PASSED:
         built = built_by(["python3", f"{TOP}/tools/prove.py", *BUILDS[way]])
-        require_ended(built, "the build of the program with no edit")
-        require(built.status == 0, "NOT TRIED: the program with no edit is not built", built)
+        require_ended(built, "the build of the programs with no edit")
+        require(built.status == 0, "NOT TRIED: the programs with no edit are not built", built)
         before = run([*words, f"{TOP}/out/{way}/excp_job"], timeout=SECONDS, stdin=subprocess.DEVNULL)
         passes = before.status == 0 and re.search(r"^[1-9]\d* passed, 0 failed", before.out, re.M)
         require(passes, f"NOT TRIED: {group}: {case}: does not pass with no edit", before)
@@ -175,13 +175,14 @@ def rejected_by_run(name, edit, group, case):
             shutil.copy(f"{TOP}/{file}", room)
         for folder in ("crates", "tools"):
             shutil.copytree(f"{TOP}/{folder}", f"{room}/{folder}", ignore=shutil.ignore_patterns("out", "must-fail"))
+        # a program that the edit does not concern is not built again
+        shutil.copytree(f"{TOP}/out/{way}", f"{room}/out/{way}")
         for path, text in texts.items():
             with open(f"{room}/crates/{name}/{path}", "w", encoding="utf-8") as it:
                 it.write(text)
         built = built_by(["python3", f"{room}/tools/prove.py", *BUILDS[way]])
-        built.err += last_lines(f"{room}/out/{way}/log")
-        require_ended(built, "the build of the program with it")
-        require(built.status == 0, "BAD EDIT: the program with it is not built", built)
+        require_ended(built, "the build of the programs with it")
+        require(built.status == 0, "BAD EDIT: the programs with it are not built", built)
         after = run([*words, f"{room}/out/{way}/excp_job"], timeout=SECONDS, stdin=subprocess.DEVNULL)
     require(after.status == 1 and f"FAILED: {group}: " in after.out, f"NOT REJECTED: {group}: {case}: passes or is skipped", after)
     return time.monotonic() - begun, ENDLESS if "it ran for more than" in after.out else ""
@@ -199,14 +200,6 @@ def built_by(words, **how):
                 os.killpg(it.pid, ends)
         status = it.returncode if seconds == SECONDS else f"none: it ran for more than {SECONDS} seconds"
         return Ran(words, status, decoded(out), decoded(err))
-
-
-def last_lines(log):
-    """The last lines of the log of a build, or nothing if it has none."""
-    if not os.path.isfile(log):
-        return ""
-    with open(log, encoding="utf-8", errors="replace") as it:
-        return "".join(f"{line.rstrip()}\n" for line in it.readlines()[-FEW:])
 
 
 def require_ended(built, what, killed=BUILD_KILLED):

@@ -1,4 +1,4 @@
-"""Every outcome of a job (`excp_job outcomes`, docs/MANUAL.md).
+"""Every outcome of a job (`excp outcomes`, docs/MANUAL.md).
 
 Jobs whose outcomes follow by hand from docs/SPECIFICATION.md have just these. Of small jobs at random, no run by a seed and no run on
 threads posts anything else. The scenario of each outcome comes to its post when `step` carries it out. Every sample is searched to

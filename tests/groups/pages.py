@@ -136,7 +136,7 @@ def hostile_name(setup, folder):
     name = f"{folder}/\"'><b>&amp;\x01\u00e9<!--<script>.script"
     with open(name, "w", encoding="ascii") as it:
         it.write(read(f"{SAMPLES}/read.script"))
-    ran = run([setup.program, "report", "--html", name])
+    ran = run(setup.command("report", "--html", name))
     require((ran.status, ran.err) == (0, ""), "the report fails", ran)
     return name.replace("\x01", "\ufffd"), ran.out
 
@@ -153,7 +153,7 @@ def escapes_the_title(setup):
 def memory(setup, script, *words):
     """The most memory of a run, in MiB, and how many bytes it prints."""
     with tempfile.TemporaryFile() as out:
-        words = [sys.executable, "-S", "-E", "-c", STARTER, setup.program, "report", *words]
+        words = [sys.executable, "-S", "-E", "-c", STARTER, *setup.command("report", *words)]
         ran = subprocess.run(words, input=script.encode(), stdout=out, stderr=subprocess.PIPE, check=True)
         status, _, most = ran.stderr.split()[-3:]
         require(status == b"0", f"the report ends with {status}")
@@ -167,7 +167,7 @@ def fits(setup, kind):
     beside = most - memory(setup, script, "--posts")[0]
     text = f"{kind}: {size / 1e6:.1f} MB, at most {SIZES[kind] / 1e6:.0f}; {beside:.1f} MiB of memory beside --posts"
     require(size <= SIZES[kind], text)
-    with open(setup.program, "rb") as it:
+    with open(setup.tools, "rb") as it:
         is_sanitized = b"AddressSanitizer" in it.read()
     require(kind == "different" or beside <= MEMORY or is_sanitized, text)
     return text

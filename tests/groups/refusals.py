@@ -260,7 +260,7 @@ def programs(setup):
     """The cases of programs: a name, and the plan or a call that gives it."""
     def plan(word, judge, script, text, *words, **more):
         return f"{word} {os.path.relpath(script, TOP)} {' '.join(words)}".rstrip(), Plan(
-            [setup.program, word, *words], judge, script, read(text), **more
+            setup.command(word, *words), judge, script, read(text), **more
         )
 
     for words in ((), ("--channels", "2"), ("--channels", "4", "--handlers", "3")):
@@ -277,12 +277,12 @@ def programs(setup):
     # the groups reports and pages judge these texts
     for form in "--json", "--html":
         whole = setup.run("report", form, file=f"{programs_end}.script").out
-        words = [setup.program, "report", form]
+        words = setup.command("report", form)
         yield f"report samples/how-programs-end.script {form}", Plan(words, prints_a_part, f"{programs_end}.script", whole)
     for scenario in (f"{SAMPLES}/scenarios/halt-an-active-request.scenario", f"{CASES}/scenarios/purge_of_one_task_over_units_halt.scenario"):
         for words in ["step", "--json"], ["step", "--json", "--plain"], ["step", "--html"]:
             whole = setup.run(*words, file=scenario).out
-            yield f"{' '.join(words)} {os.path.relpath(scenario, TOP)}", Plan([setup.program, *words], prints_a_part, scenario, whole)
+            yield f"{' '.join(words)} {os.path.relpath(scenario, TOP)}", Plan(setup.command(*words), prints_a_part, scenario, whole)
     yield plan("check", prints_all_or_nothing, f"{SAMPLES}/read.script", "/dev/null")
     yield plan("assemble", prints_all_or_nothing, f"{SAMPLES}/read.symbolic", f"{SAMPLES}/read.assembled")
     folder = f"{CASES}/refusals"

@@ -219,7 +219,7 @@ def escapes(setup):
         name = f'{folder}/"quoted" \\back\\ \u00e9 <b>\x01.script'
         with open(name, "w", encoding="ascii") as it:
             it.write(printed_bytes())
-        ran = run([setup.program, "report", "--json", name])
+        ran = run(setup.command("report", "--json", name))
     found = as_json(ran)
     reports.check_form(found, "run", reports.FORM)
     require(found["title"] == name, f"the title is {found['title']!r}", ran)
@@ -282,7 +282,7 @@ def is_bounded(setup, give, rest, parts):
 def writes_to_its_end(setup, word, file):
     """A writer that fails is reported."""
     with open("/dev/full", "w", encoding="ascii") as full:
-        ran = run([setup.program, word, "--json"], read(file), stdout=full)
+        ran = run(setup.command(word, "--json"), read(file), stdout=full)
     expect(ran, (1, "", "excp_job: output not written\n"))
 
 

@@ -120,7 +120,7 @@ def shows(setup, script, wanted):
 
 def answers_at_once(setup, file):
     """Each event is answered before the next line is written."""
-    with subprocess.Popen([setup.program, "step"], stdin=subprocess.PIPE, stdout=subprocess.PIPE, text=True) as it:
+    with subprocess.Popen(setup.command("step"), stdin=subprocess.PIPE, stdout=subprocess.PIPE, text=True) as it:
         for line in read(file).splitlines():
             it.stdin.write(f"{line}\n")
             it.stdin.flush()
@@ -139,14 +139,14 @@ def runs_out_of_memory(setup, words, file, lacks, refusals):
     if lacks:
         raise Skipped(lacks)
     # the `expect` lines of the scenario judge this text
-    plan = refusals.Plan([setup.program, *words], refusals.prints_a_part, file, setup.run(*words, file=file).out)
+    plan = refusals.Plan(setup.command(*words), refusals.prints_a_part, file, setup.run(*words, file=file).out)
     plan.judged(" ".join(words), 1)
 
 
 def with_full_output(setup, word):
     """A scenario, or the report of a script, whose output cannot be written."""
     with open("/dev/full", "wb") as full:
-        ran = run([setup.program, word], "tasks 1\ndisk 0 0 1 1 40\n" + ("start 0\n" if word == "step" else ""), stdout=full)
+        ran = run(setup.command(word), "tasks 1\ndisk 0 0 1 1 40\n" + ("start 0\n" if word == "step" else ""), stdout=full)
         expect(ran, (1, "", "excp_job: output not written\n"))
 
 

@@ -1,4 +1,4 @@
-"""Runs by a seed (`excp_job report --seed N`, docs/MANUAL.md): the same run each time, of which the scenario that `--scenario` writes
+"""Runs by a seed (`excp report --seed N`, docs/MANUAL.md): the same run each time, of which the scenario that `--scenario` writes
 comes to the same end, and whose report tests/reports.py judges as it judges those of threads.
 """
 
@@ -78,7 +78,7 @@ def leaves_its_script(setup):
             with open(f"{folder}/a.script", "w", encoding="utf-8") as it:
                 it.write(script)
             with open(stdin or os.devnull, encoding="utf-8") as source:
-                ran = run([setup.program, "report", "--posts", "--seed", "1", *words], stdin=source)
+                ran = run(setup.command("report", "--posts", "--seed", "1", *words), stdin=source)
             name = words[words.index("--scenario") + 1]
             expect(ran, (1, "", f"excp_job: {name}: {TAKEN}\n"))
             require(read(f"{folder}/a.script") == script, "the script is no longer what it was", ran)
@@ -91,7 +91,7 @@ def leaves_script_named_as_input(setup):
         with open(f"{folder}/<stdin>", "w", encoding="utf-8") as it:
             it.write(script)
         words = "report", "--posts", "--seed", "1", "<stdin>", "--scenario", "./<stdin>"
-        ran = run([os.path.abspath(setup.program), *words], cwd=folder)
+        ran = run(setup.command(*words), cwd=folder)
         expect(ran, (1, "", f"excp_job: ./<stdin>: {TAKEN}\n"))
         require(read(f"{folder}/<stdin>") == script, "the script is no longer what it was", ran)
 

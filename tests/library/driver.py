@@ -2,12 +2,12 @@
 """Carries out scripts and scenarios through the library by its Python package, and prints what the program would print.
 
     tests/library/driver.py run [FILE ..]     the posts of a script, as `excp_job run`
-    tests/library/driver.py step [FILE ..]    the answers of a scenario, as `excp_job step`
+    tests/library/driver.py step [FILE ..]    the answers of a scenario, as `excp step`
     tests/library/driver.py load [FILE ..]    of each image a line `FILE: kept`, or its fault
 
 Words `U=IMAGE` before the files load unit U from an image, and `IMAGE=U` saves its medium, as `--load` and `--save`. Without a
 file it reads standard input. Of several files, a line `=== FILE` comes before what each prints. The files are valid:
-`excp_job check` says so. `run` does the lines of all tasks in their order, and serves the units at each `wait` and at the end.
+`excp check` says so. `run` does the lines of all tasks in their order, and serves the units at each `wait` and at the end.
 So it prints what the program prints if the posts of the script do not depend on how its tasks and workers race.
 """
 
