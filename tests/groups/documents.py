@@ -92,26 +92,13 @@ def used_by(crate):
     return found
 
 
-# What is listed and not used, until these low crates change for another reason (docs/PROGRESS.md): each change of a line has all
-# above it proved again.
-UNUSED = {
-    "aws_tape": "io_area io_images",
-    "ckd_image": "io_area io_images",
-    "unit_queue": "io_area io_images",
-    "unit_world": "io_area thiserror",
-    "excp_system": "io_area",
-    "numbered_job": "io_area",
-    "excp_c": "aws_tape ckd_image medium_image",
-}
-
-
 def lists_what_is_used():
     """Each crate lists the crates of this repository that its sources use, and nothing that they do not use."""
     _, below = listed()
     wrong = []
     for name, deps in below.items():
         used = used_by(name) - {name}
-        wrong += [f"{name} does not use {it}" for it in deps if it not in used and it not in UNUSED.get(name, "").split()]
+        wrong += [f"{name} does not use {it}" for it in deps if it not in used]
         wrong += [f"{name} uses {it}, which is not listed" for it in sorted(used & below.keys()) if it not in deps]
     require(not wrong, f"crates.txt: {'; '.join(wrong)}")
 
