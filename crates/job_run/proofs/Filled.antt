@@ -1,8 +1,7 @@
 -- What the slots of a task hold, step by step.
 use Rattle.std.proofs.Common.{◌≡◌, List, [], ◌∷◌, ◌++◌, refl, sym, ap, subst, ◌∙◌, append_assoc, append-nil}
 use Rattle.request_piece.specs.PostedState.{PostedState}
-use Rattle.post_slots.specs.Slots.{SlotState, filled, filled_by_all, slots_of}
-use Rattle.post_slots.specs.declared.slots.Slots.{Slots}
+use Rattle.post_slots.specs.Slots.{SlotState, filled, filled_by_all}
 use Rattle.job_run.specs.Filling.{FillsSlots}
 
 by_all-append : (xs ys : List PostedState) (slots : List (List SlotState)) →
@@ -10,20 +9,20 @@ by_all-append : (xs ys : List PostedState) (slots : List (List SlotState)) →
 by_all-append [] ys slots = refl
 by_all-append (x ∷ xs) ys slots = by_all-append xs ys (filled x.unit x slots)
 
-pub fills_none : (got : List PostedState) (s : Slots) → FillsSlots got s got s
+pub fills_none : (got : List PostedState) (s : List (List SlotState)) → FillsSlots got s got s
 fills_none got s = record { values = []; got = sym (append-nil got); filled_is = refl }
 
-pub fills_more : (old mid new : List PostedState) (a b c : Slots) → FillsSlots old a mid b → FillsSlots mid b new c → FillsSlots old a new c
+pub fills_more : (old mid new : List PostedState) (a b c : List (List SlotState)) → FillsSlots old a mid b → FillsSlots mid b new c → FillsSlots old a new c
 fills_more old mid new a b c n m = record {
   values = n.values ++ m.values;
   got = m.got ∙ ap (λ (l : List PostedState). l ++ m.values) n.got ∙ append_assoc old n.values m.values;
-  filled_is = m.filled_is ∙ ap (filled_by_all m.values) n.filled_is ∙ sym (by_all-append n.values m.values (slots_of a));
+  filled_is = m.filled_is ∙ ap (filled_by_all m.values) n.filled_is ∙ sym (by_all-append n.values m.values a);
 }
 
-pub fills_one : (old mid new : List PostedState) (a b c : Slots) (p : PostedState) → FillsSlots old a mid b → new ≡ mid ++ p ∷ [] →
-    slots_of c ≡ filled p.unit p (slots_of b) → FillsSlots old a new c
+pub fills_one : (old mid new : List PostedState) (a b c : List (List SlotState)) (p : PostedState) → FillsSlots old a mid b → new ≡ mid ++ p ∷ [] →
+    c ≡ filled p.unit p b → FillsSlots old a new c
 fills_one old mid new a b c p n is one = fills_more old mid new a b c n (record { values = p ∷ []; got = is; filled_is = one })
 
 -- where nothing is collected
-pub fills_same : (old mid new : List PostedState) (a b : Slots) → FillsSlots old a mid b → new ≡ mid → FillsSlots old a new b
+pub fills_same : (old mid new : List PostedState) (a b : List (List SlotState)) → FillsSlots old a mid b → new ≡ mid → FillsSlots old a new b
 fills_same old mid new a b n is = subst (λ (l : List PostedState). FillsSlots old a l b) (sym is) n

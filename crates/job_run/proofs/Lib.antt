@@ -2,6 +2,7 @@
 pub mod Books
 pub mod Ends
 pub mod Sent
+pub mod Walk
 pub mod Stops
 pub mod Filled
 pub mod Requested

@@ -11,7 +11,7 @@ use Rattle.job_script.specs.declared.command.Action.TheVariants.{Excp, Purge, Pu
 use Rattle.job_script.specs.declared.command.Command.{Command}
 use Rattle.job_script.specs.declared.command.Excp.{Excp as OneExcp}
 use Rattle.job_run.specs.Requests.{excp_to, excps, excp_piece, requests_from}
-use Rattle.job_run.specs.Sending.{sends, sends_all, sends_excp}
+use Rattle.job_run.specs.Sending.{does_all, sends, sends_all, sends_excp}
 
 -- what stands at a unit
 abbrev at : List (List Piece) → ℕ → List Piece
@@ -84,7 +84,7 @@ keep_by task false c sent = refl
 -- WHAT A TASK SENDS to a unit: the requests of its EXCPs to the unit, behind what it had sent
 pub sends_requests : (task unit : ℕ) (commands : List Command) (sent : List (List Piece)) → unit < length sent →
     at (sends_all task commands sent) unit ≡ grown task (at sent unit) (excps task unit commands)
-unfolding sends_all excps
+unfolding does_all excps
 sends_requests task unit [] sent within = sym (grown_none task (at sent unit))
 sends_requests task unit (c ∷ others) sent within =
     let b : Bool = c.task == task in

@@ -32,10 +32,14 @@ sends task (Close dcb) sent = sent
 sends task (Reset dcb) sent = sent
 sends task Wait sent = sent
 
--- a task does its own commands alone, one after the other
-unfoldable pub sends_all : ℕ → List Command → List (List Piece) → List (List Piece)
-sends_all task [] sent = sent
-sends_all task (c ∷ others) sent = sends_all task others (if c.task == task then sends task c.action sent else sent)
+-- what the commands of a task make of something: its own alone, one after the other
+unfoldable pub does_all : {S : Type 0} → (Action → S → S) → ℕ → List Command → S → S
+does_all does task [] s = s
+does_all does task (c ∷ others) s = does_all does task others (if c.task == task then does c.action s else s)
+
+-- what they send
+abbrev pub sends_all : ℕ → List Command → List (List Piece) → List (List Piece)
+sends_all task commands sent = does_all (sends task) task commands sent
 
 -- an EXCP fails if memory runs out, or if the task has used its last number at the unit
 abbrev pub ExcpFails : OneExcp → List (List Piece) → CommandFault → Type 0

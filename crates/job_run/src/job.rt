@@ -1,11 +1,11 @@
 //! What one task does of a script.
 
-ghost use Rattle.std.specs.Prelude.{◌≡◌, ◌<◌, All, IfErr, OnErr, OnOk, vec_len};
+ghost use Rattle.std.specs.Prelude.{◌≡◌, ◌<◌, All, IfErr, IfOk, OnErr, OnOk, vec_len};
 ghost use Rattle.excp_system.specs.States.{awaited_count};
 ghost use Rattle.job_mount.specs.Requests.{CanBeDone, CanIssue};
 ghost use Rattle.job_script.specs.Commands.{NamesUnits};
 ghost use Rattle.post_slots.specs.Slots.{filled, slots_of};
-ghost use Rattle.job_run.specs.Filling.{FillsSlots};
+ghost use Rattle.job_run.specs.Filling.{FillsSlots, slots_for};
 ghost use Rattle.job_run.specs.Sending.{EndsEarly, ExcpFails, Fails, StopsAt, sends, sends_all, sends_excp};
 
 use crate::command_fault::CommandFault;
@@ -66,6 +66,7 @@ impl<'a, 'r, S: Site> Job<'a, 'r, S> {
         client: &mut Client<'_, S>,
     ) -> Result<TaskEnd<N>, TaskError>
         ensures number { client.new.number ≡ client.old.number }
+        ensures noted { IfOk result (λ end. FillsSlots client.old.got (slots_for self.now.script.now client.old.number) client.new.got (slots_of end.slots)) }
         ensures sent { OnOk result (client.new.sent ≡ sends_all client.old.number self.now.script.now.commands.items client.old.sent) }
         ensures awaits_none { OnOk result (awaited_count client.new ≡ 0) }
         ensures stopped { IfErr result (EndsEarly client.old.number self.now.script.now.commands.items client.old.sent client.new.sent) }
@@ -85,7 +86,7 @@ impl<'a, 'r, S: Site> Job<'a, 'r, S> {
         notes: &mut N,
     ) -> Result<(), TaskError>
         ensures number { client.new.number ≡ client.old.number }
-        ensures noted { FillsSlots client.old.got slots.old client.new.got slots.new }
+        ensures noted { FillsSlots client.old.got (slots_of slots.old) client.new.got (slots_of slots.new) }
         ensures sent { OnOk result (client.new.sent ≡ sends_all client.old.number self.now.script.now.commands.items client.old.sent) }
         ensures awaits_none { OnOk result (awaited_count client.new ≡ 0) }
         ensures stopped { IfErr result (EndsEarly client.old.number self.now.script.now.commands.items client.old.sent client.new.sent) }
@@ -106,7 +107,7 @@ impl<'a, 'r, S: Site> Job<'a, 'r, S> {
         notes: &mut N,
     ) -> Result<(), TaskError>
         ensures number { client.new.number ≡ client.old.number }
-        ensures noted { FillsSlots client.old.got slots.old client.new.got slots.new }
+        ensures noted { FillsSlots client.old.got (slots_of slots.old) client.new.got (slots_of slots.new) }
         ensures sent { OnOk result (client.new.sent ≡ sends_all client.old.number self.now.script.now.commands.items client.old.sent) }
         ensures stopped { IfErr result (StopsAt client.old.number self.now.script.now.commands.items client.old.sent client.new.sent) }
     {
@@ -132,7 +133,7 @@ impl<'a, 'r, S: Site> Job<'a, 'r, S> {
         requires units { NamesUnits S.rows.units command.now }
         requires request { CanBeDone command.now }
         ensures number { client.new.number ≡ client.old.number }
-        ensures noted { FillsSlots client.old.got slots.old client.new.got slots.new }
+        ensures noted { FillsSlots client.old.got (slots_of slots.old) client.new.got (slots_of slots.new) }
         ensures sent { OnOk result (client.new.sent ≡ sends client.old.number command.now.action client.old.sent) }
         ensures unsent { OnErr result (client.new.sent ≡ client.old.sent) }
         ensures fails { IfErr result (Fails command.now.action client.old.sent) }
@@ -165,7 +166,7 @@ impl<'a, 'r, S: Site> Job<'a, 'r, S> {
         requires unit { excp.now.dcb.unit < S.rows.units }
         requires request { CanIssue excp.now }
         ensures number { client.new.number ≡ client.old.number }
-        ensures noted { FillsSlots client.old.got slots.old client.new.got slots.new }
+        ensures noted { FillsSlots client.old.got (slots_of slots.old) client.new.got (slots_of slots.new) }
         ensures sent { OnOk result (client.new.sent ≡ sends_excp client.old.number excp.now client.old.sent) }
         ensures unsent { OnErr result (client.new.sent ≡ client.old.sent) }
         ensures fails { IfErr result (ExcpFails excp.now client.old.sent) }
@@ -205,7 +206,7 @@ impl<'a, 'r, S: Site> Job<'a, 'r, S> {
         notes: &mut N,
     ) -> Result<(), AllocError>
         ensures number { client.new.number ≡ client.old.number }
-        ensures noted { FillsSlots client.old.got slots.old client.new.got slots.new }
+        ensures noted { FillsSlots client.old.got (slots_of slots.old) client.new.got (slots_of slots.new) }
         ensures sent { client.new.sent ≡ client.old.sent }
         ensures awaits_none { OnOk result (awaited_count client.new ≡ 0) }
     {

@@ -1,6 +1,6 @@
 -- THE SLOTS of the requests of a task.
 use Rattle.std.specs.Prelude.{◌≡◌, ℕ, zero, suc, ◌+◌, ◌-◌, ◌==◌, if◌then◌else◌, Option, Some, None, List, [], ◌∷◌, ◌++◌, length, map, replicate}
-use Rattle.std.specs.Prelude.{Vec, is_some, option_and_then, slice_get, true}
+use Rattle.std.specs.Prelude.{Bool, Vec, is_some, option_and_then, slice_get}
 use Rattle.std.specs.declared.alloc.Global.{Global}
 use Rattle.io_area.specs.Storage.{Storage, bytes_at, lies_in}
 use Rattle.request_piece.specs.PostedState.{PostedState}
@@ -21,8 +21,8 @@ abbrev pub slots_of : Slots → List (List SlotState)
 slots_of slots = map (λ of_unit. map slot_of of_unit.items) slots.units.items
 
 -- its request was posted
-abbrev pub IsFilled : Slot → Type 0
-IsFilled slot = is_some (slot_of slot).end ≡ true
+abbrev pub is_filled : Slot → Bool
+is_filled slot = is_some (slot_of slot).end
 
 -- a slot that waits
 abbrev pub waiting_slot : ℕ → ℕ → SlotState

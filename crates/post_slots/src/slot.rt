@@ -1,7 +1,7 @@
 //! The slot of a request.
 
-ghost use Rattle.std.specs.Prelude.{◌≡◌, IfOk, is_some};
-ghost use Rattle.post_slots.specs.Slots.{waiting_slot, filled_slot, slot_of};
+ghost use Rattle.std.specs.Prelude.{◌≡◌, IfOk};
+ghost use Rattle.post_slots.specs.Slots.{waiting_slot, filled_slot, is_filled, slot_of};
 
 use crate::end::End;
 use request_piece::Posted;
@@ -47,9 +47,16 @@ impl Slot {
 
     /// Whether the request was posted.
     pub(crate) fn is_filled(&self) -> bool
-        ensures { result ≡ is_some (slot_of self.now).end }
+        ensures { result ≡ is_filled self.now }
     {
         self.end.is_some()
+    }
+
+    /// The address of the bytes that are shown.
+    pub fn show(&self) -> u32
+        ensures { result ≡ (slot_of self.now).show }
+    {
+        self.show
     }
 
     /// How the request ended, once it was posted.

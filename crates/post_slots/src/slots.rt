@@ -1,8 +1,9 @@
 //! The slots of a task.
 
-ghost use Rattle.std.specs.Prelude.{◌≡◌, [], All, IfOk, IsTrue, OnErr, OnOk, map, replicate};
+ghost use Rattle.std.specs.Prelude.{◌≡◌, [], IfOk, OnErr, OnOk, map, replicate};
+ghost use Rattle.std.specs.List.{list_all};
 ghost use Rattle.std.specs.Option.{option_copied};
-ghost use Rattle.post_slots.specs.Slots.{IsFilled, expected, filled, filled_unit, slot_at, slot_of, slots_of};
+ghost use Rattle.post_slots.specs.Slots.{expected, filled, filled_unit, is_filled, slot_at, slot_of, slots_of};
 
 use crate::slot::Slot;
 use request_piece::Posted;
@@ -58,7 +59,7 @@ impl Slots {
 
     /// Whether each request was posted.
     pub fn are_filled(&self) -> bool
-        ensures { IsTrue result → All (λ slots. All IsFilled slots.items) self.now.units.items }
+        ensures { result ≡ list_all (λ slots. list_all is_filled slots.items) self.now.units.items }
     {
         self.units.iter().all(|slots| are_filled(slots))
     }
@@ -83,7 +84,7 @@ fn fill_unit(slots: &mut [Slot], posted: &Posted)
 
 /// Whether each of these requests was posted.
 fn are_filled(slots: &[Slot]) -> bool
-    ensures { IsTrue result → All IsFilled slots.now }
+    ensures { result ≡ list_all is_filled slots.now }
 {
     slots.iter().all(|slot| slot.is_filled())
 }

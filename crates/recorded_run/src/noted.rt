@@ -21,7 +21,7 @@ impl Notes for Noted {
         for place in script.places_of(task) {
             let command = &script.commands[*place];
             if let Action::Excp(excp) = &command.action {
-                notes.expect(excp.dcb.unit, excp.iob)?;
+                notes.expect(alloc, excp.dcb.unit, excp.iob)?;
             }
             events = events.saturating_add(most_events(command, units));
         }

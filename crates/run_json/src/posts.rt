@@ -56,8 +56,8 @@ fn write_ended<W: Write>(out: &mut W, ended: &Ended<'_>) -> io::Result<()> {
     write_end(out, &ended.end)?;
     out.write_all(b",\"shown\":")?;
     write_hex(out, ended.shown)?;
-    write!(out, ",\"iob_at\":\"{:06X}\",\"iob\":", ended.iob.address)?;
-    write_hex(out, &ended.iob.bytes)?;
+    write!(out, ",\"iob_at\":\"{:06X}\",\"iob\":", ended.iob.show())?;
+    write_hex(out, ended.iob.shown())?;
     out.write_all(b"}")
 }
 

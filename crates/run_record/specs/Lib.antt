@@ -1,3 +1,2 @@
 -- What is kept of the requests of a task.
-pub mod Iobs
 pub mod Record

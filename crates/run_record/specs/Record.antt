@@ -1,12 +1,9 @@
 -- THE RECORD OF A TASK: what it holds, and what is noted in it (profile).
-use Rattle.std.specs.Prelude.{◌≡◌, ◌<◌, ℕ, ◌-◌, ◌==◌, if◌then◌else◌, Option, Some, None, List, [], ◌∷◌, ◌++◌, ◌⊎◌}
-use Rattle.std.specs.Prelude.{map, option_and_then, slice_get, take, vec_len}
+use Rattle.std.specs.Prelude.{◌≡◌, ◌<◌, ℕ, ◌-◌, Option, Some, None, List, [], ◌∷◌, ◌++◌, ◌⊎◌, slice_get, take, vec_len}
 use Rattle.std.specs.Option.{option_map_or}
-use Rattle.post_slots.specs.Slots.{slot_at, slot_of}
+use Rattle.post_slots.specs.Slots.{SlotState, slot_at, slot_of, slots_of}
 use Rattle.post_slots.specs.declared.slot.Slot.{Slot}
-use Rattle.run_record.specs.Iobs.{iob_state}
 use Rattle.run_record.specs.declared.task_event.TaskEvent.{TaskEvent}
-use Rattle.run_record.specs.declared.iob_image.IobImage.{IobImage}
 use Rattle.run_record.specs.declared.task_notes.TaskNotes.{TaskNotes}
 use Rattle.run_record.specs.declared.task_record.Ended.{Ended}
 use Rattle.run_record.specs.declared.task_record.TaskRecord.{TaskRecord}
@@ -30,31 +27,30 @@ pub record NotesEvent (old new : TaskNotes) (event : TaskEvent) : Type 0 where
   pub full : event_room old ≡ 0 → events_of new ≡ events_of old
   pub room : event_room new ≡ event_room old - 1
 
--- the IOBs of the requests to each unit
-abbrev pub iobs_of : TaskNotes → List (List (ℕ × List ℕ))
-iobs_of notes = map (λ of_unit. map iob_state of_unit.items) notes.iobs.items
+-- the slots of the IOBs of the requests to each unit
+abbrev pub iobs_of : TaskNotes → List (List SlotState)
+iobs_of notes = slots_of notes.iobs
 
--- the IOB of the request with this number to a unit
-abbrev pub kept_iob : TaskNotes → ℕ → ℕ → Option IobImage
-kept_iob notes unit number =
-    option_and_then (λ of_unit. if number == 0 then None else slice_get of_unit.items (number - 1)) (slice_get notes.iobs.items unit)
+-- the slot of the IOB of the request with this number to a unit
+abbrev pub iob_slot : TaskNotes → ℕ → ℕ → Option Slot
+iob_slot notes unit number = slot_at notes.iobs.units unit number
 
 -- how many requests to a unit are kept
 abbrev pub requests_to : TaskRecord → ℕ → ℕ
 requests_to task unit = option_map_or (λ slots. vec_len slots) (slice_get task.slots.units.items unit) 0
 
 -- how a request ended is what its slot and its IOB hold
-pub record ShowsEnd (slot : Slot) (iob : Option IobImage) (ended : Ended) : Type 0 where
+pub record ShowsEnd (slot : Slot) (iob : Option Slot) (ended : Ended) : Type 0 where
   pub end : (slot_of slot).end ≡ Some ended.end
   pub shown : ended.shown.now ≡ (slot_of slot).shown
   pub iob_is : iob ≡ Some ended.iob.now
 
 -- THE END of a request, if it was posted
-abbrev pub EndsWith : Option Slot → Option IobImage → Option Ended → Type 0
+abbrev pub EndsWith : Option Slot → Option Slot → Option Ended → Type 0
 EndsWith None iob None = Unit {0}
 EndsWith (Some slot) iob None = ((slot_of slot).end ≡ None) ⊎ (iob ≡ None)
 EndsWith None iob (Some ended) = ⊥
 EndsWith (Some slot) iob (Some ended) = ShowsEnd slot iob ended
 
 abbrev pub EndsAs : TaskRecord → ℕ → ℕ → Option Ended → Type 0
-EndsAs task unit number ended = EndsWith (slot_at task.slots.units unit number) (kept_iob task.notes unit number) ended
+EndsAs task unit number ended = EndsWith (slot_at task.slots.units unit number) (iob_slot task.notes unit number) ended

@@ -5,7 +5,6 @@
 #![tactic(auto)]
 
 mod controls;
-mod iob_image;
 mod posts;
 mod run;
 mod task_event;
@@ -14,7 +13,6 @@ mod task_record;
 mod track;
 
 pub use controls::Controls;
-pub use iob_image::IobImage;
 pub use posts::write_posts;
 pub use run::{Room, Run, UnitRecord};
 pub use task_event::TaskEvent;

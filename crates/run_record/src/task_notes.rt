@@ -2,18 +2,21 @@
 
 ghost use Rattle.std.specs.Prelude.{◌≡◌, ◌+◌, ◌≤◌, [], IfOk, OnErr, OnOk, replicate, vec_len};
 ghost use Rattle.std.specs.Option.{option_copied};
-ghost use Rattle.run_record.specs.Iobs.{expected_iob, filled_iobs};
+ghost use Rattle.post_slots.specs.Slots.{expected, filled};
 
-use crate::iob_image::{IOB_LEN, IobImage, fill_unit};
 use crate::task_event::TaskEvent;
+use post_slots::{Slot, Slots};
 use request_piece::Posted;
 use std::alloc::{AllocError, Global};
+
+/// The length of an IOB.
+const IOB_LEN: usize = 40;
 
 /// The IOBs of a task's requests to each unit, in order of their numbers, and its events, in their order. The room for an IOB
 /// or an event is made before it happens, so that noting it takes no memory.
 #[derive(Drop)]
 pub struct TaskNotes {
-    iobs: Vec<Vec<IobImage>>,
+    iobs: Slots,
     events: Vec<TaskEvent>,
     /// How many of the events happened. The others are room.
     happened: usize,
@@ -21,7 +24,7 @@ pub struct TaskNotes {
 }
 
 impl TaskNotes {
-    ghost use Rattle.run_record.specs.Record.{KeepsEvents, NotesEvent, event_room, events_of, kept_iob, iobs_of};
+    ghost use Rattle.run_record.specs.Record.{KeepsEvents, NotesEvent, event_room, events_of, iob_slot, iobs_of};
 
     /// No request to `units` units, and no event.
     pub fn new(alloc: Global, units: usize) -> Result<TaskNotes, AllocError>
@@ -29,31 +32,20 @@ impl TaskNotes {
         ensures events { IfOk result (λ notes. events_of notes ≡ []) }
         ensures room { IfOk result (λ notes. event_room notes ≡ 0) }
     {
-        let mut iobs = Vec::with_capacity(alloc, units)?;
-        for _ in 0..units {
-            iobs.push(Vec::new(alloc))?;
-        }
         Ok(TaskNotes {
-            iobs,
+            iobs: Slots::new(alloc, units)?,
             events: Vec::new(alloc),
             happened: 0,
         })
     }
 
     /// Makes room for the IOB of the next request to a unit, which is at this address.
-    pub fn expect(&mut self, unit: u16, address: u32) -> Result<(), AllocError>
-        ensures ok { OnOk result (iobs_of self.new ≡ expected_iob unit address (iobs_of self.old)) }
+    pub fn expect(&mut self, alloc: Global, unit: u16, address: u32) -> Result<(), AllocError>
+        ensures ok { OnOk result (iobs_of self.new ≡ expected unit address 40 (iobs_of self.old)) }
         ensures err { OnErr result (iobs_of self.new ≡ iobs_of self.old) }
         ensures events { KeepsEvents self.old self.new }
     {
-        let unit = usize::from(unit);
-        if unit < self.iobs.len() {
-            self.iobs[unit].push(IobImage {
-                address,
-                bytes: [0; IOB_LEN],
-            })?;
-        }
-        Ok(())
+        self.iobs.expect(alloc, unit, address, IOB_LEN)
     }
 
     /// Makes room for `count` events more.
@@ -89,7 +81,7 @@ impl TaskNotes {
 
     /// Notes that the task collected the post of one of its requests.
     pub fn collect(&mut self, posted: &Posted)
-        ensures iobs { iobs_of self.new ≡ filled_iobs posted.now (iobs_of self.old) }
+        ensures iobs { iobs_of self.new ≡ filled posted.now.unit posted.now (iobs_of self.old) }
         ensures event { NotesEvent self.old self.new (TaskEvent.Collected posted.now.unit posted.now.name.seq) }
     {
         self.fill(posted);
@@ -101,19 +93,16 @@ impl TaskNotes {
 
     /// Notes the IOB of a request that was posted.
     pub fn fill(&mut self, posted: &Posted)
-        ensures iobs { iobs_of self.new ≡ filled_iobs posted.now (iobs_of self.old) }
+        ensures iobs { iobs_of self.new ≡ filled posted.now.unit posted.now (iobs_of self.old) }
         ensures events { KeepsEvents self.old self.new }
     {
-        let unit = usize::from(posted.unit());
-        if unit < self.iobs.len() {
-            fill_unit(self.iobs[unit].as_mut_slice(), posted);
-        }
+        self.iobs.fill(posted.unit(), posted);
     }
 
-    /// The IOB of its request with this number to a unit.
-    pub fn iob(&self, unit: usize, number: usize) -> Option<&IobImage>
-        ensures { option_copied result ≡ kept_iob self.now unit number }
+    /// The slot of the IOB of its request with this number to a unit.
+    pub fn iob(&self, unit: usize, number: usize) -> Option<&Slot>
+        ensures { option_copied result ≡ iob_slot self.now unit number }
     {
-        self.iobs.get(unit)?.get(number.checked_sub(1)?)
+        self.iobs.get(unit, number)
     }
 }

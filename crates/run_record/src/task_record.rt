@@ -2,22 +2,20 @@
 
 ghost use Rattle.std.specs.Prelude.{◌≡◌, [], IfOk, replicate};
 ghost use Rattle.post_slots.specs.Slots.{filled, slots_of};
-ghost use Rattle.run_record.specs.Iobs.{filled_iobs};
 ghost use Rattle.run_record.specs.Record.{EndsAs, KeepsEvents, NotesEvent, events_of, iobs_of, requests_to};
 
-use crate::iob_image::IobImage;
 use crate::task_event::TaskEvent;
 use crate::task_notes::TaskNotes;
-use post_slots::{End, Slots};
+use post_slots::{End, Slot, Slots};
 use request_piece::Posted;
 use std::alloc::{AllocError, Global};
 
-/// How a request ended, with its shown bytes and its IOB as posted.
+/// How a request ended, with its shown bytes and the slot of its IOB.
 #[derive(Clone, Copy)]
 pub struct Ended<'a> {
     pub end: End,
     pub shown: &'a [u8],
-    pub iob: &'a IobImage,
+    pub iob: &'a Slot,
 }
 
 /// What a task did: the posts of its requests, and what reports tell beside them.
@@ -52,7 +50,7 @@ impl TaskRecord {
         len: usize,
     ) -> Result<(), AllocError> {
         self.slots.expect(alloc, unit, show, len)?;
-        self.notes.expect(unit, iob)?;
+        self.notes.expect(alloc, unit, iob)?;
         self.notes.make_room(2)?;
         self.notes.note(TaskEvent::Issued { unit, number });
         Ok(())
@@ -61,7 +59,7 @@ impl TaskRecord {
     /// Notes that the task collected the post of one of its requests.
     pub fn collect(&mut self, posted: &Posted)
         ensures slots { slots_of self.new.slots ≡ filled posted.now.unit posted.now (slots_of self.old.slots) }
-        ensures iobs { iobs_of self.new.notes ≡ filled_iobs posted.now (iobs_of self.old.notes) }
+        ensures iobs { iobs_of self.new.notes ≡ filled posted.now.unit posted.now (iobs_of self.old.notes) }
         ensures event { NotesEvent self.old.notes self.new.notes (TaskEvent.Collected posted.now.unit posted.now.name.seq) }
     {
         self.slots.fill(posted.unit(), posted);
@@ -71,7 +69,7 @@ impl TaskRecord {
     /// Notes a post that the task did not collect.
     pub fn leave(&mut self, posted: &Posted)
         ensures slots { slots_of self.new.slots ≡ filled posted.now.unit posted.now (slots_of self.old.slots) }
-        ensures iobs { iobs_of self.new.notes ≡ filled_iobs posted.now (iobs_of self.old.notes) }
+        ensures iobs { iobs_of self.new.notes ≡ filled posted.now.unit posted.now (iobs_of self.old.notes) }
         ensures events { KeepsEvents self.old.notes self.new.notes }
     {
         self.slots.fill(posted.unit(), posted);

@@ -5,7 +5,7 @@ use Rattle.job_run.proofs.Filled.{fills_none, fills_one}
 use Rattle.job_run.proofs.job.Job.collect.Goals as goal
 
 pub loop-init : goal.loop-init
-loop-init g c = record { number = refl; sent = refl; noted = fills_none c.args.client.now.got c.args.slots.now }
+loop-init g c = record { number = refl; sent = refl; noted = fills_none _ _ }
 
 pub loop-preserved : goal.loop-preserved
 loop-preserved g c =
@@ -16,6 +16,5 @@ loop-preserved g c =
     record {
       number = ap (λ (t : TaskState). t.number) is ∙ i.number;
       sent = ap (λ (t : TaskState). t.sent) is ∙ i.sent;
-      noted = fills_one c.args.client.now.got c.loop.client.got new.got c.args.slots.now c.loop.slots c.note_collected.new.slots p
-          i.noted (ap (λ (t : TaskState). t.got) is) c.note_collected.ensures;
+      noted = fills_one _ _ _ _ _ _ p i.noted (ap (λ (t : TaskState). t.got) is) c.note_collected.ensures;
     }

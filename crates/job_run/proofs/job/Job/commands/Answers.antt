@@ -4,7 +4,8 @@ use Rattle.job_mount.specs.Requests.{CanBeDone}
 use Rattle.job_script.specs.Tasks.{places_of}
 use Rattle.job_run.specs.Sending.{sends}
 use Rattle.job_run.proofs.Filled.{fills_none, fills_more}
-use Rattle.job_run.proofs.Sent.{at_place, begins, ends, goes_on, stops}
+use Rattle.job_run.proofs.Sent.{stops}
+use Rattle.job_run.proofs.Walk.{at_place, begins, ends, goes_on}
 use Rattle.job_run.proofs.job.Job.commands.Goals as goal
 
 pub command-requires-clause-request : goal.command-requires-clause-request
@@ -18,7 +19,12 @@ command-requires-clause-request g c =
 
 pub loop-place-init : goal.loop-place-init
 loop-place-init g c =
-    record { number = refl; noted = fills_none _ _; reached = begins c.args.client.now.number c.args.self.now.script.now.commands.items c.args.client.now.sent }
+    record {
+      number = refl;
+      noted = fills_none _ _;
+      reached = begins (sends c.args.client.now.number)
+          c.args.client.now.number c.args.self.now.script.now.commands.items c.args.client.now.sent;
+    }
 
 pub loop-place-preserved : goal.loop-place-preserved
 loop-place-preserved g c =
@@ -30,13 +36,13 @@ loop-place-preserved g c =
     let command = c.index-command.result.now in
     let number = c.loop-place.invariant.number in
     let done = rw c.in_default.is at c.command.ensures.sent in
-    let n = at_place task c.number.result commands old sent c.places_of-place-items.result.now i command
+    let n = at_place (sends task) task c.number.result commands old sent c.places_of-place-items.result.now i command
     c.places_of-place-items.ensures.value c.number.ensures.is
     c.loop-place-test.true c.loop-place.invariant.reached c.index-command.ensures in
     record {
       number = c.command.ensures.number ∙ number;
       noted = fills_more _ _ _ _ _ _ c.loop-place.invariant.noted c.command.ensures.noted;
-      reached = goes_on task commands old command (drop (i + 1) (places_of task commands)) sent c.command.new.client.sent n
+      reached = goes_on (sends task) task commands old command (drop (i + 1) (places_of task commands)) sent c.command.new.client.sent n
           (done ∙ ap (λ t. sends t command.action sent) number);
     }
 
@@ -44,7 +50,7 @@ pub returns : goal.returns
 returns g c = record {
   number = c.loop-place.invariant.number;
   noted = c.loop-place.invariant.noted;
-  sent = ends c.args.client.now.number c.number.result c.args.self.now.script.now.commands.items c.args.client.now.sent
+  sent = ends (sends c.args.client.now.number) c.args.client.now.number c.number.result c.args.self.now.script.now.commands.items c.args.client.now.sent
       c.loop-place.client.sent
       c.places_of-place-items.result.now c.loop-place.place-index c.places_of-place-items.ensures.value c.number.ensures.is
       c.loop-place-test.false
@@ -60,7 +66,7 @@ returns-in-Err g c =
     let i = c.loop-place.place-index in
     let sent = c.loop-place.client.sent in
     let command = c.index-command.result.now in
-    let n = at_place task c.number.result commands old sent c.places_of-place-items.result.now i command
+    let n = at_place (sends task) task c.number.result commands old sent c.places_of-place-items.result.now i command
     c.places_of-place-items.ensures.value c.number.ensures.is
     c.loop-place-test.true c.loop-place.invariant.reached c.index-command.ensures in
     record {

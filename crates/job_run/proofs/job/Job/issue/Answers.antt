@@ -7,16 +7,16 @@ use Rattle.job_run.proofs.job.Job.issue.Goals as goal
 use Rattle.job_run.proofs.job.Job.issue.Goals.{then-awaited-lt-MOST_UNDER_WAY+in-Err, else-awaited-lt-MOST_UNDER_WAY}
 
 pub returns-in_default-clause-noted : goal.returns-in_default-clause-noted
-returns-in_default-clause-noted g c = fills_none c.args.client.now.got c.args.slots.now
+returns-in_default-clause-noted g c = fills_none _ _
 
 pub returns-in_err-request-clause-noted : goal.returns-in_err-request-clause-noted
-returns-in_err-request-clause-noted g c = fills_none c.args.client.now.got c.args.slots.now
+returns-in_err-request-clause-noted g c = fills_none _ _
 
 pub loop-init : goal.loop-init
 loop-init g c = record {
   number = refl;
   sent = refl;
-  noted = fills_none c.args.client.now.got c.args.slots.now;
+  noted = fills_none _ _;
   request = search rules;
   unit = search rules;
   name = search rules;
@@ -25,7 +25,7 @@ loop-init g c = record {
 pub returns-in-Ok-clause-noted : goal.returns-in-Ok-clause-noted
 returns-in-Ok-clause-noted g c =
     let issued : Issues c.loop.client c.loop.request c.excp.new.self = (c.in-Ok.ensures {u = tt}).accepted in
-    fills_same c.args.client.now.got c.loop.client.got c.excp.new.self.got c.args.slots.now c.loop.slots c.loop.invariant.noted
+    fills_same _ _ _ _ _ c.loop.invariant.noted
     (ap (λ (t : TaskState). t.got) issued)
 
 pub loop-preserved-in-Some-3 : goal.loop-preserved-in-Some-3
@@ -47,8 +47,8 @@ loop-preserved-in-Some-3 g c =
     record {
       number = ap (λ (t : TaskState). t.number) (is) ∙ ap (λ (t : TaskState). t.number) same ∙ i.number;
       sent = ap (λ (t : TaskState). t.sent) (is) ∙ ap (λ (t : TaskState). t.sent) same ∙ i.sent;
-      noted = fills_one c.args.client.now.got now.got new.got c.args.slots.now c.loop.slots c.note_collected.new.slots p
-          (fills_same c.args.client.now.got c.loop.client.got now.got c.args.slots.now c.loop.slots i.noted
+      noted = fills_one _ _ _ _ _ _ p
+          (fills_same _ _ _ _ _ i.noted
           (ap (λ (t : TaskState). t.got) same)) (ap (λ (t : TaskState). t.got) is) c.note_collected.ensures;
       request = kept ∙ i.request;
       unit = subst (λ (r : Piece). r.unit < g.S.Site.rows.units) (sym kept) i.unit;
