@@ -156,27 +156,39 @@ pub(crate) fn start<
     let mut handlers = handlers.into_iter();
     for channel in channels {
         let takers = handlers.next().unwrap_or(Vec::new(alloc));
-        if !channel.units.is_empty() || !takers.is_empty() {
-            let worker = scope.spawn(move || work(
-                rt,
-                system,
-                gate,
-                channel.units.as_slice(),
-                takers,
-                stop,
-            ));
-            if worker.is_err() {
-                return Err(RunError::NoThread);
-            }
-        }
+        start_one(rt, scope, system, gate, &channel.units, takers, stop)?;
     }
     for takers in handlers {
-        if !takers.is_empty() {
-            let worker = scope.spawn(move || work(rt, system, gate, &[], takers, stop));
-            if worker.is_err() {
-                return Err(RunError::NoThread);
-            }
-        }
+        start_one(rt, scope, system, gate, &[], takers, stop)?;
     }
     Ok(())
+}
+
+/// Starts the worker of these units and subclasses, unless there is none of either.
+fn start_one<
+    's,
+    'r,
+    S: Site + Send + Sync,
+    D: Device + Send + Sync,
+    G: Gate + Sync,
+    R: Threads + Wait + Sync,
+    E,
+>(
+    rt: &'s R,
+    scope: &Scope<'s, E>,
+    system: &'s System<'r, S, D>,
+    gate: &'s G,
+    units: &'s [u16],
+    takers: Vec<IscTaker<'r, S>>,
+    stop: &'s Stop,
+) -> Result<(), RunError>
+    requires { All (λ unit. unit < S.rows.units) units.now }
+{
+    if units.is_empty() && takers.is_empty() {
+        return Ok(());
+    }
+    match scope.spawn(move || work(rt, system, gate, units, takers, stop)) {
+        Ok(_) => Ok(()),
+        Err(_) => Err(RunError::NoThread),
+    }
 }

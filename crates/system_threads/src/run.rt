@@ -2,10 +2,10 @@
 
 ghost use Rattle.std.specs.Prelude.{◌≡◌, ◌<◌, All, IfErr, IfOk, is_some, length, map, true};
 ghost use Rattle.excp_system.specs.Drained.{ArePlaced};
-ghost use Rattle.excp_system.specs.Opening.{AreBooks, AreFresh, site_of};
+ghost use Rattle.excp_system.specs.Opening.{AreBooks, AreFresh, AreTasks, site_of};
 ghost use Rattle.post_ledger.specs.Parting.{Paired};
 ghost use Rattle.post_ledger.specs.Report.{AreIdle, AreLegal, IsFor, PostedOnce, Received, Returned};
-ghost use Rattle.system_threads.specs.Running.{Accounts, HasRun};
+ghost use Rattle.system_threads.specs.Running.{Accounts, AreRun, HasRun};
 
 use crate::alarm::Alarm;
 use crate::crew::{Crew, Workers, start};
@@ -15,7 +15,7 @@ use crate::task_program::TaskProgram;
 use device_port::Device;
 use excp_system::{Gate, IscTaker, Rows, Site, Stop, System, Task};
 use post_ledger::{Report, finish};
-use std::alloc::Global;
+use std::alloc::{AllocError, Global};
 use std::marker::Brand;
 use std::sync::Wait;
 use std::thread;
@@ -87,16 +87,53 @@ fn run_at<
 {
     let units = rows.units();
     let used = subclasses_of(books.as_slice());
-    let (system, tasks, mut takers) = System::<S, D>::new(alloc, rows, books)?;
-    takers.retain(|taker| is_used(&used, taker));
-    let crew = Crew::new(alloc, units, takers, workers)?;
+    let (system, tasks, takers) = System::<S, D>::new(alloc, rows, books)?;
+    let crew = crew_of(alloc, units, &used, takers, workers)?;
+    let (tasks, outcomes) = run_tasks(rt, alloc, &system, crew, tasks, program)?;
+    let report = brought_to_end(rt, alloc, system, tasks)?;
+    Ok((report, outcomes))
+}
+
+/// The workers of the units, with the takers of these subclasses.
+fn crew_of<'r, S: Site>(
+    alloc: Global,
+    units: u16,
+    used: &[bool; 8],
+    mut takers: Vec<IscTaker<'r, S>>,
+    workers: Workers,
+) -> Result<Crew<'r, S>, AllocError>
+    requires { units ≡ S.rows.units }
+{
+    takers.retain(|taker| is_used(used, taker));
+    Crew::new(alloc, units, takers, workers)
+}
+
+/// Runs all tasks by the program beside the workers, which end with them. Returns the tasks, and what each has left behind.
+fn run_tasks<
+    'r,
+    S: Site + Send + Sync,
+    D: Device + Send + Sync,
+    P: TaskProgram<D>,
+    R: Threads + Wait + Sync,
+>(
+    rt: &R,
+    alloc: Global,
+    system: &System<'r, S, D>,
+    crew: Crew<'r, S>,
+    tasks: Vec<Task<'r, S>>,
+    program: &P,
+) -> Result<(Vec<Task<'r, S>>, Vec<P::Outcome>), RunError>
+    requires units { S.rows.units ≡ P.units program.now }
+    requires tasks { AreTasks S.rows.tasks S.rows.units tasks.items }
+    ensures placed { IfOk result (λ done. ArePlaced (λ task. task.number) S.rows.tasks done.0.items) }
+    ensures outcomes { IfOk result (λ done. length done.1.items ≡ S.rows.tasks) }
+    ensures run { IfOk result (λ done. AreRun (P.runs program.now) S.rows.units done.0.items done.1.items) }
+{
     let room = PartsRoom::new(alloc, tasks.len())?;
     let runners = runners(alloc, tasks)?;
     let alarm = Alarm::of(alloc, runners.as_slice())?;
-    let runners = run_beside(rt, alloc, &system, &alarm, &alarm, crew, runners, program)?;
-    let (tasks, outcomes) = parted(runners, room);
-    let report = brought_to_end(rt, alloc, system, tasks)?;
-    Ok((report, outcomes))
+    let runners = run_beside(rt, alloc, system, &alarm, &alarm, crew, runners, program)?;
+    Ok(parted(runners, room))
 }
 
 /// Which interruption subclasses the units of these books have. To the others no notice comes.
