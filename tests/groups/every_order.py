@@ -10,7 +10,7 @@ import os
 import re
 import tempfile
 
-from groups.outcomes import BY_HAND, TAPES, outcomes_of, told_by
+from groups.outcomes import BY_HAND, SELDOM, TAPES, outcomes_of, told_by
 from harness import TOP, Case, Skipped, read, require, run
 from small_jobs import small_job
 
@@ -18,14 +18,14 @@ ORIGIN = "docs/MANUAL.md, every outcome of a job: over all lawful orders of the 
 
 # How many small jobs there are, also in the long form, and how many are one case. Each runs by these turns. Of the jobs of a case the
 # program may leave so many unfinished.
-JOBS = 100
-JOBS_LONG = 600
+JOBS = 200
+JOBS_LONG = 2_000
 BATCH = 20
 TURNS = 1, 2
 UNFINISHED = 1
 
 # The most states of a job.
-MOST_STATES = 500_000
+MOST_STATES = 1_000_000
 
 # At least one job in so many has requests to two units, and a task that goes on after it waited for a request.
 WAITS = 12
@@ -100,6 +100,8 @@ def is_equal(setup, script, *words, most=MOST_STATES):
         return False
     wanted = {name: set(posts) for name, posts in found[0].items()}
     told, outputs = outcomes(setup, script, *words)
+    alone = {name: set(posts) for name, posts in outcomes_of(setup, script, *words)[0].items()}
+    require(told == alone, f"the outcomes with whole outputs are {told}, and without them {alone}; of\n{script}")
     if any(len(posts) >= GROUPED for posts in wanted.values()):
         told = by_scenarios(setup, script, *words)
     require(told == wanted, f"the outcomes are {told}, and those of every order {wanted}; of\n{script}")
@@ -173,6 +175,9 @@ def cases(setup):
     for name, (script, words, _) in BY_HAND.items():
         words = [it for it in words if it != "--whole"]
         yield Case(f"by hand, {name}", lambda s=script, w=words: is_complete(setup, s, *w), ORIGIN)
+    for name, (words, _, _) in SELDOM.items():
+        file = f"tests/cases/outcomes/{name}.script"
+        yield Case(file, lambda f=file, w=words: is_complete(setup, read(f"{TOP}/{f}"), *w), ORIGIN)
     yield Case("three of four outputs", lambda: is_complete(setup, TAPES), ORIGIN)
     yield Case("a search that is cut", lambda: is_cut(setup), ORIGIN)
     for words in ("--turn",), ("--turn", "0"), ("--most-states", "x"), ("whole",):
