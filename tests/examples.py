@@ -89,7 +89,8 @@ ANYTHING = "anything"
 # Blocks of commands by their page and first command: what they print, and the files that they read, each a block of the page
 # by its first line, or a file of the repository.
 RUN = {
-    ("README.md", "./excp samples/read.script"): (SESSION, {}),
+    ("README.md", "./excp samples/read.script"): (NEXT, {}),
+    ("README.md", "./excp - <<END"): (ANYTHING, {}),
     ("README.md", "./excp report samples/read.script --steps"): (ANYTHING, {}),
     ("samples/README.md", "./excp report samples/read-a-tape.script | grep -v '^# unit\\|^#  '"): (ANYTHING, {}),
     ("samples/README.md", "./excp step samples/scenarios/halt-an-active-request.scenario"): (ANYTHING, {}),
@@ -174,7 +175,8 @@ def prints_page(setup, block, following):
         due = [line for line in block.lines if not line.startswith(("$ ", "excp: "))]
         require(shown == due, f"{block.page}, line {block.line}: other lines", ran)
     elif kind == NEXT:
-        require(shown == following.lines, f"{block.page}, line {block.line}: other lines than in line {following.line}", ran)
+        due = [line for line in following.lines if not line.startswith("excp: ")]
+        require(shown == due, f"{block.page}, line {block.line}: other lines than in line {following.line}", ran)
     elif kind == AMONG:
         left = iter(shown)
         require(all(line in left for line in following.lines), f"{block.page}, line {following.line}: not all is printed", ran)

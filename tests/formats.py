@@ -15,8 +15,10 @@ END = b"\xff" * 8
 # The most tracks of a disk, and the most bytes of a block.
 TRACKS, BLOCK = 65_535, 65_535
 
-# What a fault says, by its name.
+# What a fault says, by its name. `{n}` is how many bytes are left, and `{s}` an s unless that is 1.
 TEXTS = {
+    "after chunks": "{n} trailing byte{s} after the last chunk",
+    "after cylinders": "{n} trailing byte{s} after the last cylinder",
     "fake": "the image is a FakeTape file",
     "header cut": "the header of a chunk is cut short",
     "data cut": "the data of a chunk is cut short",
@@ -88,7 +90,7 @@ def tape_of(image):
     tape, block, lengths, previous, at = Tape(), None, [], 0, 0
     while at < len(image):
         if at + CHUNK > len(image):
-            raise Fault(at, "header cut")
+            raise Fault(at, "after chunks" if at else "header cut")
         length, before, flags, spare = struct.unpack_from("<HHBB", image, at)
         faults = chunk_faults(length, before, flags, spare, previous, block is not None)
         if at + CHUNK + length > len(image):
@@ -166,7 +168,8 @@ def volume_of(image):
     at = DISK
     while at < len(image) or not volume.tracks or len(volume.tracks) % heads:
         if at + size > len(image):
-            raise Fault(len(image), "cut")
+            is_whole = volume.tracks and len(volume.tracks) % heads == 0
+            raise Fault(at, "after cylinders") if is_whole else Fault(len(image), "cut")
         if len(volume.tracks) == TRACKS:
             raise Fault(at, "tracks")
         volume.tracks.append(track_of(image, at, size, *divmod(len(volume.tracks), heads)))

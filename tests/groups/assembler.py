@@ -64,7 +64,7 @@ def limits():
         areas.append(f"area {len(areas)} 001000\nDS 8192\nendarea\n")
         size += len(f"# area {len(areas) - 1} 001000\n# DS 8192\narea {len(areas) - 1} 001000\n") + 1024 * 17
     text = "the assembled script has more than 1048576 bytes with this line, and a run reads no more"
-    yield "an output past the limit", "".join(areas), (1, 0, f"<stdin>:{3 * len(areas)}: {text}\n")
+    yield "an output past the limit", "".join(areas), (1, 0, f"<stdin>:{3 * len(areas)}: Words: {text}\n")
     labels = [f"L{number}:\n" for number in range(100_000)]
     words = "IDAW " + ",".join(f"L{number}" for number in range(0, 100_000, 50))
     script = f"area 0 001000\n{''.join(labels)}{words}\nendarea\n"
@@ -74,7 +74,7 @@ def limits():
     due = len("# area 0 001000\n# L0:\narea 0 001000 -\n") + 100_000 * len("# ORG L0\n")
     yield "many origins", f"area 0 001000\n{origins}endarea\n", (0, due, "")
     text = "this is outside of the area: an area has at most 8192 bytes, and ends at X'FFFFFF' at the latest"
-    yield "an area that is too long", "area 0 001000\nDS 8192\nDS 1\nendarea\n", (1, 0, f"<stdin>:3: {text}\n")
+    yield "an area that is too long", "area 0 001000\nDS 8192\nDS 1\nendarea\n", (1, 0, f"<stdin>:3: Area: {text}\n")
 
 
 def survives(setup, by):

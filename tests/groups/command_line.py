@@ -47,16 +47,21 @@ REJECTED = [
     (["assemble", "--channels", "2"], "error: unexpected argument '--channels' found"),
     (["assemble", "--steps"], "error: unexpected argument '--steps' found"),
     (["step", "--steps"], "error: unexpected argument '--steps' found"),
-    (["step", "--json", "--trace"], "error: the argument '--trace' cannot be used with '--json'"),
+    (["step", "--json", "--trace"], "error: the argument '--json' cannot be used with '--trace'"),
     (["step", "--state", "--json"], "error: the argument '--state' cannot be used with '--json'"),
     (["step", "--html", "--trace"], "error: the argument '--html' cannot be used with '--trace'"),
     (["step", "--html", "--json"], "error: the argument '--html' cannot be used with '--json'"),
-    (["report", "--html", "--steps"], "error: the argument '--html' cannot be used with:"),
+    (["report", "--html", "--steps"], "error: the argument '--html' cannot be used with '--steps'"),
+    (["report", "--json", "--html"], "error: the argument '--json' cannot be used with '--html'"),
+    (["report", "--html", "--json"], "error: the argument '--html' cannot be used with '--json'"),
+    (["report", "--posts", "--json"], "error: the argument '--posts' cannot be used with '--json'"),
+    (["report", "--html", "--most-steps", "2"], "error: --most-steps N needs --steps or --json"),
+    (["report", "--posts", "--most-steps", "2"], "error: --most-steps N needs --steps or --json"),
     (["report", "--posts", "--html"], "error: the argument '--posts' cannot be used with '--html'"),
-    (["step", "--most-steps", "1"], "error: the following required arguments were not provided:"),
+    (["step", "--most-steps", "1"], "error: --most-steps N needs --json"),
     (["assembly"], "error: unrecognized subcommand 'assembly'"),
     (["report", "--steps", "--steps"], "error: the argument '--steps' cannot be used multiple times"),
-    (["report", "--most-steps", "1"], "error: the following required arguments were not provided:"),
+    (["report", "--most-steps", "1"], "error: --most-steps N needs --steps or --json"),
     (
         ["report", "--steps", "--most-steps", "0"],
         "error: invalid value '0' for '--most-steps <N>': 0 is not in 1..18446744073709551615",
@@ -64,7 +69,7 @@ REJECTED = [
     (["run", "--steps"], "error: unexpected argument '--steps' found"),
     (["run", "--load", "0=x"], "error: unexpected argument '--load' found"),
     (["check", "--save", "0=x"], "error: unexpected argument '--save' found"),
-    (["report", "--posts", "--steps"], "error: the argument '--posts' cannot be used with:"),
+    (["report", "--posts", "--steps"], "error: the argument '--posts' cannot be used with '--steps'"),
     *(
         ([word, "--load", it], "error: --load and --save take U=FILE: a unit from 0 to 63, and the name of a file")
         for word, it in (("report", "x"), ("step", "64=x"), ("check", "0="), ("report", "=x"), ("report", "+1=x"))
@@ -276,20 +281,68 @@ def of_locked(setup):
         expect(run([program, "check", file], **how), (1, "", f"excp_job: {file}: this user has no permission to read it\n"))
 
 
-def gives_hints(setup, words):
-    """After a fault of a line the program says what to type, by what the script is."""
+# Scripts that are rejected, each with a part of what `check` finds: by a line, by a medium, by extents, by a request, by what no line
+# declares, and by a symbolic area.
+FAULTY = [
+    ("tasks 1\nopne\n", ":2: Words: no line begins with 'opne'; did you mean 'open'?\n"),
+    ("tasks 1\ntape 0 0 3\nwait 0\n", ":2: Medium: 3 bytes: a tape has 4 to 16777216\n"),
+    ("tasks 1\ntape 0 0 12\nopen 0 out 18\nwait 0\n", ":3: "),
+    ("tasks 1\ntape 0 0 12\nopen 0 out\narea 0 001000 -\nexcp 0 0 1 001000 0 001000 0\n", ":5: Request: the IOB at 001000 does not lie"),
+    ("tape 0 0 12\n", ": Order: no line declares the tasks: add a line 'tasks N'\n"),
+    ("area 0 001000\nECB\nendarea\n", ":3: Words: a symbolic area ends in this line: assemble the script first"),
+]
+
+
+# What is said of a text that is given for an image.
+TEXT = "this is a text, not an image; `convert --to` makes an image of a script"
+
+
+def finds_what_check_finds(setup, words):
+    """A script that is rejected gets what `check` prints of it, by a name and as standard input."""
     with tempfile.TemporaryDirectory() as work:
-        fault, file = "excp_job: line 2: Words\n", f"{work}/a bad.script"
-        with open(file, "w", encoding="utf-8") as it:
+        file = f"{work}/a bad.script"
+        for script, found in FAULTY:
+            with open(file, "w", encoding="utf-8") as it:
+                it.write(script)
+            due = run(setup.command("check", file)).out
+            require(f"{file}{found}" in due, f"check does not print {found!r}: {due!r}")
+            expect(run(setup.command(*words, file)), (1, "", due))
+            expect(setup.run(*words, file=file), (1, "", due.replace(f"{file}:", "<stdin>:")))
+
+
+def converts_what_check_takes(setup):
+    """`convert --to` of a script that is rejected prints what `check` prints of it. It tries no DCB and no request."""
+    with tempfile.TemporaryDirectory() as work:
+        file = f"{work}/a bad.script"
+        for script, found in FAULTY[:2] + FAULTY[4:]:
+            with open(file, "w", encoding="utf-8") as it:
+                it.write(script)
+            due = run(setup.command("check", file)).out
+            require(f"{file}{found}" in due, f"check does not print {found!r}: {due!r}")
+            expect(run(setup.command("convert", "--to", "aws", "--output", f"{work}/tape", file)), (1, "", due))
+        require(os.listdir(work) == ["a bad.script"], "a file was made")
+
+
+def shows_control_characters(setup):
+    """A control character in the name of a file is printed as its code, in every text with a name."""
+    name, shown = "a\x1b[31m\x07\x7f\n b\x9bé", "a\\x1b[31m\\x07\\x7f\\x0a b\\x9bé"
+    with tempfile.TemporaryDirectory() as work:
+        for word in "check", "report", "describe", "convert", "outcomes":
+            expect(run(setup.command(word, name), cwd=work), (1, "", f"excp_job: {shown}: there is no such file\n"))
+        with open(f"{work}/{name}", "w", encoding="utf-8") as it:
             it.write("tasks 1\nopne\n")
-        typed = file.replace(" ", "\\ ")
-        expect(run(setup.command(*words, file)), (1, "", f"{fault}excp: to see every fault, type: excp check {typed}\n"))
-        hint = "excp: to see every fault, save the script in a file and type: excp check FILE\n"
-        expect(setup.run(*words, file=file), (1, "", fault + hint))
-        symbolic = f"{SAMPLES}/read.symbolic"
-        ran = run(setup.command(*words, symbolic))
-        hint = f"excp: the script has symbols; to make a plain one, type: excp assemble {symbolic} > plain.script\n"
-        require(ran.status == 1 and ran.err.endswith(hint), "no hint", ran)
+        found = f"{shown}:2: Words: no line begins with 'opne'; did you mean 'open'?\n{shown}: Order: "
+        for words, output in (["check"], "out"), (["report"], "err"), (["step"], "err"), (["check", "--scenario"], "out"):
+            ran = run(setup.command(*words, name), cwd=work)
+            require(ran.status == 1 and getattr(ran, output).startswith(found[: found.index("\n") + 1]), "another name", ran)
+        expect(run(setup.command("describe", name), cwd=work), (1, "", f"excp_job: {shown}: {TEXT}\n"))
+        with open(f"{work}/tape{name}", "wb"):
+            pass
+        ran = run(setup.command("describe", f"tape{name}"), cwd=work)
+        require(ran.status == 0 and ran.out.startswith(f"tape{shown}: tape image"), "another name", ran)
+        for words in ["--save", f"1={name}"], ["--load", f"1=tape{name}"]:
+            ran = run(setup.command("report", *words), "tasks 1\ntape 0 0 9\nwait 0\n", cwd=work)
+            require(ran.status == 1 and f"excp_job: {words[1].replace(name, shown)}: no line declares unit 1\n" == ran.err, "another name", ran)
 
 
 def not_utf8(setup, words, status, text):
@@ -365,7 +418,9 @@ def cases(setup):
         yield case(f"{word} to a reader that is gone", without_reader, setup, [word], script, 0, "")
         yield case(f"the stored help of {word}", as_stored, setup, word)
     for words in (["report"], ["report", "--steps", "--channels", "2"], ["report", "--seed", "7"], ["outcomes", "--turn", "1"]):
-        yield case(f"hints of {' '.join(words)}", gives_hints, setup, words)
+        yield case(f"a script that {' '.join(words)} rejects", finds_what_check_finds, setup, words)
+    yield case("a script that convert rejects", converts_what_check_takes, setup)
+    yield case("control characters in names", shows_control_characters, setup)
     yield case("check a file that may not be read", of_locked, setup)
     for words in (["run", b"\xff"], [b"\xff"], ["report", "--channels", b"\xff"], ["check", b"--\xff"]):
         yield case(f"not UTF-8: {words}", not_utf8, setup, words, 2, "a word of the command line is not UTF-8")

@@ -12,6 +12,7 @@ import shutil
 import struct
 import subprocess
 import tempfile
+import threading
 
 import formats
 from harness import CASES, SAMPLES, SECONDS, Case, Failed, Skipped, expect, expect_text, read, require, run
@@ -270,14 +271,19 @@ def are_judged(setup, images):
 
 
 def is_right(name, image, said, is_taken):
-    """What was said of an image is right."""
+    """What was said of an image is right. A shadow file is known by its first bytes."""
+    if image.startswith(b"CKD_S"):
+        require(said and said.startswith("this is a shadow file") and not is_taken, f"image {name}: {said}")
+        return
     fault = fault_of(image, image[:4] == b"CKD_")
     if fault is None:
         require(is_taken and said is None, f"image {name} has no fault: {said}")
         return
     require(said and not is_taken, f"image {name} has a fault at {fault.offset}: {fault.names}")
     found = re.match(r"byte (\d+): (.*)", said)
-    is_named = found and any(found[2].startswith(formats.TEXTS[it]) for it in fault.names)
+    left = len(image) - fault.offset
+    texts = [formats.TEXTS[it].format(n=left, s="" if left == 1 else "s") for it in fault.names]
+    is_named = found and found[2].startswith(tuple(texts))
     require(is_named and int(found[1]) == fault.offset, f"image {name}: {said}; expected {fault.names} at {fault.offset}")
 
 
@@ -348,13 +354,98 @@ def hostile():
     yield "load2311.img, cut", cuts(image, [512 + number * 4096 + at for number in range(50) for at in range(13)])
 
 
-def script_is_no_image(setup):
-    """What is no image may be no damaged image, and the error says so."""
+TAPE, DISK = idle("tape"), idle("disk")
+
+# The first blocks of an FBA disk of Hercules: the second one has the label.
+FBA = bytes(512) + "VOL1FBA001".encode("cp037").ljust(512, b"\0")
+
+# Files that are no image, and what is said of each.
+NO_IMAGES = [
+    (TAPE.encode(), "this is a text, not an image; `convert --to` makes an image of a script"),
+    ("é\r\n\tno script\n".encode(), "this is a text, not an image; `convert --to` makes an image of a script"),
+    (b"\1\2\3\4\5\6\n", "byte 0: the chunk is compressed; make a plain file by `hetupd -d IN OUT`, or the file is no image of a tape"),
+    (FBA, "this is an image of an FBA disk, which has blocks without count areas; CKD disks alone are supported"),
+    (b"FBA_C370" + bytes(504), "this is an image of an FBA disk, which has blocks without count areas; CKD disks alone are supported"),
+    (b"CKD_C370" + bytes(504), "byte 0: the image is compressed; make a plain file by `dasdcopy -o ckd IN OUT`"),
+    (b"CKD_C064" + bytes(504), "this is a compressed image of a disk (CCKD64); make a plain one, which begins with CKD_P370"),
+    (b"CKD_S370" + bytes(504), "this is a shadow file of a compressed image of a disk (CCKD); make a plain image of both"),
+    (b"CKD_P064" + bytes(504), "this is an image of a disk in the format CKD64; make one that begins with CKD_P370"),
+    (b"CKD_P371" + bytes(504), "byte 0: the file is no image of a disk: an image begins with `CKD_P370`"),
+]
+
+
+def is_no_image(setup, data, said):
+    """`describe`, `convert` and `--load` say what a file is that is no image."""
     with tempfile.TemporaryDirectory(prefix="images-") as folder:
-        write(f"{folder}/script", TAPE.encode())
-        ran = program(setup, folder, "describe", "script")
-        told = re.fullmatch(r"excp_job: script: byte 0: .*, or the file is no image of a tape\n", ran.err)
-        require(ran.status == 1 and ran.out == "" and told, "another error", ran)
+        write(f"{folder}/it", data)
+        for words in ["describe", "it"], ["convert", "it"], ["report", "--load", "0=it"]:
+            expect(program(setup, folder, *words, script=TAPE), (1, "", f"excp_job: it: {said}\n"))
+
+
+def has_trailing_bytes(setup):
+    """Bytes after an image are called that."""
+    disk, tape = small_volume(), small_tape()
+    for image, rest, offset, said in [
+        (disk, b"\n", len(disk), "1 trailing byte after the last cylinder, or the image is cut short"),
+        (disk, bytes(100), len(disk), "100 trailing bytes after the last cylinder, or the image is cut short"),
+        (tape, b"\n", len(tape), "1 trailing byte after the last chunk, or the image is cut short"),
+        (tape, bytes(5), len(tape), "5 trailing bytes after the last chunk, or the image is cut short"),
+        (tape, bytes(512), len(tape), "a chunk continues a block, and none is open, or trailing bytes follow the last chunk"),
+    ]:
+        with tempfile.TemporaryDirectory(prefix="images-") as folder:
+            write(f"{folder}/it", image + rest)
+            expect(program(setup, folder, "describe", "it"), (1, "", f"excp_job: it: byte {offset}: {said}\n"))
+
+
+def empty_file_is_called_empty(setup):
+    with tempfile.TemporaryDirectory(prefix="images-") as folder:
+        write(f"{folder}/it", b"")
+        ran = program(setup, folder, "describe", "it")
+        require((ran.status, ran.err) == (0, "") and ran.out.startswith("it: tape image, AWSTAPE: the file is empty\n"), "not called empty", ran)
+        require("line of a script: tape U ISC 4\n" in ran.out, "not the fewest bytes", ran)
+        ran = program(setup, folder, "report", "--load", "0=it", script=DISK)
+        expect(ran, (1, "", "<stdin>:2: Words: the image of this unit is an empty file, which is an empty tape\n"))
+
+
+def other_files_are_no_images(setup):
+    """A pipe with a name and a device are rejected at once. A script may come from a pipe."""
+    with tempfile.TemporaryDirectory(prefix="images-") as folder:
+        os.mkfifo(f"{folder}/pipe")
+        for name in "pipe", "/dev/zero", "/dev/null":
+            for word in "describe", "convert":
+                expect(program(setup, folder, word, name, seconds=5), (1, "", f"excp_job: {name}: it is a device or a pipe\n"))
+        expect(program(setup, folder, "describe", "."), (1, "", "excp_job: .: it is a directory\n"))
+        writer = threading.Thread(target=lambda: write(f"{folder}/pipe", b"tasks 1\ntape 0 0 9\nblock 0 C1C2\n"))
+        writer.start()
+        expect(program(setup, folder, "convert", "--to", "aws", "--output", "tape", "pipe", seconds=5), (0, ""))
+        writer.join()
+        require(formats.tape_of(bytes_of(f"{folder}/tape")).items == [b"\xc1\xc2"], "another tape")
+
+
+def one_is_no_several(setup):
+    """`describe` has the word for one of each thing."""
+    disk = volume_with(1, 1, [(bytes(5), b"", bytes(8))])
+    for image, said in [
+        (formats.image_of(formats.Tape([b"A", None], [[1], [0]])), "  1 block, the longest of 1 byte; 1 tape mark\n"),
+        (small_tape(), "  2 blocks, the longest of 17 bytes; 3 tape marks\n"),
+        (disk, "  1 cylinder of 1 head, 16 bytes a track\n  0 records beside R0, the longest data area of 0 bytes\n"),
+        (small_volume(), "  1 cylinder of 2 heads, 106 bytes a track\n  2 records beside R0, "),
+    ]:
+        with tempfile.TemporaryDirectory(prefix="images-") as folder:
+            write(f"{folder}/it", image)
+            ran = program(setup, folder, "describe", "it")
+            require(ran.status == 0 and said in ran.out, f"expected {said!r}", ran)
+    ran = program(setup, STORED, "describe", "load2311.img")
+    require(", 1 extent, the first of 10 tracks from 1 0\n" in ran.out, "another number of extents", ran)
+
+
+def large_file_is_not_read(setup):
+    """A file that is too large for lines is rejected by its size: this one has no track, which would be its fault."""
+    with tempfile.TemporaryDirectory(prefix="images-") as folder:
+        write(f"{folder}/it", small_volume()[:512])
+        os.truncate(f"{folder}/it", 1 << 40)
+        said = "a line of a script declares at most 16,777,216 bytes: use the image with --load"
+        expect(program(setup, folder, "convert", "it", seconds=5), (1, "", f"excp_job: it: {said}\n"))
 
 
 def check_wants_a_unit_for_each_image(setup):
@@ -398,29 +489,33 @@ def small(folder):
     write(f"{folder}/disk", small_volume())
 
 
-TAPE, DISK = idle("tape"), idle("disk")
+CONTENT = "the medium of this unit is an image: no line says what is on it\n"
 
 # Words, a script, and what is printed on standard error with status 1.
 REJECTED = [
     (["report", "--load", "0=missing"], TAPE, "excp_job: missing: there is no such file\n"),
-    (["report", "--load", "0=."], TAPE, "excp_job: .: it is not a regular file\n"),
-    (["report", "--load", "0=disk"], TAPE, "excp_job: line 2: "),
-    (["report", "--load", "0=tape"], DISK, "excp_job: line 2: "),
-    (["report", "--load", "1=tape"], TAPE, "excp_job: "),
+    (["report", "--load", "0=."], TAPE, "excp_job: .: it is a directory\n"),
+    (["report", "--load", "0=disk"], TAPE, "<stdin>:2: Number: the image of this unit is a disk: expected a line 'disk U ISC -'\n"),
+    (["report", "--load", "0=disk"], "tasks 1\ntape 0 0 9\n", "<stdin>:2: Medium: the image of this unit is a disk: expected a line 'disk"),
+    (["outcomes", "--load", "0=tape"], DISK, "<stdin>:2: Words: the image of this unit is a tape: expected a line 'tape U ISC -'\n"),
+    (["step"], DISK, "<stdin>:2: Words: unit 0 has no size; name its image: --load 0=FILE\n"),
+    (["step", "--load", "0=tape"], DISK, "<stdin>:2: Words: the image of this unit is a tape: expected a line 'tape U ISC -'\n"),
+    (["report", "--load", "0=tape"], DISK, "<stdin>:2: Words: the image of this unit is a tape: expected a line 'tape U ISC -'\n"),
+    (["report", "--load", "1=tape"], TAPE, "<stdin>:2: Number: unit 0 has no size; name its image: --load 0=FILE\n"),
     (["report", "--load", "0=tape", "--save", "1=other"], TAPE, "excp_job: 1=other: no line declares unit 1\n"),
     (["report", "--load", "0=tape", "--load", "1=./tape"], TAPE, "excp_job: ./tape: it is named for two units\n"),
-    (["report", "--load", "0=tape"], "tasks 1\ntape 0 0 20\nwait 0\n", "excp_job: line 2: Medium\n"),
-    (["report", "--load", "0=tape"], "tasks 1\ntape 0 0 -\nblock 0 C1\nwait 0\n", "excp_job: line 3: Medium\n"),
-    (["report", "--load", "0=tape"], "tasks 1\ntape 0 0 -\nmark 0\nwait 0\n", "excp_job: line 3: Medium\n"),
-    (["report", "--load", "0=disk"], "tasks 1\ndisk 0 0 -\nrec 0 0 0 1 - C1\nwait 0\n", "excp_job: line 3: Medium\n"),
-    (["report", "--load", "0=disk"], "tasks 1\ndisk 0 0 2 1 106\nwait 0\n", "excp_job: line 2: Medium\n"),
-    (["report"], TAPE, "excp_job: line 2: Number\n"),
+    (["report", "--load", "0=tape"], "tasks 1\ntape 0 0 20\nwait 0\n", "<stdin>:2: Medium: the tape holds 20 bytes, but its image needs 42\n"),
+    (["report", "--load", "0=tape"], "tasks 1\ntape 0 0 -\nblock 0 C1\nwait 0\n", f"<stdin>:3: Medium: {CONTENT}"),
+    (["report", "--load", "0=tape"], "tasks 1\ntape 0 0 -\nmark 0\nwait 0\n", f"<stdin>:3: Medium: {CONTENT}"),
+    (["report", "--load", "0=disk"], "tasks 1\ndisk 0 0 -\nrec 0 0 0 1 - C1\nwait 0\n", f"<stdin>:3: Medium: {CONTENT}"),
+    (["report", "--load", "0=disk"], "tasks 1\ndisk 0 0 2 1 106\nwait 0\n", "<stdin>:2: Medium: the image has 1 cylinder of 2 heads, and 106 bytes a track\n"),
+    (["report"], TAPE, "<stdin>:2: Number: unit 0 has no size; name its image: --load 0=FILE\n"),
     (["run"], TAPE, "excp_job: line 2: Number\n"),
     (["report", "--load", "0=tape", "--save", "0=none/there"], TAPE, "excp_job: none/there: there is no such directory\n"),
     (["report", "--save", "0=new", "--save", "1=./new"], TAPE, "excp_job: ./new: it is named for two units\n"),
     (["report", "--load", "1=new.excp-new", "--save", "0=new"], TAPE, "excp_job: new: it is named for two units\n"),
     (["report", "--save", "0=new", "--save", "1=new.excp-new"], TAPE, "excp_job: new.excp-new: it is named for two units\n"),
-    (["report", "--load", "0=tape", "--save", "0=/dev/null"], TAPE, "excp_job: /dev/null: it is not a regular file\n"),
+    (["report", "--load", "0=tape", "--save", "0=/dev/null"], TAPE, "excp_job: /dev/null: it is a device or a pipe\n"),
     (["convert", "missing"], "", "excp_job: missing: there is no such file\n"),
     (["describe", "missing", "disk"], "", "excp_job: missing: there is no such file\n"),
 ]
@@ -543,7 +638,7 @@ def failed_run_saves_nothing(setup):
         small(folder)
         script = f"{TAPE}close 0 0 1\n"
         ran = program(setup, folder, "report", "--load", "0=tape", "--save", "0=saved", script=script)
-        require(ran.status == 1 and ran.err.startswith("excp_job: line 4: Name\n"), "no fault", ran)
+        require(ran.status == 1 and ran.err.startswith("<stdin>:4: Name: "), "no fault", ran)
         require(not os.path.exists(f"{folder}/saved"), "it was saved")
 
 
@@ -598,6 +693,8 @@ def cases(setup):
             yield Case(f"hostile: {name}, {number}", lambda p=part: are_judged(setup, p), ORIGIN)
     for seed in range(20):
         yield Case(f"tape at random {seed}", lambda s=seed: at_random(setup, s), ORIGIN)
+    for number, (data, said) in enumerate(NO_IMAGES, 1):
+        yield Case(f"no image {number}: {said[:40]}", lambda d=data, s=said: is_no_image(setup, d, s), "docs/FORMATS.md")
     for words, script, said in REJECTED:
         name = f"rejected: {' '.join(words)} {script.splitlines()[1:2]}"
         yield Case(name, lambda w=words, s=script, t=said: is_rejected(setup, w, s, t), "docs/MANUAL.md, Images")
@@ -611,7 +708,11 @@ def cases(setup):
         left_file_is_named,
         model_is_asked_before_the_run,
         most_tracks_are_kept,
-        script_is_no_image,
+        has_trailing_bytes,
+        empty_file_is_called_empty,
+        other_files_are_no_images,
+        one_is_no_several,
+        large_file_is_not_read,
         check_wants_a_unit_for_each_image,
         progress_is_shown_on_a_terminal,
         prints_paper,

@@ -1,9 +1,12 @@
 //! An image as the lines of a script, and such lines as an image.
 
 use crate::describe::loaded;
-use crate::images::failed;
-use crate::saver::{Medium, written_beside};
+use crate::images::{failed, size_of};
+use crate::opened;
+use crate::rejected::{ReadScript, with_findings};
+use crate::saver::{Medium, said, written_beside};
 use crate::screen::Screen;
+use crate::target::{Content, Output, Targets};
 use any_device::AnyDevice;
 use device_port::MountError;
 use job_mount::mounted;
@@ -11,7 +14,6 @@ use job_options::Format;
 use job_report::{are_declarable, write_medium};
 use job_script::{FaultName, JobError, LIMIT, Medium as Declared, Script, UnitSetup, read_script};
 use std::cell::Cell;
-use std::fs::File;
 use std::io;
 use std::io::{BufWriter, Read, Write};
 
@@ -20,6 +22,13 @@ const TASKS: &[u8] = b"tasks 1\n";
 
 /// The most bytes of a medium that a line declares.
 const MOST_BYTES: u64 = 16_777_216;
+
+/// The most bytes of a file with such a medium: a track of 16 bytes, the fewest, has 30 in it. The lines of a tape with more are
+/// too long for a script.
+const MOST_OF_FILE: u64 = 512 + MOST_BYTES / 16 * 30;
+
+const LARGE: &str =
+    "a line of a script declares at most 16,777,216 bytes: use the image with --load";
 
 /// A writer that counts bytes, up to the most of a script.
 #[derive(Drop)]
@@ -43,6 +52,11 @@ impl Write for Counted {
 
 /// Prints the medium of an image as the lines of a script, and returns the exit status.
 pub fn print_lines(rt: &HostRuntime, name: &str, is_broken: &Cell<bool>) -> Result<u8, JobError> {
+    match size_of(rt, name) {
+        Ok(size) if size > MOST_OF_FILE => return Ok(failed(rt, name, LARGE)),
+        Ok(_) => {}
+        Err(status) => return Ok(status),
+    }
     let image = match loaded(rt, name) {
         Ok(image) => image,
         Err(status) => return Ok(status),
@@ -63,9 +77,7 @@ pub fn print_lines(rt: &HostRuntime, name: &str, is_broken: &Cell<bool>) -> Resu
 /// Why no lines of a script say what is on a medium, if none do.
 fn unsaid(unit: &UnitSetup, device: &AnyDevice) -> Option<&'static str> {
     if is_large(&unit.medium) {
-        return Some(
-            "a line of a script declares at most 16,777,216 bytes: use the image with --load",
-        );
+        return Some(LARGE);
     }
     if !are_declarable(device) {
         return Some(
@@ -99,19 +111,61 @@ fn write_lines<W: Write>(out: &mut W, unit: &UnitSetup, device: &AnyDevice) -> i
     write_medium(out, 0, unit, device)
 }
 
-/// Makes an image of the one unit of a script, and returns the exit status.
+/// Makes an image of the one unit of a script, and returns the exit status. `force` replaces a file whatever it holds.
 pub fn make_image(
     rt: &HostRuntime,
     format: Format,
     name: &str,
     output: &str,
+    force: bool,
 ) -> Result<u8, JobError> {
-    let mut file = match File::open(rt, name) {
+    let targets = Targets::new(rt, name, force)?;
+    let output = Output {
+        name: output,
+        content: match format {
+            Format::Aws => Content::Tape,
+            Format::Ckd => Content::Disk,
+        },
+        unit: None,
+    };
+    match targets.allows(output) {
+        0 => image_of_script(rt, format, name, output, &targets),
+        status => Ok(status),
+    }
+}
+
+/// Makes it, by these rules.
+fn image_of_script(
+    rt: &HostRuntime,
+    format: Format,
+    name: &str,
+    output: Output<'_>,
+    targets: &Targets<'_>,
+) -> Result<u8, JobError> {
+    let mut file = match opened(rt, name) {
         Ok(file) => file,
-        Err(error) => return Ok(failed(rt, name, crate::why_unopened(error.kind()))),
+        Err(status) => return Ok(status),
     };
     let text = read_script(rt.alloc(), &mut file)?;
-    let script = Script::parse(rt.alloc(), &text)?;
+    let done = make_image_of(rt, format, name, &text, output, targets);
+    let script = ReadScript {
+        name,
+        text: &text,
+        loads: &[],
+    };
+    with_findings(rt, done, script)
+}
+
+/// Does so with the script of this text.
+fn make_image_of(
+    rt: &HostRuntime,
+    format: Format,
+    name: &str,
+    text: &[u8],
+    output: Output<'_>,
+    targets: &Targets<'_>,
+) -> Result<u8, JobError> {
+    let script = Script::parse(rt.alloc(), text)?;
     let [unit] = script.set_up.units.as_slice() else {
         return Ok(failed(rt, name, "a script with one unit makes an image"));
     };
@@ -136,20 +190,25 @@ pub fn make_image(
             name: FaultName::Medium,
         }),
     };
-    Ok(write_image(rt, &device, output))
+    Ok(write_image(rt, &device, output, targets))
 }
 
 /// Writes the image of a device, and returns the exit status.
-fn write_image(rt: &HostRuntime, device: &AnyDevice, output: &str) -> u8 {
+fn write_image(
+    rt: &HostRuntime,
+    device: &AnyDevice,
+    output: Output<'_>,
+    targets: &Targets<'_>,
+) -> u8 {
     let medium = Medium {
         mounted: device,
         now: device,
         kept: None,
     };
     match written_beside(rt, output, medium) {
-        Ok(replacement) => match replacement.finish(rt) {
+        Ok(replacement) => match targets.put(&replacement) {
             Ok(()) => 0,
-            Err(error) => failed(rt, output, error),
+            Err(error) => said(rt, output.name, error),
         },
         Err(status) => status,
     }

@@ -4,6 +4,7 @@ use crate::images::{failed, load, no_memory};
 use crate::screen::Screen;
 use any_device::AnyDevice;
 use image_report::describe;
+use job_check::FileName;
 use job_media::{MediaError, device_from};
 use job_script::{JobError, Medium, UnitSetup};
 use medium_image::{Image, Size};
@@ -47,6 +48,7 @@ pub fn describe_all(
 }
 
 fn describe_one<W: Write>(out: &mut W, name: &str, image: &LoadedImage) -> io::Result<()> {
+    let name = FileName(name);
     let format = image.format;
     writeln!(out, "{name}: {format}")?;
     describe(out, &image.device)
@@ -59,6 +61,7 @@ pub fn loaded(rt: &HostRuntime, name: &str) -> Result<LoadedImage, u8> {
     let image = load(rt, name)?;
     let format = match &image {
         Image::Disk(_) => "disk image, CKD_P370",
+        Image::Tape(image) if image.tape.used() == 0 => "tape image, AWSTAPE: the file is empty",
         Image::Tape(_) => "tape image, AWSTAPE",
     };
     let unit = unit_of(rt.alloc(), image.size());

@@ -11,25 +11,27 @@
 
 mod convert;
 mod describe;
-mod hint;
+mod held;
 mod images;
+mod no_image;
 mod outcomes;
 mod pictures;
 mod progress;
+mod rejected;
 mod replacement;
 mod report;
 mod saver;
 mod scenario;
 mod screen;
 mod script;
-mod taken;
+mod target;
 mod words;
 
 use convert::{make_image, print_lines};
 use describe::describe_all;
 use images::load_all;
 use job_assembler::assemble_script;
-use job_check::{Source, check_script_on};
+use job_check::{FileName, Source, check_script_on};
 use job_options::{Format, Order, OutcomeOptions, RunFiles, Words};
 use job_run::Workers;
 use job_script::JobError;
@@ -47,6 +49,7 @@ use std::io::{ErrorKind, IsTerminal, Read};
 use std::process::ExitCode;
 use std::sync::Wait;
 use std::thread::Threads;
+use target::Targets;
 
 /// The exit status of a script that is rejected, and of a file that cannot be read.
 const REJECTED: u8 = 1;
@@ -76,7 +79,14 @@ fn main(rt: HostRuntime) -> ExitCode {
             explored(&rt, &asked, file)
         }
         Ok(Words::Describe(names)) => of_images(&rt, &names),
-        Ok(Words::Convert { to, file, output }) => converted(&rt, to, &file, output),
+        Ok(
+            Words::Convert {
+                to,
+                file,
+                output,
+                force,
+            },
+        ) => converted(&rt, to, &file, output, force),
         Err(status) => status,
     };
     ExitCode::from(status)
@@ -103,7 +113,21 @@ fn explored(rt: &HostRuntime, asked: &Exploring, file: Option<String>) -> u8 {
 
 /// Prints every outcome of the script that is read, and returns the exit status.
 fn explore<I: Read>(rt: &HostRuntime, asked: &Exploring, input: &mut I, name: &str) -> u8 {
-    let images = match load_all(rt, &asked.media) {
+    match Targets::of(rt, name, &asked.media) {
+        Ok(targets) => explore_by(rt, asked, input, name, &targets),
+        Err(status) => status,
+    }
+}
+
+/// Does so, and writes scenarios by these rules.
+fn explore_by<I: Read>(
+    rt: &HostRuntime,
+    asked: &Exploring,
+    input: &mut I,
+    name: &str,
+    targets: &Targets<'_>,
+) -> u8 {
+    let images = match load_all(rt, &asked.media.loads) {
         Ok(images) => images,
         Err(status) => return status,
     };
@@ -112,6 +136,7 @@ fn explore<I: Read>(rt: &HostRuntime, asked: &Exploring, input: &mut I, name: &s
         options: asked.options,
         name,
         media: &asked.media,
+        targets,
         directory: match &asked.scenarios {
             Some(name) => Some(name.as_str()),
             None => None,
@@ -128,10 +153,16 @@ fn of_images(rt: &HostRuntime, names: &[String]) -> u8 {
 }
 
 /// Converts an image to lines, or lines to an image, and returns the exit status.
-fn converted(rt: &HostRuntime, to: Option<Format>, name: &str, output: Option<String>) -> u8 {
+fn converted(
+    rt: &HostRuntime,
+    to: Option<Format>,
+    name: &str,
+    output: Option<String>,
+    force: bool,
+) -> u8 {
     let is_broken = Cell::new(false);
     let done = match (to, output) {
-        (Some(format), Some(output)) => make_image(rt, format, name, &output),
+        (Some(format), Some(output)) => make_image(rt, format, name, &output, force),
         _ => print_lines(rt, name, &is_broken),
     };
     ended(rt, done, is_broken.get())
@@ -189,7 +220,7 @@ fn why_unopened(kind: ErrorKind) -> &'static str {
 
 /// Prints why the script in a file is not read, and returns the exit status.
 fn unreadable(rt: &HostRuntime, name: &str, why: &str) -> u8 {
-    let _ = eprintln!(rt; "excp_job: {name}: {why}");
+    let _ = eprintln!(rt; "excp_job: {}: {why}", FileName(name));
     REJECTED
 }
 
@@ -203,7 +234,23 @@ fn carry_out<R: Threads + Wait + Sync, I: Read>(
     input: &mut I,
     name: &str,
 ) -> u8 {
-    let images = match load_all(rt, media) {
+    match Targets::of(rt, name, media) {
+        Ok(targets) => carry_out_by(rt, threads, order, media, input, name, &targets),
+        Err(status) => status,
+    }
+}
+
+/// Does so, and writes files by these rules.
+fn carry_out_by<R: Threads + Wait + Sync, I: Read>(
+    rt: &HostRuntime,
+    threads: &R,
+    order: Order,
+    media: &RunFiles,
+    input: &mut I,
+    name: &str,
+    targets: &Targets<'_>,
+) -> u8 {
+    let images = match load_all(rt, &media.loads) {
         Ok(images) => images,
         Err(status) => return status,
     };
@@ -219,6 +266,7 @@ fn carry_out<R: Threads + Wait + Sync, I: Read>(
                 print,
                 seed,
                 files: media,
+                targets,
                 name,
                 is_broken: &is_broken,
             };
@@ -230,6 +278,7 @@ fn carry_out<R: Threads + Wait + Sync, I: Read>(
             let asked = StepOrder {
                 options,
                 media,
+                targets,
                 name,
                 is_broken: &is_broken,
             };

@@ -1,17 +1,18 @@
 //! Every outcome of a script, and the files of their scenarios.
 
-use crate::hint::with_hint;
-use crate::replacement::ReplaceError;
+use crate::rejected::{ReadScript, with_findings};
+use crate::replacement::{BESIDE, ReplaceError};
 use crate::saver::{said, undeclared};
 use crate::screen::Screen;
 use crate::script::{SizedScript, sized};
-use crate::taken::Taken;
+use crate::target::{Output, Targets};
 use job_media::{MountedImages, mount_images};
 use job_options::{OutcomeOptions, RunFiles};
 use job_outcomes::{Asked, ScenarioKeeper, write_outcomes};
 use job_script::{JobError, read_script};
 use medium_image::Image;
 use request_piece::Name;
+use std::alloc::AllocError;
 use std::cell::Cell;
 use std::fs;
 use std::io::{BufWriter, ErrorKind, Read, Write};
@@ -25,6 +26,7 @@ pub struct OutcomeOrder<'a> {
     pub options: OutcomeOptions,
     pub name: &'a str,
     pub media: &'a RunFiles,
+    pub targets: &'a Targets<'a>,
     pub directory: Option<&'a str>,
     /// Set once nothing reads any more what is printed.
     pub is_broken: &'a Cell<bool>,
@@ -35,7 +37,7 @@ pub struct OutcomeOrder<'a> {
 struct Directory<'a> {
     rt: &'a HostRuntime,
     name: Option<&'a str>,
-    taken: Taken<'a>,
+    targets: &'a Targets<'a>,
     /// The exit status.
     status: u8,
 }
@@ -53,7 +55,7 @@ impl<'a> ScenarioKeeper for Directory<'a> {
         let file = format!(in self.rt.alloc();
             "{directory}/post-{task}-{unit}-{seq}-{number}.scenario"
         )?;
-        self.status = self.taken.replace(file.as_str(), text);
+        self.status = self.targets.replace(Output::text(file.as_str()), text);
         Ok(())
     }
 
@@ -62,8 +64,17 @@ impl<'a> ScenarioKeeper for Directory<'a> {
             return Ok(());
         };
         let file = format!(in self.rt.alloc(); "{directory}/output-{number}.scenario")?;
-        self.status = self.taken.replace(file.as_str(), text);
+        self.status = self.targets.replace(Output::text(file.as_str()), text);
         Ok(())
+    }
+}
+
+/// Makes the directory for scenarios, if it is not there, and tests that each scenario there may be replaced. Returns the exit
+/// status.
+fn made_ready(rt: &HostRuntime, targets: &Targets<'_>, name: &str) -> Result<u8, AllocError> {
+    match make_directory(rt, name) {
+        0 => tested(rt, targets, name),
+        status => Ok(status),
     }
 }
 
@@ -79,6 +90,48 @@ fn make_directory(rt: &HostRuntime, name: &str) -> u8 {
     }
 }
 
+/// Tests that a scenario may be written into a directory, and in the place of each that is in it. Returns the exit status.
+fn tested(rt: &HostRuntime, targets: &Targets<'_>, directory: &str) -> Result<u8, AllocError> {
+    let entries = match fs::read_dir(rt, directory) {
+        Ok(entries) => entries,
+        Err(error) => return Ok(said(rt, directory, error.into())),
+    };
+    let mut status = allowed(rt, targets, directory, "post-0-0-1-1.scenario")?;
+    for entry in entries {
+        if status != 0 {
+            return Ok(status);
+        }
+        status = match entry {
+            Ok(entry) => match scenario_of(entry.file_name()) {
+                Some(name) => allowed(rt, targets, directory, name)?,
+                None => 0,
+            },
+            // it is not UTF-8, so it is no name of a scenario
+            Err(error) if error.kind() == ErrorKind::InvalidFilename => 0,
+            Err(error) => said(rt, directory, error.into()),
+        };
+    }
+    Ok(status)
+}
+
+/// The name of the scenario that is in the file of this name, or that a killed run left in it.
+fn scenario_of(file: &str) -> Option<&str> {
+    let name = file.strip_suffix(BESIDE).unwrap_or(file);
+    let is_scenario = name.starts_with("post-") || name.starts_with("output-");
+    (is_scenario && name.ends_with(".scenario")).then_some(name)
+}
+
+/// Whether a scenario of this name may be written. If not, it prints why. Returns the exit status.
+fn allowed(
+    rt: &HostRuntime,
+    targets: &Targets<'_>,
+    directory: &str,
+    name: &str,
+) -> Result<u8, AllocError> {
+    let file = format!(in rt.alloc(); "{directory}/{name}")?;
+    Ok(targets.allows(Output::text(file.as_str())))
+}
+
 /// Prints every outcome of the script that is read, and returns the exit status.
 pub fn outcomes<I: Read>(
     rt: &HostRuntime,
@@ -88,7 +141,12 @@ pub fn outcomes<I: Read>(
 ) -> Result<u8, JobError> {
     let text = read_script(rt.alloc(), input)?;
     let done = outcomes_of_text(rt, &text, asked, images);
-    with_hint(rt, done, asked.name, &text)
+    let script = ReadScript {
+        name: asked.name,
+        text: &text,
+        loads: &asked.media.loads,
+    };
+    with_findings(rt, done, script)
 }
 
 /// Does so with the script of this text.
@@ -108,9 +166,9 @@ fn outcomes_of_text(
     let mut directory = Directory {
         rt,
         name: asked.directory,
-        taken: Taken::of(rt, asked.name, asked.media)?,
+        targets: asked.targets,
         status: match asked.directory {
-            Some(name) => make_directory(rt, name),
+            Some(name) => made_ready(rt, asked.targets, name)?,
             None => 0,
         },
     };

@@ -1,5 +1,6 @@
 //! How far the reading or writing of a large file is, on a terminal.
 
+use job_check::FileName;
 use std::io::{IsTerminal, Read, Result, Write};
 
 /// How many bytes go by from one line of progress to the next, and before the first.
@@ -41,7 +42,7 @@ impl<'a, F> Progress<'a, F> {
             self.steps = steps;
             let _ = eprint!(self.rt;
                 "\rexcp_job: {}: {} MiB {}",
-                self.name,
+                FileName(self.name),
                 self.bytes >> 20,
                 self.done
             );

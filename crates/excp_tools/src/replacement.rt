@@ -1,38 +1,55 @@
 //! Files that are replaced whole: what is written goes to a new file beside the old one, which takes its place at the end.
 //! After an error the old file is as it was.
 
+use crate::held::Held;
+use crate::target::{Content, Output};
 use ckd_image::{DiskModel, MODELS};
 use medium_image::SaveError;
 use std::alloc::AllocError;
 use std::fmt::{Display, Formatter};
 use std::fs::{File, OpenOptions};
-use std::io::{ErrorKind, Write};
+use std::io::ErrorKind;
+use std::os::unix::fs::MetadataExt;
 use std::{fmt, fs, io};
+use unit_history::Count;
 
 /// What is added to the name of a file for the new one beside it. A run that is killed leaves it.
 pub const BESIDE: &str = ".excp-new";
 
 /// A file that is to be replaced, and the new one beside it.
 #[derive(Drop)]
-pub struct Replacement {
+pub struct Replacement<'a> {
+    output: Output<'a>,
     target: String,
     beside: String,
     file: File,
 }
 
 /// Why a file is not replaced.
-#[derive(Clone, Copy, PartialEq, Eq)]
+#[derive(Clone, Copy)]
 pub enum ReplaceError {
-    /// It is a directory, a device or the like.
+    /// It is a directory.
+    Directory,
+    /// It is a device, a pipe or a socket.
     NotAFile,
     /// It is a link to a file that is not there.
     DeadLink,
     /// The same command reads or saves it.
     Taken,
+    /// It holds what this content does not replace.
+    Holds { held: Held, content: Content },
+    /// This user may not write it.
+    ReadOnly,
+    /// Another program has written it since it was read.
+    Changed,
+    /// Its name leads to another file than before.
+    Moved,
     /// It is to be a directory, and is none.
     NoDirectory,
-    /// An earlier run that was killed left a new file beside it.
+    /// A new file is beside it, of another run or left by one that was killed.
     LeftBeside,
+    /// Another run has replaced the new file beside it.
+    Gone,
     /// It is to be the image of a disk with these heads and bytes a track, and no model has them.
     NoModel { heads: u16, track_bytes: u32 },
     NoMemory,
@@ -68,21 +85,36 @@ impl From<SaveError> for ReplaceError {
 
 impl Display for ReplaceError {
     fn fmt<W: fmt::Write>(&self, f: &mut Formatter<W>) -> fmt::Result {
-        let why = match self {
-            ReplaceError::NotAFile => "it is not a regular file",
+        match self {
+            ReplaceError::Holds { held, content } => write_held(f, *held, *content),
+            ReplaceError::NoModel { heads, track_bytes } => write_models(f, *heads, *track_bytes),
+            _ => f.write_str(self.text()),
+        }
+    }
+}
+
+impl ReplaceError {
+    /// It in words, but for what a file holds and for the models of disks.
+    fn text(&self) -> &'static str {
+        match self {
+            ReplaceError::Directory => "it is a directory",
+            ReplaceError::NotAFile => "it is a device or a pipe",
             ReplaceError::DeadLink => "it is a link to a file that is not there",
             ReplaceError::Taken => "this command reads or saves it: name another file",
+            ReplaceError::ReadOnly => "this user may not write it: only --force replaces it",
+            ReplaceError::Changed => {
+                "another program has written it since it was read: only --force replaces it"
+            }
+            ReplaceError::Moved => "its name leads to another file than before the run",
             ReplaceError::NoDirectory => "it is not a directory",
             ReplaceError::LeftBeside => {
-                "a run that was killed left a file beside it, with .excp-new after its name: remove that one"
+                "another run is writing it, or one that was killed left a file with .excp-new after its name"
             }
-            ReplaceError::NoModel { heads, track_bytes } => {
-                return write_models(f, *heads, *track_bytes);
-            }
+            ReplaceError::Gone => "another run has replaced the new file beside it",
             ReplaceError::NoMemory => "out of memory",
             ReplaceError::Io(kind) => why_unwritten(*kind),
-        };
-        f.write_str(why)
+            _ => why_unwritten(ErrorKind::Other),
+        }
     }
 }
 
@@ -92,16 +124,27 @@ fn why_unwritten(kind: ErrorKind) -> &'static str {
         ErrorKind::StorageFull => "the disk is full",
         ErrorKind::FileTooLarge => "the file gets larger than this user's files may be",
         ErrorKind::NotFound | ErrorKind::NotADirectory => "there is no such directory",
-        ErrorKind::PermissionDenied => "this user has no permission to write it",
+        ErrorKind::PermissionDenied => "this user has no permission to write in its directory",
+        ErrorKind::ReadOnlyFilesystem => "its file system is read-only",
         _ => "the file cannot be written",
     }
+}
+
+/// Writes what a file holds, and that this content does not replace it.
+fn write_held<W: fmt::Write>(f: &mut Formatter<W>, held: Held, content: Content) -> fmt::Result {
+    let (held, content) = (held.text(), content.text());
+    write!(
+        f,
+        "it holds {held}, which {content} replaces only with --force"
+    )
 }
 
 /// Writes that no model of a disk has these numbers, and those of all models.
 fn write_models<W: fmt::Write>(f: &mut Formatter<W>, heads: u16, track_bytes: u32) -> fmt::Result {
     write!(
         f,
-        "no model of a disk has {heads} heads and {track_bytes} bytes a track; the models are"
+        "no model of a disk has {} and {track_bytes} bytes a track; the models are",
+        Count::new(u64::from(heads), "head", "heads")
     )?;
     for model in &MODELS {
         let DiskModel {
@@ -115,10 +158,10 @@ fn write_models<W: fmt::Write>(f: &mut Formatter<W>, heads: u16, track_bytes: u3
     Ok(())
 }
 
-impl Replacement {
-    /// Begins to replace the file of this name, or to make it. A link stays, and the file that it names is replaced.
-    pub fn begin(rt: &HostRuntime, name: &str) -> Result<Self, ReplaceError> {
-        let target = target_of(rt, name)?;
+impl<'a> Replacement<'a> {
+    /// Begins to replace this file, or to make it. A link stays, and the file that it names is replaced.
+    pub fn begin(rt: &HostRuntime, output: Output<'a>) -> Result<Self, ReplaceError> {
+        let target = target_of(rt, output.name)?;
         let mut beside = String::from_str(rt.alloc(), target.as_str())?;
         beside.push_str(BESIDE)?;
         let file = match OpenOptions::new()
@@ -133,6 +176,7 @@ impl Replacement {
             Err(error) => return Err(error.into()),
         };
         let replacement = Replacement {
+            output,
             target,
             beside,
             file,
@@ -165,13 +209,21 @@ impl Replacement {
         Ok(self.file.sync_all()?)
     }
 
-    /// The name of the file that is replaced.
+    /// What was asked for.
+    pub fn output(&self) -> Output<'a> {
+        self.output
+    }
+
+    /// The file that is replaced, by its name through all links.
     pub fn target(&self) -> &str {
         self.target.as_str()
     }
 
     /// Puts the new file in the place of the old one, or removes it.
     pub fn finish(&self, rt: &HostRuntime) -> Result<(), ReplaceError> {
+        if self.is_gone(rt) {
+            return Err(ReplaceError::Gone);
+        }
         match fs::rename(rt, self.beside.as_str(), self.target.as_str()) {
             Ok(()) => Ok(()),
             Err(error) => {
@@ -183,18 +235,19 @@ impl Replacement {
 
     /// Removes the new file. The old one stays as it was.
     pub fn abandon(&self, rt: &HostRuntime) {
-        let _ = fs::remove_file(rt, self.beside.as_str());
+        if !self.is_gone(rt) {
+            let _ = fs::remove_file(rt, self.beside.as_str());
+        }
     }
-}
 
-/// Replaces the file of this name by one of this text, or makes it.
-pub fn replace_file(rt: &HostRuntime, name: &str, text: &[u8]) -> Result<(), ReplaceError> {
-    let mut replacement = Replacement::begin(rt, name)?;
-    match replacement.file().write_all(text) {
-        Ok(()) => replacement.finish(rt),
-        Err(error) => {
-            replacement.abandon(rt);
-            Err(error.into())
+    /// Whether another file has the name of the new one.
+    fn is_gone(&self, rt: &HostRuntime) -> bool {
+        match (
+            self.file.metadata(),
+            fs::symlink_metadata(rt, self.beside.as_str()),
+        ) {
+            (Ok(own), Ok(there)) => own.dev() != there.dev() || own.ino() != there.ino(),
+            _ => false,
         }
     }
 }
@@ -202,6 +255,7 @@ pub fn replace_file(rt: &HostRuntime, name: &str, text: &[u8]) -> Result<(), Rep
 /// The file that a name comes to, through all links.
 pub fn target_of(rt: &HostRuntime, name: &str) -> Result<String, ReplaceError> {
     match fs::metadata(rt, name) {
+        Ok(metadata) if metadata.is_dir() => Err(ReplaceError::Directory),
         Ok(metadata) if !metadata.is_file() => Err(ReplaceError::NotAFile),
         Ok(_) => {
             let path = fs::canonicalize(rt, name)?;

@@ -1,11 +1,11 @@
 //! A run of a script, on threads or by a seed, and its report.
 
-use crate::hint::with_hint;
 use crate::pictures::{Left, print_script};
+use crate::rejected::{ReadScript, with_findings};
 use crate::saver::{Medium, Saver};
 use crate::screen::Screen;
 use crate::script::{SizedScript, sized};
-use crate::taken::Taken;
+use crate::target::{Output, Targets};
 use crate::{takes_colour, workers};
 use any_device::AnyDevice;
 use job_media::{MountedImages, mount_images};
@@ -29,6 +29,7 @@ pub struct ReportOrder<'a> {
     pub print: Print,
     pub seed: Option<u64>,
     pub files: &'a RunFiles,
+    pub targets: &'a Targets<'a>,
     pub name: &'a str,
     /// Set once nothing reads any more what is printed.
     pub is_broken: &'a Cell<bool>,
@@ -42,16 +43,20 @@ pub fn report<R: Threads + Wait + Sync, I: Read>(
     asked: ReportOrder<'_>,
     images: Vec<Option<Image>>,
 ) -> Result<u8, JobError> {
-    let taken = Taken::of(rt, asked.name, asked.files)?;
     if let Some(name) = &asked.files.scenario {
-        let status = taken.leaves(name.as_str());
+        let status = asked.targets.allows(Output::text(name.as_str()));
         if status != 0 {
             return Ok(status);
         }
     }
     let text = read_script(rt.alloc(), input)?;
-    let done = report_text(rt, threads, &text, asked, images, &taken);
-    with_hint(rt, done, asked.name, &text)
+    let done = report_text(rt, threads, &text, asked, images);
+    let script = ReadScript {
+        name: asked.name,
+        text: &text,
+        loads: &asked.files.loads,
+    };
+    with_findings(rt, done, script)
 }
 
 /// Does so with the script of this text.
@@ -61,13 +66,12 @@ fn report_text<R: Threads + Wait + Sync>(
     text: &[u8],
     asked: ReportOrder<'_>,
     images: Vec<Option<Image>>,
-    taken: &Taken<'_>,
 ) -> Result<u8, JobError> {
     let is_plain = images.is_empty() && asked.files.saves.is_empty() && asked.seed.is_none();
     let steps = match asked.print {
         Print::Report if is_plain => None,
         Print::Steps(most) if is_plain => Some(most),
-        _ => return report_parsed(rt, threads, text, asked, images, taken),
+        _ => return report_parsed(rt, threads, text, asked, images),
     };
     let mut out = screen(rt, asked)?;
     let mut input = text;
@@ -89,11 +93,10 @@ fn report_parsed<R: Threads + Wait + Sync>(
     text: &[u8],
     asked: ReportOrder<'_>,
     images: Vec<Option<Image>>,
-    taken: &Taken<'_>,
 ) -> Result<u8, JobError> {
     let alloc = rt.alloc();
     let SizedScript { text, script } = sized(alloc, text, &images)?;
-    let mut saver = Saver::new(rt, asked.files);
+    let mut saver = Saver::new(rt, asked.files, asked.targets);
     if !saver.begin(&script.set_up.units) {
         return Ok(saver.finish());
     }
@@ -103,7 +106,11 @@ fn report_parsed<R: Threads + Wait + Sync>(
             let scenario = &asked.files.scenario;
             let run = run_seeded(alloc, &text, &script, devices, seed, scenario.is_some())?;
             if let Some(name) = scenario {
-                saver.fail(taken.replace(name.as_str(), &run.scenario));
+                saver.fail(
+                    asked
+                        .targets
+                        .replace(Output::text(name.as_str()), &run.scenario),
+                );
             }
             let left = Left {
                 tasks: &run.tasks,

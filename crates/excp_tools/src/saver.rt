@@ -3,9 +3,11 @@
 use crate::images::{failed, no_memory};
 use crate::progress::Progress;
 use crate::replacement::{ReplaceError, Replacement};
+use crate::target::{Content, Output, Targets};
 use any_device::AnyDevice;
 use ckd_image::Kept;
-use job_options::RunFiles;
+use job_check::FileName;
+use job_options::{RunFiles, UnitFile};
 use job_script::UnitSetup;
 use medium_image::save;
 use std::io::{BufWriter, Write};
@@ -29,39 +31,54 @@ pub struct Medium<'a> {
 pub struct Saver<'a> {
     rt: &'a HostRuntime,
     media: &'a RunFiles,
-    written: Vec<Replacement>,
+    targets: &'a Targets<'a>,
+    written: Vec<Replacement<'a>>,
     /// The exit status.
     status: u8,
 }
 
 impl<'a> Saver<'a> {
-    /// Saves units to the files that the command line names.
-    pub fn new(rt: &'a HostRuntime, media: &'a RunFiles) -> Self {
+    /// Saves units to the files that the command line names, by these rules.
+    pub fn new(rt: &'a HostRuntime, media: &'a RunFiles, targets: &'a Targets<'a>) -> Self {
         Saver {
             rt,
             media,
+            targets,
             written: Vec::new(rt.alloc()),
             status: 0,
         }
     }
 
-    /// Whether the command line fits the units of a script: each that it names is declared, and each disk that is to be
-    /// saved comes from an image or is a model. Asked before a run. If not, it prints why, and nothing is saved.
+    /// Whether the command line fits the units of a script: each that it names is declared, and each disk that is to be saved
+    /// comes from an image or is a model. Each file may be written. Asked before a run. If not, it prints why, and nothing is
+    /// saved.
     pub fn begin(&mut self, units: &[UnitSetup]) -> bool {
         self.status = undeclared(self.rt, self.media, units);
-        if self.status != 0 {
-            return false;
-        }
         for file in &self.media.saves {
-            if let Some(unit) = units.get(usize::from(file.unit))
-                && !self.is_loaded(file.unit)
-                && let Err(error) = is_model(self.rt, unit)
+            if self.status == 0
+                && let Some(unit) = units.get(usize::from(file.unit))
             {
-                self.status = said(self.rt, file.file.as_str(), error);
-                return false;
+                self.status = self.tested(file, unit);
             }
         }
-        true
+        self.status == 0
+    }
+
+    /// Whether the medium of a unit can be saved to its file. If not, it prints why. Returns the exit status.
+    fn tested(&self, file: &UnitFile, unit: &UnitSetup) -> u8 {
+        let output = Output {
+            name: file.file.as_str(),
+            content: match unit.medium {
+                job_script::Medium::Disk(..) => Content::Disk,
+                job_script::Medium::Tape(..) => Content::Tape,
+                job_script::Medium::Printer { .. } => Content::Text,
+            },
+            unit: Some(file.unit),
+        };
+        match is_model(self.rt, unit) {
+            Err(error) if !self.is_loaded(file.unit) => said(self.rt, output.name, error),
+            _ => self.targets.allows(output),
+        }
     }
 
     /// Something else of the run failed with this exit status: nothing is saved.
@@ -79,16 +96,22 @@ impl<'a> Saver<'a> {
         if self.status != 0 {
             return;
         }
-        for file in &self.media.saves {
+        let media = self.media;
+        for file in &media.saves {
             if usize::from(file.unit) == unit {
-                self.status = self.write_to(file.file.as_str(), medium);
+                let output = Output {
+                    name: file.file.as_str(),
+                    content: content_of(medium.now),
+                    unit: Some(file.unit),
+                };
+                self.status = self.write_to(output, medium);
             }
         }
     }
 
-    /// Writes a medium beside the file of this name, and returns the exit status.
-    fn write_to(&mut self, name: &str, medium: Medium<'_>) -> u8 {
-        match written_beside(self.rt, name, medium) {
+    /// Writes a medium beside its file, and returns the exit status.
+    fn write_to(&mut self, output: Output<'a>, medium: Medium<'_>) -> u8 {
+        match written_beside(self.rt, output, medium) {
             Ok(replacement) => match self.written.push(replacement) {
                 Ok(()) => 0,
                 Err(refused) => {
@@ -100,14 +123,28 @@ impl<'a> Saver<'a> {
         }
     }
 
-    /// Replaces all files, or none if a medium was not written. Returns the exit status.
+    /// Replaces all files, up to the first that cannot be, or none if a medium was not written or a file may no longer be. Returns
+    /// the exit status.
     pub fn finish(self) -> u8 {
-        let mut status = self.status;
+        let mut status = self.confirmed();
         for replacement in &self.written {
-            if self.status != 0 {
+            if status != 0 {
                 replacement.abandon(self.rt);
             } else if let Err(error) = replacement.finish(self.rt) {
-                status = said(self.rt, replacement.target(), error);
+                status = said(self.rt, replacement.output().name, error);
+            }
+        }
+        status
+    }
+
+    /// Whether all files may still be replaced. If not, it prints why. Returns the exit status.
+    fn confirmed(&self) -> u8 {
+        let mut status = self.status;
+        for replacement in &self.written {
+            if status == 0
+                && let Err(error) = self.targets.confirm(replacement)
+            {
+                status = said(self.rt, replacement.output().name, error);
             }
         }
         status
@@ -119,7 +156,7 @@ pub fn undeclared(rt: &HostRuntime, media: &RunFiles, units: &[UnitSetup]) -> u8
     for file in media.loads.iter().chain(&media.saves) {
         if usize::from(file.unit) >= units.len() {
             let unit = file.unit;
-            let name = file.file.as_str();
+            let name = FileName(file.file.as_str());
             let _ = eprintln!(rt; "excp_job: {unit}={name}: no line declares unit {unit}");
             return REJECTED;
         }
@@ -144,19 +181,32 @@ fn is_model(rt: &HostRuntime, unit: &UnitSetup) -> Result<(), ReplaceError> {
     }
 }
 
-/// Writes a medium to a new file beside the one of this name.
+/// What is written of a device.
+fn content_of(device: &AnyDevice) -> Content {
+    match device {
+        AnyDevice::Disk(_) => Content::Disk,
+        AnyDevice::Tape(_) => Content::Tape,
+        AnyDevice::Printer(_) => Content::Text,
+    }
+}
+
+/// Writes a medium to a new file beside this one.
 ///
 /// Error: what is wrong was printed; the exit status.
-pub fn written_beside(rt: &HostRuntime, name: &str, medium: Medium<'_>) -> Result<Replacement, u8> {
-    let mut replacement = match Replacement::begin(rt, name) {
+pub fn written_beside<'a>(
+    rt: &HostRuntime,
+    output: Output<'a>,
+    medium: Medium<'_>,
+) -> Result<Replacement<'a>, u8> {
+    let mut replacement = match Replacement::begin(rt, output) {
         Ok(replacement) => replacement,
-        Err(error) => return Err(said(rt, name, error)),
+        Err(error) => return Err(said(rt, output.name, error)),
     };
-    match write_medium(rt, name, &mut replacement, medium) {
+    match write_medium(rt, output.name, &mut replacement, medium) {
         Ok(()) => Ok(replacement),
         Err(error) => {
             replacement.abandon(rt);
-            Err(said(rt, name, error))
+            Err(said(rt, output.name, error))
         }
     }
 }
@@ -165,7 +215,7 @@ pub fn written_beside(rt: &HostRuntime, name: &str, medium: Medium<'_>) -> Resul
 fn write_medium(
     rt: &HostRuntime,
     name: &str,
-    replacement: &mut Replacement,
+    replacement: &mut Replacement<'_>,
     medium: Medium<'_>,
 ) -> Result<(), ReplaceError> {
     let mut progress = Progress::new(rt, name, "written", replacement.file());

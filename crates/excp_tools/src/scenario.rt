@@ -3,6 +3,7 @@
 use crate::pictures::print_run;
 use crate::saver::{Medium, Saver};
 use crate::screen::Screen;
+use crate::target::Targets;
 use crate::{REJECTED, takes_colour};
 use any_device::AnyDevice;
 use job_check::Source;
@@ -21,6 +22,7 @@ use unit_history::HistoryError;
 pub struct StepOrder<'a> {
     pub options: StepOptions,
     pub media: &'a RunFiles,
+    pub targets: &'a Targets<'a>,
     pub name: &'a str,
     /// Set once nothing reads any more what is printed.
     pub is_broken: &'a Cell<bool>,
@@ -97,7 +99,7 @@ fn carry_out<R: Wait, I: Read, W: Write>(
     };
     let mut keeper = EndKeeper {
         rt,
-        saver: Saver::new(rt, asked.media),
+        saver: Saver::new(rt, asked.media, asked.targets),
         print: asked.options.print,
         is_broken: asked.is_broken,
     };

@@ -7,6 +7,7 @@ use ckd_disk::{Disk, Stored};
 use device_port::Device;
 use std::io;
 use std::io::Write;
+use unit_history::Count;
 
 /// What the records of a disk come to, R0 left out.
 #[derive(Clone, Copy)]
@@ -17,17 +18,21 @@ struct Totals {
 
 /// Writes what lies on a disk.
 pub fn describe_disk<W: Write>(out: &mut W, disk: &Disk) -> io::Result<()> {
-    let Totals { records, longest } = totals_of(disk);
     let cylinders = disk.cylinders();
     let heads = disk.heads();
     let bytes = track_bytes(disk);
     writeln!(
         out,
-        "  {cylinders} cylinders of {heads} heads, {bytes} bytes a track"
+        "  {} of {}, {bytes} bytes a track",
+        Count::new(u64::from(cylinders), "cylinder", "cylinders"),
+        Count::new(u64::from(heads), "head", "heads")
     )?;
+    let Totals { records, longest } = totals_of(disk);
     writeln!(
         out,
-        "  {records} records beside R0, the longest data area of {longest} bytes"
+        "  {} beside R0, the longest data area of {}",
+        Count::new(records, "record", "records"),
+        Count::new(longest as u64, "byte", "bytes")
     )?;
     writeln!(
         out,

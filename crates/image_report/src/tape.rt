@@ -5,6 +5,10 @@ use crate::label::{Label, label_of};
 use std::io;
 use std::io::Write;
 use tape_unit::{Stored, Tape};
+use unit_history::Count;
+
+/// The fewest bytes of a tape.
+const LEAST: u64 = 4;
 
 /// What the items of a tape come to.
 #[derive(Clone, Copy)]
@@ -61,8 +65,12 @@ pub fn describe_tape<W: Write>(out: &mut W, tape: &Tape) -> io::Result<()> {
     } = totals;
     writeln!(
         out,
-        "  {blocks} blocks, the longest of {longest} bytes; {marks} tape marks"
+        "  {}, the longest of {}; {}",
+        Count::new(blocks, "block", "blocks"),
+        Count::new(u64::from(longest), "byte", "bytes"),
+        Count::new(marks, "tape mark", "tape marks")
     )?;
+    let bytes = bytes.max(LEAST);
     writeln!(out, "  line of a script: tape U ISC {bytes}")?;
     describe_labels(out, tape)
 }

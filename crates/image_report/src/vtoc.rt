@@ -8,6 +8,7 @@ use ckd_disk::{Disk, Stored};
 use device_port::Device;
 use std::io::Write;
 use std::{fmt, io};
+use unit_history::Count;
 
 /// The identifiers of blocks of formats 1 and 4, in EBCDIC.
 const FORMAT_1: u8 = 0xF1;
@@ -114,17 +115,17 @@ fn describe_data_set<W: Write>(out: &mut W, heads: u16, record: &Stored<'_>) -> 
     if record.key().len() != 44 || byte(block, 0) != FORMAT_1 {
         return Ok(());
     }
-    let extents = byte(block, 15);
+    let extents = Count::new(u64::from(byte(block, 15)), "extent", "extents");
     let first = Extent::at(block, EXTENT);
+    let tracks = Count::new(u64::from(first.tracks(heads)), "track", "tracks");
     writeln!(
         out,
-        "  data set {}: {} {}, block length {}, record length {}, {extents} extents, the first of {} tracks from {} {}",
+        "  data set {}: {} {}, block length {}, record length {}, {extents}, the first of {tracks} from {} {}",
         Trimmed(record.key()),
         Organization(halfword(block, 38)),
         Format(byte(block, 40)),
         halfword(block, 42),
         halfword(block, 44),
-        first.tracks(heads),
         first.first.cylinder,
         first.first.head
     )

@@ -5,6 +5,7 @@ ghost use Rattle.std.specs.Prelude.{◌≤◌, IfOk};
 use crate::finding::{Refusal, Wrong};
 use crate::labels::{Labels, is_label};
 use crate::numbers::{TOP, hexadecimal, value_of};
+use job_script::FaultName;
 
 const NO_ADDRESS: &str = "not an address: expected a label, * or a number, then +N, -N or nothing";
 
@@ -61,7 +62,7 @@ fn term_address<'a>(
         return Ok(address);
     }
     if is_label(term) {
-        let mut wrong = Wrong::of(term, unknown);
+        let mut wrong = Wrong::named(FaultName::Name, term, unknown);
         wrong.meant = labels.nearest(term)?;
         return Err(Refusal::Wrong(wrong));
     }

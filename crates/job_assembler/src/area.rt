@@ -6,6 +6,7 @@ use crate::address::{NOT_EARLIER, UNDEFINED, address};
 use crate::finding::{Finding, Refusal, Wrong, note};
 use crate::labels::Labels;
 use crate::numbers::TOP;
+use job_script::FaultName;
 use std::alloc::{AllocError, Global};
 
 /// The most bytes of an area (docs/SPECIFICATION.md, "Limits").
@@ -89,7 +90,7 @@ impl<'a> Area<'a> {
     {
         if end > LONGEST || self.base.saturating_add(end) > TOP + 1 {
             self.is_full = true;
-            return Err(Refusal::Wrong(Wrong::line(NO_ROOM)));
+            return Err(Refusal::Wrong(Wrong::named(FaultName::Area, &[], NO_ROOM)));
         }
         let len = end as usize;
         if self.bytes.len() < len {
@@ -105,7 +106,7 @@ impl<'a> Area<'a> {
         }
         let start = self.next;
         let Ok(count) = u32::try_from(image.len()) else {
-            return Err(Refusal::Wrong(Wrong::line(NO_ROOM)));
+            return Err(Refusal::Wrong(Wrong::named(FaultName::Area, &[], NO_ROOM)));
         };
         let end = start.saturating_add(count);
         self.reach(end)?;
@@ -129,10 +130,10 @@ impl<'a> Area<'a> {
             return Ok(());
         }
         let Some(next) = target.checked_sub(self.base) else {
-            return Err(Refusal::Wrong(Wrong::of(expression, OUTSIDE)));
+            return Err(Refusal::Wrong(Wrong::named(FaultName::Area, expression, OUTSIDE)));
         };
         if next > LONGEST {
-            return Err(Refusal::Wrong(Wrong::of(expression, OUTSIDE)));
+            return Err(Refusal::Wrong(Wrong::named(FaultName::Area, expression, OUTSIDE)));
         }
         self.reach(next)?;
         self.next = next;

@@ -11,7 +11,9 @@ use crate::line::{Operands, first_word, is_printable, is_readable, without_comme
 use crate::numbers::{put_digits, value_of};
 use crate::statement::put_statement;
 use job_check::{Source, write_findings};
-use job_script::{JobError, LIMIT, Message, begins_line, first_unprintable, read_script};
+use job_script::{
+    FaultName, JobError, LIMIT, Message, begins_line, first_unprintable, read_script,
+};
 use std::alloc::{AllocError, Global};
 use std::io::{Read, Write};
 use std::mem;
@@ -93,7 +95,7 @@ fn assemble(alloc: Global, text: &[u8]) -> Result<Assembly<'_>, AllocError> {
         }
     }
     if let Some(area) = assembly.open.take() {
-        let wrong = Wrong::line(UNENDED);
+        let wrong = Wrong::named(FaultName::Order, &[], UNENDED);
         let line = area.line;
         assembly.findings.push(Finding { line, wrong })?;
         area.end(&mut assembly.findings)?;
@@ -203,7 +205,7 @@ impl<'a> Assembly<'a> {
             return Ok(());
         };
         let message = Message::new(OPEN, &[area.line as u64]);
-        let wrong = Wrong::with(message);
+        let wrong = Wrong::with(FaultName::Order, message);
         self.findings.push(Finding { line, wrong })?;
         self.lacks_end = true;
         self.close(area)
@@ -266,7 +268,7 @@ impl<'a> Assembly<'a> {
             let place = base.unwrap_or(0);
             self.lacks_end = false;
             self.open = Some(Area::new(alloc, line, number, address, place));
-            base.ok_or(Wrong::of(address, BASE))?;
+            base.ok_or(Wrong::named(FaultName::Area, address, BASE))?;
             self.comment(bytes)?;
         } else {
             self.areas.push(Labels::new(alloc))?;
@@ -275,7 +277,7 @@ impl<'a> Assembly<'a> {
         if is_next {
             return Ok(());
         }
-        Err(Refusal::Wrong(Wrong::of(number, ORDER)))
+        Err(Refusal::Wrong(Wrong::named(FaultName::Order, number, ORDER)))
     }
 
     /// `endarea`
@@ -283,7 +285,10 @@ impl<'a> Assembly<'a> {
         match self.open.take() {
             Some(area) => self.close(area)?,
             None if self.lacks_end => self.lacks_end = false,
-            None => return Err(Refusal::Wrong(Wrong::line(NO_AREA))),
+            None => {
+                let wrong = Wrong::named(FaultName::Order, &[], NO_AREA);
+                return Err(Refusal::Wrong(wrong));
+            }
         }
         Operands { rest: words }.end()?;
         Ok(())

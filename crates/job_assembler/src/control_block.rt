@@ -5,6 +5,7 @@ use crate::area::Area;
 use crate::finding::{Refusal, Wrong};
 use crate::line::parts_operands;
 use io_images::{Address, Iob};
+use job_script::FaultName;
 
 const LACKS: &str =
     "an IOB has ecb=ADDRESS, start=ADDRESS and dcb=NUMBER, and for a disk also seek=CYLINDER,HEAD,RECORD";
@@ -25,6 +26,28 @@ const NO_RECORD: &str = "not a record: expected a number from 0 to 255";
 const NO_EXTENT: &str = "not an extent: expected a number from 0 to 255";
 
 const NO_SEEK: &str = "seek=CYLINDER,HEAD,RECORD has three numbers";
+
+/// The name of an operand of an IOB.
+#[derive(Clone, Copy)]
+enum Name {
+    Ecb,
+    Start,
+    Dcb,
+    Seek,
+    Extent,
+    Related,
+    Unrelated,
+}
+
+const NAMES: [(Name, &[u8]); 7] = [
+    (Name::Ecb, b"ecb"),
+    (Name::Start, b"start"),
+    (Name::Dcb, b"dcb"),
+    (Name::Seek, b"seek"),
+    (Name::Extent, b"extent"),
+    (Name::Related, b"related"),
+    (Name::Unrelated, b"unrelated"),
+];
 
 /// The operands of an IOB that were read.
 #[derive(Clone, Copy)]
@@ -142,44 +165,66 @@ impl<'a> Operands<'a> {
         name: &'a [u8],
         value: &'a [u8],
     ) -> Result<(), Wrong<'a>> {
+        let Some(name) = Name::of(name) else {
+            return Err(Wrong::of(operand, NO_OPERAND));
+        };
+        if name.is_alone() != value.is_empty() {
+            let text = if name.is_alone() {
+                NO_OPERAND
+            } else {
+                NO_VALUE
+            };
+            return Err(Wrong::of(operand, text));
+        }
+        if self.has(name) {
+            return Err(Wrong::named(FaultName::Order, operand, TWICE));
+        }
+        self.read_value(name, value)
+    }
+
+    /// Whether the operand of this name was read.
+    fn has(&self, name: Name) -> bool {
         match name {
-            b"ecb" | b"start" | b"dcb" | b"seek" | b"extent" if value.is_empty() => {
-                return Err(Wrong::of(operand, NO_VALUE));
-            }
-            b"ecb" => {
-                once(self.ecb.is_some(), operand)?;
-                self.ecb = Some(value);
-            }
-            b"start" => {
-                once(self.start.is_some(), operand)?;
-                self.start = Some(value);
-            }
-            b"dcb" => {
-                once(self.dcb.is_some(), operand)?;
-                let dcb = dcb_number(value)?;
-                self.dcb = Some(dcb);
-            }
-            b"seek" => {
-                once(self.seek.is_given, operand)?;
+            Name::Ecb => self.ecb.is_some(),
+            Name::Start => self.start.is_some(),
+            Name::Dcb => self.dcb.is_some(),
+            Name::Seek => self.seek.is_given,
+            Name::Extent => self.extent.is_some(),
+            Name::Related | Name::Unrelated => self.is_related.is_some(),
+        }
+    }
+
+    /// Reads the value of the operand of this name.
+    fn read_value(&mut self, name: Name, value: &'a [u8]) -> Result<(), Wrong<'a>> {
+        match name {
+            Name::Ecb => self.ecb = Some(value),
+            Name::Start => self.start = Some(value),
+            Name::Dcb => self.dcb = Some(dcb_number(value)?),
+            Name::Seek => {
                 self.seek.is_given = true;
                 self.seek.read_number(value)?;
             }
-            b"extent" => {
-                once(self.extent.is_some(), operand)?;
-                let extent = number_to(value, 255, NO_EXTENT)?;
-                self.extent = Some(extent as u8);
-            }
-            b"related" if value.is_empty() => {
-                once(self.is_related.is_some(), operand)?;
-                self.is_related = Some(true);
-            }
-            b"unrelated" if value.is_empty() => {
-                once(self.is_related.is_some(), operand)?;
-                self.is_related = Some(false);
-            }
-            _ => return Err(Wrong::of(operand, NO_OPERAND)),
+            Name::Extent => self.extent = Some(number_to(value, 255, NO_EXTENT)? as u8),
+            Name::Related => self.is_related = Some(true),
+            Name::Unrelated => self.is_related = Some(false),
         }
         Ok(())
+    }
+}
+
+impl Name {
+    fn of(word: &[u8]) -> Option<Name> {
+        for (name, called) in NAMES {
+            if word == called {
+                return Some(name);
+            }
+        }
+        None
+    }
+
+    /// Whether it has no value.
+    fn is_alone(self) -> bool {
+        matches!(self, Name::Related | Name::Unrelated)
     }
 }
 
@@ -198,15 +243,6 @@ impl SeekAddress {
         } else {
             self.record = Some(number_to(value, 255, NO_RECORD)? as u8);
         }
-        Ok(())
-    }
-}
-
-/// That an operand was not read before.
-fn once(is_given: bool, operand: &[u8]) -> Result<(), Wrong<'_>> {
-    if is_given {
-        Err(Wrong::of(operand, TWICE))
-    } else {
         Ok(())
     }
 }

@@ -6,6 +6,7 @@ use crate::labels::Labels;
 use crate::line::is_blank;
 use crate::numbers::{put_digits, value_of};
 use digits::digit;
+use job_script::FaultName;
 
 const WORDS: &str = "an excp line has 8 words: excp T U DCB IOB A SHOW LEN";
 
@@ -70,7 +71,7 @@ fn put_place<'a>(
         return Ok(());
     }
     let Some(labels) = labels else {
-        return Err(Refusal::Wrong(Wrong::of(area, NO_AREA)));
+        return Err(Refusal::Wrong(Wrong::named(FaultName::Name, area, NO_AREA)));
     };
     let value = address(word, None, labels, UNDEFINED)?;
     put_digits(script, &value.to_be_bytes()[1..])?;

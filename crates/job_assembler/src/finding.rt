@@ -1,13 +1,15 @@
 //! What is wrong with a line, and how it is printed.
 
 use job_check::{Found, write_meant};
-use job_script::{Message, write_word};
+use job_script::{FaultName, Message, write_word};
 use std::alloc::{AllocError, AllocFailed};
 use std::fmt;
 
-/// What is wrong: a word of the line, if it is one, and a message on what is wrong and what would be right.
+/// What is wrong: the name of the fault, a word of the line, if it is one, and a message on what is wrong and what would be
+/// right.
 #[derive(Clone, Copy)]
 pub struct Wrong<'a> {
+    pub name: FaultName,
     pub word: &'a [u8],
     pub message: Message,
     /// The known word that this one may mean.
@@ -15,22 +17,28 @@ pub struct Wrong<'a> {
 }
 
 impl<'a> Wrong<'a> {
+    /// A word is not of its form.
     pub fn of(word: &'a [u8], text: &'static str) -> Self {
+        Wrong::named(FaultName::Number, word, text)
+    }
+
+    /// The words of a line are not those that it should have.
+    pub fn line(text: &'static str) -> Self {
+        Wrong::named(FaultName::Words, &[], text)
+    }
+
+    /// A fault of another name. If it is not of a word, `word` has no byte.
+    pub fn named(name: FaultName, word: &'a [u8], text: &'static str) -> Self {
         Wrong {
             word,
-            message: Message::new(text, &[]),
-            meant: None,
+            ..Wrong::with(name, Message::new(text, &[]))
         }
     }
 
-    /// What is wrong with a line as a whole.
-    pub fn line(text: &'static str) -> Self {
-        Wrong::with(Message::new(text, &[]))
-    }
-
-    /// The same, as a message.
-    pub fn with(message: Message) -> Self {
+    /// A fault of a line as a whole, as a message.
+    pub fn with(name: FaultName, message: Message) -> Self {
         Wrong {
+            name,
             word: &[],
             message,
             meant: None,
@@ -83,6 +91,7 @@ impl<'a> Found for Finding<'a> {
 impl<'a> fmt::Display for Finding<'a> {
     fn fmt<W: fmt::Write>(&self, f: &mut fmt::Formatter<W>) -> fmt::Result {
         let wrong = self.wrong;
+        write!(f, "{}: ", wrong.name)?;
         if !wrong.word.is_empty() {
             write_word(f, wrong.word)?;
             f.write_str(": ")?;

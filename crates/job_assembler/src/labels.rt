@@ -3,6 +3,7 @@
 use crate::finding::{Refusal, Wrong};
 use command_table::flag_bit;
 use job_check::nearest;
+use job_script::FaultName;
 use std::alloc::{AllocError, Global};
 use std::collections::BTreeMap;
 
@@ -47,7 +48,7 @@ impl<'a> Labels<'a> {
             return Err(Refusal::Wrong(Wrong::of(label, FLAG)));
         }
         if self.address(label).is_some() {
-            return Err(Refusal::Wrong(Wrong::of(label, TWICE)));
+            return Err(Refusal::Wrong(Wrong::named(FaultName::Order, label, TWICE)));
         }
         let mut name = Vec::new(self.alloc);
         name.extend_from_slice(label)?;

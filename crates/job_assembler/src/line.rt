@@ -1,7 +1,7 @@
 //! The parts of a line.
 
 use crate::finding::Wrong;
-use job_script::unprintable;
+use job_script::{FaultName, unprintable};
 
 /// Whether a byte parts words: a blank, or a tab in a line that has a fault for it.
 pub fn is_blank(byte: u8) -> bool {
@@ -37,7 +37,7 @@ pub fn is_readable(line: &[u8]) -> bool {
 pub fn is_printable(line: &[u8]) -> Result<(), Wrong<'static>> {
     match unprintable(line) {
         None => Ok(()),
-        Some(message) => Err(Wrong::with(message)),
+        Some(message) => Err(Wrong::with(FaultName::Words, message)),
     }
 }
 
@@ -100,7 +100,8 @@ impl<'a> Operands<'a> {
         if operand.is_empty() {
             return Ok(());
         }
-        Err(Wrong::of(operand, "one operand too many"))
+        let text = "one operand too many";
+        Err(Wrong::named(FaultName::Words, operand, text))
     }
 }
 

@@ -10,6 +10,7 @@ use crate::operation::Operation;
 use crate::program::{put_any_command, put_command, put_transfer};
 use command_table::mnemonics;
 use job_check::nearest;
+use job_script::FaultName;
 use std::alloc::{AllocError, Global};
 
 const UNKNOWN: &str =
@@ -51,7 +52,7 @@ pub fn put_statement<'a>(
     }
     match operation {
         Some(Operation::Block | Operation::Event) if is_statement(operands) => {
-            return Err(Refusal::Wrong(Wrong::of(word, NAMED_AS_STATEMENT)));
+            return Err(Refusal::Wrong(Wrong::named(FaultName::Words, word, NAMED_AS_STATEMENT)));
         }
         Some(operation) => put_operation(area, line, operation, operands)?,
         None if word.is_empty() => {}
@@ -66,12 +67,12 @@ pub fn put_statement<'a>(
 /// Why a word that is no statement, and that `rest` follows, is not taken. It may mean a statement that is nearly it.
 fn unknown<'a>(alloc: Global, word: &'a [u8], rest: &[u8]) -> Refusal<'a> {
     if is_statement(rest) {
-        return Refusal::Wrong(Wrong::of(word, NO_COLON));
+        return Refusal::Wrong(Wrong::named(FaultName::Words, word, NO_COLON));
     }
     match nearest_statement(alloc, word) {
-        Ok(None) => Refusal::Wrong(Wrong::of(word, UNKNOWN)),
+        Ok(None) => Refusal::Wrong(Wrong::named(FaultName::Words, word, UNKNOWN)),
         Ok(meant) => {
-            let mut wrong = Wrong::of(word, NO_STATEMENT);
+            let mut wrong = Wrong::named(FaultName::Words, word, NO_STATEMENT);
             wrong.meant = meant;
             Refusal::Wrong(wrong)
         }

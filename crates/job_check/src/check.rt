@@ -17,7 +17,7 @@ use job_script::{
     Action, BYTE_ORDER_MARK, Cause, Command, DcbName, ExcpLine, FaultName, JobError, LIMIT, Line,
     Message, Refusal, SetUp, begins_line, first_unprintable, is_symbolic, late, read_script,
 };
-use medium_image::Image;
+use medium_image::{Image, Size};
 use script_words::{Words, next_word};
 use std::alloc::{AllocError, Global};
 use std::io::{Read, Write};
@@ -56,18 +56,19 @@ pub fn check_script_on<R: Read, W: Write + Drop>(
     let text = read_script(alloc, reader)?;
     let sizes = sizes_of(alloc, &images)?;
     let text = with_sizes(alloc, &text, &sizes)?;
-    let findings = findings(alloc, images, &text)?;
+    let findings = findings(alloc, images, &text, &sizes)?;
     write_findings(alloc, source, &findings, writer)?;
     Ok(refuses(&findings))
 }
 
 /// What is found in the text of a script, in the order of lines. A script with symbolic areas has one finding, which says
-/// that.
-fn findings(
+/// that. `sizes` has the sizes of images, by the numbers of their units.
+fn findings<'a>(
     alloc: Global,
     images: Vec<Option<Image>>,
-    text: &[u8],
-) -> Result<Vec<Finding<'_>>, AllocError> {
+    text: &'a [u8],
+    sizes: &[Option<Size>],
+) -> Result<Vec<Finding<'a>>, AllocError> {
     if let Some(line) = end_of_symbolic(text) {
         let mut findings = Vec::new(alloc);
         tell(
@@ -82,6 +83,9 @@ fn findings(
         check.line(alloc, place.saturating_add(1), bytes)?;
     }
     let mut findings = check.end(alloc, images)?;
+    for finding in findings.iter_mut() {
+        *finding = finding.explained(sizes);
+    }
     findings.sort_by_key(|finding| finding.line)?;
     Ok(findings)
 }
@@ -409,38 +413,52 @@ impl<'a> Check<'a> {
 
     /// Adds what only the whole script shows, and returns all that was found.
     fn end(
-        self,
+        mut self,
         alloc: Global,
         images: Vec<Option<Image>>,
     ) -> Result<Vec<Finding<'a>>, AllocError> {
-        let Check {
-            set_up,
-            first_command: _,
-            mut findings,
-            requests,
-            assumed,
-            used,
-            unwaited: _,
-            races,
-            has_returns: _,
-            has_tabs: _,
-            has_events: _,
-        } = self;
-        tell_lacks(&set_up, &mut findings)?;
+        self.finish(alloc, images)?;
+        Ok(self.findings)
+    }
+
+    fn finish(&mut self, alloc: Global, images: Vec<Option<Image>>) -> Result<(), AllocError> {
+        tell_lacks(&self.set_up, &mut self.findings)?;
+        self.check_units(alloc, images)?;
+        let set_up = &self.set_up;
+        let findings = &mut self.findings;
+        note_unused(&set_up.area_lines, &self.used, &self.assumed, findings)?;
+        self.races.note(&set_up.units, findings)
+    }
+
+    /// Mounts each unit on its image, if it has one, and checks what is asked of it.
+    fn check_units(&mut self, alloc: Global, images: Vec<Option<Image>>) -> Result<(), AllocError> {
         let mut images = images.into_iter();
-        for (number, unit) in set_up.units.iter().enumerate() {
-            let device = match images.next().flatten() {
-                Some(image) => check_unit_on(alloc, image, unit, &assumed, &mut findings)?,
-                None => check_unit(alloc, unit, &assumed, &mut findings)?,
-            };
-            if let Some(device) = device {
-                note_doubles(alloc, unit, &mut findings)?;
-                note_requests(number, unit, &device, &requests, &assumed, &mut findings)?;
-            }
+        for number in 0..self.set_up.units.len() {
+            self.check_unit(alloc, number, images.next().flatten())?;
         }
-        tell_unmounted(set_up.units.len(), images, &mut findings)?;
-        note_unused(&set_up.area_lines, &used, &assumed, &mut findings)?;
-        races.note(&set_up.units, &mut findings)?;
-        Ok(findings)
+        tell_unmounted(self.set_up.units.len(), images, &mut self.findings)
+    }
+
+    /// Does so for one of them.
+    fn check_unit(
+        &mut self,
+        alloc: Global,
+        number: usize,
+        image: Option<Image>,
+    ) -> Result<(), AllocError> {
+        let set_up = &self.set_up;
+        let Some(unit) = set_up.units.get(number) else {
+            return Ok(());
+        };
+        let (assumed, findings) = (&self.assumed, &mut self.findings);
+        let device = match image {
+            Some(image) => check_unit_on(alloc, image, unit, assumed, findings)?,
+            None => check_unit(alloc, unit, assumed, findings)?,
+        };
+        if let Some(device) = device {
+            note_doubles(alloc, unit, findings)?;
+            note_requests(number, unit, &device, &self.requests, assumed, findings)?;
+        }
+        Ok(())
     }
 }

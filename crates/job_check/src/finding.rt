@@ -2,12 +2,22 @@
 
 use crate::telling::Found;
 use ccw_programs::Refusal as BrokenRule;
-use job_script::{Cause, FaultName, Message};
+use job_media::MediaRefusal;
+use job_script::{Cause, FaultName, Message, begins_line};
+use medium_image::Size;
+use script_words::{Words, decimal_in, is_word};
 use std::alloc::AllocError;
 use std::fmt;
 
 /// The script as a whole in place of the number of a line. It sorts after all lines.
 pub const SCRIPT: usize = usize::MAX;
+
+const SEMICOLON: &str =
+    "no words come after ';' in a plain script: a comment is a line of its own, which begins with #";
+
+const NO_SIZE: &str = "unit {n} has no size; name its image: --load {n}=FILE";
+
+const EMPTY: &str = "the image of this unit is an empty file, which is an empty tape";
 
 /// What is found: a fault, which has a name, or a note.
 #[derive(Clone, Copy)]
@@ -39,6 +49,18 @@ impl<'a> Finding<'a> {
         }
     }
 
+    /// The same. If the line is not as it should be for a reason that its words alone do not tell, it has the text on that.
+    /// `sizes` has the sizes of images, by the numbers of their units.
+    pub(crate) fn explained(self, sizes: &[Option<Size>]) -> Self {
+        match (self.kind, explanation(self.bytes, sizes)) {
+            (FindingKind::Fault(name, _), Some(message)) => Finding {
+                kind: FindingKind::Fault(name, message),
+                ..self
+            },
+            _ => self,
+        }
+    }
+
     /// A fault of a line whose first word is unknown, and the known one that it may mean.
     pub(crate) fn of_first_word(
         line: usize,
@@ -67,6 +89,31 @@ impl<'a> Found for Finding<'a> {
     fn is_fault(&self) -> bool {
         matches!(self.kind, FindingKind::Fault(_, _))
     }
+}
+
+/// The message on a line of a script with a comment after its words, or on one of a disk or a tape with a hyphen for a size
+/// that no image gives.
+fn explanation(bytes: &[u8], sizes: &[Option<Size>]) -> Option<Message> {
+    let mut line = Words::new();
+    line.scan(bytes);
+    let first = line.word(0);
+    if !begins_line(first) || !line.is_printable() {
+        return None;
+    }
+    if bytes.contains(&b';') {
+        return Some(Message::new(SEMICOLON, &[]));
+    }
+    if !is_word(line.word(3), b"-") || !(is_word(first, b"disk") || is_word(first, b"tape")) {
+        return None;
+    }
+    let unit = decimal_in(line.word(1), 0, 63)?;
+    let message = match sizes.get(usize::from(unit)) {
+        Some(Some(Size::Disk(_))) => MediaRefusal::Disk.cause().message,
+        Some(Some(Size::Tape(0))) => Message::new(EMPTY, &[]),
+        Some(Some(Size::Tape(_))) => MediaRefusal::Tape.cause().message,
+        _ => Message::new(NO_SIZE, &[u64::from(unit), u64::from(unit)]),
+    };
+    Some(message)
 }
 
 /// Adds why a line is refused, in a text without words of the line.

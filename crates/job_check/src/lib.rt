@@ -9,6 +9,7 @@
 mod assumed;
 mod check;
 mod finding;
+mod lengths;
 mod media;
 mod notes;
 mod programs;
@@ -22,4 +23,4 @@ pub use finding::{Finding, SCRIPT, write_meant};
 pub use media::{mount_faults, mount_faults_but};
 pub use requests::why_rejected;
 pub use suggestion::{fault_of_scenario, nearest};
-pub use telling::{Found, Source, write_findings};
+pub use telling::{FileName, Found, Source, write_findings};

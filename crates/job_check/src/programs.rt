@@ -5,6 +5,7 @@ ghost use Rattle.ccw_programs.specs.declared.context.State.{State};
 
 use crate::assumed::is_assumed;
 use crate::finding::{Finding, FindingKind, add};
+use crate::lengths::{Lengths, may_format};
 use any_device::AnyDevice;
 use ccw_programs::{Context, Link, Listing, Rule, Workspace, look};
 use ckd_disk::command::{Command, Control, Write};
@@ -58,6 +59,9 @@ pub fn note_requests(
     findings: &mut Vec<Finding<'_>>,
 ) -> Result<(), AllocError> {
     let mut workspace = Workspace::new();
+    let is_kept = !requests
+        .iter()
+        .any(|request| may_format(&request.excp.area));
     for request in requests {
         let Some(opening) = opening_of(unit, number, &request.excp) else {
             continue;
@@ -65,7 +69,7 @@ pub fn note_requests(
         if is_assumed(assumed, opening.line) {
             continue;
         }
-        if let Some(kind) = sure_failure(&request.excp, opening, device, &mut workspace) {
+        if let Some(kind) = sure_failure(&request.excp, opening, device, is_kept, &mut workspace) {
             add(findings, request.line, kind)?;
         }
     }
@@ -82,11 +86,12 @@ fn opening_of<'a>(unit: &'a UnitSetup, number: usize, excp: &Excp) -> Option<&'a
 }
 
 /// Why the request of an EXCP is sure to fail on a device, if it is: its disk address is outside the extents, or a CCW
-/// ends its program.
+/// ends its program. `is_kept` says that no request changes the length of a record.
 fn sure_failure(
     excp: &Excp,
     opening: &Opening,
     device: &AnyDevice,
+    is_kept: bool,
     workspace: &mut Workspace,
 ) -> Option<FindingKind> {
     let mut image = [0; 40];
@@ -100,11 +105,14 @@ fn sure_failure(
     if !passes_check(kind, device.heads(), extents, &iob.seek) {
         return Some(violated(&iob.seek));
     }
+    let mask = opening.method.file_mask();
+    let writes = is_kept && !mask.inhibits_writes();
     let mut walk = Walk {
         device,
         area: &excp.area,
-        is_masked: kind == Kind::Disk && opening.method.file_mask().inhibits_seeks(),
+        is_masked: kind == Kind::Disk && mask.inhibits_seeks(),
         reads: Reads { from: 0, to: 0 },
+        lengths: Lengths::new(device, &excp.area, iob.seek, writes),
     };
     walk.first_note(iob.start, workspace)
 }
@@ -128,6 +136,7 @@ struct Walk<'a> {
     /// Whether the supervisor has sought, and has set a file mask that forbids further seeks.
     is_masked: bool,
     reads: Reads,
+    lengths: Lengths<'a>,
 }
 
 /// Where a command of a program leads.
@@ -181,6 +190,9 @@ impl<'a> Walk<'a> {
             return Step::Ends(None);
         };
         if let Some(note) = self.rejection(first) {
+            return Step::Ends(Some(FindingKind::Note(note)));
+        }
+        if let Some(note) = self.lengths.note(&listing, self.reads) {
             return Step::Ends(Some(FindingKind::Note(note)));
         }
         if !last.ccw.flags.chains_command() {
@@ -256,7 +268,7 @@ fn is_of_word(rule: Rule) -> bool {
 
 /// Addresses, from one up to another, that hold all that a program has read so far.
 #[derive(Clone, Copy)]
-struct Reads {
+pub(crate) struct Reads {
     from: u32,
     to: u32,
 }
@@ -268,7 +280,7 @@ impl Reads {
     }
 
     /// Whether a CCW at an address may be read over.
-    fn cover(&self, at: u32) -> bool {
+    pub(crate) fn cover(&self, at: u32) -> bool {
         self.from < at.saturating_add(8) && at < self.to
     }
 

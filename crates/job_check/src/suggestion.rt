@@ -3,6 +3,7 @@
 use crate::finding::Finding;
 use job_scenario::begins_event;
 use job_script::{Cause, begins_line, is_symbolic};
+use medium_image::Size;
 use script_words::Words;
 use std::alloc::{AllocError, Global};
 use strsim::osa_distance;
@@ -72,19 +73,21 @@ pub fn meant_in_script(alloc: Global, word: &[u8]) -> Result<Option<&'static str
     nearest(alloc, word, &FIRST_WORDS[..16])
 }
 
-/// A fault of a line of a scenario. It names the first word that may be meant by an unknown one.
+/// A fault of a line of a scenario. It names the first word that may be meant by an unknown one. `sizes` has the sizes of
+/// images, by the numbers of their units.
 pub fn fault_of_scenario<'a>(
     alloc: Global,
     line: usize,
     bytes: &'a [u8],
     cause: Cause,
+    sizes: &[Option<Size>],
 ) -> Result<Finding<'a>, AllocError> {
     let mut words = Words::new();
     words.scan(bytes);
     let first = words.word(0);
     let is_known = begins_line(first) || begins_event(first) || is_symbolic(first);
     if is_known || !words.is_printable() {
-        return Ok(Finding::fault(line, bytes, cause));
+        return Ok(Finding::fault(line, bytes, cause).explained(sizes));
     }
     let small = first.to_ascii_lowercase(alloc)?;
     let meant = nearest(alloc, &small, &FIRST_WORDS[1..])?;

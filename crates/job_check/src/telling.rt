@@ -5,6 +5,7 @@ ghost use Rattle.job_check.specs.Printing.{IsPrintFault};
 
 use job_script::JobError;
 use std::alloc::Global;
+use std::fmt::Write as _;
 use std::io::{BufWriter, Write};
 use std::{fmt, io};
 
@@ -22,6 +23,23 @@ pub struct Source<'a> {
     pub name: &'a str,
     /// Whether the places of faults are red and those of notes yellow.
     pub is_coloured: bool,
+}
+
+/// The name of a file as a text shows it: a control character as `\x` and its code in two hexadecimal digits.
+#[derive(Clone, Copy)]
+pub struct FileName<'a>(pub &'a str);
+
+impl<'a> fmt::Display for FileName<'a> {
+    fn fmt<W: fmt::Write>(&self, f: &mut fmt::Formatter<W>) -> fmt::Result {
+        for character in self.0.chars() {
+            if character.is_control() {
+                write!(f, "\\x{:02x}", u32::from(character))?;
+            } else {
+                f.write_char(character)?;
+            }
+        }
+        Ok(())
+    }
 }
 
 /// What is found in a script. `Display` writes what it is, without its place.
@@ -70,7 +88,7 @@ fn write_place<W: Write>(
     line: Option<usize>,
     is_fault: bool,
 ) -> io::Result<()> {
-    let name = source.name;
+    let name = FileName(source.name);
     let (begin, end) = match (source.is_coloured, is_fault) {
         (false, _) => ("", ""),
         (true, true) => (RED, PLAIN),

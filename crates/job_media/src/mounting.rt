@@ -47,8 +47,14 @@ impl MediaRefusal {
                 "the medium of this unit is an image: no line says what is on it",
                 &[],
             ),
-            MediaRefusal::Disk => medium("the image of this unit is a disk", &[]),
-            MediaRefusal::Tape => medium("the image of this unit is a tape", &[]),
+            MediaRefusal::Disk => medium(
+                "the image of this unit is a disk: expected a line 'disk U ISC -'",
+                &[],
+            ),
+            MediaRefusal::Tape => medium(
+                "the image of this unit is a tape: expected a line 'tape U ISC -'",
+                &[],
+            ),
             MediaRefusal::Geometry(size) => medium(
                 "the image has {n} cylinder{s} of {n} head{s}, and {n} bytes a track",
                 &[size.cylinders, size.heads, size.track_bytes],

@@ -75,14 +75,11 @@ fn valued<'a>(arg: Arg<'a>, entry: &Entry) -> Arg<'a> {
     }
 }
 
-/// And which others it needs, goes not with, or is grouped with.
+/// And which others it needs, or goes not with.
 fn related<'a>(arg: Arg<'a>, entry: &Entry) -> Result<Arg<'a>, AllocError> {
     let mut arg = arg;
     for other in entry.conflicts {
         arg = arg.conflicts_with(other)?;
-    }
-    if !entry.group.is_empty() {
-        arg = arg.group(entry.group)?;
     }
     if !entry.needs.is_empty() {
         arg = arg.requires_arg(entry.needs)?;

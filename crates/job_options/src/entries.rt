@@ -16,6 +16,9 @@ pub const LOAD: &str = "load";
 
 pub const SAVE: &str = "save";
 
+/// The flag that replaces files whatever they hold.
+pub const FORCE: &str = "force";
+
 /// The options of a run by a seed: the seed, and the file of its scenario. `check` has a flag of the second name.
 pub const SEED: &str = "seed";
 
@@ -30,10 +33,14 @@ pub const WHOLE: &str = "whole";
 
 pub const SCENARIOS: &str = "scenarios";
 
-/// The group of the forms that have commands.
-const DETAILED: &str = "detailed";
+/// The forms of a report and of a scenario.
+pub const STEPS: &str = "steps";
+
+pub const JSON: &str = "json";
 
 const HTML: &str = "html";
+
+pub const MOST_STEPS: &str = "most-steps";
 
 /// The formats of images, as words of `--to`.
 pub const FORMATS: &[&str] = &["aws", "ckd"];
@@ -59,7 +66,6 @@ pub(crate) struct Entry {
     pub help: &'static str,
     pub default: &'static str,
     pub takes: Takes,
-    pub group: &'static str,
     pub needs: &'static str,
     pub conflicts: &'static [&'static str],
 }
@@ -72,7 +78,6 @@ const FLAG: Entry = Entry {
     help: "",
     default: "",
     takes: Takes::Nothing,
-    group: "",
     needs: "",
     conflicts: &[],
 };
@@ -123,6 +128,13 @@ const SAVE_ENTRY: Entry = Entry {
     ..FLAG
 };
 
+const FORCE_ENTRY: Entry = Entry {
+    name: FORCE,
+    long: FORCE,
+    help: "Replaces a file whatever it holds, but never one that this command reads",
+    ..FLAG
+};
+
 const SCRIPT_ENTRY: Entry = Entry {
     name: SCRIPT,
     help: "The file of the script; without it, or with -, standard input",
@@ -130,12 +142,11 @@ const SCRIPT_ENTRY: Entry = Entry {
     ..FLAG
 };
 
-const MOST_STEPS: Entry = Entry {
-    name: "most-steps",
-    long: "most-steps",
+const MOST_ENTRY: Entry = Entry {
+    name: MOST_STEPS,
+    long: MOST_STEPS,
     value: "N",
     takes: Takes::Number(1, u64::MAX),
-    needs: DETAILED,
     ..FLAG
 };
 
@@ -147,35 +158,34 @@ pub(crate) const SUBCOMMANDS: &[Subcommand] = &[
             CHANNELS_ENTRY,
             HANDLERS_ENTRY,
             Entry {
-                name: "steps",
-                long: "steps",
+                name: STEPS,
+                long: STEPS,
                 help: "Every command of each history too: some 200 bytes each, and up to 4,096 an attempt",
-                group: DETAILED,
                 ..FLAG
             },
             Entry {
-                name: "json",
-                long: "json",
+                name: JSON,
+                long: JSON,
                 help: "All of a report as JSON, with every command (docs/REPORT.md)",
-                group: DETAILED,
+                conflicts: &[STEPS],
                 ..FLAG
             },
             Entry {
                 help: "With --steps or --json: only the first N commands of each unit",
-                ..MOST_STEPS
+                ..MOST_ENTRY
             },
             Entry {
                 name: HTML,
                 long: HTML,
                 help: "All of a report as one page for a browser: a picture of the run, and a panel for each request",
-                conflicts: &[DETAILED],
+                conflicts: &[STEPS, JSON],
                 ..FLAG
             },
             Entry {
                 name: "posts",
                 long: "posts",
                 help: "The posts and their count alone, as `run` prints them",
-                conflicts: &[DETAILED, HTML],
+                conflicts: &[STEPS, JSON, HTML],
                 ..FLAG
             },
             Entry {
@@ -198,6 +208,7 @@ pub(crate) const SUBCOMMANDS: &[Subcommand] = &[
             },
             LOAD_ENTRY,
             SAVE_ENTRY,
+            FORCE_ENTRY,
             SCRIPT_ENTRY,
         ],
     },
@@ -234,36 +245,36 @@ pub(crate) const SUBCOMMANDS: &[Subcommand] = &[
                 name: "trace",
                 long: "trace",
                 help: "The entries that each event adds to the traces of units",
-                conflicts: &[DETAILED, HTML],
+                conflicts: &[JSON, HTML],
                 ..FLAG
             },
             Entry {
                 name: "state",
                 long: "state",
                 help: "The state of each unit after each event",
-                conflicts: &[DETAILED, HTML],
+                conflicts: &[JSON, HTML],
                 ..FLAG
             },
             Entry {
-                name: "json",
-                long: "json",
+                name: JSON,
+                long: JSON,
                 help: "No answers; at the end all that happened as JSON (docs/REPORT.md)",
-                group: DETAILED,
                 ..FLAG
             },
             Entry {
                 help: "With --json: only the first N commands of each unit",
-                ..MOST_STEPS
+                ..MOST_ENTRY
             },
             Entry {
                 name: HTML,
                 long: HTML,
                 help: "No answers; at the end all that happened as one page for a browser",
-                conflicts: &[DETAILED],
+                conflicts: &[JSON],
                 ..FLAG
             },
             LOAD_ENTRY,
             SAVE_ENTRY,
+            FORCE_ENTRY,
             SCRIPT_ENTRY,
         ],
     },
@@ -303,6 +314,7 @@ pub(crate) const SUBCOMMANDS: &[Subcommand] = &[
                 takes: Takes::Text,
                 ..FLAG
             },
+            FORCE_ENTRY,
             LOAD_ENTRY,
             SCRIPT_ENTRY,
         ],
@@ -339,6 +351,7 @@ pub(crate) const SUBCOMMANDS: &[Subcommand] = &[
                 needs: "to",
                 ..FLAG
             },
+            FORCE_ENTRY,
             Entry {
                 name: FILE,
                 help: "The file of an image, or with --to of a script",

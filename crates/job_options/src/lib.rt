@@ -13,7 +13,8 @@ use clap::error::ErrorKind;
 use clap::{ArgMatches, Command, Error};
 use commands::command;
 use entries::{
-    FILE, IMAGES, LOAD, MOST_STATES, SAVE, SCENARIOS, SCHEDULE, SCRIPT, SEED, TURN, WHOLE,
+    FILE, FORCE, IMAGES, JSON, LOAD, MOST_STATES, MOST_STEPS, SAVE, SCENARIOS, SCHEDULE, SCRIPT,
+    SEED, STEPS, TURN, WHOLE,
 };
 use run_options::{Counts, counts_of};
 use std::alloc::{AllocError, Global};
@@ -84,6 +85,8 @@ pub struct RunFiles {
     pub loads: Vec<UnitFile>,
     pub saves: Vec<UnitFile>,
     pub scenario: Option<String>,
+    /// Whether a file is replaced whatever it holds.
+    pub force: bool,
 }
 
 /// What is asked of a search for outcomes.
@@ -129,6 +132,8 @@ pub enum Words {
         to: Option<Format>,
         file: String,
         output: Option<String>,
+        /// Whether the file is replaced whatever it holds.
+        force: bool,
     },
 }
 
@@ -157,7 +162,13 @@ fn converting(alloc: Global, options: &ArgMatches<'_>) -> Result<Words, Error> {
     };
     let file = string(alloc, options, FILE)?.unwrap_or(String::new(alloc));
     let output = string(alloc, options, "output")?;
-    Ok(Words::Convert { to, file, output })
+    let force = options.get_flag(FORCE);
+    Ok(Words::Convert {
+        to,
+        file,
+        output,
+        force,
+    })
 }
 
 /// What the options of `outcomes` ask for.
@@ -194,9 +205,30 @@ fn of_script(
         // no words get here: the numbers have defaults and ranges
         return Err(command.error(ErrorKind::ValueValidation, "no number of workers")?);
     };
+    if let Some(why) = lacks_form(order, options) {
+        return Err(command.error(ErrorKind::MissingRequiredArgument, why)?);
+    }
     let file = script_file(alloc, options)?;
     let media = media_of(alloc, command, options)?;
     Ok(Words::Script { order, file, media })
+}
+
+/// That commands are counted and no form with commands is asked for.
+fn lacks_form(order: Order, options: &ArgMatches<'_>) -> Option<&'static str> {
+    let why = match order {
+        Order::Report {
+            print: Print::Report | Print::Posts | Print::As(Form::Html),
+            ..
+        } => "--most-steps N needs --steps or --json",
+        Order::Step(
+            StepOptions {
+                print: StepPrint::Answers { .. } | StepPrint::As(Form::Html),
+                ..
+            },
+        ) => "--most-steps N needs --json",
+        _ => return None,
+    };
+    options.get_one::<u64>(MOST_STEPS).map(|_| why)
 }
 
 /// The files of media.
@@ -209,6 +241,7 @@ fn media_of(
         loads: files_of(alloc, command, options, LOAD)?,
         saves: files_of(alloc, command, options, SAVE)?,
         scenario: string(alloc, options, SCHEDULE)?,
+        force: options.get_flag(FORCE),
     })
 }
 
@@ -279,7 +312,7 @@ fn asked_for(name: &str, options: &ArgMatches<'_>) -> Option<Order> {
 fn print_of(options: &ArgMatches<'_>) -> Print {
     if options.get_flag("posts") {
         Print::Posts
-    } else if options.get_flag("steps") {
+    } else if options.get_flag(STEPS) {
         Print::Steps(most_steps(options))
     } else {
         form_of(options).map_or(Print::Report, Print::As)
@@ -299,7 +332,7 @@ fn step_print_of(options: &ArgMatches<'_>) -> StepPrint {
 
 /// The form for programs and browsers that is asked for.
 fn form_of(options: &ArgMatches<'_>) -> Option<Form> {
-    if options.get_flag("json") {
+    if options.get_flag(JSON) {
         Some(Form::Json(most_steps(options)))
     } else if options.get_flag("html") {
         Some(Form::Html)
@@ -310,5 +343,5 @@ fn form_of(options: &ArgMatches<'_>) -> Option<Form> {
 
 /// The most commands of each unit that are printed.
 fn most_steps(options: &ArgMatches<'_>) -> u64 {
-    options.get_one::<u64>("most-steps").unwrap_or(u64::MAX)
+    options.get_one::<u64>(MOST_STEPS).unwrap_or(u64::MAX)
 }

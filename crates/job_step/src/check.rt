@@ -67,10 +67,7 @@ fn check_lines<I: Read + Drop, W: Write, E: Write>(
         return read_on(alloc, lines, printer);
     }
     let number = lines.number;
-    if printer
-        .unless_fault(plan.whole(), lines.current())?
-        .is_none()
-    {
+    if printer.unless_fault(plan.whole(), lines)?.is_none() {
         return read_on(alloc, lines, printer);
     }
     check_units(alloc, &plan, images, printer)?;
@@ -117,12 +114,12 @@ fn check_set_up<I: Read + Drop, W: Write, E: Write>(
 {
     for _ in 0..=LIMIT {
         let read = read_line(alloc, lines);
-        match printer.unless_fault(read, lines.current())? {
+        match printer.unless_fault(read, lines)? {
             None => {}
             Some(None) => break,
             Some(Some(line)) => {
                 let added = plan.add(alloc, lines.number, line);
-                if let Some(Some(event)) = printer.unless_fault(added, lines.current())? {
+                if let Some(Some(event)) = printer.unless_fault(added, lines)? {
                     return Ok(Some(event));
                 }
             }
@@ -141,7 +138,7 @@ fn read_on<I: Read + Drop, W: Write, E: Write>(
 {
     for _ in 0..=LIMIT {
         let read = read_line(alloc, lines);
-        if let Some(None) = printer.unless_fault(read, lines.current())? {
+        if let Some(None) = printer.unless_fault(read, lines)? {
             break;
         }
     }
@@ -165,10 +162,10 @@ fn check_events<I: Read + Drop, W: Write, E: Write>(
         }
         if let Some(line) = next {
             let done = stepper.line(lines.number, line);
-            printer.unless_fault(done, lines.current())?;
+            printer.unless_fault(done, lines)?;
         }
         let read = read_line(alloc, lines);
-        match printer.unless_fault(read, lines.current())? {
+        match printer.unless_fault(read, lines)? {
             Some(None) => break,
             Some(line) => next = line,
             None => next = None,
@@ -188,7 +185,7 @@ fn check_rest<I: Read + Drop, W: Write, E: Write>(
     let finished = lines.number;
     for _ in 0..=LIMIT {
         let read = after_finish(alloc, finished, lines);
-        if let Some(None) = printer.unless_fault(read, lines.current())? {
+        if let Some(None) = printer.unless_fault(read, lines)? {
             break;
         }
     }

@@ -5,11 +5,11 @@ ghost use Rattle.scenario_set_up.specs.Faults.{EndsStep, IsStepFault};
 
 use job_check::{Finding, Found, SCRIPT, Source, fault_of_scenario, write_findings};
 use job_script::{Cause, JobError};
-use scenario_set_up::StepError;
+use scenario_set_up::{Lines, StepError};
 use scenario_site::Views;
 use script_words::{after_words, next_word};
 use std::alloc::Global;
-use std::io::Write;
+use std::io::{Read, Write};
 use std::{fmt, io};
 
 /// A failed expectation: the number of its line, the expected text, and the line of the answer, if one is left.
@@ -134,11 +134,11 @@ impl<'a, W: Write, E: Write> Printer<'a, W, E> {
         self.out.write_all(b"\n")
     }
 
-    /// The value of an outcome. Prints the fault of a line, and then returns `None`.
-    pub fn unless_fault<T: Drop>(
+    /// The value of an outcome. Prints the fault of a line, the one that was read last, and then returns `None`.
+    pub fn unless_fault<T: Drop, I: Read + Drop>(
         &mut self,
         outcome: Result<T, StepError>,
-        bytes: &[u8],
+        lines: &Lines<I>,
     ) -> Result<Option<T>, JobError>
         requires { IfErr outcome EndsStep }
         ensures given { IfOk result (λ given. IfSome given (λ value. outcome ≡ Ok value)) }
@@ -148,18 +148,23 @@ impl<'a, W: Write, E: Write> Printer<'a, W, E> {
             Ok(given) => Ok(Some(given)),
             Err(StepError::Job(error)) => Err(error),
             Err(StepError::Line(number, cause)) => {
-                self.fault(number, bytes, cause)?;
+                self.fault(number, lines, cause)?;
                 Ok(None)
             }
         }
     }
 
-    /// Prints the fault of the line with this number and these bytes. The number 0 stands for the whole scenario.
-    fn fault(&mut self, number: usize, bytes: &[u8], cause: Cause) -> Result<(), JobError>
+    /// Prints the fault of the line with this number, which was read last. The number 0 stands for the whole scenario.
+    fn fault<I: Read + Drop>(
+        &mut self,
+        number: usize,
+        lines: &Lines<I>,
+        cause: Cause,
+    ) -> Result<(), JobError>
         ensures { IfErr result IsStepFault }
     {
         let line = if number == 0 { SCRIPT } else { number };
-        match fault_of_scenario(self.alloc, line, bytes, cause) {
+        match fault_of_scenario(self.alloc, line, lines.current(), cause, &lines.sizes) {
             Ok(finding) => self.faults(&[finding]),
             Err(_) => Err(JobError::NoMemory),
         }

@@ -97,7 +97,7 @@ fn carry_out<R: Wait, K: Keeper, I: Read + Drop, W: Write, E: Write>(
     ensures { IfErr result IsStepFault }
 {
     let read = Plan::read(alloc, lines);
-    let Some((plan, first)) = printer.unless_fault(read, lines.current())? else {
+    let Some((plan, first)) = printer.unless_fault(read, lines)? else {
         return Ok(());
     };
     let Images { images, keeper } = images;
@@ -291,11 +291,11 @@ fn events<C: Carrier, I: Read + Drop, W: Write, E: Write>(
             return Ok(Ending::Finish);
         }
         let done = one_line(stepper, line, lines, printer);
-        if printer.unless_fault(done, lines.current())?.is_none() {
+        if printer.unless_fault(done, lines)?.is_none() {
             return Ok(Ending::Fault);
         }
         let read = read_line(alloc, lines);
-        match printer.unless_fault(read, lines.current())? {
+        match printer.unless_fault(read, lines)? {
             Some(line) => next = line,
             None => return Ok(Ending::Fault),
         }
@@ -335,7 +335,7 @@ fn rest<I: Read + Drop, W: Write, E: Write>(
 {
     for _ in 0..=LIMIT {
         let read = after_finish(alloc, finished, lines);
-        match printer.unless_fault(read, lines.current())? {
+        match printer.unless_fault(read, lines)? {
             Some(Some(true)) => printer.expect(lines.number, lines.current(), answer)?,
             Some(Some(false)) => {}
             _ => return Ok(()),

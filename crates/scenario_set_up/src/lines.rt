@@ -16,7 +16,7 @@ pub struct Lines<R: Read + Drop> {
     alloc: Global,
     reader: BufReader<Take<R>>,
     /// The sizes of images, by the numbers of their units.
-    sizes: Vec<Option<Size>>,
+    pub sizes: Vec<Option<Size>>,
     /// The bytes of the current line.
     line: Vec<u8>,
     /// How many lines were read.

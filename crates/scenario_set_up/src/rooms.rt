@@ -32,6 +32,16 @@ impl Rooms {
         }
     }
 
+    /// Whether a line has set the size of this row or this book.
+    pub fn has(&self, room: Room) -> bool {
+        let count = match room {
+            Room::Intake(_) => self.intake,
+            Room::Post(_) => self.post,
+            Room::Book(unit, _) => self.books.get(usize::from(unit)).copied().unwrap_or(0),
+        };
+        count != 0
+    }
+
     /// Sets the size that a line says.
     pub fn set(&mut self, room: Room) {
         match room {

@@ -17,6 +17,16 @@ use std::alloc::{AllocError, Global};
 use std::io::Read;
 use unit_book::UnitBook;
 
+const TWICE: &str = "an earlier line sets the size of this row or this book";
+
+const NO_EVENT: &str =
+    "no event comes before this line: 'expect' has the answer of the event before it";
+
+/// A line that is not where it may be.
+fn out_of_order(text: &'static str) -> Cause {
+    Cause::new(FaultName::Order, text, &[])
+}
+
 /// The units, tasks and areas of a scenario, and the sizes of its rows and books.
 #[derive(Drop)]
 pub struct Plan {
@@ -78,9 +88,13 @@ impl Plan {
             }
             ScenarioLine::Room(room) => {
                 self.names_unit_of(number, room)?;
+                if self.rooms.has(room) {
+                    return Err(StepError::Line(number, out_of_order(TWICE)));
+                }
                 self.rooms.set(room);
                 Ok(None)
             }
+            ScenarioLine::Expect => Err(StepError::Line(number, out_of_order(NO_EVENT))),
             line => Ok(Some(line)),
         }
     }

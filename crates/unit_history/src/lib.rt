@@ -29,3 +29,4 @@ pub use events::Events;
 pub use history::{kind_in_words, method_in_words, mode_in_words, write_history};
 pub use names::{NORMAL_END, SENSE, STATUS};
 pub use step_places::{Passed, Place, Placed, RecordPlace};
+pub use words::Count;

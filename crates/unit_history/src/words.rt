@@ -17,7 +17,7 @@ impl fmt::Display for Request {
 
 /// How many things of a kind there are, with the word for one and that for several.
 #[derive(Clone, Copy)]
-pub(crate) struct Count {
+pub struct Count {
     number: u64,
     one: &'static str,
     several: &'static str,
