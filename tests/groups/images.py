@@ -270,12 +270,23 @@ def are_judged(setup, images):
             is_right(name, image, said.get(name), name in taken)
 
 
-def is_right(name, image, said, is_taken):
-    """What was said of an image is right. A shadow file is known by its first bytes."""
-    if image.startswith(b"CKD_S"):
+def as_loaded(fault, image):
+    """A fault as the library has it, which tells no trailing bytes from an image that is cut short."""
+    if fault and fault.names == ("after chunks",):
+        return formats.Fault(fault.offset, "header cut")
+    if fault and fault.names == ("after cylinders",):
+        return formats.Fault(len(image), "cut")
+    return fault
+
+
+def is_right(name, image, said, is_taken, of_library=False):
+    """What was said of an image is right. The program knows a shadow file by its first bytes."""
+    if image.startswith(b"CKD_S") and not of_library:
         require(said and said.startswith("this is a shadow file") and not is_taken, f"image {name}: {said}")
         return
     fault = fault_of(image, image[:4] == b"CKD_")
+    if of_library:
+        fault = as_loaded(fault, image)
     if fault is None:
         require(is_taken and said is None, f"image {name} has no fault: {said}")
         return

@@ -199,7 +199,7 @@ def are_loaded(name_of, texts):
         require((ran.status, ran.err, len(said)) == (0, "", len(texts)), f"{name_of}: an image is not judged", ran)
         for number, image in enumerate(texts):
             is_kept = said[str(number)] == "kept"
-            images.is_right(number, image, None if is_kept else said[str(number)], is_kept)
+            images.is_right(number, image, None if is_kept else said[str(number)], is_kept, of_library=True)
 
 
 def are_saved(setup, script, *loaded):
