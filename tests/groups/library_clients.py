@@ -182,7 +182,7 @@ def jobs_are_the_same(setup, seed):
     scripts = ["\n".join([*at_random.SET_UP, *without_races(it), ""]) for it in jobs]
     prints_the_same(setup, "run", scripts, "script")
     events = ["\n".join([*at_random.SET_UP, *with_events(chance, it), ""]) for it in jobs]
-    prints_the_same(setup, "step", events, "scenario", "--plain")
+    prints_the_same(setup, "step", events, "scenario")
 
 
 # --- images
@@ -382,10 +382,10 @@ def is_installed(*how):
 def through_python(setup):
     origin = "the program, by docs/SPECIFICATION.md"
     for file in scenarios.scenarios():
-        judge = lambda f=file: prints_the_same(setup, "step", [read(f)], "scenario", "--plain")
+        judge = lambda f=file: prints_the_same(setup, "step", [read(f)], "scenario")
         yield Case(f"scenario {os.path.basename(file)}", judge, origin)
     for name, give in scenarios.made():
-        yield Case(f"scenario {name}", lambda g=give: prints_the_same(setup, "step", g(), "scenario", "--plain"), origin)
+        yield Case(f"scenario {name}", lambda g=give: prints_the_same(setup, "step", g(), "scenario"), origin)
     for name, script, texts in stored_scripts():
         yield Case(f"script {name}", lambda s=script, t=texts: posts_are_those_stored(s, t), "docs/SPECIFICATION.md")
     for seed in range((JOBS_LONG if setup.is_long else JOBS) // BATCH):

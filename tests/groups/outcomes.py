@@ -52,6 +52,13 @@ WAITED = "48 000000 0000 0000 0000 -"
 RELATED = DISK + OPEN + area(0, "40", "09") + area(1, "40", "01") + EXCP.format(0, 0) + EXCP.format(1, 1)
 FAILED = "41 001038 0E00 0005 0008 -"
 
+# Two DCBs. A related request to the first one finds no record, and then its task closes the second one. Another task waits for each of two
+# requests to the second one, resets the first one, and issues a related request to it. If both that it waits for were posted on
+# arrival, the second of them arrived after the request that finds no record. It may have been posted before that one was started: then
+# the reset comes before the error.
+EARLY_RESET = (DISK + OPEN * 2 + area(0, "40", "09") + area(1, "40", "01") + area(2, "42", "01").replace("0000103000000001", "0000103000000002")
+               + EXCP.format(0, 0) + "close 0 0 2\n" + "excp 1 0 2 001000 2 001000 0\nwait 1\n" * 2 + "reset 1 0 1\n" + EXCP.format(1, 1))
+
 # A job with its options, and the outcomes of each request, worked by hand.
 BY_HAND = {
     # A request and a quiesce. If it has not arrived, is active or is posted at the purge, it ends; if it waits, it is purged.
@@ -63,16 +70,21 @@ BY_HAND = {
                             {"0 0 1": {ENDED, WAITED, "48 001030 0C00 0000 0000 -", "48 001038 0C00 0000 0000 -"}}),
     # A related request that finds no record, and one of another task to the same DCB: that ends well only if it arrives first.
     "a related error": (RELATED, (), {"0 0 1": {FAILED}, "1 0 1": {ENDED, WAITED}}),
+    # Two related requests that find no record: the second one is started only if it arrives after the reset.
+    "a reset": (DISK + OPEN + area(0, "40", "09") + EXCP.format(0, 0) * 2 + "reset 0 0 1\n", (), {"0 0 1": {FAILED}, "0 0 2": {FAILED, WAITED}}),
+    "a reset before an error": (EARLY_RESET, (), {"0 0 1": {FAILED}, "1 0 1": {ENDED, WAITED}, "1 0 2": {ENDED, WAITED}, "1 0 3": {ENDED, WAITED}}),
     # An error that is tried again, and a close: a request that is active stays so.
     "a close": (DISK + "fault 0 1 0E 00 1000\n" + OPEN + PLAIN + EXCP.format(0, 0) + "close 1 0 1\n", (), {"0 0 1": {ENDED, WAITED}}),
 }
 
 # Jobs of tests/cases/outcomes, each with an outcome that a search loses if it saves too much: the options, the request and its post.
 # A program that writes a record and restores it is halted between its writes, and another one reads the record. A request arrives at
-# an idle unit before one that is posted on arrival, and is purged before it is started; so a later one reads the first block.
+# an idle unit before one that is posted on arrival, and is purged before it is started; so a later one reads the first block. Of two
+# requests on their way to a printer, the later one by its number is taken first, and meets a fault.
 SELDOM = {
     "halted-between-writes": (("--turn", "1"), "2 0 1", "7F 0010A0 0C00 0000 0000 AAAAAAAA"),
     "arrival-before-doomed": ((), "1 0 3", "7F 0010D0 0C00 0000 0000 B0"),
+    "taken-in-another-order": (("--turn", "2"), "1 0 1", "41 001040 0E00 0001 4000 0000"),
 }
 
 # Two tapes, of each of which the first request reads the block 01 and the second the block 02. Task 0 issues to both; task 1 issues to
@@ -163,7 +175,7 @@ def has_outputs(setup, script, wanted):
         require(outputs == wanted, f"the outputs are {outputs}")
         require(last.endswith(f", {len(wanted)} whole outputs)"), f"the last line is {last!r}")
         for number, output in enumerate(outputs, 1):
-            ran = setup.run("step", "--plain", script=read(f"{folder}/output-{number}.scenario"))
+            ran = setup.run("step", script=read(f"{folder}/output-{number}.scenario"))
             require((ran.status, ran.err) == (0, ""), f"the scenario of output {number} fails", ran)
             posts = dict(numbers_and_post(line[line.index("post "):]) for line in ran.out.splitlines() if ": post " in line)
             require(posts == output, f"the scenario of output {number} posts {posts}", ran)
@@ -211,7 +223,7 @@ def every_outcome(setup, script, folder):
     _, last = outcomes_of(setup, script, "--turn", "1", "--most-states", "50000", "--scenarios", folder)
     told = {}
     for file in sorted(glob.glob(f"{folder}/*.scenario")):
-        ran = setup.run("step", "--plain", script=read(file))
+        ran = setup.run("step", script=read(file))
         require((ran.status, ran.err) == (0, ""), f"{os.path.basename(file)} does not come to its post", ran)
         post = ran.out.rstrip("\n").rpartition("post ")[2].split(" ", 3)
         name = "-".join(post[:3])

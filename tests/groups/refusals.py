@@ -280,7 +280,7 @@ def programs(setup):
         words = setup.command("report", form)
         yield f"report samples/how-programs-end.script {form}", Plan(words, prints_a_part, f"{programs_end}.script", whole)
     for scenario in (f"{SAMPLES}/scenarios/halt-an-active-request.scenario", f"{CASES}/scenarios/purge_of_one_task_over_units_halt.scenario"):
-        for words in ["step", "--json"], ["step", "--json", "--plain"], ["step", "--html"]:
+        for words in ["step", "--json"], ["step", "--html"]:
             whole = setup.run(*words, file=scenario).out
             yield f"{' '.join(words)} {os.path.relpath(scenario, TOP)}", Plan(setup.command(*words), prints_a_part, scenario, whole)
     yield plan("check", prints_all_or_nothing, f"{SAMPLES}/read.script", "/dev/null")

@@ -23,7 +23,7 @@ import reports
 import scenario_reports
 from groups import random as at_random
 from groups.samples import without_history
-from groups.scenarios import AT_ONCE, BY_COMMANDS, OTHERS, disturbed, every_command, scenarios
+from groups.scenarios import AT_ONCE, BY_COMMANDS, OTHERS, disturbed, every_command, looks_the_same, scenarios
 from groups.scenarios import COMMANDS as COMMANDS_OF_UNITS
 from harness import SAMPLES, TOP, Case, Failed, expect, expect_text, files, multiple, read, require, run
 
@@ -157,12 +157,12 @@ def scenario_at_random(chance):
 
 
 def scenario_is_right(setup, script, status=0):
-    """The JSON of a scenario is right, and the same without locks."""
+    """The JSON of a scenario is right, whose events do the same with locks and rows."""
+    looks_the_same(setup, script)
     traced = setup.run("step", "--trace", script=script)
     require(traced.status == status, "the scenario fails", traced)
-    ran, plain = (setup.run("step", "--json", *words, script=script) for words in ((), ("--plain",)))
+    ran = setup.run("step", "--json", script=script)
     require((ran.status, ran.err) == (status, traced.err), "another status or another error", ran)
-    require((plain.status, plain.out, plain.err) == (ran.status, ran.out, ran.err), "with --plain it prints something else", plain)
     try:
         found = json.loads(ran.out)
     except ValueError as error:

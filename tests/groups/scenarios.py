@@ -1,5 +1,5 @@
 """Scenarios, event by event, with locks and without: what each event answers, each expectation changed in turn, and each
-allocation made to fail.
+allocation made to fail. `step` has neither locks nor rows; the program locked_steps (crates/locked_steps) has both.
 
 The files are tests/cases/scenarios/*.scenario and samples/scenarios/*.scenario, whose `expect` lines follow from
 docs/SPECIFICATION.md, tests/cases/scenarios/*.findings, with scenarios that have faults and what is printed of them, and
@@ -60,11 +60,20 @@ def expectations(text):
     return [(at, line) for at, line in enumerate(text.split("\n"), 1) if line.startswith("expect ")]
 
 
+def locked_steps(setup):
+    """The program with locks and rows: beside the one that is tested, or as `rt ci` built it."""
+    for path in f"{os.path.dirname(setup.program)}/locked_steps", f"{TOP}/crates/locked_steps/out/locked_steps":
+        if os.access(path, os.X_OK):
+            return path
+    raise Skipped("locked_steps is not built: `rt run` in crates/locked_steps")
+
+
 def carried_out(setup, text, *views):
-    """Carries a scenario out on units under locks, and on units without them: both print the same."""
-    ran, plain = (setup.run("step", *words, *views, script=text) for words in ((), ("--plain",)))
-    if (ran.status, ran.out, ran.err) != (plain.status, plain.out, plain.err):
-        raise Failed("with --plain it prints something else", plain, ran.text(), plain.text())
+    """Carries a scenario out, with locks and without: both print the same, also of the entries and the state of each unit after each
+    event, if `views` are the words for that."""
+    ran, locked = setup.run("step", *views, script=text), run([locked_steps(setup), *views[:1]], text)
+    if (ran.status, ran.out, ran.err) != (locked.status, locked.out, locked.err):
+        raise Failed("with locks it prints something else", locked, ran.text(), locked.text())
     return ran
 
 
@@ -133,14 +142,15 @@ def answers_at_once(setup, file):
     require(it.returncode == 0, f"status {it.returncode}")
 
 
-def runs_out_of_memory(setup, words, file, lacks, refusals):
+def runs_out_of_memory(setup, has_locks, file, lacks, refusals):
     """With each allocation made to fail in turn, a scenario prints all, or a part and that memory ran out."""
     setup.skip_unproved()
     if lacks:
         raise Skipped(lacks)
+    words = [locked_steps(setup)] if has_locks else setup.command("step")
     # the `expect` lines of the scenario judge this text
-    plan = refusals.Plan(setup.command(*words), refusals.prints_a_part, file, setup.run(*words, file=file).out)
-    plan.judged(" ".join(words), 1)
+    plan = refusals.Plan(words, refusals.prints_a_part, file, run(words, read(file)).out)
+    plan.judged(os.path.basename(words[0]), 1)
 
 
 def with_full_output(setup, word):
@@ -240,9 +250,9 @@ def cases(setup):
         yield Case(f"{name}: entries and states", lambda f=file: looks_the_same(setup, read(f)), f"{place}, by docs/MANUAL.md")
         yield Case(f"{name}: check", lambda f=file, p=place: is_accepted(setup, read(f), p), f"{place}, by docs/MANUAL.md")
         yield Case(f"{name}: each expectation changed", lambda f=file: is_missed(setup, f), f"{place}, by docs/MANUAL.md")
-        for words in ("step",), ("step", "--plain"):
-            judge = lambda w=words, f=file: runs_out_of_memory(setup, w, f, lacks, refusals)
-            yield Case(f"{name}: each allocation of {' '.join(words)}", judge, f"{place}, by docs/MANUAL.md")
+        for has_locks, program in (False, "step"), (True, "locked_steps"):
+            judge = lambda h=has_locks, f=file: runs_out_of_memory(setup, h, f, lacks, refusals)
+            yield Case(f"{name}: each allocation of {program}", judge, f"{place}, by docs/MANUAL.md")
     origin = "tests/groups/scenarios.py, by docs/SPECIFICATION.md"
     for name, give in made():
         yield Case(name, lambda g=give: are_met(setup, g), origin)

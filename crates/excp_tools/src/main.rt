@@ -282,7 +282,7 @@ fn carry_out_by<R: Threads + Wait + Sync, I: Read>(
                 name,
                 is_broken: &is_broken,
             };
-            step(rt, threads, input, asked, images)
+            step(rt, input, asked, images)
         }
     };
     if matches!(order, Order::Check { .. }) && is_broken.get() {

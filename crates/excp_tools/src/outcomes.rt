@@ -8,7 +8,7 @@ use crate::script::{SizedScript, sized};
 use crate::target::{Output, Targets};
 use job_media::{MountedImages, mount_images};
 use job_options::{OutcomeOptions, RunFiles};
-use job_outcomes::{Asked, ScenarioKeeper, write_outcomes};
+use job_outcomes::{OutcomeQuery, ScenarioKeeper, write_outcomes};
 use job_script::{JobError, read_script};
 use medium_image::Image;
 use request_piece::Name;
@@ -194,8 +194,8 @@ fn outcomes_of_text(
 }
 
 /// What is asked of the search.
-fn asked_of(options: OutcomeOptions) -> Asked {
-    Asked {
+fn asked_of(options: OutcomeOptions) -> OutcomeQuery {
+    OutcomeQuery {
         turn: options.turn,
         most_states: options.most_states,
         most_bytes: MOST_BYTES,

@@ -15,11 +15,11 @@ use medium_image::{Image, Kept};
 use recorded_run::{report_script, run_recorded, write_report};
 use run_options::Counts;
 use run_record::write_posts;
-use seeded_run::run_seeded;
 use std::cell::Cell;
 use std::io::{BufWriter, Read, Stdout, Write};
 use std::sync::Wait;
 use std::thread::Threads;
+use stepped_run::run_seeded;
 use unit_book::UnitBook;
 
 /// What is asked of a report, and the name of its script.
@@ -113,9 +113,9 @@ fn report_parsed<R: Threads + Wait + Sync>(
                 );
             }
             let left = Left {
-                tasks: &run.tasks,
+                tasks: &run.past.tasks,
                 books: &run.books,
-                places: Some(run.order.all()),
+                places: Some(&run.past.order.units),
             };
             print_and_save(rt, &script, left, asked, &mut saver, &kept)
         }

@@ -9,12 +9,11 @@ use any_device::AnyDevice;
 use job_check::Source;
 use job_options::{RunFiles, StepOptions, StepPrint};
 use job_script::{JobError, UnitSetup};
-use job_step::{Images, Keeper, SiteKind, Views, step_scenario_on};
+use job_step::{Images, Keeper, Views, step_scenario_on};
 use medium_image::{Image, Kept};
 use run_record::Run;
 use std::cell::Cell;
 use std::io::{Read, Write, sink};
-use std::sync::Wait;
 use unit_history::HistoryError;
 
 /// What is asked of a scenario, and the name of its script.
@@ -59,9 +58,8 @@ impl<'a> Keeper for EndKeeper<'a> {
 }
 
 /// Carries out a scenario, and returns the exit status.
-pub fn step<R: Wait, I: Read>(
+pub fn step<I: Read>(
     rt: &HostRuntime,
-    threads: &R,
     input: &mut I,
     asked: StepOrder<'_>,
     images: Vec<Option<Image>>,
@@ -70,22 +68,21 @@ pub fn step<R: Wait, I: Read>(
         StepPrint::Answers { trace, state } => {
             let mut screen = Screen::new(rt.stdout(), false, asked.is_broken);
             let views = Views { trace, state };
-            carry_out(rt, threads, input, asked, images, views, &mut screen)
+            carry_out(rt, input, asked, images, views, &mut screen)
         }
         StepPrint::As(_) => {
             let views = Views {
                 trace: false,
                 state: false,
             };
-            carry_out(rt, threads, input, asked, images, views, &mut sink())
+            carry_out(rt, input, asked, images, views, &mut sink())
         }
     }
 }
 
 /// Carries out a scenario whose answers go to this writer.
-fn carry_out<R: Wait, I: Read, W: Write>(
+fn carry_out<I: Read, W: Write>(
     rt: &HostRuntime,
-    threads: &R,
     input: &mut I,
     asked: StepOrder<'_>,
     images: Vec<Option<Image>>,
@@ -108,9 +105,7 @@ fn carry_out<R: Wait, I: Read, W: Write>(
         keeper: &mut keeper,
     };
     let is_met = step_scenario_on(
-        threads,
         rt.alloc(),
-        kind_of(asked.options.plain),
         views,
         images,
         input,
@@ -120,13 +115,4 @@ fn carry_out<R: Wait, I: Read, W: Write>(
     );
     let saved = keeper.saver.finish();
     Ok(if is_met? { saved } else { saved.max(REJECTED) })
-}
-
-/// What carries a scenario out.
-fn kind_of(is_plain: bool) -> SiteKind {
-    if is_plain {
-        SiteKind::Plain
-    } else {
-        SiteKind::Locked
-    }
 }

@@ -15,7 +15,7 @@ use job_media::{sizes_of, with_sizes};
 use job_scenario::begins_event;
 use job_script::{
     Action, BYTE_ORDER_MARK, Cause, Command, DcbName, ExcpLine, FaultName, JobError, LIMIT, Line,
-    Message, Refusal, SetUp, begins_line, first_unprintable, is_symbolic, late, read_script,
+    Message, Refusal, SetUp, first_unprintable, late, read_script,
 };
 use medium_image::{Image, Size};
 use script_words::{Words, next_word};
@@ -186,24 +186,8 @@ fn fault_of<'a>(
         cause.message = Message::new(EVENT, &[1]);
         return Ok(Finding::fault(line, words.line, cause));
     }
-    let meant = meant(alloc, words)?;
+    let meant = meant_in_script(alloc, words)?;
     Ok(Finding::of_first_word(line, words.line, cause, meant))
-}
-
-/// The first word that may be meant by an unknown one.
-fn meant(alloc: Global, words: &Words<'_>) -> Result<Option<&'static str>, AllocError> {
-    let word = words.word(0);
-    if begins_line(word) {
-        return Ok(None);
-    }
-    if word.ends_with(b":") {
-        return Ok(None);
-    }
-    let small = word.to_ascii_lowercase(alloc)?;
-    if is_symbolic(word) && !begins_line(&small) {
-        return Ok(None);
-    }
-    meant_in_script(alloc, &small)
 }
 
 /// What a script declares as far as it was read, and what was found in it. A line with a fault adds nothing, but what

@@ -4,7 +4,7 @@ use crate::finding::Finding;
 use job_scenario::begins_event;
 use job_script::{Cause, begins_line, is_symbolic};
 use medium_image::Size;
-use script_words::Words;
+use script_words::{Words, is_word};
 use std::alloc::{AllocError, Global};
 use strsim::osa_distance;
 
@@ -68,9 +68,12 @@ const FIRST_WORDS: [&str; 28] = [
     "expect",
 ];
 
-/// The word that begins lines of a script and may be meant by one in small letters.
-pub fn meant_in_script(alloc: Global, word: &[u8]) -> Result<Option<&'static str>, AllocError> {
-    nearest(alloc, word, &FIRST_WORDS[..16])
+/// The first word of lines of a script that may be meant by an unknown one.
+pub fn meant_in_script(
+    alloc: Global,
+    words: &Words<'_>,
+) -> Result<Option<&'static str>, AllocError> {
+    meant(alloc, words, &FIRST_WORDS[..16])
 }
 
 /// A fault of a line of a scenario. It names the first word that may be meant by an unknown one. `sizes` has the sizes of
@@ -84,12 +87,24 @@ pub fn fault_of_scenario<'a>(
 ) -> Result<Finding<'a>, AllocError> {
     let mut words = Words::new();
     words.scan(bytes);
-    let first = words.word(0);
-    let is_known = begins_line(first) || begins_event(first) || is_symbolic(first);
-    if is_known || !words.is_printable() {
-        return Ok(Finding::fault(line, bytes, cause).explained(sizes));
+    let meant = meant(alloc, &words, &FIRST_WORDS[1..])?;
+    Ok(Finding::of_first_word(line, bytes, cause, meant).explained(sizes))
+}
+
+/// The known word that may be meant by an unknown first word. A name in capitals is of a symbolic area, unless it is such a
+/// word itself in small letters.
+fn meant(
+    alloc: Global,
+    words: &Words<'_>,
+    known: &[&'static str],
+) -> Result<Option<&'static str>, AllocError> {
+    let word = words.word(0);
+    if !words.is_printable() || begins_line(word) || begins_event(word) {
+        return Ok(None);
     }
-    let small = first.to_ascii_lowercase(alloc)?;
-    let meant = nearest(alloc, &small, &FIRST_WORDS[1..])?;
-    Ok(Finding::of_first_word(line, bytes, cause, meant))
+    let small = word.to_ascii_lowercase(alloc)?;
+    match nearest(alloc, &small, known)? {
+        Some(found) if is_symbolic(word) && !is_word(&small, found.as_bytes()) => Ok(None),
+        found => Ok(found),
+    }
 }

@@ -238,7 +238,7 @@ pub(crate) const SUBCOMMANDS: &[Subcommand] = &[
             Entry {
                 name: "plain",
                 long: "plain",
-                help: "Units and rows without locks; the answers are the same",
+                help: "Changes nothing: each scenario has units and rows without locks",
                 ..FLAG
             },
             Entry {

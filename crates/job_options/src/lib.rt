@@ -21,10 +21,9 @@ use std::alloc::{AllocError, Global};
 pub use unit_file::UnitFile;
 use unit_file::{UnitFileError, unit_files};
 
-/// How a scenario is carried out: with locks or without, and what it prints.
+/// What is asked of a scenario. `--plain` changes nothing.
 #[derive(Clone, Copy)]
 pub struct StepOptions {
-    pub plain: bool,
     pub print: StepPrint,
 }
 
@@ -297,7 +296,6 @@ fn asked_for(name: &str, options: &ArgMatches<'_>) -> Option<Order> {
         }),
         "assemble" => Some(Order::Assemble),
         "step" => Some(Order::Step(StepOptions {
-            plain: options.get_flag("plain"),
             print: step_print_of(options),
         })),
         _ => Some(Order::Report {

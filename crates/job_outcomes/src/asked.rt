@@ -5,7 +5,7 @@ use request_piece::Name;
 
 /// What is asked.
 #[derive(Clone, Copy)]
-pub struct Asked {
+pub struct OutcomeQuery {
     /// How many commands a program does between two steps of others, at least 1.
     pub turn: u32,
     /// The most states that are searched.

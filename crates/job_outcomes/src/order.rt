@@ -5,7 +5,7 @@ use std::alloc::{AllocError, Global};
 
 /// A request, with its place in the order.
 #[derive(Clone, Copy, PartialEq, Eq, PartialOrd, Ord)]
-struct Placed {
+struct RequestPlace {
     task: u16,
     unit: u16,
     seq: u32,
@@ -14,9 +14,9 @@ struct Placed {
 
 /// The numbers of the requests, in this order.
 pub(crate) fn in_order(alloc: Global, job: &NumberedJob) -> Result<Vec<u16>, AllocError> {
-    let mut placed: Vec<Placed> = Vec::new(alloc);
+    let mut placed: Vec<RequestPlace> = Vec::new(alloc);
     for (number, request) in (0..=u16::MAX).zip(&job.requests) {
-        placed.push(Placed {
+        placed.push(RequestPlace {
             task: request.task,
             unit: request.unit,
             seq: request.name.seq,

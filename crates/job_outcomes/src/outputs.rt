@@ -1,20 +1,80 @@
-//! The whole outputs, told: the posts of all requests that a run can have together.
+//! The whole outputs: the posts of all requests that a run can have together.
 
-use crate::ranks::Ranks;
-use crate::run_posts::RunPosts;
-use crate::scenario::{Scenes, write_events, write_line};
-use crate::steps::world_steps;
-use crate::telling::written;
-use job_script::JobError;
-use job_world::Step;
+use crate::bench::{WholeWitness, has_outcome};
+use crate::scenario::Scenes;
+use job_scenario::Step;
 use outcome_search::Search;
+use request_piece::Posted;
 use std::alloc::{AllocError, Global};
-use std::io::Write;
 
-/// A whole output, by its place in the search, with the ranks of its posts in the order in which a run prints them.
+/// A whole run that was carried out, with the posts by requests.
+#[derive(Drop)]
+pub(crate) struct WholeRun {
+    pub witness: WholeWitness,
+    /// For each request, the place of its post.
+    places: Vec<usize>,
+}
+
+impl WholeRun {
+    /// What these steps give, if they are a whole run.
+    pub fn of(scenes: Scenes<'_>, steps: &[Step]) -> Result<Option<Self>, AllocError> {
+        let Some(witness) = scenes.bench.carry_out_all(steps)? else {
+            return Ok(None);
+        };
+        let job = scenes.bench.job();
+        let mut places: Vec<usize> = Vec::new(scenes.alloc);
+        places.resize(job.requests.len(), usize::MAX)?;
+        for (place, posted) in witness.posts.iter().enumerate() {
+            if let Some(number) = job.number_of(posted.unit(), posted.name()) {
+                if let Some(slot) = places.get_mut(number) {
+                    *slot = place;
+                }
+            }
+        }
+        Ok(Some(WholeRun { witness, places }))
+    }
+
+    /// The post of a request, by its number, if it has this outcome.
+    pub fn with_outcome(
+        &self,
+        scenes: Scenes<'_>,
+        request: u16,
+        outcome: &[u8],
+    ) -> Result<Option<&Posted>, AllocError> {
+        let number = usize::from(request);
+        let place = self.places.get(number).copied().unwrap_or(usize::MAX);
+        let issued = scenes.bench.job().requests.get(number);
+        let (Some(posted), Some(issued)) = (self.witness.posts.get(place), issued) else {
+            return Ok(None);
+        };
+        let is_it = has_outcome(scenes.alloc, posted, &issued.excp, outcome)?;
+        Ok(is_it.then_some(posted))
+    }
+
+    /// Adds the posts of these requests, in order, if they are those of the whole output at a place of the search.
+    pub fn add_posts(
+        &self,
+        scenes: Scenes<'_>,
+        search: &Search<'_>,
+        place: usize,
+        requests: &[u16],
+        text: &mut Vec<u8>,
+    ) -> Result<bool, AllocError> {
+        for request in requests {
+            let outcome = search.key(key_in(search.whole(place), *request));
+            match self.with_outcome(scenes, *request, outcome)? {
+                Some(posted) => scenes.add_post(text, posted)?,
+                None => return Ok(false),
+            }
+        }
+        Ok(true)
+    }
+}
+
+/// A whole output, by its place in the search, with the outcomes of requests in the order in which a run prints them.
 #[derive(Drop, PartialEq, Eq, PartialOrd, Ord)]
-struct Ranked {
-    ranks: Vec<u32>,
+struct Ranked<'s> {
+    outcomes: Vec<&'s [u8]>,
     place: usize,
 }
 
@@ -23,15 +83,14 @@ pub(crate) fn in_order(
     alloc: Global,
     search: &Search<'_>,
     requests: &[u16],
-    ranks: &Ranks,
 ) -> Result<Vec<usize>, AllocError> {
-    let mut outputs: Vec<Ranked> = Vec::new(alloc);
+    let mut outputs: Vec<Ranked<'_>> = Vec::new(alloc);
     for place in 0..search.wholes().unwrap_or(0) {
-        let mut list = Vec::with_capacity(alloc, requests.len())?;
+        let mut outcomes = Vec::with_capacity(alloc, requests.len())?;
         for request in requests {
-            list.push(ranks.get(text_in(search.whole(place), *request)))?;
+            outcomes.push(search.key(key_in(search.whole(place), *request)))?;
         }
-        outputs.push(Ranked { ranks: list, place })?;
+        outputs.push(Ranked { outcomes, place })?;
     }
     outputs.sort()?;
     let mut places = Vec::with_capacity(alloc, outputs.len())?;
@@ -41,72 +100,7 @@ pub(crate) fn in_order(
     Ok(places)
 }
 
-/// The number of the text of a request's post in a whole output, which has each request with its text, by their numbers.
-fn text_in(whole: &[u32], request: u16) -> u32 {
-    let place = usize::from(request).saturating_mul(2).saturating_add(1);
-    whole.get(place).copied().unwrap_or(u32::MAX)
-}
-
-/// A whole output that is to be told.
-#[derive(Clone, Copy)]
-pub(crate) struct Output<'t> {
-    pub scenes: Scenes<'t>,
-    /// The requests in the order in which their posts are printed.
-    pub requests: &'t [u16],
-    /// Its place in the search, and its number in the order in which they are printed.
-    pub place: usize,
-    pub number: usize,
-    pub has_steps: bool,
-}
-
-impl<'t> Output<'t> {
-    /// The run that has it, by the search. If there is none, the search is wrong about it.
-    pub fn run(&self, search: &mut Search<'_>) -> Result<Option<RunPosts>, JobError> {
-        let Scenes { alloc, bench, .. } = self.scenes;
-        match search.whole_witness(self.place)? {
-            Some(steps) => Ok(RunPosts::of(alloc, bench, &world_steps(alloc, &steps)?)?),
-            None => Ok(None),
-        }
-    }
-
-    /// Its text: its number, its posts, and the steps of its run if they are wanted. A run that has other posts gives none.
-    pub fn told(&self, search: &Search<'_>, run: &RunPosts) -> Result<Option<Vec<u8>>, JobError> {
-        let mut text = Vec::new(self.scenes.alloc);
-        written(writeln!(text, "output {}", self.number))?;
-        if !self.write_posts(&mut text, search, run)? {
-            return Ok(None);
-        }
-        self.write_steps(&mut text, &run.witness.steps)?;
-        Ok(Some(text))
-    }
-
-    /// Writes the posts of a run, in order. Returns whether they are those of the output.
-    fn write_posts(
-        &self,
-        text: &mut Vec<u8>,
-        search: &Search<'_>,
-        run: &RunPosts,
-    ) -> Result<bool, JobError> {
-        let Scenes { alloc, bench, .. } = self.scenes;
-        let mut draft = Vec::new(alloc);
-        for request in self.requests {
-            let outcome = search.text(text_in(search.whole(self.place), *request));
-            let posted = run.with_outcome(bench, *request, outcome, &mut draft)?;
-            let issued = bench.job().requests.get(usize::from(*request));
-            let (Some(posted), Some(issued)) = (posted, issued) else {
-                return Ok(false);
-            };
-            written(write_line(text, issued, posted))?;
-        }
-        Ok(true)
-    }
-
-    /// Writes the steps that lead to it, if they are wanted.
-    fn write_steps(&self, text: &mut Vec<u8>, steps: &[Step]) -> Result<(), JobError> {
-        if !self.has_steps {
-            return Ok(());
-        }
-        let events = self.scenes.events_of(steps)?;
-        written(write_events(text, &events))
-    }
+/// The number of the outcome of a request in a whole output.
+fn key_in(whole: &[u32], request: u16) -> u32 {
+    whole.get(usize::from(request)).copied().unwrap_or(u32::MAX)
 }

@@ -1,15 +1,12 @@
 //! The scenario of a witness.
 
-use crate::telling::written;
-use job_script::{JobError, Script};
-use job_world::{Done, JobWorld, ScriptLines, Step, write_set_up, write_step};
-use numbered_job::NumberedRequest;
-use outcome_witness::{Bench, Witness};
+use crate::bench::{Bench, WholeWitness, Witness};
+use job_scenario::Step;
+use job_script::Script;
+use numbered_job::{ScriptLines, StepWriter, write_set_up};
 use post_lines::{shown, write_posted};
 use request_piece::Posted;
 use std::alloc::{AllocError, Global};
-use std::io;
-use std::io::Write;
 
 /// What scenarios are written from: the job, and the lines of its script.
 #[derive(Clone, Copy)]
@@ -22,34 +19,31 @@ pub(crate) struct Scenes<'t> {
 
 impl<'t> Scenes<'t> {
     /// The scenario that runs to the post of a witness, and expects it.
-    pub fn scenario_of(
-        &self,
-        request: &NumberedRequest,
-        witness: &Witness,
-    ) -> Result<Vec<u8>, JobError> {
-        let mut text = Vec::new(self.alloc);
-        written(write_set_up(&mut text, self.lines, self.script))?;
-        text.extend_from_slice(&self.events_of(&witness.steps)?)?;
-        text.extend_from_slice(b"expect ")?;
-        written(write_line(&mut text, request, &witness.posted))?;
+    pub fn scenario_of(&self, witness: &Witness) -> Result<Vec<u8>, AllocError> {
+        let mut text = self.set_up()?;
+        self.add_events(&mut text, &witness.steps)?;
+        self.expect(&mut text, &witness.posted)?;
         Ok(text)
     }
 
     /// The scenario of a whole run, which expects each post where it is collected.
-    pub fn scenario_of_all(&self, steps: &[Step]) -> Result<Vec<u8>, JobError> {
-        let mut text = Vec::new(self.alloc);
-        written(write_set_up(&mut text, self.lines, self.script))?;
-        let mut world = self.bench.world()?;
-        for step in steps {
-            if let Done::Collected(posted) = self.add_event(&mut text, &mut world, *step)? {
-                self.expect(&mut text, &posted)?;
+    pub fn scenario_of_all(&self, whole: &WholeWitness) -> Result<Vec<u8>, AllocError> {
+        let mut text = self.set_up()?;
+        let mut writer = StepWriter::new(self.alloc, self.bench.job(), self.lines)?;
+        let mut posts = whole.posts.iter();
+        for step in &whole.steps {
+            put(writer.write(&mut text, *step))?;
+            if let Step::Collect(_) = *step {
+                if let Some(posted) = posts.next() {
+                    self.expect(&mut text, posted)?;
+                }
             }
         }
         Ok(text)
     }
 
-    /// Adds that a post is expected.
-    fn expect(&self, text: &mut Vec<u8>, posted: &Posted) -> Result<(), JobError> {
+    /// Adds the line of a post, with its line feed.
+    pub fn add_post(&self, text: &mut Vec<u8>, posted: &Posted) -> Result<(), AllocError> {
         let job = self.bench.job();
         let Some(number) = job.number_of(posted.unit(), posted.name()) else {
             return Ok(());
@@ -57,57 +51,53 @@ impl<'t> Scenes<'t> {
         let Some(request) = job.requests.get(number) else {
             return Ok(());
         };
-        text.extend_from_slice(b"expect ")?;
-        written(write_line(text, request, posted))
+        let bytes = shown(posted, request.excp.show, request.excp.len);
+        put(write_posted(text, posted, bytes))?;
+        text.extend_from_slice(b"\n")
     }
 
-    /// The lines of steps from the beginning of the job.
-    pub fn events_of(&self, steps: &[Step]) -> Result<Vec<u8>, AllocError> {
-        let mut text = Vec::new(self.alloc);
-        let mut world = self.bench.world()?;
-        for step in steps {
-            self.add_event(&mut text, &mut world, *step)?;
+    /// Adds the lines of steps as one comment.
+    pub fn add_comment(&self, text: &mut Vec<u8>, steps: &[Step]) -> Result<(), AllocError> {
+        let mut events = Vec::new(self.alloc);
+        self.add_events(&mut events, steps)?;
+        let mut before: &[u8] = b"#   ";
+        for line in events.as_slice().split(|byte| *byte == b'\n') {
+            if !line.is_empty() {
+                text.extend_from_slice(before)?;
+                text.extend_from_slice(line)?;
+                before = b"; ";
+            }
         }
+        text.extend_from_slice(b"\n")
+    }
+
+    /// The lines before the first step.
+    fn set_up(&self) -> Result<Vec<u8>, AllocError> {
+        let mut text = Vec::new(self.alloc);
+        put(write_set_up(&mut text, self.lines, self.script))?;
         Ok(text)
     }
 
-    /// Adds the line of a step, and makes the step.
-    fn add_event(
-        &self,
-        text: &mut Vec<u8>,
-        world: &mut JobWorld<'_>,
-        step: Step,
-    ) -> Result<Done, AllocError> {
-        if write_step(text, self.lines, world, step).is_err() {
-            return Err(AllocError);
+    /// Adds the lines of steps from the beginning of the job.
+    fn add_events(&self, text: &mut Vec<u8>, steps: &[Step]) -> Result<(), AllocError> {
+        let mut writer = StepWriter::new(self.alloc, self.bench.job(), self.lines)?;
+        for step in steps {
+            put(writer.write(text, *step))?;
         }
-        world.step(step)
+        Ok(())
+    }
+
+    /// Adds that a post is expected.
+    fn expect(&self, text: &mut Vec<u8>, posted: &Posted) -> Result<(), AllocError> {
+        text.extend_from_slice(b"expect ")?;
+        self.add_post(text, posted)
     }
 }
 
-/// Writes the line of the post of a request, with its line feed.
-pub(crate) fn write_line<W: Write>(
-    out: &mut W,
-    request: &NumberedRequest,
-    posted: &Posted,
-) -> io::Result<()> {
-    write_posted(
-        out,
-        posted,
-        shown(posted, request.excp.show, request.excp.len),
-    )?;
-    out.write_all(b"\n")
-}
-
-/// Writes the lines of events as one comment.
-pub(crate) fn write_events<W: Write>(out: &mut W, events: &[u8]) -> io::Result<()> {
-    let mut before: &[u8] = b"#   ";
-    for line in events.split(|byte| *byte == b'\n') {
-        if !line.is_empty() {
-            out.write_all(before)?;
-            out.write_all(line)?;
-            before = b"; ";
-        }
+/// The outcome of writing to a text in memory, which may run out.
+pub(crate) fn put(outcome: std::io::Result<()>) -> Result<(), AllocError> {
+    match outcome {
+        Ok(()) => Ok(()),
+        Err(_) => Err(AllocError),
     }
-    out.write_all(b"\n")
 }

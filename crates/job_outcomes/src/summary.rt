@@ -1,6 +1,6 @@
 //! The last line: whether the job is deterministic, and how far the search came.
 
-use crate::asked::Asked;
+use crate::asked::OutcomeQuery;
 use outcome_search::Search;
 use std::io::{Result, Write};
 
@@ -9,7 +9,7 @@ pub(crate) fn write_summary<W: Write>(
     out: &mut W,
     search: &Search<'_>,
     requests: &[u16],
-    asked: &Asked,
+    asked: &OutcomeQuery,
     lost: usize,
 ) -> Result<()> {
     let several = several_of(search, requests);

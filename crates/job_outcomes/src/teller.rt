@@ -1,38 +1,39 @@
-//! The outcomes of one request, told.
+//! Outcomes and whole outputs, told.
 
 use crate::asked::ScenarioKeeper;
-use crate::codes::{CodeGroup, GROUPED, groups_of};
-use crate::outputs::{Output, in_order};
-use crate::ranks::Ranks;
-use crate::run_posts::RunPosts;
-use crate::scenario::{Scenes, write_events, write_line};
-use crate::steps::world_steps;
+use crate::bench::Witness;
+use crate::outputs::{WholeRun, in_order};
+use crate::scenario::{Scenes, put};
 use crate::telling::written;
 use job_script::JobError;
 use outcome_search::{Outcome, Search};
-use outcome_witness::Witness;
-use std::io;
+use std::alloc::AllocError;
 use std::io::Write;
 
-/// What tells the outcomes of requests.
+/// From this number of outcomes of a request on, only the first of each completion code is printed.
+const GROUPED: usize = 8;
+
+/// What is printed of an outcome.
+#[derive(Clone, Copy, PartialEq, Eq)]
+enum Telling {
+    /// Its line.
+    Line,
+    /// Its line, and the steps that lead to it.
+    Steps,
+    /// Only its scenario is handed over.
+    Scenario,
+}
+
+/// What tells outcomes.
 #[derive(Drop)]
 pub(crate) struct Teller<'t, W: Write, K: ScenarioKeeper> {
     scenes: Scenes<'t>,
-    ranks: Ranks,
     /// A whole run, if one was found.
-    run: Option<RunPosts>,
+    run: Option<WholeRun>,
     out: &'t mut W,
     keeper: &'t mut K,
     /// How many outcomes have no witness. The search is wrong about these, and they are not told.
     pub lost: usize,
-}
-
-/// An outcome that is to be printed: its text, its number among those of its request, and whether its steps are printed.
-#[derive(Clone, Copy)]
-struct Told {
-    text: u32,
-    number: usize,
-    has_steps: bool,
 }
 
 impl<'t, W: Write, K: ScenarioKeeper> Teller<'t, W, K> {
@@ -42,11 +43,12 @@ impl<'t, W: Write, K: ScenarioKeeper> Teller<'t, W, K> {
         out: &'t mut W,
         keeper: &'t mut K,
     ) -> Result<Self, JobError> {
-        let ranks = Ranks::of(scenes.alloc, search)?;
-        let run = run_of(scenes, search)?;
+        let run = match search.run()? {
+            Some(steps) => WholeRun::of(scenes, &steps)?,
+            None => None,
+        };
         Ok(Teller {
             scenes,
-            ranks,
             run,
             out,
             keeper,
@@ -54,145 +56,76 @@ impl<'t, W: Write, K: ScenarioKeeper> Teller<'t, W, K> {
         })
     }
 
-    /// Tells the outcomes of a request in order: each of a few, or the first of each completion code.
+    /// Tells the outcomes of a request in order: each of a few, or the first of each completion code. The scenarios of all are
+    /// handed over.
     pub fn tell(&mut self, search: &mut Search<'_>, request: u16) -> Result<(), JobError> {
-        let ranks = &self.ranks;
+        let outcomes = self.outcomes_of(search, request)?;
+        let is_grouped = outcomes.len() >= GROUPED;
+        for (place, outcome) in outcomes.iter().enumerate() {
+            let told = match outcomes.len() {
+                1 => Telling::Line,
+                _ if is_grouped && !is_first(search, &outcomes, place) => Telling::Scenario,
+                _ => Telling::Steps,
+            };
+            self.tell_one(search, request, *outcome, place.saturating_add(1), told)?;
+            if is_grouped && told == Telling::Steps {
+                self.tell_more(search, &outcomes, place)?;
+            }
+        }
+        Ok(())
+    }
+
+    /// The outcomes of a request in the order of their lines, which begin with the completion code.
+    fn outcomes_of(&self, search: &Search<'_>, request: u16) -> Result<Vec<Outcome>, AllocError> {
         let mut outcomes = search.outcomes(request).to_vec(self.scenes.alloc)?;
-        outcomes.sort_by_key(|outcome| ranks.get(outcome.text))?;
-        if outcomes.len() < GROUPED {
-            self.tell_each(search, request, &outcomes)
-        } else {
-            self.tell_groups(search, request, &outcomes)
-        }
+        outcomes.sort_by_key(|outcome| search.key(outcome.key))?;
+        Ok(outcomes)
     }
 
-    /// Tells each of these outcomes.
-    fn tell_each(
-        &mut self,
-        search: &mut Search<'_>,
-        request: u16,
-        outcomes: &[Outcome],
-    ) -> Result<(), JobError> {
-        for (place, outcome) in outcomes.iter().enumerate() {
-            let told = Told {
-                text: outcome.text,
-                number: place.saturating_add(1),
-                has_steps: outcomes.len() > 1,
-            };
-            self.tell_one(search, request, told)?;
-        }
-        Ok(())
-    }
-
-    /// Tells the first outcome of each completion code, and how many more have it. The scenarios of all are handed over.
-    fn tell_groups(
-        &mut self,
-        search: &mut Search<'_>,
-        request: u16,
-        outcomes: &[Outcome],
-    ) -> Result<(), JobError> {
-        let groups = groups_of(self.scenes.alloc, search, outcomes)?;
-        for group in &groups {
-            let told = Told {
-                text: group.first,
-                number: group.number,
-                has_steps: true,
-            };
-            self.tell_one(search, request, told)?;
-            self.tell_more(group)?;
-        }
-        self.keep_others(search, request, outcomes, &groups)
-    }
-
-    /// Hands over the scenarios of the outcomes that are the first of no code.
-    fn keep_others(
-        &mut self,
-        search: &mut Search<'_>,
-        request: u16,
-        outcomes: &[Outcome],
-        groups: &[CodeGroup],
-    ) -> Result<(), JobError> {
-        for (place, outcome) in outcomes.iter().enumerate() {
-            if groups.iter().all(|group| group.first != outcome.text) {
-                self.keep_one(search, request, outcome.text, place.saturating_add(1))?;
-            }
-        }
-        Ok(())
-    }
-
-    /// Hands over the scenario of an outcome with this number, if it is wanted.
-    fn keep_one(
-        &mut self,
-        search: &mut Search<'_>,
-        request: u16,
-        text: u32,
-        number: usize,
-    ) -> Result<(), JobError> {
-        if !self.keeper.is_wanted() {
-            return Ok(());
-        }
-        let told = Told {
-            text,
-            number,
-            has_steps: false,
-        };
-        match self.witness(search, request, told)? {
-            Some(witness) => self.hand_over(request, &witness, number),
-            None => {
-                self.lost = self.lost.saturating_add(1);
-                Ok(())
-            }
-        }
-    }
-
-    /// Tells how many more outcomes have a code.
-    fn tell_more(&mut self, group: &CodeGroup) -> Result<(), JobError> {
-        let mut text = Vec::new(self.scenes.alloc);
-        written(write_more(&mut text, group))?;
-        written(self.out.write_all(&text))
-    }
-
-    /// Tells one outcome of a request, as the post of a whole run if that has it and nobody reads its steps, or else of its witness.
+    /// Tells an outcome of a request, with its number among those of the request. It is printed as the post of the whole run, if that
+    /// has it and nobody reads its steps, or else of its witness.
     fn tell_one(
         &mut self,
         search: &mut Search<'_>,
         request: u16,
-        told: Told,
+        outcome: Outcome,
+        number: usize,
+        told: Telling,
     ) -> Result<(), JobError> {
-        if !told.has_steps && !self.keeper.is_wanted() {
-            if let Some(line) = self.line_of_run(search, request, told)? {
-                return written(self.out.write_all(&line));
+        let is_read = told == Telling::Steps || self.keeper.is_wanted();
+        if !is_read {
+            if told == Telling::Scenario || self.tell_of_run(search, request, outcome)? {
+                return Ok(());
             }
         }
-        match self.witness(search, request, told)? {
-            Some(witness) => self.tell_witness(request, &witness, told),
-            None => {
-                self.lost = self.lost.saturating_add(1);
-                Ok(())
-            }
+        let Some(witness) = self.witness(search, request, outcome, is_read)? else {
+            self.lost = self.lost.saturating_add(1);
+            return Ok(());
+        };
+        if told != Telling::Scenario {
+            self.tell_witness(&witness, told)?;
         }
+        self.hand_over(request, &witness, number)
     }
 
-    /// The line of the post that a request has in the whole run, if it has this outcome.
-    fn line_of_run(
-        &self,
+    /// Tells the post that a request has in the whole run, if it has this outcome. Returns whether it has.
+    fn tell_of_run(
+        &mut self,
         search: &Search<'_>,
         request: u16,
-        told: Told,
-    ) -> Result<Option<Vec<u8>>, JobError> {
-        let Scenes { alloc, bench, .. } = self.scenes;
-        let issued = bench.job().requests.get(usize::from(request));
-        let (Some(run), Some(issued)) = (&self.run, issued) else {
-            return Ok(None);
+        outcome: Outcome,
+    ) -> Result<bool, JobError> {
+        let Some(run) = &self.run else {
+            return Ok(false);
         };
-        let mut text = Vec::new(alloc);
-        let outcome = search.text(told.text);
-        let Some(posted) = run.with_outcome(bench, request, outcome, &mut text)? else {
-            return Ok(None);
+        let key = search.key(outcome.key);
+        let Some(posted) = run.with_outcome(self.scenes, request, key)? else {
+            return Ok(false);
         };
-        text.clear();
-        written(write_line(&mut text, issued, posted))?;
-        Ok(Some(text))
+        let mut text = Vec::new(self.scenes.alloc);
+        self.scenes.add_post(&mut text, posted)?;
+        written(self.out.write_all(&text))?;
+        Ok(true)
     }
 
     /// The witness of an outcome. It is made short if anybody reads its steps.
@@ -200,40 +133,30 @@ impl<'t, W: Write, K: ScenarioKeeper> Teller<'t, W, K> {
         &self,
         search: &mut Search<'_>,
         request: u16,
-        told: Told,
-    ) -> Result<Option<Witness>, JobError> {
-        let Scenes { alloc, bench, .. } = self.scenes;
-        let Some(found) = search.witness(request, told.text)? else {
+        outcome: Outcome,
+        is_read: bool,
+    ) -> Result<Option<Witness>, AllocError> {
+        let Some(steps) = search.witness(request, outcome.key)? else {
             return Ok(None);
         };
-        let steps = world_steps(alloc, &found)?;
-        let outcome = search.text(told.text);
-        Ok(if told.has_steps || self.keeper.is_wanted() {
-            bench.witness(&steps, request, outcome)?
+        let bench = self.scenes.bench;
+        let key = search.key(outcome.key);
+        if is_read {
+            bench.witness(&steps, request, key)
         } else {
-            bench.carry_out(&steps, request, outcome)?.witness
-        })
+            Ok(bench.carry_out(&steps, request, key)?.witness)
+        }
     }
 
-    /// Writes the post of a witness, and its steps if they are wanted, and hands over its scenario.
-    fn tell_witness(
-        &mut self,
-        request: u16,
-        witness: &Witness,
-        told: Told,
-    ) -> Result<(), JobError> {
+    /// Writes the post of a witness, and its steps if they are wanted.
+    fn tell_witness(&mut self, witness: &Witness, told: Telling) -> Result<(), JobError> {
         let scenes = self.scenes;
-        let Some(issued) = scenes.bench.job().requests.get(usize::from(request)) else {
-            return Ok(());
-        };
         let mut text = Vec::new(scenes.alloc);
-        written(write_line(&mut text, issued, &witness.posted))?;
-        if told.has_steps {
-            let events = scenes.events_of(&witness.steps)?;
-            written(write_events(&mut text, &events))?;
+        scenes.add_post(&mut text, &witness.posted)?;
+        if told == Telling::Steps {
+            scenes.add_comment(&mut text, &witness.steps)?;
         }
-        written(self.out.write_all(&text))?;
-        self.hand_over(request, witness, told.number)
+        written(self.out.write_all(&text))
     }
 
     /// Hands over the scenario of a witness, if it is wanted.
@@ -243,15 +166,37 @@ impl<'t, W: Write, K: ScenarioKeeper> Teller<'t, W, K> {
         witness: &Witness,
         number: usize,
     ) -> Result<(), JobError> {
+        if !self.keeper.is_wanted() {
+            return Ok(());
+        }
         let scenes = self.scenes;
         let Some(issued) = scenes.bench.job().requests.get(usize::from(request)) else {
             return Ok(());
         };
-        if !self.keeper.is_wanted() {
-            return Ok(());
-        }
-        let text = scenes.scenario_of(issued, witness)?;
+        let text = scenes.scenario_of(witness)?;
         self.keeper.keep(issued.unit, issued.name, number, &text)
+    }
+
+    /// Tells how many more outcomes have the completion code of the one at a place.
+    fn tell_more(
+        &mut self,
+        search: &Search<'_>,
+        outcomes: &[Outcome],
+        place: usize,
+    ) -> Result<(), JobError> {
+        let mut more: usize = 0;
+        for other in place.saturating_add(1)..outcomes.len() {
+            if is_first(search, outcomes, other) {
+                break;
+            }
+            more = more.saturating_add(1);
+        }
+        let code = code_at(search, outcomes, place).unwrap_or(0);
+        match more {
+            0 => Ok(()),
+            1 => written(writeln!(self.out, "# and 1 more outcome with code {code:02X}")),
+            _ => written(writeln!(self.out, "# and {more} more outcomes with code {code:02X}")),
+        }
     }
 
     /// Tells the whole outputs in the order of their posts, with the requests in this order.
@@ -260,62 +205,69 @@ impl<'t, W: Write, K: ScenarioKeeper> Teller<'t, W, K> {
         search: &mut Search<'_>,
         requests: &[u16],
     ) -> Result<(), JobError> {
-        let places = in_order(self.scenes.alloc, search, requests, &self.ranks)?;
-        for (number, place) in places.iter().enumerate() {
-            let output = Output {
-                scenes: self.scenes,
-                requests,
-                place: *place,
-                number: number.saturating_add(1),
-                has_steps: places.len() > 1,
-            };
-            self.tell_output(search, &output)?;
+        let places = in_order(self.scenes.alloc, search, requests)?;
+        for (before, place) in places.iter().enumerate() {
+            let number = before.saturating_add(1);
+            let mut text = Vec::new(self.scenes.alloc);
+            put(writeln!(text, "output {number}"))?;
+            match self.run_to(search, requests, *place, &mut text)? {
+                Some(run) => self.tell_output(run, text, number, places.len() > 1)?,
+                None => self.lost = self.lost.saturating_add(1),
+            }
         }
         Ok(())
     }
 
-    /// Tells a whole output as the posts that its steps gave, and hands over its scenario.
+    /// The run to a whole output, whose posts are added. If it has other posts, the search is wrong about it.
+    fn run_to(
+        &self,
+        search: &mut Search<'_>,
+        requests: &[u16],
+        place: usize,
+        text: &mut Vec<u8>,
+    ) -> Result<Option<WholeRun>, AllocError> {
+        let Some(steps) = search.whole_witness(place)? else {
+            return Ok(None);
+        };
+        let Some(run) = WholeRun::of(self.scenes, &steps)? else {
+            return Ok(None);
+        };
+        let has_posts = run.add_posts(self.scenes, search, place, requests, text)?;
+        Ok(if has_posts { Some(run) } else { None })
+    }
+
+    /// Writes a whole output, whose posts are in the text, with its steps if they are wanted, and hands over its scenario.
     fn tell_output(
         &mut self,
-        search: &mut Search<'_>,
-        output: &Output<'_>,
+        run: WholeRun,
+        text: Vec<u8>,
+        number: usize,
+        has_steps: bool,
     ) -> Result<(), JobError> {
-        let Some(run) = output.run(search)? else {
-            self.lost = self.lost.saturating_add(1);
-            return Ok(());
-        };
-        let Some(text) = output.told(search, &run)? else {
-            self.lost = self.lost.saturating_add(1);
-            return Ok(());
-        };
+        let mut text = text;
+        let scenes = self.scenes;
+        if has_steps {
+            scenes.add_comment(&mut text, &run.witness.steps)?;
+        }
         written(self.out.write_all(&text))?;
         if !self.keeper.is_wanted() {
             return Ok(());
         }
-        let scenes = self.scenes;
-        let text = scenes.scenario_of_all(&run.witness.steps)?;
-        self.keeper.keep_output(output.number, &text)
+        let scenario = scenes.scenario_of_all(&run.witness)?;
+        self.keeper.keep_output(number, &scenario)
     }
 }
 
-/// A whole run, if the search came to the end of one.
-fn run_of(scenes: Scenes<'_>, search: &mut Search<'_>) -> Result<Option<RunPosts>, JobError> {
-    match search.run()? {
-        Some(steps) => {
-            let steps = world_steps(scenes.alloc, &steps)?;
-            Ok(RunPosts::of(scenes.alloc, scenes.bench, &steps)?)
-        }
-        None => Ok(None),
-    }
+/// The completion code of the outcome at a place.
+fn code_at(search: &Search<'_>, outcomes: &[Outcome], place: usize) -> Option<u8> {
+    let outcome = outcomes.get(place)?;
+    search.key(outcome.key).first().copied()
 }
 
-/// Writes how many more outcomes have a code, if there are more than the first.
-fn write_more<W: Write>(out: &mut W, group: &CodeGroup) -> io::Result<()> {
-    let [high, low] = group.code;
-    let (high, low) = (char::from(high), char::from(low));
-    match group.count.saturating_sub(1) {
-        0 => Ok(()),
-        1 => writeln!(out, "# and 1 more outcome with code {high}{low}"),
-        more => writeln!(out, "# and {more} more outcomes with code {high}{low}"),
+/// Whether the outcome at a place is the first with its completion code. Those with one code follow one another.
+fn is_first(search: &Search<'_>, outcomes: &[Outcome], place: usize) -> bool {
+    match place.checked_sub(1) {
+        Some(before) => code_at(search, outcomes, before) != code_at(search, outcomes, place),
+        None => true,
     }
 }

@@ -2,17 +2,16 @@
 
 ghost use Rattle.std.specs.Prelude.{◌≤◌, vec_len};
 
-use crate::asked::{Asked, ScenarioKeeper};
+use crate::asked::{OutcomeQuery, ScenarioKeeper};
+use crate::bench::Bench;
 use crate::order::in_order;
 use crate::scenario::Scenes;
 use crate::summary::write_summary;
 use crate::teller::Teller;
 use any_device::AnyDevice;
 use job_script::{JobError, Script};
-use job_world::ScriptLines;
-use numbered_job::opened_job;
+use numbered_job::{ScriptLines, opened_job};
 use outcome_search::{Limits, Search};
-use outcome_witness::Bench;
 use std::alloc::{AllocError, Global};
 use std::io::Write;
 
@@ -25,7 +24,7 @@ pub fn write_outcomes<W: Write, K: ScenarioKeeper>(
     text: &[u8],
     script: &Script,
     given: Vec<Option<AnyDevice>>,
-    asked: &Asked,
+    asked: &OutcomeQuery,
     out: &mut W,
     keeper: &mut K,
 ) -> Result<(), JobError>
@@ -42,7 +41,7 @@ fn search_and_tell<'t, W: Write, K: ScenarioKeeper>(
     text: &'t [u8],
     script: &'t Script,
     bench: &'t Bench<'t>,
-    asked: &Asked,
+    asked: &OutcomeQuery,
     out: &mut W,
     keeper: &mut K,
 ) -> Result<(), JobError> {
@@ -55,12 +54,12 @@ fn search_and_tell<'t, W: Write, K: ScenarioKeeper>(
 fn new_search<'t>(
     alloc: Global,
     bench: &'t Bench<'t>,
-    asked: &Asked,
+    asked: &OutcomeQuery,
 ) -> Result<Search<'t>, AllocError> {
     Search::new(alloc, bench.job(), bench.books()?, asked.turn, asked.whole)
 }
 
-fn limits_of(asked: &Asked) -> Limits {
+fn limits_of(asked: &OutcomeQuery) -> Limits {
     Limits {
         states: asked.most_states,
         bytes: asked.most_bytes,
@@ -74,7 +73,7 @@ fn tell_found<'t, W: Write, K: ScenarioKeeper>(
     script: &'t Script,
     bench: &'t Bench<'t>,
     search: &mut Search<'_>,
-    asked: &Asked,
+    asked: &OutcomeQuery,
     out: &mut W,
     keeper: &mut K,
 ) -> Result<(), JobError> {

@@ -11,13 +11,15 @@ use Rattle.job_script.specs.Forms.{Word, word, has, has_least, number_in, index,
 use Rattle.job_script.specs.Said.{ActionSaid, LineSaid, says_command, says_excp, says_nothing, says_set_up}
 use Rattle.job_script.specs.Said.{close, excp, purge, purge_task, reset, wait}
 use Rattle.job_script.specs.Lines.{line_of}
-use Rattle.job_scenario.specs.declared.event.Room.{Room}
-use Rattle.job_scenario.specs.declared.event.Room.TheVariants as rooms
+use Rattle.request_piece.specs.declared.scope.Scope.TheVariants as scopes
+use Rattle.job_scenario.specs.declared.room.RoomLine.{RoomLine}
+use Rattle.job_scenario.specs.declared.room.RoomLine.TheVariants as rooms
+use Rattle.job_scenario.specs.declared.step.Step.{Step}
+use Rattle.job_scenario.specs.declared.step.Step.TheVariants as steps
 use Rattle.job_scenario.specs.declared.verb.EventVerb.{EventVerb}
 use Rattle.job_scenario.specs.declared.verb.EventVerb.TheVariants as verbs
 use Rattle.job_scenario.specs.EventVerbs.{event_verb_of}
-use Rattle.job_scenario.specs.ScenarioSaid.{ScenarioSaid, says_event, says_expected, says_finish, says_line, says_purge_at}
-use Rattle.job_scenario.specs.ScenarioSaid.{says_room, says_run}
+use Rattle.job_scenario.specs.ScenarioSaid.{ScenarioSaid, says_expected, says_line, says_room, says_serve, says_step}
 
 -- the number of a unit or a task, alone on its line
 unfoldable pub number_line : List Word → Result ℕ FaultName
@@ -31,7 +33,7 @@ run_line ws = do
   _ ← has 3 ws
   unit ← index (word 1 ws)
   most ← number_in 1 65535 (word 2 ws)
-  Ok (says_run unit most)
+  Ok (says_step (steps.Run unit most))
 
 -- purgetaskat T X MODE U
 unfoldable pub purge_at_line : List Word → Result ScenarioSaid FaultName
@@ -41,17 +43,17 @@ purge_at_line ws = do
   other ← index (word 2 ws)
   mode ← mode_of (word 3 ws)
   unit ← index (word 4 ws)
-  Ok (says_purge_at (record { task = task; other = other; mode = mode; unit = unit }))
+  Ok (says_step (steps.Purge task unit (scopes.Task other) mode))
 
 -- room intake N or room post N
-abbrev pub row_room : (ℕ → Room) → List Word → Result Room FaultName
+abbrev pub row_room : (ℕ → RoomLine) → List Word → Result RoomLine FaultName
 row_room room ws = do
   _ ← has 3 ws
   n ← number_in 1 65535 (word 2 ws)
   Ok (room n)
 
 -- room book U N
-abbrev pub book_room : List Word → Result Room FaultName
+abbrev pub book_room : List Word → Result RoomLine FaultName
 book_room ws = do
   _ ← has 4 ws
   unit ← index (word 2 ws)
@@ -59,33 +61,33 @@ book_room ws = do
   Ok (rooms.Book unit n)
 
 -- room of each kind
-abbrev pub room_by_row : List Word → Result Room FaultName
+abbrev pub room_by_row : List Word → Result RoomLine FaultName
 room_by_row ws =
     if bytes_eq (word 1 ws) (codes "intake") then row_room rooms.Intake ws
     else if bytes_eq (word 1 ws) (codes "post") then row_room rooms.Post ws
     else if bytes_eq (word 1 ws) (codes "book") then book_room ws
     else Err names.Number
 
-unfoldable pub room_line : List Word → Result Room FaultName
+unfoldable pub room_line : List Word → Result RoomLine FaultName
 room_line ws = has_least 2 ws >>= λ _. room_by_row ws
 
--- an event of the unit or the task with this number
-abbrev pub event_on : EventVerb → List Word → Result ScenarioSaid FaultName
-event_on verb ws = number_line ws >>= λ n. Ok (says_event verb n)
+-- a step of the unit or the task with this number
+abbrev pub step_on : (ℕ → Step) → List Word → Result ScenarioSaid FaultName
+step_on step ws = number_line ws >>= λ n. Ok (says_step (step n))
 
 -- a line of each kind that no script has
 unfoldable pub by_event_verb : EventVerb → List Word → Result ScenarioSaid FaultName
 by_event_verb verbs.Room ws = room_line ws >>= λ room. Ok (says_room room)
-by_event_verb verbs.Take ws = event_on verbs.Take ws
-by_event_verb verbs.Start ws = event_on verbs.Start ws
+by_event_verb verbs.Take ws = step_on steps.Take ws
+by_event_verb verbs.Start ws = step_on steps.Start ws
 by_event_verb verbs.Run ws = run_line ws
-by_event_verb verbs.Interrupt ws = event_on verbs.Interrupt ws
-by_event_verb verbs.Deliver ws = event_on verbs.Deliver ws
-by_event_verb verbs.Collect ws = event_on verbs.Collect ws
+by_event_verb verbs.Interrupt ws = step_on steps.Interrupt ws
+by_event_verb verbs.Deliver ws = step_on steps.Deliver ws
+by_event_verb verbs.Collect ws = step_on steps.Collect ws
 by_event_verb verbs.PurgeTaskAt ws = purge_at_line ws
-by_event_verb verbs.Settle ws = event_on verbs.Settle ws
-by_event_verb verbs.Serve ws = event_on verbs.Serve ws
-by_event_verb verbs.Finish ws = has 1 ws >>= λ _. Ok says_finish
+by_event_verb verbs.Settle ws = step_on steps.Settle ws
+by_event_verb verbs.Serve ws = number_line ws >>= λ n. Ok (says_serve n)
+by_event_verb verbs.Finish ws = has 1 ws >>= λ _. Ok (says_step steps.Finish)
 by_event_verb verbs.Expect ws = Ok says_expected
 
 -- the kind of a line, if no script has it; each of its bytes is printable

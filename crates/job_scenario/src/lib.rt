@@ -1,14 +1,19 @@
-//! Lines of scenarios: those of scripts, sizes of rows and books, events and expectations (profile).
+//! Lines of scenarios: those of scripts, sizes of rows and books, steps and expectations (profile).
 //!
-//! A scenario has the form of a script. Its commands and events happen in the order of their lines.
+//! A scenario has the form of a script. Its commands and events happen in the order of their lines. [`write_step`] writes a
+//! step as a line of one.
 //!
 //! Tests: tests/cases/scenarios, `tests/run scenarios`.
 #![tactic(auto)]
 
-mod event;
 mod line;
+mod room;
+mod step;
 mod verb;
+mod words;
 
-pub use event::{Event, Room, Turn, UnitPurge};
 pub use line::ScenarioLine;
+pub use room::RoomLine;
+pub use step::Step;
 pub use verb::begins_event;
+pub use words::{mode_word, write_step};

@@ -1,4 +1,4 @@
-//! A line of a scenario, by its words: a line of a script, a size, an event, or an expectation of the event before it.
+//! A line of a scenario, by its words: a line of a script, a size, a step, or an expectation of the event before it.
 
 ghost use Rattle.std.specs.Prelude.{◌≡◌};
 ghost use Rattle.job_script.specs.Said.{says_command};
@@ -6,12 +6,14 @@ ghost use Rattle.job_script.specs.Views.{command_said};
 ghost use Rattle.job_script.specs.Lines.{line_of};
 ghost use Rattle.job_script.specs.Outcomes.{Reads, ReadsAs, Returns, words_in};
 ghost use Rattle.job_scenario.specs.ScenarioLines.{IsNamedAs, by_event_verb, event_kind, no_wait, number_line, purge_at_line, room_line, run_line, scenario_line, with_no_wait};
-ghost use Rattle.job_scenario.specs.ScenarioSaid.{says_purge_at, says_run, scenario_said};
+ghost use Rattle.job_scenario.specs.ScenarioSaid.{says_step, scenario_said};
 
-use crate::event::{Event, Room, Turn, UnitPurge};
+use crate::room::RoomLine;
+use crate::step::Step;
 use crate::verb::EventVerb;
 use job_script::forms::{has, has_least, index, mode_of, number_in};
 use job_script::{Action, Cause, Command, FaultName, Line, Refusal, Verb, is_symbolic};
+use request_piece::Scope;
 use script_words::{Words, is_word};
 use std::alloc::Global;
 
@@ -29,8 +31,10 @@ const NO_WAIT: &str =
 pub enum ScenarioLine {
     /// A line that scripts have too, other than `wait`.
     Script(Line),
-    Room(Room),
-    Event(Event),
+    Room(RoomLine),
+    Step(Step),
+    /// The unit takes, starts, runs, interrupts and delivers until it is idle.
+    Serve(u16),
     /// The text after the first word is the answer of the event before this line.
     Expect,
 }
@@ -53,20 +57,18 @@ impl ScenarioLine {
     {
         match verb {
             EventVerb::Room => Ok(ScenarioLine::Room(room_on(line)?)),
-            EventVerb::Take => Ok(ScenarioLine::Event(Event::Take(number_on(line)?))),
-            EventVerb::Start => Ok(ScenarioLine::Event(Event::Start(number_on(line)?))),
-            EventVerb::Run => Ok(ScenarioLine::Event(Event::Run(turn_on(line)?))),
-            EventVerb::Interrupt => Ok(ScenarioLine::Event(Event::Interrupt(number_on(line)?))),
-            EventVerb::Deliver => Ok(ScenarioLine::Event(Event::Deliver(number_on(line)?))),
-            EventVerb::Collect => Ok(ScenarioLine::Event(Event::Collect(number_on(line)?))),
-            EventVerb::PurgeTaskAt => {
-                Ok(ScenarioLine::Event(Event::PurgeTaskAt(purge_on(line)?)))
-            }
-            EventVerb::Settle => Ok(ScenarioLine::Event(Event::Settle(number_on(line)?))),
-            EventVerb::Serve => Ok(ScenarioLine::Event(Event::Serve(number_on(line)?))),
+            EventVerb::Take => Ok(ScenarioLine::Step(Step::Take(number_on(line)?))),
+            EventVerb::Start => Ok(ScenarioLine::Step(Step::Start(number_on(line)?))),
+            EventVerb::Run => Ok(ScenarioLine::Step(run_on(line)?)),
+            EventVerb::Interrupt => Ok(ScenarioLine::Step(Step::Interrupt(number_on(line)?))),
+            EventVerb::Deliver => Ok(ScenarioLine::Step(Step::Deliver(number_on(line)?))),
+            EventVerb::Collect => Ok(ScenarioLine::Step(Step::Collect(number_on(line)?))),
+            EventVerb::PurgeTaskAt => Ok(ScenarioLine::Step(purge_on(line)?)),
+            EventVerb::Settle => Ok(ScenarioLine::Step(Step::Settle(number_on(line)?))),
+            EventVerb::Serve => Ok(ScenarioLine::Serve(number_on(line)?)),
             EventVerb::Finish => {
                 has(line, 1)?;
-                Ok(ScenarioLine::Event(Event::Finish))
+                Ok(ScenarioLine::Step(Step::Finish))
             }
             EventVerb::Expect => Ok(ScenarioLine::Expect),
         }
@@ -120,52 +122,52 @@ fn number_on(line: &Words<'_>) -> Result<u16, Cause>
 
 /// `run U N`
 #[tactic(auto, unfolding(crate::specs::ScenarioLines::run_line))]
-fn turn_on(line: &Words<'_>) -> Result<Turn, Cause>
-    ensures { ReadsAs (λ turn. says_run turn.unit turn.most) result (run_line (words_in line.now)) }
+fn run_on(line: &Words<'_>) -> Result<Step, Cause>
+    ensures { ReadsAs says_step result (run_line (words_in line.now)) }
 {
     has(line, 3)?;
     let unit = index(line, 1)?;
-    let most = number_in(line, 2, 1, 65535)?;
-    Ok(Turn { unit, most })
+    let most = u32::from(number_in(line, 2, 1, 65535)?);
+    Ok(Step::Run { unit, most })
 }
 
 /// `purgetaskat T X MODE U`
 #[tactic(auto, unfolding(crate::specs::ScenarioLines::purge_at_line))]
-fn purge_on(line: &Words<'_>) -> Result<UnitPurge, Cause>
-    ensures { ReadsAs says_purge_at result (purge_at_line (words_in line.now)) }
+fn purge_on(line: &Words<'_>) -> Result<Step, Cause>
+    ensures { ReadsAs says_step result (purge_at_line (words_in line.now)) }
 {
     has(line, 5)?;
     let task = index(line, 1)?;
-    let other = index(line, 2)?;
+    let scope = Scope::Task(index(line, 2)?);
     let mode = mode_of(line, 3)?;
     let unit = index(line, 4)?;
-    Ok(UnitPurge {
+    Ok(Step::Purge {
         task,
-        other,
-        mode,
         unit,
+        scope,
+        mode,
     })
 }
 
 /// `room intake N`, `room post N` or `room book U N`
 #[tactic(auto, unfolding(crate::specs::ScenarioLines::room_line))]
-fn room_on(line: &Words<'_>) -> Result<Room, Cause>
+fn room_on(line: &Words<'_>) -> Result<RoomLine, Cause>
     ensures { Reads result (room_line (words_in line.now)) }
 {
     has_least(line, 2)?;
     let row = line.word(1);
     if is_word(row, b"intake") {
         has(line, 3)?;
-        return Ok(Room::Intake(number_in(line, 2, 1, 65535)?));
+        return Ok(RoomLine::Intake(number_in(line, 2, 1, 65535)?));
     }
     if is_word(row, b"post") {
         has(line, 3)?;
-        return Ok(Room::Post(number_in(line, 2, 1, 65535)?));
+        return Ok(RoomLine::Post(number_in(line, 2, 1, 65535)?));
     }
     if is_word(row, b"book") {
         has(line, 4)?;
         let unit = index(line, 2)?;
-        return Ok(Room::Book(unit, number_in(line, 3, 1, 65535)?));
+        return Ok(RoomLine::Book(unit, number_in(line, 3, 1, 65535)?));
     }
     Err(Cause::new(
         FaultName::Number,

@@ -28,43 +28,34 @@ impl EventVerb {
     pub fn of(word: &[u8]) -> Option<EventVerb>
         ensures { result ≡ event_verb_of word.now }
     {
-        if is_word(word, b"expect") {
-            return Some(EventVerb::Expect);
-        }
-        if is_word(word, b"serve") {
-            return Some(EventVerb::Serve);
-        }
-        if is_word(word, b"take") {
-            return Some(EventVerb::Take);
-        }
-        if is_word(word, b"start") {
-            return Some(EventVerb::Start);
-        }
-        if is_word(word, b"run") {
-            return Some(EventVerb::Run);
-        }
-        if is_word(word, b"interrupt") {
-            return Some(EventVerb::Interrupt);
-        }
-        if is_word(word, b"deliver") {
-            return Some(EventVerb::Deliver);
-        }
-        if is_word(word, b"collect") {
-            return Some(EventVerb::Collect);
-        }
-        if is_word(word, b"purgetaskat") {
-            return Some(EventVerb::PurgeTaskAt);
-        }
-        if is_word(word, b"settle") {
-            return Some(EventVerb::Settle);
-        }
-        if is_word(word, b"finish") {
-            return Some(EventVerb::Finish);
-        }
-        if is_word(word, b"room") {
-            return Some(EventVerb::Room);
-        }
-        None
+        let verb = if is_word(word, b"expect") {
+            EventVerb::Expect
+        } else if is_word(word, b"serve") {
+            EventVerb::Serve
+        } else if is_word(word, b"take") {
+            EventVerb::Take
+        } else if is_word(word, b"start") {
+            EventVerb::Start
+        } else if is_word(word, b"run") {
+            EventVerb::Run
+        } else if is_word(word, b"interrupt") {
+            EventVerb::Interrupt
+        } else if is_word(word, b"deliver") {
+            EventVerb::Deliver
+        } else if is_word(word, b"collect") {
+            EventVerb::Collect
+        } else if is_word(word, b"purgetaskat") {
+            EventVerb::PurgeTaskAt
+        } else if is_word(word, b"settle") {
+            EventVerb::Settle
+        } else if is_word(word, b"finish") {
+            EventVerb::Finish
+        } else if is_word(word, b"room") {
+            EventVerb::Room
+        } else {
+            return None;
+        };
+        Some(verb)
     }
 }
 

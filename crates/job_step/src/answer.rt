@@ -1,87 +1,97 @@
 //! The answers of events, as text.
 
-use io_images::Code;
-use request_piece::Name;
-use scenario_site::Issuing;
+use job_world::{Issuing, StepAnswer};
+use post_lines::write_posted;
+use request_piece::{Name, Posted};
 use std::io::{Result, Write};
-use unit_book::{Closing, Delivery, Intake, Interruption, Purging, Running, Starting};
+use stepped_run::StepPast;
+use unit_book::{Closing, Delivery, Intake, Interruption, OpenError, Purging, Running, Starting};
 
-/// Writes a word and the name of a request: the numbers of its task and unit, and its own.
-fn write_named<W: Write>(out: &mut W, word: &str, unit: u16, name: Name) -> Result<()> {
-    let Name { task, seq } = name;
-    write!(out, "{word} {task} {unit} {seq}")
-}
-
-pub fn write_issuing<W: Write>(out: &mut W, unit: u16, answer: Issuing) -> Result<()> {
-    match answer {
-        Issuing::Accepted(name) => write_named(out, "Accepted", unit, name),
-        Issuing::Full => write!(out, "Full"),
-        Issuing::NoNumber => write!(out, "NoNumber"),
+/// Writes the answer of a step. `unit` is the unit of its request. A post is noted in the past.
+pub fn write_answer<W: Write>(
+    out: &mut W,
+    unit: u16,
+    answer: &StepAnswer,
+    past: &StepPast,
+) -> Result<()> {
+    if let StepAnswer::Collected(Some(posted)) = answer {
+        return write_posted(out, posted, past.shown(posted));
     }
-}
-
-pub fn write_intake<W: Write>(out: &mut W, unit: u16, answer: Intake) -> Result<()> {
-    match answer {
-        Intake::Held => write!(out, "Held"),
-        Intake::Quiet => write!(out, "Quiet"),
-        Intake::Took(name) => write_named(out, "Took", unit, name),
+    write!(out, "{}", word_of(answer))?;
+    if let Some(name) = name_of(answer) {
+        write_name(out, unit, name)?;
     }
-}
-
-pub fn write_starting<W: Write>(out: &mut W, unit: u16, answer: Starting) -> Result<()> {
     match answer {
-        Starting::Busy => write!(out, "Busy"),
-        Starting::Idle => write!(out, "Idle"),
-        Starting::Started(name) => write_named(out, "Started", unit, name),
-        Starting::Violated(name) => write_named(out, "Violated", unit, name),
-    }
-}
-
-pub fn write_running<W: Write>(out: &mut W, answer: Running) -> Result<()> {
-    match answer {
-        Running::Quiet => write!(out, "Quiet"),
-        Running::Ran {
-            commands,
-            pending: false,
-        } => write!(out, "Ran {commands}"),
-        Running::Ran { commands, .. } => write!(out, "Ran {commands} pending"),
-    }
-}
-
-pub fn write_interruption<W: Write>(out: &mut W, unit: u16, answer: Interruption) -> Result<()> {
-    match answer {
-        Interruption::Quiet => write!(out, "Quiet"),
-        Interruption::Again(name) => write_named(out, "Again", unit, name),
-        Interruption::Ended(name, code) => {
-            write_named(out, "Ended", unit, name)?;
-            write_code(out, code)
+        StepAnswer::Interrupted(Interruption::Ended(_, code)) => {
+            let byte = code.byte();
+            write!(out, " {byte:02X}")
         }
+        StepAnswer::Ran(Running::Ran { commands, pending }) => {
+            let state = if *pending { " pending" } else { "" };
+            write!(out, " {commands}{state}")
+        }
+        StepAnswer::Opened(dcb) => write!(out, " {dcb}"),
+        _ => Ok(()),
     }
 }
 
-fn write_code<W: Write>(out: &mut W, code: Code) -> Result<()> {
-    let byte = code.byte();
-    write!(out, " {byte:02X}")
+/// Writes the name of a request: the numbers of its task and unit, and its own.
+pub fn write_name<W: Write>(out: &mut W, unit: u16, name: Name) -> Result<()> {
+    let Name { task, seq } = name;
+    write!(out, " {task} {unit} {seq}")
 }
 
-pub fn write_delivery<W: Write>(out: &mut W, unit: u16, answer: Delivery) -> Result<()> {
+/// The first word of an answer.
+fn word_of(answer: &StepAnswer) -> &'static str {
     match answer {
-        Delivery::Quiet => write!(out, "Quiet"),
-        Delivery::Delivered(name) => write_named(out, "Delivered", unit, name),
-        Delivery::Full(name) => write_named(out, "Full", unit, name),
+        StepAnswer::None | StepAnswer::Passed => "",
+        StepAnswer::Pushed(Issuing::Accepted(_)) => "Accepted",
+        StepAnswer::Pushed(Issuing::NoNumber) => "NoNumber",
+        StepAnswer::Pushed(Issuing::Full) | StepAnswer::Delivered(Delivery::Full(_)) => "Full",
+        StepAnswer::Taken(Intake::Held) => "Held",
+        StepAnswer::Taken(Intake::Took(_)) => "Took",
+        StepAnswer::Started(Starting::Busy) => "Busy",
+        StepAnswer::Started(Starting::Idle) => "Idle",
+        StepAnswer::Started(Starting::Started(_)) => "Started",
+        StepAnswer::Started(Starting::Violated(_)) => "Violated",
+        StepAnswer::Ran(Running::Ran { .. }) => "Ran",
+        StepAnswer::Interrupted(Interruption::Again(_)) => "Again",
+        StepAnswer::Interrupted(Interruption::Ended(..)) => "Ended",
+        StepAnswer::Delivered(Delivery::Delivered(_)) => "Delivered",
+        StepAnswer::Settled => "Settled",
+        StepAnswer::Purged(Purging::Active(_)) => "Active",
+        StepAnswer::Closed(Closing::Closed) => "Closed",
+        StepAnswer::Closed(Closing::Closing(_)) => "Closing",
+        StepAnswer::Reset => "Reset",
+        StepAnswer::NoSuchDcb | StepAnswer::NotOpen => "NoSuchDcb",
+        StepAnswer::Opened(_) => "Opened",
+        StepAnswer::NotOpened(OpenError::BadExtent) => "BadExtent",
+        StepAnswer::NotOpened(_) => "TooManyDcbs",
+        _ => "Quiet",
     }
 }
 
-pub fn write_purging<W: Write>(out: &mut W, unit: u16, answer: Purging) -> Result<()> {
+/// The name of the request that an answer is of, if it is of one.
+fn name_of(answer: &StepAnswer) -> Option<Name> {
     match answer {
-        Purging::Quiet => write!(out, "Quiet"),
-        Purging::Active(name) => write_named(out, "Active", unit, name),
+        StepAnswer::Pushed(Issuing::Accepted(name))
+        | StepAnswer::Taken(Intake::Took(name))
+        | StepAnswer::Started(Starting::Started(name) | Starting::Violated(name))
+        | StepAnswer::Interrupted(Interruption::Again(name) | Interruption::Ended(name, _))
+        | StepAnswer::Delivered(Delivery::Delivered(name) | Delivery::Full(name))
+        | StepAnswer::Purged(Purging::Active(name))
+        | StepAnswer::Closed(Closing::Closing(name)) => Some(*name),
+        _ => None,
     }
 }
 
-pub fn write_closing<W: Write>(out: &mut W, unit: u16, answer: Closing) -> Result<()> {
-    match answer {
-        Closing::Closed => write!(out, "Closed"),
-        Closing::Closing(name) => write_named(out, "Closing", unit, name),
+/// Writes the answer of `finish`: how many posts the tasks had not collected. Each of these has a line of its own. They are
+/// noted in the past.
+pub fn write_end<W: Write>(out: &mut W, posts: &[Posted], past: &StepPast) -> Result<()> {
+    write!(out, "Finished {}", posts.len())?;
+    for posted in posts {
+        out.write_all(b"\n")?;
+        write_posted(out, posted, past.shown(posted))?;
     }
+    Ok(())
 }

@@ -1,17 +1,31 @@
-//! Carries out a scenario step by step. Each event is one step of the units, and its answer is printed at once (profile).
+//! Carries out a scenario step by step. The answer of each event is printed at once (profile).
+//!
+//! - [`Dialog`] reads the lines one by one. It prints answers, faults and failed expectations.
+//! - [`Plan`] is what the lines before the first event declare.
+//! - [`LineSteps`] are the steps of a line, whose names it has compared with the plan.
+//! - [`step_scenario_on`] makes the steps, and [`check_scenario_on`] makes none.
 //!
 //! Tests: tests/cases/scenarios, `tests/run scenarios`.
 #![tactic(auto)]
 
 mod answer;
-mod check;
-mod end;
+mod dialog;
+mod fault;
+mod line_steps;
+mod plan;
 mod printer;
+mod reader;
 mod report;
+mod rooms;
 mod stepper;
+mod view;
 
-pub use check::{check_scenario, check_scenario_on};
-pub use report::{Images, SiteKind, step_scenario, step_scenario_on};
-pub use scenario_past::{Keeper, NoKeeper};
-pub use scenario_set_up::StepError;
-pub use scenario_site::Views;
+pub use answer::write_end;
+pub use dialog::{Dialog, Purpose};
+pub use fault::StepError;
+pub use line_steps::LineSteps;
+pub use plan::Plan;
+pub use report::{Images, check_scenario_on, step_scenario_on};
+pub use rooms::Rooms;
+pub use stepped_run::Keeper;
+pub use view::{View, Views};

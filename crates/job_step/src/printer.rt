@@ -1,12 +1,11 @@
 //! Prints the answer of each event at once, and each fault and failed expectation.
 
-ghost use Rattle.std.specs.Prelude.{◌≡◌, IfErr, IfOk, IfSome, Ok};
-ghost use Rattle.scenario_set_up.specs.Faults.{EndsStep, IsStepFault};
+ghost use Rattle.std.specs.Prelude.{IfErr};
+ghost use Rattle.job_step.specs.Faults.{IsStepFault};
 
+use crate::reader::ScenarioReader;
 use job_check::{Finding, Found, SCRIPT, Source, fault_of_scenario, write_findings};
 use job_script::{Cause, JobError};
-use scenario_set_up::{Lines, StepError};
-use scenario_site::Views;
 use script_words::{after_words, next_word};
 use std::alloc::Global;
 use std::io::{Read, Write};
@@ -34,13 +33,8 @@ impl<'a> fmt::Display for Unmet<'a> {
     fn fmt<W: fmt::Write>(&self, f: &mut fmt::Formatter<W>) -> fmt::Result {
         f.write_str("expected: ")?;
         write_text(f, self.expected)?;
-        match self.answered {
-            Some(answered) => {
-                f.write_str("; answered: ")?;
-                write_text(f, answered)
-            }
-            None => f.write_str("; answered: nothing"),
-        }
+        f.write_str("; answered: ")?;
+        write_text(f, self.answered.unwrap_or(b"nothing"))
     }
 }
 
@@ -59,7 +53,6 @@ pub struct Printer<'a, W: Write, E: Write> {
     out: &'a mut W,
     errors: &'a mut E,
     source: Source<'a>,
-    views: Views,
     /// How many bytes of the last answer were compared with an expectation.
     compared: usize,
     /// Whether no line has a fault and all expectations are met so far.
@@ -68,19 +61,12 @@ pub struct Printer<'a, W: Write, E: Write> {
 
 impl<'a, W: Write, E: Write> Printer<'a, W, E> {
     /// Has printed nothing yet.
-    pub fn new(
-        alloc: Global,
-        out: &'a mut W,
-        errors: &'a mut E,
-        source: Source<'a>,
-        views: Views,
-    ) -> Self {
+    pub fn new(alloc: Global, out: &'a mut W, errors: &'a mut E, source: Source<'a>) -> Self {
         Printer {
             alloc,
             out,
             errors,
             source,
-            views,
             compared: 0,
             is_met: true,
         }
@@ -94,11 +80,6 @@ impl<'a, W: Write, E: Write> Printer<'a, W, E> {
     /// The name of the scenario.
     pub fn title(&self) -> &'a str {
         self.source.name
-    }
-
-    /// What is printed of the units after each answer.
-    pub fn views(&self) -> Views {
-        self.views
     }
 
     /// Prints at once the lines of an answer, each after the words of its event, and the lines of a view.
@@ -134,37 +115,17 @@ impl<'a, W: Write, E: Write> Printer<'a, W, E> {
         self.out.write_all(b"\n")
     }
 
-    /// The value of an outcome. Prints the fault of a line, the one that was read last, and then returns `None`.
-    pub fn unless_fault<T: Drop, I: Read + Drop>(
-        &mut self,
-        outcome: Result<T, StepError>,
-        lines: &Lines<I>,
-    ) -> Result<Option<T>, JobError>
-        requires { IfErr outcome EndsStep }
-        ensures given { IfOk result (λ given. IfSome given (λ value. outcome ≡ Ok value)) }
-        ensures fault { IfErr result IsStepFault }
-    {
-        match outcome {
-            Ok(given) => Ok(Some(given)),
-            Err(StepError::Job(error)) => Err(error),
-            Err(StepError::Line(number, cause)) => {
-                self.fault(number, lines, cause)?;
-                Ok(None)
-            }
-        }
-    }
-
     /// Prints the fault of the line with this number, which was read last. The number 0 stands for the whole scenario.
-    fn fault<I: Read + Drop>(
+    pub fn fault<I: Read + Drop>(
         &mut self,
         number: usize,
-        lines: &Lines<I>,
+        reader: &ScenarioReader<I>,
         cause: Cause,
     ) -> Result<(), JobError>
         ensures { IfErr result IsStepFault }
     {
         let line = if number == 0 { SCRIPT } else { number };
-        match fault_of_scenario(self.alloc, line, lines.current(), cause, &lines.sizes) {
+        match fault_of_scenario(self.alloc, line, reader.current(), cause, &reader.sizes) {
             Ok(finding) => self.faults(&[finding]),
             Err(_) => Err(JobError::NoMemory),
         }

@@ -1,6 +1,6 @@
 //! Why each step of a job is lawful.
 
-ghost use Rattle.job_world.specs.Lawful.{StepsAreLawful};
+ghost use Rattle.job_world.specs.Turns.{StepsAreLawful};
 
 use any_device::AnyDevice;
 use unit_world::laws::calls_make_steps;

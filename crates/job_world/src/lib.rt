@@ -1,23 +1,26 @@
-//! The tasks of a job over a site without locks, threads and waiting. A step of a job is one call of the site, or changes
-//! nothing (`laws::steps_are_lawful`). So a post that a task collects is one that a lawful list of steps of its unit gives,
+//! The executor of steps, and the tasks of a job over it, without locks, threads and waiting.
+//!
+//! [`JobSite::make`] carries out a step as one call of a site, or changes nothing. Each step is lawful: one step of the world of
+//! one unit (`laws::steps_are_lawful`). So a post that a task collects is one that a lawful list of steps of its unit gives,
 //! whoever chooses the steps.
 //!
-//! A task does its commands in order. Each is one step, and a purge of a task is one at each unit. A `wait` goes on once all
-//! requests of the task were collected.
-//!
-//! [`JobWorld::next_steps`] lists the steps that do something now, and [`write_step`] writes one as a line of a scenario.
+//! [`JobWorld`] has the tasks of a job too. A task does its commands in order. Each is one step, and a purge of a task is one at
+//! each unit. A `wait` goes on once all requests of the task were collected. [`JobWorld::next_steps`] lists the steps that do
+//! something now, and [`run_schedule`] chooses among them by a seed, which gives the same posts, histories and media each time
+//! and on every machine.
 #![tactic(auto)]
 
+mod answer;
 mod choices;
+mod chooser;
 pub mod laws;
-mod lines;
-mod scenario;
-mod step;
-mod task_steps;
-mod unit_steps;
+mod opening;
+mod rest;
+mod schedule;
+mod site;
 mod world;
 
-pub use lines::ScriptLines;
-pub use scenario::{write_set_up, write_step};
-pub use step::{Done, Step};
+pub use answer::{Issuing, StepAnswer};
+pub use schedule::{StepLog, run_schedule};
+pub use site::{JobSite, Supply};
 pub use world::JobWorld;

@@ -1,0 +1,2 @@
+-- Lemmas on steps that are carried out.
+pub mod Carried

@@ -1,0 +1,108 @@
+//! The lines of a scenario. A line is read only when it is wanted, so a program may wait for one answer before it writes the
+//! next line.
+
+ghost use Rattle.std.specs.Prelude.{IfErr};
+ghost use Rattle.job_step.specs.Faults.{EndsStep, IsStepFault};
+
+use crate::fault::{StepError, rejected};
+use job_media::with_sizes;
+use job_scenario::ScenarioLine;
+use job_script::{JobError, LIMIT};
+use medium_image::Size;
+use script_words::Words;
+use std::alloc::{AllocError, Global};
+use std::io::{BufRead, BufReader, ErrorKind, Read, Take};
+
+/// The lines of a reader of at most 1,048,576 bytes.
+#[derive(Drop)]
+pub struct ScenarioReader<R: Read + Drop> {
+    alloc: Global,
+    reader: BufReader<Take<R>>,
+    /// The sizes of images, by the numbers of their units.
+    pub sizes: Vec<Option<Size>>,
+    /// The bytes of the current line.
+    line: Vec<u8>,
+    /// How many lines were read.
+    pub number: usize,
+    /// How many bytes were read.
+    read: usize,
+}
+
+impl<R: Read + Drop> ScenarioReader<R> {
+    /// The lines of this reader, before the first one. Lines of units have the sizes of their images in place of hyphens.
+    pub fn new(alloc: Global, reader: R, sizes: Vec<Option<Size>>) -> Result<Self, JobError>
+        ensures { IfErr result IsStepFault }
+    {
+        let Ok(reader) = BufReader::new(alloc, reader.take(LIMIT as u64 + 1)) else {
+            return Err(JobError::NoMemory);
+        };
+        Ok(ScenarioReader {
+            alloc,
+            reader,
+            sizes,
+            line: Vec::new(alloc),
+            number: 0,
+            read: 0,
+        })
+    }
+
+    /// Reads the next line. Returns what it says, or `None` after the last.
+    pub fn read(&mut self) -> Result<Option<ScenarioLine>, StepError>
+        ensures { IfErr result EndsStep }
+    {
+        if !self.next()? {
+            return Ok(None);
+        }
+        let mut words = Words::new();
+        words.scan(self.current());
+        match ScenarioLine::read(self.alloc, self.number, &words) {
+            Ok(line) => Ok(Some(line)),
+            Err(refusal) => Err(rejected(self.number, refusal)),
+        }
+    }
+
+    /// Reads the bytes of the next line, and returns whether there is one.
+    fn next(&mut self) -> Result<bool, JobError>
+        ensures { IfErr result IsStepFault }
+    {
+        self.line.clear();
+        let count = match self.reader.read_until(b'\n', &mut self.line) {
+            Ok(count) => count,
+            Err(error) if error.kind() == ErrorKind::OutOfMemory => return Err(JobError::NoMemory),
+            Err(_) => return Err(JobError::Unreadable),
+        };
+        self.read = self.read.saturating_add(count);
+        if self.read > LIMIT {
+            return Err(JobError::TooLong);
+        }
+        if count == 0 {
+            return Ok(false);
+        }
+        self.number = self.number.saturating_add(1);
+        put_sizes(self.alloc, &mut self.line, &self.sizes)?;
+        Ok(true)
+    }
+
+    /// The line that was read last, without its line feed.
+    pub fn current(&self) -> &[u8] {
+        without_feed(&self.line)
+    }
+}
+
+/// A line without its line feed.
+fn without_feed(line: &[u8]) -> &[u8] {
+    match line {
+        [line @ .., b'\n'] => line,
+        line => line,
+    }
+}
+
+/// Puts the sizes of images into a line.
+fn put_sizes(alloc: Global, line: &mut Vec<u8>, sizes: &[Option<Size>]) -> Result<(), AllocError> {
+    if sizes.is_empty() {
+        return Ok(());
+    }
+    let sized = with_sizes(alloc, without_feed(line), sizes)?;
+    line.clear();
+    line.extend_from_slice(&sized)
+}

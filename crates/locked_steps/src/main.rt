@@ -1,0 +1,56 @@
+//! Carries out a scenario on units under locks and real rows, used by one thread. It prints what `excp step` prints, which uses
+//! neither: the tests compare both.
+//!
+//!     locked_steps [--views] < SCENARIO
+//!
+//! With a word it prints what `step --trace --state` prints.
+//!
+//! Tests: `tests/run scenarios`, `tests/run reports`, crates/locked_steps/stdout.
+#![tactic(auto)]
+
+mod locked;
+mod scenario;
+
+use job_check::Source;
+use job_script::JobError;
+use job_step::{Dialog, Purpose};
+use scenario::with_rows;
+use std::env;
+use std::process::ExitCode;
+use std::sync::Wait;
+
+fn main(rt: HostRuntime) -> ExitCode {
+    match carry_out(&rt, &rt) {
+        Ok(true) => ExitCode::SUCCESS,
+        Ok(false) => ExitCode::FAILURE,
+        Err(fault) => {
+            let _ = eprintln!(rt; "excp_job: {fault}");
+            ExitCode::from(fault.status())
+        }
+    }
+}
+
+/// Carries out the scenario on standard input. Returns whether no line has a fault and all expectations are met.
+fn carry_out<R: Wait>(rt: &HostRuntime, waits: &R) -> Result<bool, JobError> {
+    let alloc = rt.alloc();
+    let has_views = env::args(rt).is_ok_and(|words| words.count() > 1);
+    let source = Source {
+        name: "<stdin>",
+        is_coloured: false,
+    };
+    let (mut out, mut errors) = (rt.stdout(), rt.stderr());
+    let (input, sizes) = (rt.stdin(), Vec::new(alloc));
+    let mut dialog = Dialog::new(
+        alloc,
+        Purpose::Step,
+        input,
+        sizes,
+        &mut out,
+        &mut errors,
+        source,
+    )?;
+    if let Some(plan) = dialog.set_up()? {
+        with_rows(waits, alloc, &plan, has_views, &mut dialog)?;
+    }
+    Ok(dialog.printer.is_met())
+}

@@ -1,0 +1,165 @@
+//! The events of a scenario.
+
+ghost use Rattle.std.specs.Prelude.{◌≡◌, ◌≤◌, All, vec_len};
+ghost use Rattle.job_mount.specs.Books.{IsFresh};
+ghost use Rattle.excp_system.specs.Opening.{AreFresh, site_of};
+
+use crate::locked::Locked;
+use any_device::AnyDevice;
+use excp_system::{Rows, Site, System};
+use job_scenario::Step;
+use job_script::{JobError, LIMIT, SetUp};
+use job_step::{Dialog, LineSteps, Plan, View, Views, write_end};
+use std::alloc::{AllocError, Global};
+use std::io::{Read, Write};
+use std::marker::Brand;
+use std::sync::Wait;
+use stepped_run::StepPast;
+use unit_book::UnitBook;
+
+/// Makes the rows of a plan, and carries the events out.
+pub fn with_rows<R: Wait, I: Read + Drop, W: Write, E: Write>(
+    rt: &R,
+    alloc: Global,
+    plan: &Plan,
+    has_views: bool,
+    dialog: &mut Dialog<'_, I, W, E>,
+) -> Result<(), JobError>
+    requires units { 1 ≤ vec_len plan.now.set_up.units }
+    requires tasks { 1 ≤ plan.now.set_up.tasks }
+{
+    let units = plan.set_up.units.len() as u16;
+    let (intake, post) = (plan.rooms.intake(), plan.rooms.post());
+    let mut rows = Rows::new(alloc, plan.set_up.tasks, units, intake, post)?;
+    match dialog.books(plan, Vec::new(alloc), &[])? {
+        Some(books) => on_site::<Brand, R, I, W, E>(
+            rt, alloc, &mut rows, books, plan, has_views, dialog,
+        ),
+        None => Ok(()),
+    }
+}
+
+/// Carries the events out on the units and rows of a site.
+fn on_site<S: Site, R: Wait, I: Read + Drop, W: Write, E: Write>(
+    rt: &R,
+    alloc: Global,
+    rows: &mut Rows,
+    books: Vec<UnitBook<AnyDevice>>,
+    plan: &Plan,
+    has_views: bool,
+    dialog: &mut Dialog<'_, I, W, E>,
+) -> Result<(), JobError>
+    requires site { S.rows ≡ site_of rows.old }
+    requires fresh { AreFresh rows.old }
+    requires books { All IsFresh books.items }
+    requires count { vec_len books ≡ S.rows.units }
+{
+    let units = books.len();
+    let (system, tasks, _) = System::<S, AnyDevice>::new(alloc, rows, books)?;
+    let locked = Locked {
+        rt,
+        units,
+        system,
+        tasks,
+    };
+    all_events(alloc, locked, &plan.set_up, has_views, dialog)
+}
+
+/// Carries out all events, and prints their answers.
+fn all_events<S: Site, R: Wait, I: Read + Drop, W: Write, E: Write>(
+    alloc: Global,
+    mut locked: Locked<'_, '_, S, R>,
+    set_up: &SetUp,
+    has_views: bool,
+    dialog: &mut Dialog<'_, I, W, E>,
+) -> Result<(), JobError> {
+    let views = Views {
+        trace: has_views,
+        state: has_views,
+    };
+    let mut view = View::new(alloc, views, locked.units)?;
+    look(&locked, &mut view, false)?;
+    let mut past = StepPast::new(alloc, usize::from(set_up.tasks), locked.units)?;
+    for _ in 0..=LIMIT {
+        let Some(mut steps) = dialog.next(set_up)? else {
+            return Ok(());
+        };
+        if steps.step() == Some(Step::Finish) {
+            end(alloc, locked, &mut view, &mut past, dialog)?;
+            break;
+        }
+        dialog.answer.clear();
+        make_all(
+            alloc,
+            &mut locked,
+            &mut steps,
+            &mut past,
+            &mut dialog.answer,
+        )?;
+        look(&locked, &mut view, true)?;
+        dialog.print(&view.text)?;
+    }
+    // the lines after `finish` expect its answer
+    dialog.next(set_up)?;
+    Ok(())
+}
+
+/// Makes the steps of a line.
+fn make_all<S: Site, R: Wait>(
+    alloc: Global,
+    locked: &mut Locked<'_, '_, S, R>,
+    steps: &mut LineSteps,
+    past: &mut StepPast,
+    text: &mut Vec<u8>,
+) -> Result<(), AllocError> {
+    for _ in 0..u64::MAX {
+        let Some(step) = steps.step() else {
+            break;
+        };
+        let supply = steps.supply();
+        let answer = locked.make(alloc, step, supply)?;
+        past.note_task(supply.excp, &answer)?;
+        if steps.answered(text, &answer, past).is_err() {
+            return Err(AllocError);
+        }
+    }
+    Ok(())
+}
+
+/// Puts together what is printed of all units, or takes what happened so far as printed.
+fn look<S: Site, R: Wait>(
+    locked: &Locked<'_, '_, S, R>,
+    view: &mut View,
+    is_shown: bool,
+) -> Result<(), AllocError> {
+    view.text.clear();
+    for unit in 0..locked.units.min(64) {
+        if locked.look(unit as u16, view, is_shown).is_err() {
+            return Err(AllocError);
+        }
+    }
+    Ok(())
+}
+
+/// Ends every request, and prints the answer of that.
+fn end<S: Site, R: Wait, I: Read + Drop, W: Write, E: Write>(
+    alloc: Global,
+    locked: Locked<'_, '_, S, R>,
+    view: &mut View,
+    past: &mut StepPast,
+    dialog: &mut Dialog<'_, I, W, E>,
+) -> Result<(), JobError> {
+    let (books, posts) = locked.finish(alloc)?;
+    past.leave(&posts);
+    dialog.answer.clear();
+    if write_end(&mut dialog.answer, &posts, past).is_err() {
+        return Err(JobError::NoMemory);
+    }
+    view.text.clear();
+    for (unit, book) in (0..=u16::MAX).zip(&books) {
+        if view.add(unit, book).is_err() {
+            return Err(JobError::NoMemory);
+        }
+    }
+    dialog.print(&view.text)
+}

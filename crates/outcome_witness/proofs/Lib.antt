@@ -1,3 +1,0 @@
--- Lemmas on steps that are carried out.
-pub mod Carried
-pub mod Runs
