@@ -14,10 +14,15 @@ JOBS = ["docs/MANUAL.md"]
 # A line that is a command, and how the shell sees it.
 COMMAND = re.compile(r"(?:\$ )?(?:\./|tests/|tools/|cd |rt )")
 
-# ./excp of a folder in which commands run: it runs the programs that are tested, on a file or with a subcommand.
+# ./excp of a folder in which commands run: it runs the programs that are tested, on a file or with a subcommand. The job whose outcomes
+# the pages show has several, of which the status tells.
 EXCP = """#!/usr/bin/env bash
 case "$1" in
-    report | check | assemble | step | outcomes | describe | convert) exec {tools} "$@" ;;
+    report | check | assemble | step | describe | convert) exec {tools} "$@" ;;
+    outcomes)
+        {tools} "$@"
+        [ $? = 5 ]
+        ;;
     -) exec {program} run ;;
     *) exec {program} run < "$1" ;;
 esac

@@ -5,10 +5,8 @@ them, and takes two states for one only if all that the readers of their books t
 whole outputs are compared. By their histories, the smallest jobs come to the same too.
 """
 
-import glob
 import os
 import re
-import tempfile
 
 from groups.outcomes import BY_HAND, SELDOM, TAPES, outcomes_of, told_by
 from harness import TOP, Case, Skipped, read, require, run
@@ -35,7 +33,7 @@ HISTORIES = 40
 HISTORIES_LONG = 200
 MOST_HISTORIES = 100_000
 
-# From so many outcomes of a request on, `outcomes` prints the first of each code.
+# From so many outcomes of a request on, `outcomes` prints the first of each code without `--all`.
 GROUPED = 8
 
 COMMANDS = "excp", "purge", "purgetask", "close", "reset", "wait"
@@ -75,22 +73,19 @@ def every_order(setup, script, *words):
 
 def outcomes(setup, script, *words):
     """What `outcomes` finds: the posts of each request, and the whole outputs."""
-    told, outputs, last = told_by(setup, script, "--whole", *words)
+    told, outputs, last = told_by(setup, script, "--whole", "--all", *words)
     require(re.search(rf", {len(outputs)} whole outputs?\)$", last) and not last.startswith("not all"), f"the last line is {last!r}")
     found = [tuple(f"post {name} {post}" for name, post in it.items()) for it in outputs]
     require(len(set(found)) == len(found), "a whole output is printed twice")
     return {name: set(posts) for name, posts in told.items()}, set(found)
 
 
-def by_scenarios(setup, script, *words):
-    """All posts that `outcomes` finds, by the scenarios that it writes, each of which expects one."""
-    told = {}
-    with tempfile.TemporaryDirectory() as folder:
-        outcomes_of(setup, script, "--scenarios", folder, *words)
-        for file in glob.glob(f"{folder}/*.scenario"):
-            fields = read(file).rstrip("\n").rpartition("\nexpect post ")[2].split(" ", 3)
-            told.setdefault(" ".join(fields[:3]), set()).add(fields[3])
-    return told
+def grouped(posts):
+    """The posts of a request that are printed without `--all`."""
+    if len(posts) < GROUPED:
+        return set(posts)
+    first = {post[:2]: post for post in sorted(posts, reverse=True)}
+    return set(first.values())
 
 
 def is_equal(setup, script, *words, most=MOST_STATES):
@@ -101,9 +96,8 @@ def is_equal(setup, script, *words, most=MOST_STATES):
     wanted = {name: set(posts) for name, posts in found[0].items()}
     told, outputs = outcomes(setup, script, *words)
     alone = {name: set(posts) for name, posts in outcomes_of(setup, script, *words)[0].items()}
-    require(told == alone, f"the outcomes with whole outputs are {told}, and without them {alone}; of\n{script}")
-    if any(len(posts) >= GROUPED for posts in wanted.values()):
-        told = by_scenarios(setup, script, *words)
+    some = {name: grouped(posts) for name, posts in told.items()}
+    require(some == alone, f"the outcomes with whole outputs are {some}, and without them {alone}; of\n{script}")
     require(told == wanted, f"the outcomes are {told}, and those of every order {wanted}; of\n{script}")
     require(outputs == found[1], f"the whole outputs are {outputs}, and those of every order {found[1]}; of\n{script}")
     return True

@@ -9,6 +9,7 @@ import glob
 import os
 import re
 import tempfile
+import time
 
 from harness import SAMPLES, TOP, Case, expect, read, require
 from small_jobs import small_job
@@ -114,6 +115,27 @@ def read_by(first, second):
     return {"0 0 1": post(first), "0 1 1": post(second), "1 0 1": post(3 - first), "1 1 1": post(3 - second)}
 
 
+# Three tapes. Task 2 purges each of them once. Task 0 issues to the second tape and then to the first; task 1 to the third and then to
+# the first. The purge of the first tape meets both later requests only if both tasks issued to the other tapes before: then all four
+# requests may wait when they are purged.
+WRITE = ("area 0 001000 4200000000001028 0000000000000000 0000103000000001 0000000000000000 0000000000000000 0000000000000000 "
+         "0100103820000002 A1A1\n")
+THREE = ("tasks 3\ntape 0 0 60\ntape 1 1 60\ntape 2 2 60\n" + "".join(f"open {unit} out\n" for unit in range(3)) + WRITE
+         + "".join(f"{it} 001000 0 001038 2\n" for it in ("excp 0 1 1", "excp 0 0 1", "excp 1 2 1", "excp 1 0 1"))
+         + "".join(f"purge 2 {unit} 1 quiesce\n" for unit in range(3)) + "".join(f"excp 2 {unit} 1 001000 0 001038 2\n" for unit in (1, 2)))
+WRITTEN = "7F 001038 0C00 0000 0000 A1A1"
+PURGED = "48 000000 0000 0000 0000 A1A1"
+ALL_PURGED = {"0 0 1": PURGED, "0 1 1": PURGED, "1 0 1": PURGED, "1 2 1": PURGED, "2 1 1": WRITTEN, "2 2 1": WRITTEN}
+
+# A program of no-operations. With turns of one command, a halt meets it before each of them. It may also wait, or have ended.
+NO_OPERATIONS = 110
+MANY = (DISK + OPEN + "area 0 001000 4200000000001028 0000000000000000 0000103000000001 0000000000000000 0000000000000001 0000000000000000"
+        + " 0300000060000001" * (NO_OPERATIONS - 1) + " 0300000020000001\n" + EXCP.format(0, 0) + "purge 1 0 1 halt\n")
+OUTCOMES_OF_MANY = NO_OPERATIONS + 2
+
+# So many outcomes of a request have a scenario, and so many whole outputs are printed, without `--all`.
+MOST = 100
+
 # The whole outputs of jobs, worked by hand, in order.
 OUTPUTS = {
     "a related error": (RELATED, [{"0 0 1": FAILED, "1 0 1": WAITED}, {"0 0 1": FAILED, "1 0 1": ENDED}]),
@@ -127,11 +149,33 @@ def numbers_and_post(line):
     return " ".join(words[1:4]), words[4]
 
 
+def status_of(last):
+    """The exit status that fits the last line."""
+    if last.startswith("not all: "):
+        return 6
+    return 0 if last.startswith("deterministic (") else 5
+
+
+def are_numbered(lines, ran):
+    """If a request has several outcomes, each has its number, and those that are not printed are counted."""
+    number = count = 0
+    for line in lines:
+        if it := re.fullmatch(r"# outcome (\d+) of (\d+)", line):
+            if number == count:
+                number, count = 0, int(it[2])
+            number += 1
+            require((number, count) == (int(it[1]), int(it[2])) and count > 1, f"another number: {line!r}", ran)
+        elif it := re.fullmatch(r"# and (\d+) more outcomes? with code [0-9A-F]{2}", line):
+            number += int(it[1])
+    require(number == count, "outcomes are not counted", ran)
+
+
 def told_by(setup, script, *words):
     """The posts that the program tells of each request, by its numbers, the whole outputs, and the last line."""
     ran = setup.run("outcomes", *words, script=script)
-    require((ran.status, ran.err) == (0, ""), "it fails", ran)
-    told, outputs, lines = {}, [], ran.out.splitlines()
+    told, outputs, lines = {}, [], ran.out.splitlines() or [""]
+    require((ran.status, ran.err) == (status_of(lines[-1]), ""), "it fails", ran)
+    are_numbered(lines, ran)
     for line in lines[:-1]:
         if line.startswith("output "):
             outputs.append({})
@@ -181,6 +225,12 @@ def has_outputs(setup, script, wanted):
             require(posts == output, f"the scenario of output {number} posts {posts}", ran)
 
 
+def has_output(setup, script, wanted):
+    """The whole outputs have this one."""
+    _, outputs, last = told_by(setup, script, "--whole", "--all")
+    require(wanted in outputs, f"it is not among {len(outputs)} outputs; the last line is {last!r}")
+
+
 def posts_in(ran):
     """The posts that a run printed, by the numbers of their requests."""
     return dict(numbers_and_post(line) for line in ran.out.splitlines() if line.startswith("post "))
@@ -220,7 +270,7 @@ def threads_are_among(setup, seed):
 
 def every_outcome(setup, script, folder):
     """The outcomes by the scenarios that the program writes into a folder, each of which `step` runs to its post."""
-    _, last = outcomes_of(setup, script, "--turn", "1", "--most-states", "50000", "--scenarios", folder)
+    _, last = outcomes_of(setup, script, "--turn", "1", "--most-states", "50000", "--all", "--scenarios", folder)
     told = {}
     for file in sorted(glob.glob(f"{folder}/*.scenario")):
         ran = setup.run("step", script=read(file))
@@ -240,16 +290,130 @@ def ends(setup, file):
 
 def is_stored(setup, file):
     """A sample prints the stored outcomes."""
-    expect(setup.run("outcomes", script=read(file)), (0, read(file.replace(".script", ".posts"))))
+    due = read(file.replace(".script", ".posts"))
+    expect(setup.run("outcomes", script=read(file)), (status_of(due.splitlines()[-1]), due))
 
 
 def is_cut(setup):
     """A search that ends early says so."""
     script = DISK + OPEN + PLAIN + EXCP.format(0, 0) * 3 + "purge 1 0 1 halt\n" + EXCP.format(1, 0) * 2
     _, last = outcomes_of(setup, script, "--most-states", "2")
-    require(re.match(r"not all: at least \d+ requests? ha(s|ve) more than one outcome "
+    require(re.match(r"not all: (at least [1-9]\d* requests? ha(s|ve) more than one outcome|no request has more than one outcome so far) "
                      r"\(turns of 64 commands, \d+ states, ended by --most-states\)$", last),
             f"the last line is {last!r}")
+
+
+def has_many(setup):
+    """Without `--all`, the first of each code is printed, the first scenarios are written, and so are the first whole outputs."""
+    for words, printed, written in ((), 2, MOST + 1), (("--all",), OUTCOMES_OF_MANY, OUTCOMES_OF_MANY):
+        with tempfile.TemporaryDirectory() as folder:
+            ran = setup.run("outcomes", "--turn", "1", "--scenarios", folder, *words, script=MANY)
+            told, _ = outcomes_of(setup, MANY, "--turn", "1", *words)
+            require(len(told["0 0 1"]) == printed, f"{len(told['0 0 1'])} outcomes are printed", ran)
+            require(len(os.listdir(folder)) == written, f"{len(os.listdir(folder))} scenarios are written", ran)
+            left = f"# and {OUTCOMES_OF_MANY - written} more outcomes without a scenario\n"
+            require((left in ran.out) == (written < OUTCOMES_OF_MANY), "other outcomes have no scenario", ran)
+        ran = setup.run("outcomes", "--turn", "1", "--whole", *words, script=MANY)
+        outputs, left = ran.out.count("\noutput "), f"# and {OUTCOMES_OF_MANY - MOST} more whole outputs\n"
+        require(outputs == (OUTCOMES_OF_MANY if words else MOST), f"{outputs} whole outputs are printed", ran)
+        require((left in ran.out) == (not words), "other whole outputs are left out", ran)
+        require(ran.out.endswith(f", {OUTCOMES_OF_MANY} whole outputs)\n"), "they are not counted", ran)
+
+
+def prints_chosen(setup):
+    """`--outcome` prints the scenario that `--scenarios` writes, or that there is none."""
+    script = DISK + OPEN + PLAIN + EXCP.format(0, 0) + "purge 1 0 1 halt\n"
+    with tempfile.TemporaryDirectory() as folder:
+        outcomes_of(setup, script, "--scenarios", folder)
+        for number in range(1, 4):
+            expect(setup.run("outcomes", "--outcome", "0", "0", "1", str(number), script=script), (0, read(f"{folder}/post-0-0-1-{number}.scenario")))
+    for task, unit, request, number in (0, 0, 1, 0), (0, 0, 1, 4), (0, 0, 2, 1), (1, 0, 1, 1), (0, 1, 1, 1), (70000, 0, 1, 1):
+        ran = setup.run("outcomes", "--outcome", *map(str, (task, unit, request, number)), script=script)
+        expect(ran, (1, "", f"excp_job: no outcome {number} of request {request} of task {task} to unit {unit} was found\n"))
+
+
+# A hint: the lines that race, the wait before the later one, and a command in place of the later one or of the first one.
+HINT = re.compile(r"# lines (\d+) and (\d+) race: with '(wait \d+)'(?: and '(.*)' in place of line \2| before line \2(?:, and '(.*)' in place of "
+                  r"line \1,)?) it has one outcome")
+
+# How many small jobs have their hints tried, and how many of these have one at least.
+HINTED = 60
+HINTS = 20
+
+
+def name_at(lines, number):
+    """The numbers of the request that a line of a script issues, or nothing."""
+    words = lines[number - 1].split()
+    if words[0] != "excp":
+        return None
+    return " ".join([*words[1:3], str(sum(line.split()[:3] == words[:3] for line in lines[:number]))])
+
+
+def is_settled(setup, script, name, hint):
+    """With the change of a hint, the request that its line issues has one outcome."""
+    lines = script.splitlines()
+    first, later = int(hint[1]), int(hint[2])
+    at = first if name_at(lines, first) == name else later
+    require(first < later and name_at(lines, at) == name, f"a hint on other lines: {hint[0]}")
+    lines[later - 1] = hint[4] or lines[later - 1]
+    lines[first - 1] = hint[5] or lines[first - 1]
+    lines.insert(later - 1, hint[3])
+    told, last = outcomes_of(setup, "\n".join([*lines, ""]))
+    name = name_at(lines, at + (at == later))
+    require(len(told[name]) == 1 and not last.startswith("not all"), f"{hint[0]} leaves {told[name]}")
+
+
+def hints_hold(setup):
+    """What a hint says makes one outcome of the request above it."""
+    tried = 0
+    for seed in range(HINTED):
+        script, name = small_job(seed, tasks=3, units=2, requests=5, controls=3), ""
+        for line in setup.run("outcomes", script=script).out.splitlines():
+            if line.startswith("post "):
+                name, _ = numbers_and_post(line)
+            elif line.startswith("# lines "):
+                hint = HINT.fullmatch(line)
+                require(hint, f"another hint: {line!r}")
+                is_settled(setup, script, name, hint)
+                tried += 1
+    require(tried >= HINTS, f"{tried} hints")
+
+
+def is_compared(setup):
+    """Runs by seeds come to outcomes that the search found. A mutant that cuts the set of outcomes is caught by its seeds."""
+    script, _, _ = BY_HAND["a quiesce"]
+    for seeds in "100", "0":
+        ran = setup.run("outcomes", "--seeds", seeds, script=script)
+        require(ran.status != 3, "the search is compared, and is wrong", ran)
+        require((ran.status, ran.err) == (5, ""), "it is not compared, or fails", ran)
+
+
+def shares_are_counted(setup):
+    """`--often` runs seeds, whose posts are outcomes, and counts them."""
+    script, _, wanted = BY_HAND["a halt"]
+    ran = setup.run("outcomes", "--often", "60", script=script)
+    lines = ran.out.splitlines()
+    require((ran.status, ran.err) == (0, "") and lines[-1] == "60 runs by seeds; the shares are no probabilities of threads", "another end", ran)
+    count = 0
+    for share, post in zip(lines[:-1:2], lines[1:-1:2]):
+        told = re.fullmatch(r"# in (\d+) of 60 runs, first by seed (\d+)", share)
+        name, end = numbers_and_post(post)
+        require(told and name == "0 0 1" and end in wanted[name], f"{share!r}, {post!r}", ran)
+        require(post in setup.run("report", "--posts", "--seed", told[2], script=script).out.splitlines(), f"seed {told[2]} posts another one", ran)
+        count += int(told[1])
+    require(count == 60, f"{count} posts", ran)
+
+
+# Six tasks read ten blocks each from one tape, in any order.
+LONG = ("tasks 6\ntape 0 0 1200\n" + "block 0 01\n" * 60 + "open 0 in\narea 0 001000 4200000000001028 0000000000000000 0000103000000001 "
+        + "0000000000000000 0000000000000000 0000000000000000 0200103820000001 00\n" + "".join(f"excp {n % 6} 0 1 001000 0 001038 1\n" for n in range(60)))
+
+
+def is_ended(setup):
+    """A search ends after its seconds."""
+    begun = time.monotonic()
+    _, last = outcomes_of(setup, LONG, "--most-seconds", "1", "--most-states", "4294967295")
+    require(last.endswith(", ended by --most-seconds)") and time.monotonic() - begun < 30, f"the last line is {last!r}")
 
 
 def leaves_its_script(setup):
@@ -294,7 +458,14 @@ def cases(setup):
         yield Case(f"tests/cases/outcomes/{name}.script", lambda n=name, s=seldom: has_outcome(setup, n, *s), ORIGIN)
     for name, (script, wanted) in OUTPUTS.items():
         yield Case(f"whole outputs, {name}", lambda s=script, w=wanted: has_outputs(setup, s, w), ORIGIN)
+    yield Case("whole outputs, two tasks before one purge", lambda: has_output(setup, THREE, ALL_PURGED), ORIGIN)
     yield Case("a search that is cut", lambda: is_cut(setup), ORIGIN)
+    yield Case("many outcomes", lambda: has_many(setup), ORIGIN)
+    yield Case("one outcome", lambda: prints_chosen(setup), ORIGIN)
+    yield Case("hints hold", lambda: hints_hold(setup), ORIGIN)
+    yield Case("runs by seeds", lambda: is_compared(setup), ORIGIN)
+    yield Case("shares of runs", lambda: shares_are_counted(setup), ORIGIN)
+    yield Case("a search that takes long", lambda: is_ended(setup), ORIGIN)
     for file in sorted(glob.glob(f"{SAMPLES}/outcomes/*.script")):
         yield Case(os.path.relpath(file, TOP), lambda f=file: is_stored(setup, f), ORIGIN)
     for file in sorted(glob.glob(f"{SAMPLES}/*.script")):

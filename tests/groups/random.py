@@ -554,9 +554,8 @@ RUNS = 25
 RUNS_LONG = 200
 MOST = 400
 
-# How many small jobs are compared with their outcomes, and how many steps their tasks have.
+# How many small jobs are compared with their outcomes.
 SMALL = 8
-SMALL_STEPS = 6
 
 
 def runs_are_lawful(setup, seed, channels, handlers):
@@ -578,7 +577,7 @@ def small_runs_are_outcomes(setup, seed):
     """The posts of small jobs, whose reports are judged, are among the outcomes that `outcomes` finds."""
     chance, compared = random.Random(seed), 0
     for _ in range(SMALL):
-        job = job_at_random(chance, SMALL_STEPS)
+        job = job_at_random(chance, FEW)
         ran = printed(setup, "report", [*SET_UP, *job.lines], 2, 2)
         judge(job, read_report(ran.out, job))
         with tempfile.TemporaryDirectory() as folder:

@@ -15,6 +15,7 @@ mod held;
 mod images;
 mod no_image;
 mod outcomes;
+mod pace;
 mod pictures;
 mod progress;
 mod rejected;

@@ -1,5 +1,7 @@
 //! Every outcome of a script, and the files of their scenarios.
 
+use crate::REJECTED;
+use crate::pace::Pace;
 use crate::rejected::{ReadScript, with_findings};
 use crate::replacement::{BESIDE, ReplaceError};
 use crate::saver::{said, undeclared};
@@ -7,8 +9,11 @@ use crate::screen::Screen;
 use crate::script::{SizedScript, sized};
 use crate::target::{Output, Targets};
 use job_media::{MountedImages, mount_images};
-use job_options::{OutcomeOptions, RunFiles};
-use job_outcomes::{OutcomeQuery, ScenarioKeeper, write_outcomes};
+use job_options::{OutcomeOptions, OutcomePlace, RunFiles};
+use job_outcomes::{
+    ChosenOutcome, OutcomeQuery, OutcomeVerdict, ScenarioKeeper, scenario_of_outcome,
+    write_outcomes, write_shares,
+};
 use job_script::{JobError, read_script};
 use medium_image::Image;
 use request_piece::Name;
@@ -19,6 +24,15 @@ use std::io::{BufWriter, ErrorKind, Read, Write};
 
 /// The most bytes that a search takes, about.
 const MOST_BYTES: usize = 512 << 20;
+
+/// The exit status if a request has more than one outcome.
+const SEVERAL: u8 = 5;
+
+/// The exit status if not all was found.
+const NOT_ALL: u8 = 6;
+
+/// The exit status of an error of the program.
+const FAILED: u8 = 3;
 
 /// What is asked for: the options, the name of the script, the images of units, and the directory for scenarios.
 #[derive(Clone, Copy)]
@@ -163,6 +177,17 @@ fn outcomes_of_text(
         return Ok(status);
     }
     let MountedImages { devices, .. } = mount_images(alloc, &script.set_up.units, images)?;
+    let mut pace = Pace::new(rt, asked.options.most_seconds, MOST_BYTES);
+    if let Some(place) = asked.options.outcome {
+        let query = asked_of(asked.options);
+        let scenario = match chosen_of(place) {
+            Some(chosen) => scenario_of_outcome(
+                alloc, &text, &script, devices, &query, chosen, &mut pace,
+            )?,
+            None => None,
+        };
+        return print_scenario(rt, asked.is_broken, place, scenario);
+    }
     let mut directory = Directory {
         rt,
         name: asked.directory,
@@ -179,18 +204,84 @@ fn outcomes_of_text(
     let Ok(mut out) = BufWriter::new(alloc, screen) else {
         return Err(JobError::NoMemory);
     };
-    let asked = asked_of(asked.options);
-    write_outcomes(
+    let options = asked.options;
+    if options.often > 0 {
+        let (seeds, turn) = (options.often, options.turn);
+        write_shares(alloc, &text, &script, devices, seeds, turn, &mut out)?;
+        out.flush().or(Err(JobError::NotWritten))?;
+        return Ok(0);
+    }
+    let verdict = write_outcomes(
         alloc,
         &text,
         &script,
         devices,
-        &asked,
+        &asked_of(options),
         &mut out,
         &mut directory,
+        &mut pace,
     )?;
     out.flush().or(Err(JobError::NotWritten))?;
-    Ok(directory.status)
+    let status = status_of(rt, verdict);
+    Ok(if directory.status == 0 {
+        status
+    } else {
+        directory.status
+    })
+}
+
+/// The outcome at a place, if a job may have such a unit and such a task.
+fn chosen_of(place: OutcomePlace) -> Option<ChosenOutcome> {
+    let name = Name {
+        task: u16::try_from(place.task).ok()?,
+        seq: place.request,
+    };
+    Some(ChosenOutcome {
+        unit: u16::try_from(place.unit).ok()?,
+        name,
+        number: place.number as usize,
+    })
+}
+
+/// Prints the scenario of the outcome at a place, or that there is none, and returns the exit status.
+fn print_scenario(
+    rt: &HostRuntime,
+    is_broken: &Cell<bool>,
+    place: OutcomePlace,
+    scenario: Option<Vec<u8>>,
+) -> Result<u8, JobError> {
+    let OutcomePlace {
+        task,
+        unit,
+        request,
+        number,
+    } = place;
+    let Some(scenario) = scenario else {
+        let _ = eprintln!(rt;
+            "excp_job: no outcome {number} of request {request} of task {task} to unit {unit} was found"
+        );
+        return Ok(REJECTED);
+    };
+    let mut screen = Screen::new(rt.stdout(), false, is_broken);
+    screen.write_all(&scenario).or(Err(JobError::NotWritten))?;
+    screen.flush().or(Err(JobError::NotWritten))?;
+    Ok(0)
+}
+
+/// The exit status that says what the outcomes come to. A search that is wrong has a message.
+fn status_of(rt: &HostRuntime, verdict: OutcomeVerdict) -> u8 {
+    match verdict {
+        OutcomeVerdict::Missed { seed, unit, name } => {
+            let Name { task, seq } = name;
+            let _ = eprintln!(rt;
+                "excp_job: error of this program: the run by seed {seed} posts another outcome of request {seq} of task {task} to unit {unit}; please report it with the script"
+            );
+            FAILED
+        }
+        OutcomeVerdict::Deterministic => 0,
+        OutcomeVerdict::Several => SEVERAL,
+        OutcomeVerdict::NotAll => NOT_ALL,
+    }
 }
 
 /// What is asked of the search.
@@ -200,5 +291,7 @@ fn asked_of(options: OutcomeOptions) -> OutcomeQuery {
         most_states: options.most_states,
         most_bytes: MOST_BYTES,
         whole: options.whole,
+        all: options.all,
+        seeds: options.seeds,
     }
 }

@@ -29,12 +29,15 @@ const FILED: [&[u8]; 7] = [
 ];
 
 /// The options that take a value.
-const VALUED: [&[u8]; 11] = [
+const VALUED: [&[u8]; 14] = [
     b"--channels",
     b"--handlers",
     b"--most-steps",
     b"--turn",
     b"--most-states",
+    b"--most-seconds",
+    b"--seeds",
+    b"--often",
     b"--scenarios",
     b"--seed",
     b"--load",

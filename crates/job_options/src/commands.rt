@@ -1,6 +1,6 @@
 //! The command line, as `clap` takes it, made from the table of subcommands.
 
-use crate::entries::{Entry, FORMATS, SUBCOMMANDS, Subcommand, Takes};
+use crate::entries::{Entry, FORMATS, Subcommand, Takes, on_jobs, others};
 use clap::builder::ValueParser;
 use clap::{Arg, ArgAction, Command};
 use run_options::program;
@@ -15,7 +15,7 @@ const COMMAND: &str = "excp";
 /// The whole command line.
 pub fn command<'a>(alloc: Global) -> Result<Command<'a>, AllocError> {
     let mut command = program(alloc, NAME).bin_name(COMMAND)?;
-    for subcommand in SUBCOMMANDS {
+    for subcommand in on_jobs().iter().chain(others()) {
         command = command.subcommand(made(alloc, subcommand)?)?;
     }
     Ok(command)
@@ -24,6 +24,9 @@ pub fn command<'a>(alloc: Global) -> Result<Command<'a>, AllocError> {
 /// A subcommand of the table.
 fn made<'a>(alloc: Global, subcommand: &Subcommand) -> Result<Command<'a>, AllocError> {
     let mut command = Command::new(alloc, subcommand.name).about(subcommand.about);
+    if !subcommand.ending.is_empty() {
+        command = command.after_help(subcommand.ending);
+    }
     for entry in subcommand.entries {
         command = command.arg(argument(alloc, entry)?)?;
     }
@@ -59,6 +62,10 @@ fn taking<'a>(arg: Arg<'a>, entry: &Entry) -> Arg<'a> {
         Takes::Required => arg.required(true),
         Takes::Format => arg.value_parser(ValueParser::Names(FORMATS)),
         Takes::Number(least, most) => arg.value_parser(ValueParser::unsigned(least, most)),
+        Takes::Numbers(names) => arg
+            .value_names(names)
+            .num_args(names.len())
+            .value_parser(ValueParser::unsigned(0, u64::from(u32::MAX))),
     }
 }
 

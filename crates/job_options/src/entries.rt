@@ -29,7 +29,17 @@ pub const TURN: &str = "turn";
 
 pub const MOST_STATES: &str = "most-states";
 
+pub const MOST_SECONDS: &str = "most-seconds";
+
+pub const SEEDS: &str = "seeds";
+
+pub const OFTEN: &str = "often";
+
 pub const WHOLE: &str = "whole";
+
+pub const ALL: &str = "all";
+
+pub const OUTCOME: &str = "outcome";
 
 pub const SCENARIOS: &str = "scenarios";
 
@@ -55,6 +65,8 @@ pub(crate) enum Takes {
     Required,
     Format,
     Number(u64, u64),
+    /// A number for each of these names.
+    Numbers(&'static [&'static str]),
 }
 
 /// An option or an argument, as data.
@@ -88,7 +100,27 @@ pub(crate) struct Subcommand {
     pub name: &'static str,
     pub about: &'static str,
     pub entries: &'static [Entry],
+    /// What its help ends with.
+    pub ending: &'static str,
 }
+
+/// The subcommands that run or read a job.
+pub(crate) fn on_jobs() -> &'static [Subcommand] {
+    ON_JOBS
+}
+
+/// The subcommand that searches, and those on images.
+pub(crate) fn others() -> &'static [Subcommand] {
+    OTHERS
+}
+
+/// A subcommand whose help ends with its options.
+const PLAIN: Subcommand = Subcommand {
+    name: "",
+    about: "",
+    entries: &[],
+    ending: "",
+};
 
 const CHANNELS_ENTRY: Entry = Entry {
     name: CHANNELS,
@@ -150,7 +182,7 @@ const MOST_ENTRY: Entry = Entry {
     ..FLAG
 };
 
-pub(crate) const SUBCOMMANDS: &[Subcommand] = &[
+const ON_JOBS: &[Subcommand] = &[
     Subcommand {
         name: "report",
         about: "Prints the posts of a script, the history of each unit and what lies on its medium",
@@ -211,6 +243,7 @@ pub(crate) const SUBCOMMANDS: &[Subcommand] = &[
             FORCE_ENTRY,
             SCRIPT_ENTRY,
         ],
+        ..PLAIN
     },
     Subcommand {
         name: "check",
@@ -225,11 +258,13 @@ pub(crate) const SUBCOMMANDS: &[Subcommand] = &[
             LOAD_ENTRY,
             SCRIPT_ENTRY,
         ],
+        ..PLAIN
     },
     Subcommand {
         name: "assemble",
         about: "Prints the plain script of one with symbolic areas, or every fault of it",
         entries: &[SCRIPT_ENTRY],
+        ..PLAIN
     },
     Subcommand {
         name: "step",
@@ -277,10 +312,15 @@ pub(crate) const SUBCOMMANDS: &[Subcommand] = &[
             FORCE_ENTRY,
             SCRIPT_ENTRY,
         ],
+        ..PLAIN
     },
+];
+
+const OTHERS: &[Subcommand] = &[
     Subcommand {
         name: "outcomes",
         about: "Prints the posts that each request can have, over all orders of steps, with steps that lead to each; of eight or more, the first of each completion code",
+        ending: "Exit status: 0 each request has one outcome, 5 a request has more, 6 not all was found;\nthe others are in `excp --help`",
         entries: &[
             Entry {
                 name: TURN,
@@ -301,16 +341,56 @@ pub(crate) const SUBCOMMANDS: &[Subcommand] = &[
                 ..FLAG
             },
             Entry {
+                name: MOST_SECONDS,
+                long: MOST_SECONDS,
+                value: "N",
+                help: "The search ends after N seconds, and says that it has not found all",
+                takes: Takes::Number(1, 4_294_967_295),
+                ..FLAG
+            },
+            Entry {
+                name: SEEDS,
+                long: SEEDS,
+                value: "N",
+                help: "A search that found all is compared with runs by N seeds",
+                default: "20",
+                takes: Takes::Number(0, 4_294_967_295),
+                ..FLAG
+            },
+            Entry {
+                name: OFTEN,
+                long: OFTEN,
+                value: "N",
+                help: "In place of a search: in how many of N runs by seeds each outcome comes, which is no probability of threads",
+                takes: Takes::Number(1, 4_294_967_295),
+                conflicts: &[MOST_SECONDS, WHOLE, ALL, OUTCOME, SCENARIOS],
+                ..FLAG
+            },
+            Entry {
                 name: WHOLE,
                 long: WHOLE,
                 help: "Prints the whole outputs too: the posts that all requests can have together",
                 ..FLAG
             },
             Entry {
+                name: ALL,
+                long: ALL,
+                help: "Prints every outcome with its steps, however many there are",
+                ..FLAG
+            },
+            Entry {
+                name: OUTCOME,
+                long: OUTCOME,
+                help: "Prints only the scenario of outcome K of request N of task T to unit U",
+                takes: Takes::Numbers(&["T", "U", "N", "K"]),
+                conflicts: &[WHOLE, ALL, SCENARIOS],
+                ..FLAG
+            },
+            Entry {
                 name: SCENARIOS,
                 long: SCENARIOS,
                 value: "DIR",
-                help: "Writes a scenario for each outcome into this directory, which `step` runs to that post",
+                help: "Writes a scenario for each outcome into this directory, which `step` runs to that post; without --all, the first 100 of a request",
                 takes: Takes::Text,
                 ..FLAG
             },
@@ -328,6 +408,7 @@ pub(crate) const SUBCOMMANDS: &[Subcommand] = &[
             takes: Takes::OneOrMore,
             ..FLAG
         }],
+        ..PLAIN
     },
     Subcommand {
         name: "convert",
@@ -359,5 +440,6 @@ pub(crate) const SUBCOMMANDS: &[Subcommand] = &[
                 ..FLAG
             },
         ],
+        ..PLAIN
     },
 ];

@@ -13,8 +13,8 @@ use clap::error::ErrorKind;
 use clap::{ArgMatches, Command, Error};
 use commands::command;
 use entries::{
-    FILE, FORCE, IMAGES, JSON, LOAD, MOST_STATES, MOST_STEPS, SAVE, SCENARIOS, SCHEDULE, SCRIPT,
-    SEED, STEPS, TURN, WHOLE,
+    ALL, FILE, FORCE, IMAGES, JSON, LOAD, MOST_SECONDS, MOST_STATES, MOST_STEPS, OFTEN, OUTCOME,
+    SAVE, SCENARIOS, SCHEDULE, SCRIPT, SEED, SEEDS, STEPS, TURN, WHOLE,
 };
 use run_options::{Counts, counts_of};
 use std::alloc::{AllocError, Global};
@@ -95,8 +95,27 @@ pub struct OutcomeOptions {
     pub turn: u32,
     /// The most states that are searched.
     pub most_states: u32,
+    /// The most seconds that a search takes.
+    pub most_seconds: u64,
+    /// How many runs by seeds a search is compared with.
+    pub seeds: u32,
+    /// How many runs by seeds take the place of a search; 0 if there is one.
+    pub often: u32,
     /// Whether whole outputs are sought too.
     pub whole: bool,
+    /// Whether all are printed, however many there are.
+    pub all: bool,
+    /// The outcome of which only the scenario is printed.
+    pub outcome: Option<OutcomePlace>,
+}
+
+/// An outcome of a request: the numbers of its task, its unit, the request and the outcome.
+#[derive(Clone, Copy)]
+pub struct OutcomePlace {
+    pub task: u32,
+    pub unit: u32,
+    pub request: u32,
+    pub number: u32,
 }
 
 /// A format of images.
@@ -180,11 +199,31 @@ fn exploring(
         options: OutcomeOptions {
             turn: options.get_one::<u32>(TURN).unwrap_or(64),
             most_states: options.get_one::<u32>(MOST_STATES).unwrap_or(1_000_000),
+            most_seconds: options
+                .get_one::<u32>(MOST_SECONDS)
+                .map_or(u64::MAX, u64::from),
+            seeds: options.get_one::<u32>(SEEDS).unwrap_or(20),
+            often: options.get_one::<u32>(OFTEN).unwrap_or(0),
             whole: options.get_flag(WHOLE),
+            all: options.get_flag(ALL),
+            outcome: outcome_of(options),
         },
         file: script_file(alloc, options)?,
         media: media_of(alloc, command, options)?,
         scenarios: string(alloc, options, SCENARIOS)?,
+    })
+}
+
+/// The outcome of which only the scenario is asked for.
+fn outcome_of(options: &ArgMatches<'_>) -> Option<OutcomePlace> {
+    let [task, unit, request, number] = options.get_raw(OUTCOME)? else {
+        return None;
+    };
+    Some(OutcomePlace {
+        task: task.parse().ok()?,
+        unit: unit.parse().ok()?,
+        request: request.parse().ok()?,
+        number: number.parse().ok()?,
     })
 }
 

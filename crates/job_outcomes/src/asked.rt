@@ -1,4 +1,4 @@
-//! What is asked of the outcomes of a job.
+//! What is asked of the outcomes of a job, and what they come to.
 
 use job_script::JobError;
 use request_piece::Name;
@@ -14,9 +14,34 @@ pub struct OutcomeQuery {
     pub most_bytes: usize,
     /// Whether to tell whole outputs too.
     pub whole: bool,
+    /// Whether to tell all, however many there are.
+    pub all: bool,
+    /// How many runs by seeds a search is compared with that found all.
+    pub seeds: u32,
 }
 
-/// Takes the scenario of each outcome.
+/// An outcome of a request, as the file of its scenario names it. The outcomes of a request are counted from 1.
+#[derive(Clone, Copy)]
+pub struct ChosenOutcome {
+    pub unit: u16,
+    pub name: Name,
+    pub number: usize,
+}
+
+/// What the outcomes of a job come to.
+#[derive(Clone, Copy, PartialEq, Eq)]
+pub enum OutcomeVerdict {
+    /// The search came to its end, and each request has one outcome.
+    Deterministic,
+    /// The search came to its end, and a request has more than one outcome.
+    Several,
+    /// Not all was found, so a request may have more outcomes than those here.
+    NotAll,
+    /// The search is wrong: the run by this seed came to another outcome of a request.
+    Missed { seed: u32, unit: u16, name: Name },
+}
+
+/// Takes the scenarios of outcomes.
 pub trait ScenarioKeeper {
     /// Whether it wants any.
     fn is_wanted(&self) -> bool;

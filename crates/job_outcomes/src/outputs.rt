@@ -21,14 +21,13 @@ impl WholeRun {
         let Some(witness) = scenes.bench.carry_out_all(steps)? else {
             return Ok(None);
         };
-        let job = scenes.bench.job();
+        let job = scenes.bench.job;
         let mut places: Vec<usize> = Vec::new(scenes.alloc);
         places.resize(job.requests.len(), usize::MAX)?;
         for (place, posted) in witness.posts.iter().enumerate() {
-            if let Some(number) = job.number_of(posted.unit(), posted.name()) {
-                if let Some(slot) = places.get_mut(number) {
-                    *slot = place;
-                }
+            let number = job.number_of(posted.unit(), posted.name());
+            if let Some(slot) = places.get_mut(number.unwrap_or(usize::MAX)) {
+                *slot = place;
             }
         }
         Ok(Some(WholeRun { witness, places }))
@@ -43,7 +42,7 @@ impl WholeRun {
     ) -> Result<Option<&Posted>, AllocError> {
         let number = usize::from(request);
         let place = self.places.get(number).copied().unwrap_or(usize::MAX);
-        let issued = scenes.bench.job().requests.get(number);
+        let issued = scenes.bench.job.requests.get(number);
         let (Some(posted), Some(issued)) = (self.witness.posts.get(place), issued) else {
             return Ok(None);
         };

@@ -29,10 +29,10 @@ impl<'t> Scenes<'t> {
     /// The scenario of a whole run, which expects each post where it is collected.
     pub fn scenario_of_all(&self, whole: &WholeWitness) -> Result<Vec<u8>, AllocError> {
         let mut text = self.set_up()?;
-        let mut writer = StepWriter::new(self.alloc, self.bench.job(), self.lines)?;
+        let mut writer = StepWriter::new(self.alloc, self.bench.job, self.lines)?;
         let mut posts = whole.posts.iter();
         for step in &whole.steps {
-            put(writer.write(&mut text, *step))?;
+            writer.write(&mut text, *step).or(Err(AllocError))?;
             if let Step::Collect(_) = *step {
                 if let Some(posted) = posts.next() {
                     self.expect(&mut text, posted)?;
@@ -44,7 +44,7 @@ impl<'t> Scenes<'t> {
 
     /// Adds the line of a post, with its line feed.
     pub fn add_post(&self, text: &mut Vec<u8>, posted: &Posted) -> Result<(), AllocError> {
-        let job = self.bench.job();
+        let job = self.bench.job;
         let Some(number) = job.number_of(posted.unit(), posted.name()) else {
             return Ok(());
         };
@@ -52,37 +52,43 @@ impl<'t> Scenes<'t> {
             return Ok(());
         };
         let bytes = shown(posted, request.excp.show, request.excp.len);
-        put(write_posted(text, posted, bytes))?;
+        write_posted(text, posted, bytes).or(Err(AllocError))?;
         text.extend_from_slice(b"\n")
     }
 
-    /// Adds the lines of steps as one comment.
-    pub fn add_comment(&self, text: &mut Vec<u8>, steps: &[Step]) -> Result<(), AllocError> {
-        let mut events = Vec::new(self.alloc);
-        self.add_events(&mut events, steps)?;
-        let mut before: &[u8] = b"#   ";
-        for line in events.as_slice().split(|byte| *byte == b'\n') {
-            if !line.is_empty() {
-                text.extend_from_slice(before)?;
-                text.extend_from_slice(line)?;
-                before = b"; ";
+    /// Adds steps, each as a comment. A control among them, as a purge, has this mark if there is no other.
+    pub fn add_steps(
+        &self,
+        text: &mut Vec<u8>,
+        steps: &[Step],
+        mark: &[u8],
+    ) -> Result<(), AllocError> {
+        let controls = steps.iter().filter(|step| step.control().is_some()).count();
+        let mut writer = StepWriter::new(self.alloc, self.bench.job, self.lines)?;
+        for step in steps {
+            text.extend_from_slice(b"#   ")?;
+            writer.write(text, *step).or(Err(AllocError))?;
+            if controls == 1 && step.control().is_some() {
+                text.pop();
+                text.extend_from_slice(mark)?;
+                text.extend_from_slice(b"\n")?;
             }
         }
-        text.extend_from_slice(b"\n")
+        Ok(())
     }
 
     /// The lines before the first step.
     fn set_up(&self) -> Result<Vec<u8>, AllocError> {
         let mut text = Vec::new(self.alloc);
-        put(write_set_up(&mut text, self.lines, self.script))?;
+        write_set_up(&mut text, self.lines, self.script).or(Err(AllocError))?;
         Ok(text)
     }
 
     /// Adds the lines of steps from the beginning of the job.
     fn add_events(&self, text: &mut Vec<u8>, steps: &[Step]) -> Result<(), AllocError> {
-        let mut writer = StepWriter::new(self.alloc, self.bench.job(), self.lines)?;
+        let mut writer = StepWriter::new(self.alloc, self.bench.job, self.lines)?;
         for step in steps {
-            put(writer.write(text, *step))?;
+            writer.write(text, *step).or(Err(AllocError))?;
         }
         Ok(())
     }
@@ -91,13 +97,5 @@ impl<'t> Scenes<'t> {
     fn expect(&self, text: &mut Vec<u8>, posted: &Posted) -> Result<(), AllocError> {
         text.extend_from_slice(b"expect ")?;
         self.add_post(text, posted)
-    }
-}
-
-/// The outcome of writing to a text in memory, which may run out.
-pub(crate) fn put(outcome: std::io::Result<()>) -> Result<(), AllocError> {
-    match outcome {
-        Ok(()) => Ok(()),
-        Err(_) => Err(AllocError),
     }
 }

@@ -1,24 +1,30 @@
 //! The last line: whether the job is deterministic, and how far the search came.
 
-use crate::asked::OutcomeQuery;
-use outcome_search::Search;
+use crate::asked::{OutcomeQuery, OutcomeVerdict};
+use outcome_search::{Search, SearchEnd};
 use std::io::{Result, Write};
 
-/// Writes whether each of these requests has one outcome. `lost` outcomes were not told.
+/// Writes whether each of these requests has one outcome, and returns it. `lost` outcomes were not told.
 pub(crate) fn write_summary<W: Write>(
     out: &mut W,
     search: &Search<'_>,
     requests: &[u16],
     asked: &OutcomeQuery,
     lost: usize,
-) -> Result<()> {
-    let several = several_of(search, requests);
-    if search.is_complete() && lost == 0 && has_each(search, requests) {
-        write_several(out, several, "")?;
-    } else {
-        write!(out, "not all: ")?;
-        write_several(out, several, "at least ")?;
-    }
+) -> Result<OutcomeVerdict> {
+    let outcomes = requests.iter().map(|request| search.outcomes(*request));
+    let several = outcomes.filter(|outcomes| outcomes.len() > 1).count();
+    // a search that misses a request is wrong
+    let has_each = requests
+        .iter()
+        .all(|request| !search.outcomes(*request).is_empty());
+    let is_all = search.is_complete() && lost == 0 && has_each;
+    let verdict = match several {
+        _ if !is_all => OutcomeVerdict::NotAll,
+        0 => OutcomeVerdict::Deterministic,
+        _ => OutcomeVerdict::Several,
+    };
+    write_verdict(out, verdict, several)?;
     write!(out, " (turns of ")?;
     write_count(out, u64::from(asked.turn), "command", "commands")?;
     write!(out, ", ")?;
@@ -27,16 +33,18 @@ pub(crate) fn write_summary<W: Write>(
         write!(out, ", ")?;
         write_count(out, wholes as u64, "whole output", "whole outputs")?;
     }
-    if !search.is_complete() {
-        let is_at_most = search.states() as u64 >= u64::from(asked.most_states);
-        let why = if is_at_most {
-            "--most-states"
-        } else {
-            "memory"
-        };
-        write!(out, ", ended by {why}")?;
-    }
-    writeln!(out, ")")
+    write!(
+        out,
+        "{}",
+        match search.ended() {
+            SearchEnd::Whole => "",
+            SearchEnd::States => ", ended by --most-states",
+            SearchEnd::Memory => ", ended by memory",
+            SearchEnd::Watch => ", ended by --most-seconds",
+        }
+    )?;
+    writeln!(out, ")")?;
+    Ok(verdict)
 }
 
 /// Writes how many of something there are.
@@ -45,29 +53,19 @@ fn write_count<W: Write>(out: &mut W, count: u64, one: &str, more: &str) -> Resu
     write!(out, "{count} {word}")
 }
 
-/// How many of these requests have more than one outcome.
-fn several_of(search: &Search<'_>, requests: &[u16]) -> usize {
-    let mut several: usize = 0;
-    for request in requests {
-        if search.outcomes(*request).len() > 1 {
-            several = several.saturating_add(1);
+/// Writes what the outcomes come to, of which this many requests have more than one.
+fn write_verdict<W: Write>(out: &mut W, verdict: OutcomeVerdict, several: usize) -> Result<()> {
+    match verdict {
+        OutcomeVerdict::Deterministic => return write!(out, "deterministic"),
+        OutcomeVerdict::Several => {}
+        OutcomeVerdict::NotAll if several == 0 => {
+            return write!(out, "not all: no request has more than one outcome so far");
         }
+        OutcomeVerdict::NotAll | OutcomeVerdict::Missed { .. } => write!(
+            out,
+            "not all: at least "
+        )?,
     }
-    several
-}
-
-/// Whether each of these requests has an outcome. A search that misses one is wrong.
-fn has_each(search: &Search<'_>, requests: &[u16]) -> bool {
-    requests
-        .iter()
-        .all(|request| !search.outcomes(*request).is_empty())
-}
-
-/// Writes how many requests have more than one outcome. Only if the search has come to its end can none be known.
-fn write_several<W: Write>(out: &mut W, several: usize, least: &str) -> Result<()> {
-    match several {
-        0 if least.is_empty() => write!(out, "deterministic"),
-        1 => write!(out, "{least}1 request has more than one outcome"),
-        _ => write!(out, "{least}{several} requests have more than one outcome"),
-    }
+    write_count(out, several as u64, "request has", "requests have")?;
+    write!(out, " more than one outcome")
 }

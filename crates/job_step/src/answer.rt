@@ -3,7 +3,8 @@
 use job_world::{Issuing, StepAnswer};
 use post_lines::write_posted;
 use request_piece::{Name, Posted};
-use std::io::{Result, Write};
+use std::alloc::AllocError;
+use std::io::{Result as IoResult, Write};
 use stepped_run::StepPast;
 use unit_book::{Closing, Delivery, Intake, Interruption, OpenError, Purging, Running, Starting};
 
@@ -13,7 +14,7 @@ pub fn write_answer<W: Write>(
     unit: u16,
     answer: &StepAnswer,
     past: &StepPast,
-) -> Result<()> {
+) -> IoResult<()> {
     if let StepAnswer::Collected(Some(posted)) = answer {
         return write_posted(out, posted, past.shown(posted));
     }
@@ -36,7 +37,7 @@ pub fn write_answer<W: Write>(
 }
 
 /// Writes the name of a request: the numbers of its task and unit, and its own.
-pub fn write_name<W: Write>(out: &mut W, unit: u16, name: Name) -> Result<()> {
+pub fn write_name<W: Write>(out: &mut W, unit: u16, name: Name) -> IoResult<()> {
     let Name { task, seq } = name;
     write!(out, " {task} {unit} {seq}")
 }
@@ -85,13 +86,13 @@ fn name_of(answer: &StepAnswer) -> Option<Name> {
     }
 }
 
-/// Writes the answer of `finish`: how many posts the tasks had not collected. Each of these has a line of its own. They are
-/// noted in the past.
-pub fn write_end<W: Write>(out: &mut W, posts: &[Posted], past: &StepPast) -> Result<()> {
-    write!(out, "Finished {}", posts.len())?;
+/// Adds the answer of `finish` to a text: how many posts the tasks had not collected. Each of these has a line of its own. They
+/// are noted in the past.
+pub fn write_end(text: &mut Vec<u8>, posts: &[Posted], past: &StepPast) -> Result<(), AllocError> {
+    write!(text, "Finished {}", posts.len()).or(Err(AllocError))?;
     for posted in posts {
-        out.write_all(b"\n")?;
-        write_posted(out, posted, past.shown(posted))?;
+        text.push(b'\n')?;
+        write_posted(text, posted, past.shown(posted)).or(Err(AllocError))?;
     }
     Ok(())
 }

@@ -1,16 +1,15 @@
 //! The lines of a scenario, one by one, and what is printed of them.
 
 ghost use Rattle.std.specs.Prelude.{◌≡◌, ◌≤◌, IfErr, IfOk, IfSome, Ok, vec_len};
-ghost use Rattle.job_step.specs.Faults.{EndsStep, IsStepFault};
+ghost use Rattle.job_step.specs.Faults.{IsStepFault};
 
-use crate::fault::{StepError, rejected};
 use crate::line_steps::LineSteps;
 use crate::plan::Plan;
 use crate::printer::Printer;
 use crate::reader::ScenarioReader;
-use job_check::Source;
+use job_check::SCRIPT;
 use job_scenario::{ScenarioLine, Step};
-use job_script::{Cause, FaultName, JobError, LIMIT, Line, SetUp};
+use job_script::{Cause, FaultName, JobError, LIMIT, Line, Refusal, SetUp};
 use medium_image::Size;
 use std::alloc::Global;
 use std::io::{Read, Write};
@@ -22,15 +21,6 @@ pub enum Purpose {
     Step,
     /// To print every fault of its lines. No expectation is compared.
     Check,
-}
-
-/// What a line after the set-up asks for.
-#[derive(Drop)]
-enum NextLine {
-    Nothing,
-    Steps(LineSteps),
-    /// There is no further line.
-    End,
 }
 
 /// A scenario that is read, with the answer of its last event.
@@ -52,16 +42,13 @@ pub struct Dialog<'a, I: Read + Drop, W: Write, E: Write> {
 }
 
 impl<'a, I: Read + Drop, W: Write, E: Write> Dialog<'a, I, W, E> {
-    /// Before the first line of this input. Lines of units have these sizes of images in place of hyphens. Answers are printed on
-    /// `out`, and faults and failed expectations on `errors`.
+    /// Before the first line of this input. Lines of units have these sizes of images in place of hyphens.
     pub fn new(
         alloc: Global,
         purpose: Purpose,
         input: I,
         sizes: Vec<Option<Size>>,
-        out: &'a mut W,
-        errors: &'a mut E,
-        source: Source<'a>,
+        printer: Printer<'a, W, E>,
     ) -> Result<Self, JobError>
         ensures { IfErr result IsStepFault }
     {
@@ -70,7 +57,7 @@ impl<'a, I: Read + Drop, W: Write, E: Write> Dialog<'a, I, W, E> {
             alloc,
             purpose,
             reader,
-            printer: Printer::new(alloc, out, errors, source),
+            printer,
             event: None,
             first: 0,
             finished: None,
@@ -88,15 +75,17 @@ impl<'a, I: Read + Drop, W: Write, E: Write> Dialog<'a, I, W, E> {
     {
         let mut plan = Plan::new(self.alloc);
         self.declare(&mut plan)?;
-        if self.has_fault {
-            self.read_on()?;
-            return Ok(None);
+        if !self.has_fault {
+            let whole = plan.whole();
+            if let Some(()) = self.unless_fault(SCRIPT, whole)? {
+                return Ok(Some(plan));
+            }
         }
-        let whole = plan.whole();
-        if let Some(()) = self.unless_fault(whole)? {
-            return Ok(Some(plan));
+        for _ in 0..=LIMIT {
+            if self.line()?.is_none() {
+                break;
+            }
         }
-        self.read_on()?;
         Ok(None)
     }
 
@@ -105,49 +94,57 @@ impl<'a, I: Read + Drop, W: Write, E: Write> Dialog<'a, I, W, E> {
         ensures { IfErr result IsStepFault }
     {
         for _ in 0..=LIMIT {
-            let added = plan.add_lines(self.alloc, &mut self.reader);
-            if let Some(event) = self.unless_fault(added)? {
-                self.event = event;
-                self.first = self.reader.number;
+            let Some(line) = self.line()? else {
                 break;
-            }
-            if self.purpose == Purpose::Step {
+            };
+            let number = self.reader.number;
+            let added = plan.add(self.alloc, number, line);
+            if let Some(Some(event)) = self.unless_fault(number, added)? {
+                self.event = Some(event);
+                self.first = number;
                 break;
             }
         }
         Ok(())
     }
 
-    /// Checks the forms of the lines that are left.
-    fn read_on(&mut self) -> Result<(), JobError>
+    /// The next line that says something and has no fault of its own. It is none after the last line, and after a fault that ends
+    /// the scenario.
+    fn line(&mut self) -> Result<Option<ScenarioLine>, JobError>
         ensures { IfErr result IsStepFault }
     {
         for _ in 0..=LIMIT {
-            if self.purpose == Purpose::Step {
+            let is_ended = self.has_fault && self.purpose == Purpose::Step;
+            if is_ended || !self.reader.next()? {
                 break;
             }
-            let read = self.reader.read();
-            if let Some(None) = self.unless_fault(read)? {
-                break;
+            let (number, read) = (self.reader.number, self.reader.line());
+            match self.unless_fault(number, read)? {
+                None | Some(ScenarioLine::Script(Line::Nothing)) => {}
+                line => return Ok(line),
             }
         }
-        Ok(())
+        Ok(None)
     }
 
-    /// The steps of the next event. The lines before it are compared with the last answer. It is none after the last line, and
-    /// after a fault that ends the scenario.
+    /// The steps of the next event. The lines before it are compared with the last answer, which is then cleared. It is none after
+    /// the last line, and after a fault that ends the scenario.
     pub fn next(&mut self, set_up: &SetUp) -> Result<Option<LineSteps>, JobError>
         ensures { IfErr result IsStepFault }
     {
         for _ in 0..=LIMIT {
-            let line = self.next_line(set_up);
-            match self.unless_fault(line)? {
-                Some(NextLine::Steps(steps)) => return Ok(Some(steps)),
-                Some(NextLine::Nothing) => {}
-                Some(NextLine::End) => break,
-                None => {
-                    if self.purpose == Purpose::Step {
-                        break;
+            let line = match self.event.take() {
+                Some(event) => Some(event),
+                None => self.line()?,
+            };
+            match line {
+                None => break,
+                Some(ScenarioLine::Expect) => self.compare()?,
+                Some(line) => {
+                    let (number, steps) = (self.reader.number, self.steps(set_up, line));
+                    if let Some(steps) = self.unless_fault(number, steps)? {
+                        self.answer.clear();
+                        return Ok(Some(steps));
                     }
                 }
             }
@@ -155,47 +152,29 @@ impl<'a, I: Read + Drop, W: Write, E: Write> Dialog<'a, I, W, E> {
         Ok(None)
     }
 
-    /// What the next line asks for. Compares an expectation.
-    fn next_line(&mut self, set_up: &SetUp) -> Result<NextLine, StepError>
-        ensures { IfErr result EndsStep }
+    /// Compares an expectation with the next line of the last answer. A check has no answers.
+    fn compare(&mut self) -> Result<(), JobError>
+        ensures { IfErr result IsStepFault }
     {
-        let line = match self.event.take() {
-            Some(event) => Some(event),
-            None => self.reader.read()?,
-        };
-        match line {
-            None => Ok(NextLine::End),
-            Some(ScenarioLine::Script(Line::Nothing)) => Ok(NextLine::Nothing),
-            Some(ScenarioLine::Expect) => {
-                if self.purpose == Purpose::Step {
-                    let (number, line) = (self.reader.number, self.reader.current());
-                    self.printer.expect(number, line, &self.answer)?;
-                }
-                Ok(NextLine::Nothing)
-            }
-            Some(line) => self.steps(set_up, line),
+        if self.purpose == Purpose::Check {
+            return Ok(());
         }
+        let (number, line) = (self.reader.number, self.reader.current());
+        self.printer.expect(number, line, &self.answer)
     }
 
     /// The steps of an event. There is none after `finish`.
-    fn steps(&mut self, set_up: &SetUp, line: ScenarioLine) -> Result<NextLine, StepError>
-        ensures { IfErr result EndsStep }
-    {
-        let number = self.reader.number;
+    fn steps(&mut self, set_up: &SetUp, line: ScenarioLine) -> Result<LineSteps, Refusal> {
         if let Some(finished) = self.finished {
             let text = "'{w}' comes after 'finish' (line {n}), which ends the scenario";
             let cause = Cause::new(FaultName::Order, text, &[1, finished as u64]);
-            return Err(StepError::Line(number, cause));
+            return Err(Refusal::Caused(cause));
         }
-        match LineSteps::of(set_up, self.first, line) {
-            Ok(steps) => {
-                if steps.step() == Some(Step::Finish) {
-                    self.finished = Some(number);
-                }
-                Ok(NextLine::Steps(steps))
-            }
-            Err(refusal) => Err(rejected(number, refusal)),
+        let steps = LineSteps::of(set_up, self.first, line)?;
+        if steps.step() == Some(Step::Finish) {
+            self.finished = Some(self.reader.number);
         }
+        Ok(steps)
     }
 
     /// Whether the last line was read, and neither `finish` came nor a line with a fault.
@@ -211,21 +190,21 @@ impl<'a, I: Read + Drop, W: Write, E: Write> Dialog<'a, I, W, E> {
         self.printer.answer(event, &self.answer, view)
     }
 
-    /// The value of an outcome. If it is the fault of the line that was read last, prints it. Then it is `None`.
+    /// The value of an outcome. If it is a fault of the line with this number, prints it. Then it is `None`.
     fn unless_fault<T: Drop>(
         &mut self,
-        outcome: Result<T, StepError>,
+        line: usize,
+        outcome: Result<T, Refusal>,
     ) -> Result<Option<T>, JobError>
-        requires { IfErr outcome EndsStep }
         ensures given { IfOk result (λ given. IfSome given (λ value. outcome ≡ Ok value)) }
         ensures fault { IfErr result IsStepFault }
     {
         match outcome {
             Ok(given) => Ok(Some(given)),
-            Err(StepError::Job(error)) => Err(error),
-            Err(StepError::Line(number, cause)) => {
+            Err(Refusal::NoMemory) => Err(JobError::NoMemory),
+            Err(Refusal::Caused(cause)) => {
                 self.has_fault = true;
-                self.printer.fault(number, &self.reader, cause)?;
+                self.printer.fault(line, &self.reader, cause)?;
                 Ok(None)
             }
         }

@@ -1,6 +1,6 @@
 //! Carries out a scenario step by step. The answer of each event is printed at once (profile).
 //!
-//! - [`Dialog`] reads the lines one by one. It prints answers, faults and failed expectations.
+//! - [`Dialog`] reads the lines one by one. Its [`Printer`] prints answers, faults and failed expectations.
 //! - [`Plan`] is what the lines before the first event declare.
 //! - [`LineSteps`] are the steps of a line, whose names it has compared with the plan.
 //! - [`step_scenario_on`] makes the steps, and [`check_scenario_on`] makes none.
@@ -10,7 +10,6 @@
 
 mod answer;
 mod dialog;
-mod fault;
 mod line_steps;
 mod plan;
 mod printer;
@@ -22,9 +21,9 @@ mod view;
 
 pub use answer::write_end;
 pub use dialog::{Dialog, Purpose};
-pub use fault::StepError;
 pub use line_steps::LineSteps;
 pub use plan::Plan;
+pub use printer::Printer;
 pub use report::{Images, check_scenario_on, step_scenario_on};
 pub use rooms::Rooms;
 pub use stepped_run::Keeper;

@@ -13,7 +13,7 @@ use job_script::{
 };
 use job_world::{StepAnswer, Supply};
 use request_piece::Scope;
-use std::io::{Result as IoResult, Write};
+use std::alloc::AllocError;
 use stepped_run::StepPast;
 use unit_book::{Delivery, Mode};
 
@@ -55,66 +55,58 @@ impl LineSteps {
             ScenarioLine::Script(Line::Excp(line)) => LineSteps::push(set_up, line),
             ScenarioLine::Script(Line::Command(command)) => LineSteps::command(set_up, &command),
             ScenarioLine::Script(Line::SetUp(SetUpLine::Opening(unit, opening))) => {
-                set_up.names_unit(unit)?;
                 let step = Step::Open { unit, opening: 0 };
-                Ok(LineSteps::new(Course::Once, step, None, Some(opening)))
+                let mut steps = LineSteps::new(set_up, Course::Once, step)?;
+                steps.opening = Some(opening);
+                Ok(steps)
             }
-            ScenarioLine::Step(step) => LineSteps::named(set_up, Course::Once, step),
-            ScenarioLine::Serve(unit) => LineSteps::named(set_up, Course::Serve, Step::Take(unit)),
+            ScenarioLine::Step(step) => LineSteps::new(set_up, Course::Once, step),
+            ScenarioLine::Serve(unit) => LineSteps::new(set_up, Course::Serve, Step::Take(unit)),
             _ => Err(Refusal::Caused(late(first))),
         }
     }
 
-    fn new(
-        course: Course,
-        step: Step,
-        excp: Option<IssuableExcp>,
-        opening: Option<Opening>,
-    ) -> Self {
-        LineSteps {
+    /// The steps from this one on, which bring nothing. The tasks and the unit that it names must be declared.
+    fn new(set_up: &SetUp, course: Course, step: Step) -> Result<Self, Refusal> {
+        names(set_up, step)?;
+        Ok(LineSteps {
             course,
             step: Some(step),
             is_made: false,
-            excp,
-            opening,
-        }
-    }
-
-    /// The steps from this one on, which bring nothing. The task and the unit that it names must be declared.
-    fn named(set_up: &SetUp, course: Course, step: Step) -> Result<Self, Refusal> {
-        names(set_up, step)?;
-        Ok(LineSteps::new(course, step, None, None))
+            excp: None,
+            opening: None,
+        })
     }
 
     /// The step of an EXCP.
     fn push(set_up: &SetUp, line: ExcpLine) -> Result<Self, Refusal> {
         let (task, area) = (line.task, line.area);
         let excp = set_up.over_area(line)?;
-        set_up.names_task(task)?;
+        let step = Step::Push { task, request: 0 };
+        let mut steps = LineSteps::new(set_up, Course::Once, step)?;
         set_up.names_unit(excp.dcb.unit)?;
         if let Some(cause) = why_rejected(&excp, set_up.place_of_area(area)) {
             return Err(Refusal::Caused(cause));
         }
-        let step = Step::Push { task, request: 0 };
-        let excp = Some(IssuableExcp { excp });
-        Ok(LineSteps::new(Course::Once, step, excp, None))
+        steps.excp = Some(IssuableExcp { excp });
+        Ok(steps)
     }
 
     /// The steps of a command of a task other than an EXCP.
     fn command(set_up: &SetUp, command: &Command) -> Result<Self, Refusal> {
         let task = command.task;
+        let mut course = Course::Once;
         let step = match command.action {
             Action::Purge(dcb, mode) => purge(task, dcb.unit, Scope::Dcb(dcb.number), mode),
-            Action::PurgeTask(other, mode) => purge(task, 0, Scope::Task(other), mode),
+            Action::PurgeTask(other, mode) => {
+                course = Course::EachUnit(set_up.units.len());
+                purge(task, 0, Scope::Task(other), mode)
+            }
             Action::Close(DcbName { unit, number: dcb }) => Step::Close { task, unit, dcb },
             Action::Reset(DcbName { unit, number: dcb }) => Step::Reset { task, unit, dcb },
             Action::Excp(_) | Action::Wait => Step::Pass(task),
         };
-        let course = match command.action {
-            Action::PurgeTask(..) => Course::EachUnit(set_up.units.len()),
-            _ => Course::Once,
-        };
-        LineSteps::named(set_up, course, step)
+        LineSteps::new(set_up, course, step)
     }
 
     /// The step that comes next. It is none after the last.
@@ -142,12 +134,12 @@ impl LineSteps {
         text: &mut Vec<u8>,
         answer: &StepAnswer,
         past: &StepPast,
-    ) -> IoResult<()> {
+    ) -> Result<(), AllocError> {
         if self.tells(text, answer) {
             if !text.is_empty() {
-                write!(text, ", ")?;
+                text.extend_from_slice(b", ")?;
             }
-            write_answer(text, self.unit(), answer, past)?;
+            write_answer(text, self.unit(), answer, past).or(Err(AllocError))?;
         }
         self.go_on(answer);
         Ok(())
@@ -179,10 +171,9 @@ impl LineSteps {
         self.is_made |= answer.is_made();
         self.step = match (self.course, self.step) {
             (Course::EachUnit(units), Some(step)) => at_next_unit(step, units),
-            (Course::Serve, Some(Step::Deliver(unit))) => {
-                let is_made = self.is_made;
+            (Course::Serve, Some(Step::Deliver(unit))) if self.is_made => {
                 self.is_made = false;
-                is_made.then_some(Step::Take(unit))
+                Some(Step::Take(unit))
             }
             (Course::Serve, Some(step)) => after_in_turn(step),
             _ => None,
@@ -201,14 +192,11 @@ fn purge(task: u16, unit: u16, scope: Scope, mode: Mode) -> Step {
 
 /// A purge at the next unit, if one has a number below `units`.
 fn at_next_unit(step: Step, units: usize) -> Option<Step> {
-    match step {
-        Step::Purge {
-            task,
-            unit,
-            scope,
-            mode,
-        } if usize::from(unit).saturating_add(1) < units => {
-            Some(purge(task, unit.saturating_add(1), scope, mode))
+    let mut next = step;
+    match &mut next {
+        Step::Purge { unit, .. } if usize::from(*unit).saturating_add(1) < units => {
+            *unit = unit.saturating_add(1);
+            Some(next)
         }
         _ => None,
     }

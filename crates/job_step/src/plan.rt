@@ -1,18 +1,14 @@
 //! The set-up of a scenario: what the lines before its first event declare.
 
-ghost use Rattle.std.specs.Prelude.{◌≡◌, ◌≤◌, All, IfErr, IfOk, IfSome, OnOk, vec_len};
+ghost use Rattle.std.specs.Prelude.{◌≡◌, ◌≤◌, All, IfOk, IfSome, OnOk, vec_len};
 ghost use Rattle.job_mount.specs.Books.{IsFresh};
-ghost use Rattle.job_step.specs.Faults.{EndsStep};
 
-use crate::fault::{StepError, rejected};
-use crate::reader::ScenarioReader;
 use crate::rooms::Rooms;
 use any_device::AnyDevice;
 use job_mount::{mounted_book, open_dcbs};
 use job_scenario::{RoomLine, ScenarioLine};
-use job_script::{Cause, FaultName, JobError, LIMIT, Line, Refusal, SetUp, UnitSetup};
+use job_script::{Cause, FaultName, JobError, Line, Refusal, SetUp, UnitSetup};
 use std::alloc::{AllocError, Global};
-use std::io::Read;
 use unit_book::UnitBook;
 
 const TWICE: &str = "an earlier line sets the size of this row or this book";
@@ -26,8 +22,8 @@ const NO_UNIT: &str =
     "no line before the first event declares a unit: add a line 'disk', 'tape' or 'printer'";
 
 /// The fault of a line that is not where it may be, or that is missing.
-fn out_of_order(text: &'static str) -> Cause {
-    Cause::new(FaultName::Order, text, &[])
+fn out_of_order(text: &'static str) -> Refusal {
+    Refusal::Caused(Cause::new(FaultName::Order, text, &[]))
 }
 
 /// The units, tasks and areas of a scenario, and the sizes of its rows and books.
@@ -46,36 +42,14 @@ impl Plan {
         }
     }
 
-    /// Adds what the lines up to the next event declare. Returns that event, if one comes.
-    pub fn add_lines<R: Read + Drop>(
-        &mut self,
-        alloc: Global,
-        reader: &mut ScenarioReader<R>,
-    ) -> Result<Option<ScenarioLine>, StepError>
-        ensures { IfErr result EndsStep }
-    {
-        for _ in 0..=LIMIT {
-            let Some(line) = reader.read()? else {
-                break;
-            };
-            match self.add(alloc, reader.number, line) {
-                Ok(None) => {}
-                Ok(event) => return Ok(event),
-                Err(refusal) => return Err(rejected(reader.number, refusal)),
-            }
-        }
-        Ok(None)
-    }
-
     /// Adds what a line declares. Returns the line if it is an event.
-    fn add(
+    pub fn add(
         &mut self,
         alloc: Global,
         number: usize,
         line: ScenarioLine,
     ) -> Result<Option<ScenarioLine>, Refusal> {
         match line {
-            ScenarioLine::Script(Line::Nothing) => Ok(None),
             ScenarioLine::Script(Line::SetUp(line)) => {
                 self.set_up.add(alloc, number, line)?;
                 Ok(None)
@@ -85,27 +59,26 @@ impl Plan {
                     self.set_up.names_unit(unit)?;
                 }
                 if self.rooms.has(room) {
-                    return Err(Refusal::Caused(out_of_order(TWICE)));
+                    return Err(out_of_order(TWICE));
                 }
                 self.rooms.set(room);
                 Ok(None)
             }
-            ScenarioLine::Expect => Err(Refusal::Caused(out_of_order(NO_EVENT))),
+            ScenarioLine::Expect => Err(out_of_order(NO_EVENT)),
             line => Ok(Some(line)),
         }
     }
 
     /// Checks that the tasks and a unit are declared.
-    pub fn whole(&self) -> Result<(), StepError>
+    pub fn whole(&self) -> Result<(), Refusal>
         ensures tasks { OnOk result (1 ≤ self.now.set_up.tasks) }
         ensures units { OnOk result (1 ≤ vec_len self.now.set_up.units) }
-        ensures fault { IfErr result EndsStep }
     {
         if self.set_up.tasks == 0 {
-            return Err(StepError::Line(0, out_of_order(NO_TASKS)));
+            return Err(out_of_order(NO_TASKS));
         }
         if self.set_up.units.is_empty() {
-            return Err(StepError::Line(0, out_of_order(NO_UNIT)));
+            return Err(out_of_order(NO_UNIT));
         }
         Ok(())
     }

@@ -4,7 +4,7 @@ ghost use Rattle.std.specs.Prelude.{IfErr};
 ghost use Rattle.job_step.specs.Faults.{IsStepFault};
 
 use crate::reader::ScenarioReader;
-use job_check::{Finding, Found, SCRIPT, Source, fault_of_scenario, write_findings};
+use job_check::{Finding, Found, Source, fault_of_scenario, write_findings};
 use job_script::{Cause, JobError};
 use script_words::{after_words, next_word};
 use std::alloc::Global;
@@ -88,13 +88,9 @@ impl<'a, W: Write, E: Write> Printer<'a, W, E> {
     {
         self.compared = 0;
         for line in answer.split(|byte| *byte == b'\n') {
-            if self.write_line(event, line).is_err() {
-                return Err(JobError::NotWritten);
-            }
+            self.write_line(event, line).or(Err(JobError::NotWritten))?;
         }
-        if self.out.write_all(view).is_err() {
-            return Err(JobError::NotWritten);
-        }
+        self.out.write_all(view).or(Err(JobError::NotWritten))?;
         self.out.flush().or(Err(JobError::NotWritten))
     }
 
@@ -115,20 +111,18 @@ impl<'a, W: Write, E: Write> Printer<'a, W, E> {
         self.out.write_all(b"\n")
     }
 
-    /// Prints the fault of the line with this number, which was read last. The number 0 stands for the whole scenario.
+    /// Prints a fault of the line with this number, which was read last, or of the whole scenario.
     pub fn fault<I: Read + Drop>(
         &mut self,
-        number: usize,
+        line: usize,
         reader: &ScenarioReader<I>,
         cause: Cause,
     ) -> Result<(), JobError>
         ensures { IfErr result IsStepFault }
     {
-        let line = if number == 0 { SCRIPT } else { number };
-        match fault_of_scenario(self.alloc, line, reader.current(), cause, &reader.sizes) {
-            Ok(finding) => self.faults(&[finding]),
-            Err(_) => Err(JobError::NoMemory),
-        }
+        let bytes = reader.current();
+        let finding = fault_of_scenario(self.alloc, line, bytes, cause, &reader.sizes)?;
+        self.faults(&[finding])
     }
 
     /// Prints faults. The scenario fails.

@@ -2,12 +2,11 @@
 //! next line.
 
 ghost use Rattle.std.specs.Prelude.{IfErr};
-ghost use Rattle.job_step.specs.Faults.{EndsStep, IsStepFault};
+ghost use Rattle.job_step.specs.Faults.{IsStepFault};
 
-use crate::fault::{StepError, rejected};
 use job_media::with_sizes;
 use job_scenario::ScenarioLine;
-use job_script::{JobError, LIMIT};
+use job_script::{JobError, LIMIT, Refusal};
 use medium_image::Size;
 use script_words::Words;
 use std::alloc::{AllocError, Global};
@@ -46,23 +45,8 @@ impl<R: Read + Drop> ScenarioReader<R> {
         })
     }
 
-    /// Reads the next line. Returns what it says, or `None` after the last.
-    pub fn read(&mut self) -> Result<Option<ScenarioLine>, StepError>
-        ensures { IfErr result EndsStep }
-    {
-        if !self.next()? {
-            return Ok(None);
-        }
-        let mut words = Words::new();
-        words.scan(self.current());
-        match ScenarioLine::read(self.alloc, self.number, &words) {
-            Ok(line) => Ok(Some(line)),
-            Err(refusal) => Err(rejected(self.number, refusal)),
-        }
-    }
-
     /// Reads the bytes of the next line, and returns whether there is one.
-    fn next(&mut self) -> Result<bool, JobError>
+    pub fn next(&mut self) -> Result<bool, JobError>
         ensures { IfErr result IsStepFault }
     {
         self.line.clear();
@@ -83,6 +67,13 @@ impl<R: Read + Drop> ScenarioReader<R> {
         Ok(true)
     }
 
+    /// What the line that was read last says.
+    pub fn line(&self) -> Result<ScenarioLine, Refusal> {
+        let mut words = Words::new();
+        words.scan(self.current());
+        ScenarioLine::read(self.alloc, self.number, &words)
+    }
+
     /// The line that was read last, without its line feed.
     pub fn current(&self) -> &[u8] {
         without_feed(&self.line)
@@ -99,10 +90,8 @@ fn without_feed(line: &[u8]) -> &[u8] {
 
 /// Puts the sizes of images into a line.
 fn put_sizes(alloc: Global, line: &mut Vec<u8>, sizes: &[Option<Size>]) -> Result<(), AllocError> {
-    if sizes.is_empty() {
-        return Ok(());
+    if !sizes.is_empty() {
+        *line = with_sizes(alloc, without_feed(line), sizes)?;
     }
-    let sized = with_sizes(alloc, without_feed(line), sizes)?;
-    line.clear();
-    line.extend_from_slice(&sized)
+    Ok(())
 }

@@ -1,11 +1,12 @@
 //! A scenario from its first line to its last.
 
-ghost use Rattle.std.specs.Prelude.{◌≡◌, ◌≤◌, All, IfErr, IfOk, IfSome, length, vec_len};
+ghost use Rattle.std.specs.Prelude.{◌≡◌, All, IfErr, IfOk, IfSome, vec_len};
 ghost use Rattle.job_mount.specs.Books.{IsFresh};
 ghost use Rattle.job_step.specs.Faults.{IsStepFault};
 
 use crate::dialog::{Dialog, Purpose};
 use crate::plan::Plan;
+use crate::printer::Printer;
 use crate::stepper::Stepper;
 use crate::view::Views;
 use any_device::AnyDevice;
@@ -13,11 +14,10 @@ use job_check::{Finding, Source, mount_faults_but};
 use job_media::{MediaError, MountedImages, mount_images, sizes_of};
 use job_script::{JobError, LIMIT};
 use medium_image::{Image, Kept};
-use std::alloc::{AllocError, Global};
+use std::alloc::Global;
 use std::io::{Read, Write, sink};
 use stepped_run::{Keeper, KeptMedia};
 use unit_book::UnitBook;
-use unit_world::PlainSite;
 
 /// The images of units, by their numbers, and what takes over the media at the end.
 #[derive(Drop)]
@@ -44,7 +44,8 @@ pub fn step_scenario_on<K: Keeper, I: Read + Drop, W: Write, E: Write>(
     ensures { IfErr result IsStepFault }
 {
     let sizes = sizes_of(alloc, &images.images)?;
-    let mut dialog = Dialog::new(alloc, Purpose::Step, input, sizes, out, errors, source)?;
+    let printer = Printer::new(alloc, out, errors, source);
+    let mut dialog = Dialog::new(alloc, Purpose::Step, input, sizes, printer)?;
     carry_out(alloc, views, images, &mut dialog)?;
     Ok(dialog.printer.is_met())
 }
@@ -62,39 +63,17 @@ pub fn check_scenario_on<I: Read + Drop, W: Write>(
 {
     let sizes = sizes_of(alloc, &images)?;
     let mut nothing = sink();
-    let mut dialog = Dialog::new(
-        alloc,
-        Purpose::Check,
-        input,
-        sizes,
-        &mut nothing,
-        out,
-        source,
-    )?;
-    check(alloc, images, &mut dialog)?;
-    Ok(!dialog.printer.is_met())
-}
-
-/// Checks the set-up, that the units can be mounted and their DCBs opened, and then the events.
-fn check<I: Read + Drop, W: Write, E: Write>(
-    alloc: Global,
-    images: Vec<Option<Image>>,
-    dialog: &mut Dialog<'_, I, W, E>,
-) -> Result<(), JobError>
-    ensures { IfErr result IsStepFault }
-{
-    let Some(plan) = dialog.set_up()? else {
-        return Ok(());
-    };
-    if let Some(MountedImages { devices, kept }) = dialog.mounted(&plan, images)? {
-        dialog.books(&plan, devices, &kept)?;
-    }
-    for _ in 0..=LIMIT {
-        if dialog.next(&plan.set_up)?.is_none() {
-            break;
+    let printer = Printer::new(alloc, &mut nothing, out, source);
+    let mut dialog = Dialog::new(alloc, Purpose::Check, input, sizes, printer)?;
+    if let Some(plan) = dialog.set_up()? {
+        dialog.mounted(&plan, images)?;
+        for _ in 0..=LIMIT {
+            if dialog.next(&plan.set_up)?.is_none() {
+                break;
+            }
         }
     }
-    Ok(())
+    Ok(!dialog.printer.is_met())
 }
 
 /// Reads the set-up, mounts the units, and makes the steps of all events.
@@ -113,28 +92,30 @@ fn carry_out<K: Keeper, I: Read + Drop, W: Write, E: Write>(
     if !keeper.begin(&plan.set_up.units) {
         return Ok(());
     }
-    let Some(MountedImages { devices, kept }) = dialog.mounted(&plan, images)? else {
+    let Some((books, kept)) = dialog.mounted(&plan, images)? else {
         return Ok(());
     };
-    let Some(books) = dialog.books(&plan, devices, &kept)? else {
-        return Ok(());
-    };
-    let site = site_of(alloc, &plan, books)?;
-    let mut stepper = Stepper::new(alloc, &plan.set_up, views, site)?;
+    let mut stepper = Stepper::new(alloc, &plan, views, books)?;
     stepper.all_events(dialog, &mut KeptMedia { kept, keeper })
 }
 
 impl<'a, I: Read + Drop, W: Write, E: Write> Dialog<'a, I, W, E> {
-    /// Mounts the images of units. Prints why one is not mounted.
+    /// Mounts the images of units. Returns the books of the units, with their DCBs open, and what the files of their images have
+    /// beside. Prints why a unit is not mounted, or a DCB not opened.
     fn mounted(
         &mut self,
         plan: &Plan,
         images: Vec<Option<Image>>,
-    ) -> Result<Option<MountedImages>, JobError>
-        ensures { IfErr result IsStepFault }
+    ) -> Result<Option<(Vec<UnitBook<AnyDevice>>, Vec<Option<Kept>>)>, JobError>
+        ensures count { IfOk result (λ made. IfSome made (λ m. vec_len m.0 ≡ vec_len plan.now.set_up.units)) }
+        ensures fresh { IfOk result (λ made. IfSome made (λ m. All IsFresh m.0.items)) }
+        ensures fault { IfErr result IsStepFault }
     {
         match mount_images(self.alloc, &plan.set_up.units, images) {
-            Ok(mounted) => Ok(Some(mounted)),
+            Ok(MountedImages { devices, kept }) => match self.books(plan, devices, &kept)? {
+                Some(books) => Ok(Some((books, kept))),
+                None => Ok(None),
+            },
             Err(MediaError::NoMemory) => Err(JobError::NoMemory),
             Err(MediaError::Line { line, refusal }) => {
                 let finding = Finding::fault(line, &[], refusal.cause());
@@ -163,20 +144,4 @@ impl<'a, I: Read + Drop, W: Write, E: Write> Dialog<'a, I, W, E> {
         }
         Ok(books)
     }
-}
-
-/// The site of a plan, with these books.
-fn site_of(
-    alloc: Global,
-    plan: &Plan,
-    books: Vec<UnitBook<AnyDevice>>,
-) -> Result<PlainSite<AnyDevice>, AllocError>
-    requires fresh { All IsFresh books.items }
-    requires few { length books.items ≤ 64 }
-{
-    let mut site = PlainSite::new(alloc, plan.set_up.tasks, plan.rooms.post())?;
-    for book in books {
-        site.add_unit(book, plan.rooms.intake())?;
-    }
-    Ok(site)
 }

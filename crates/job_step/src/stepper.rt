@@ -1,21 +1,23 @@
 //! Makes the steps of all events, and hands over what they left.
 
-ghost use Rattle.std.specs.Prelude.{IfErr};
+ghost use Rattle.std.specs.Prelude.{◌≤◌, All, IfErr, length};
+ghost use Rattle.job_mount.specs.Books.{IsFresh};
 ghost use Rattle.job_step.specs.Faults.{IsStepFault};
 
 use crate::answer::write_end;
 use crate::dialog::Dialog;
-use crate::fault::written;
 use crate::line_steps::LineSteps;
+use crate::plan::Plan;
 use crate::view::{View, Views};
 use any_device::AnyDevice;
 use job_scenario::Step;
 use job_script::{JobError, LIMIT, SetUp};
 use job_world::JobSite;
-use run_record::{Run, UnitRecord};
+use run_record::Run;
 use std::alloc::{AllocError, Global};
 use std::io::{Read, Write};
 use stepped_run::{Keeper, KeptMedia, StepPast};
+use unit_book::UnitBook;
 use unit_history::HistoryError;
 use unit_world::PlainSite;
 
@@ -30,23 +32,24 @@ pub(crate) struct Stepper<'a> {
 }
 
 impl<'a> Stepper<'a> {
-    /// Before the first event, at a site of this set-up.
+    /// Before the first event of a plan, with these books.
     pub fn new(
         alloc: Global,
-        set_up: &'a SetUp,
+        plan: &'a Plan,
         views: Views,
-        site: PlainSite<AnyDevice>,
-    ) -> Result<Self, AllocError> {
-        let mut past = StepPast::new(alloc, usize::from(set_up.tasks), site.units())?;
-        past.begin(&site)?;
-        let mut view = View::new(alloc, views, site.units())?;
-        for unit in 0..site.units().min(65_536) {
-            view.skip(unit as u16, site.book(unit as u16));
-        }
+        books: Vec<UnitBook<AnyDevice>>,
+    ) -> Result<Self, AllocError>
+        requires fresh { All IsFresh books.items }
+        requires few { length books.items ≤ 64 }
+    {
+        let set_up = &plan.set_up;
+        let past = StepPast::new(alloc, usize::from(set_up.tasks), &books)?;
+        let view = View::new(alloc, views, &books)?;
+        let site = JobSite::new(alloc, site_of(alloc, plan, books)?);
         Ok(Stepper {
             alloc,
             set_up,
-            site: JobSite::new(alloc, site),
+            site,
             past,
             view,
         })
@@ -64,7 +67,6 @@ impl<'a> Stepper<'a> {
             let Some(mut steps) = dialog.next(self.set_up)? else {
                 break;
             };
-            dialog.answer.clear();
             if steps.step() == Some(Step::Finish) {
                 self.finish(&mut dialog.answer)?;
                 self.hand_over(dialog.printer.title(), media)?;
@@ -80,52 +82,34 @@ impl<'a> Stepper<'a> {
     }
 
     /// Makes the steps of a line, and adds their answers to the text.
-    fn make_all(&mut self, steps: &mut LineSteps, text: &mut Vec<u8>) -> Result<(), JobError>
-        ensures { IfErr result IsStepFault }
-    {
+    fn make_all(&mut self, steps: &mut LineSteps, text: &mut Vec<u8>) -> Result<(), AllocError> {
         for _ in 0..u64::MAX {
             let Some(step) = steps.step() else {
                 break;
             };
-            self.make(step, steps, text)?;
+            let supply = steps.supply();
+            let answer = self.site.make(step, supply)?;
+            let site = self.site.site();
+            self.past.note(site, step, supply.excp, &answer)?;
+            steps.answered(text, &answer, &self.past)?;
         }
         self.look()
     }
 
-    /// Makes a step.
-    fn make(
-        &mut self,
-        step: Step,
-        steps: &mut LineSteps,
-        text: &mut Vec<u8>,
-    ) -> Result<(), JobError>
-        ensures { IfErr result IsStepFault }
-    {
-        let supply = steps.supply();
-        let answer = self.site.make(step, supply)?;
-        self.past
-            .note(self.site.site(), step, supply.excp, &answer)?;
-        written(steps.answered(text, &answer, &self.past))
-    }
-
     /// Ends every request, and writes the answer of that.
-    fn finish(&mut self, text: &mut Vec<u8>) -> Result<(), JobError>
-        ensures { IfErr result IsStepFault }
-    {
+    fn finish(&mut self, text: &mut Vec<u8>) -> Result<(), AllocError> {
         let posts = self.site.finish()?;
         self.past.end(self.site.site(), &posts)?;
-        written(write_end(text, &posts, &self.past))?;
+        write_end(text, &posts, &self.past)?;
         self.look()
     }
 
     /// Puts together what is printed of the units.
-    fn look(&mut self) -> Result<(), JobError>
-        ensures { IfErr result IsStepFault }
-    {
+    fn look(&mut self) -> Result<(), AllocError> {
         self.view.text.clear();
         let site = self.site.site();
         for unit in 0..site.units().min(65_536) {
-            written(self.view.add(unit as u16, site.book(unit as u16)))?;
+            self.view.add(unit as u16, site.book(unit as u16))?;
         }
         Ok(())
     }
@@ -143,27 +127,31 @@ impl<'a> Stepper<'a> {
             media.keep(unit as u16, site.book(unit as u16));
         }
         let units = self.past.units(self.alloc, self.set_up, site)?;
-        self.record(title, &units, media.keeper)
-    }
-
-    /// Hands over the record with these units.
-    fn record<'x, K: Keeper>(
-        &'x self,
-        title: &'x str,
-        units: &'x [UnitRecord<'x>],
-        keeper: &mut K,
-    ) -> Result<(), JobError>
-        ensures { IfErr result IsStepFault }
-    {
         let run = Run {
             title,
             tasks: &self.past.tasks,
-            units,
+            units: &units,
         };
-        match keeper.record(&run) {
+        match media.keeper.record(&run) {
             Ok(()) => Ok(()),
             Err(HistoryError::NoMemory) => Err(JobError::NoMemory),
             Err(HistoryError::NotWritten) => Err(JobError::NotWritten),
         }
     }
+}
+
+/// The site of a plan, with these books.
+fn site_of(
+    alloc: Global,
+    plan: &Plan,
+    books: Vec<UnitBook<AnyDevice>>,
+) -> Result<PlainSite<AnyDevice>, AllocError>
+    requires fresh { All IsFresh books.items }
+    requires few { length books.items ≤ 64 }
+{
+    let mut site = PlainSite::new(alloc, plan.set_up.tasks, plan.rooms.post())?;
+    for book in books {
+        site.add_unit(book, plan.rooms.intake())?;
+    }
+    Ok(site)
 }

@@ -8,8 +8,8 @@ use post_lines::write_post;
 use post_slots::End;
 use request_piece::{Name, Scope};
 use std::alloc::{AllocError, Global};
-use std::io::{Result, Write};
-use unit_book::{DcbState, Entry, Mode, ProcessingMethod, UnitBook};
+use std::io::{Result as IoResult, Write};
+use unit_book::{DcbState, Entry, ProcessingMethod, UnitBook};
 use unit_world::{ActiveState, active_request};
 
 /// Which of them are printed.
@@ -31,9 +31,16 @@ pub struct View {
 }
 
 impl View {
-    /// Nothing is printed yet of `units` units.
-    pub fn new(alloc: Global, views: Views, units: usize) -> std::result::Result<Self, AllocError> {
-        let printed = vec![in alloc; 0; units]?;
+    /// Before the first event of units with these books. Their entries up to now are not printed.
+    pub fn new(
+        alloc: Global,
+        views: Views,
+        books: &[UnitBook<AnyDevice>],
+    ) -> Result<Self, AllocError> {
+        let mut printed = Vec::with_capacity(alloc, books.len())?;
+        for book in books {
+            printed.push(book.trace().len())?;
+        }
         Ok(View {
             views,
             printed,
@@ -41,29 +48,29 @@ impl View {
         })
     }
 
-    /// Takes the entries of a unit up to now as printed.
-    pub fn skip(&mut self, unit: u16, book: &UnitBook<AnyDevice>) {
-        if let Some(printed) = self.printed.get_mut(usize::from(unit)) {
-            *printed = book.trace().len();
-        }
-    }
-
     /// Adds what is to be printed of a unit.
-    pub fn add(&mut self, unit: u16, book: &UnitBook<AnyDevice>) -> Result<()> {
+    pub fn add(&mut self, unit: u16, book: &UnitBook<AnyDevice>) -> Result<(), AllocError> {
         if self.views.trace {
-            let printed = self.printed.get(usize::from(unit)).copied().unwrap_or(0);
-            write_entries(&mut self.text, unit, book.trace(), printed)?;
-            self.skip(unit, book);
+            if let Some(printed) = self.printed.get_mut(usize::from(unit)) {
+                let written = write_entries(&mut self.text, unit, book.trace(), *printed);
+                written.or(Err(AllocError))?;
+                *printed = book.trace().len();
+            }
         }
         if self.views.state {
-            write_state(&mut self.text, unit, book)?;
+            write_state(&mut self.text, unit, book).or(Err(AllocError))?;
         }
         Ok(())
     }
 }
 
 /// Writes the entries of a trace after the first `printed`, oldest first.
-fn write_entries<W: Write>(out: &mut W, unit: u16, trace: &[Entry], printed: usize) -> Result<()> {
+fn write_entries<W: Write>(
+    out: &mut W,
+    unit: u16,
+    trace: &[Entry],
+    printed: usize,
+) -> IoResult<()> {
     for entry in trace.iter().skip(printed) {
         write!(out, "# trace {unit}: ")?;
         write_entry(out, unit, entry)?;
@@ -72,7 +79,7 @@ fn write_entries<W: Write>(out: &mut W, unit: u16, trace: &[Entry], printed: usi
     Ok(())
 }
 
-fn write_entry<W: Write>(out: &mut W, unit: u16, entry: &Entry) -> Result<()> {
+fn write_entry<W: Write>(out: &mut W, unit: u16, entry: &Entry) -> IoResult<()> {
     match entry {
         Entry::Opened(dcb, method, _) => write!(out, "Opened {dcb} {}", method_word(*method)),
         Entry::Arrive(issued) => write_of(out, "Arrive", unit, issued.name()),
@@ -82,7 +89,13 @@ fn write_entry<W: Write>(out: &mut W, unit: u16, entry: &Entry) -> Result<()> {
             write!(out, " {commands}")
         }
         Entry::Halted(name) => write_of(out, "Halted", unit, *name),
-        Entry::Purge(scope, mode) => write_purge(out, *scope, *mode),
+        Entry::Purge(scope, mode) => {
+            let mode = mode_word(*mode);
+            match scope {
+                Scope::Dcb(dcb) => write!(out, "Purge dcb {dcb} {mode}"),
+                Scope::Task(task) => write!(out, "Purge task {task} {mode}"),
+            }
+        }
         Entry::Close(dcb) => write!(out, "Close {dcb}"),
         Entry::Reset(dcb) => write!(out, "Reset {dcb}"),
         Entry::Post(name, csw, sense, code) => {
@@ -91,21 +104,14 @@ fn write_entry<W: Write>(out: &mut W, unit: u16, entry: &Entry) -> Result<()> {
                 csw: *csw,
                 sense: *sense,
             };
-            let Name { task, seq } = *name;
-            write_post(
-                out,
-                usize::from(task),
-                usize::from(unit),
-                seq as usize,
-                &end,
-                &[],
-            )
+            let (task, number) = (usize::from(name.task), name.seq as usize);
+            write_post(out, task, usize::from(unit), number, &end, &[])
         }
     }
 }
 
 /// Writes a word and the name of a request.
-fn write_of<W: Write>(out: &mut W, word: &str, unit: u16, name: Name) -> Result<()> {
+fn write_of<W: Write>(out: &mut W, word: &str, unit: u16, name: Name) -> IoResult<()> {
     write!(out, "{word}")?;
     write_name(out, unit, name)
 }
@@ -117,16 +123,8 @@ fn method_word(method: ProcessingMethod) -> &'static str {
     }
 }
 
-fn write_purge<W: Write>(out: &mut W, scope: Scope, mode: Mode) -> Result<()> {
-    let mode = mode_word(mode);
-    match scope {
-        Scope::Dcb(dcb) => write!(out, "Purge dcb {dcb} {mode}"),
-        Scope::Task(task) => write!(out, "Purge task {task} {mode}"),
-    }
-}
-
 /// Writes the state of a unit: what waits in order of arrival, what is active, how many posts are out, and each DCB.
-fn write_state<W: Write>(out: &mut W, unit: u16, book: &UnitBook<AnyDevice>) -> Result<()> {
+fn write_state<W: Write>(out: &mut W, unit: u16, book: &UnitBook<AnyDevice>) -> IoResult<()> {
     write!(out, "# state {unit}: waiting")?;
     write_waiting(out, unit, book)?;
     write_active(out, unit, book)?;
@@ -135,23 +133,21 @@ fn write_state<W: Write>(out: &mut W, unit: u16, book: &UnitBook<AnyDevice>) -> 
     writeln!(out)
 }
 
-fn write_waiting<W: Write>(out: &mut W, unit: u16, book: &UnitBook<AnyDevice>) -> Result<()> {
+fn write_waiting<W: Write>(out: &mut W, unit: u16, book: &UnitBook<AnyDevice>) -> IoResult<()> {
     let count = book.waiting_len();
     if count == 0 {
         return write!(out, " none");
     }
     for at in 0..count {
-        if at > 0 {
-            write!(out, ",")?;
-        }
+        let comma = if at > 0 { "," } else { "" };
         if let Some(name) = book.waiting_name(at) {
-            write_of(out, "", unit, name)?;
+            write_of(out, comma, unit, name)?;
         }
     }
     Ok(())
 }
 
-fn write_active<W: Write>(out: &mut W, unit: u16, book: &UnitBook<AnyDevice>) -> Result<()> {
+fn write_active<W: Write>(out: &mut W, unit: u16, book: &UnitBook<AnyDevice>) -> IoResult<()> {
     let Some((name, state)) = active_request(book) else {
         return write!(out, "; active none");
     };
@@ -164,7 +160,7 @@ fn write_active<W: Write>(out: &mut W, unit: u16, book: &UnitBook<AnyDevice>) ->
     write!(out, " {state}")
 }
 
-fn write_dcbs<W: Write>(out: &mut W, book: &UnitBook<AnyDevice>) -> Result<()> {
+fn write_dcbs<W: Write>(out: &mut W, book: &UnitBook<AnyDevice>) -> IoResult<()> {
     for dcb in 1..=u16::MAX {
         let word = match book.dcb_state(dcb) {
             DcbState::Unknown => return Ok(()),

@@ -1,7 +1,7 @@
 //! A site at rest.
 
-ghost use Rattle.std.specs.Prelude.{◌<◌, ℕ, length};
 ghost use Rattle.std.specs.Bool.{OnTrue};
+ghost use Rattle.job_world.specs.Ending.{AllAtRest};
 ghost use Rattle.unit_world.specs.Sites.{IsAtRest};
 
 use any_device::AnyDevice;
@@ -9,7 +9,7 @@ use unit_world::PlainSite;
 
 /// Whether each unit of a site is at rest: nothing is in flight to it, waits, is active, is out or waits for its task.
 pub(crate) fn is_at_rest(site: &PlainSite<AnyDevice>) -> bool
-    ensures { OnTrue result ((unit : ℕ) → unit < length site.now.units → IsAtRest site.now unit) }
+    ensures { OnTrue result (AllAtRest site.now) }
 {
     for unit in 0..site.units() {
         if !is_unit_at_rest(site, unit) {

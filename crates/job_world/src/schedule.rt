@@ -11,9 +11,6 @@ use job_scenario::Step;
 use job_script::JobError;
 use std::alloc::Global;
 
-/// The most commands that a program does in one step (profile).
-const TURN: u32 = 64;
-
 /// Keeps what the steps of a schedule do. An error ends the schedule.
 pub trait StepLog {
     /// The world after a step that [`JobWorld::next_steps`] listed, and what the step answered.
@@ -25,12 +22,14 @@ pub trait StepLog {
     ) -> Result<(), JobError>;
 }
 
-/// Makes steps until none is listed, as the generator of the seed chooses them. Then all is done. Otherwise it returns
+/// Makes steps until none is listed, as the generator of the seed chooses them. A program does at most `turn` commands in one
+/// step, at least 1. Then all is done. Otherwise it returns
 /// `Unmatched`, to which no run comes whose books have room for all requests.
 pub fn run_schedule<L: StepLog>(
     alloc: Global,
     world: &mut JobWorld<'_>,
     seed: u64,
+    turn: u32,
     log: &mut L,
 ) -> Result<(), JobError>
     ensures reached { OnOk result (IsReached (state_of world.old) (state_of world.new)) }
@@ -39,7 +38,7 @@ pub fn run_schedule<L: StepLog>(
     let mut chooser = Chooser::new(seed);
     let mut steps = Vec::new(alloc);
     for _ in 0..u64::MAX {
-        world.next_steps(TURN, &mut steps)?;
+        world.next_steps(turn, &mut steps)?;
         let Some(step) = chooser.choose(&steps) else {
             break;
         };

@@ -10,7 +10,7 @@ ghost use Rattle.any_device.specs.Devices.{any_device};
 ghost use Rattle.job_mount.specs.Requests.{CanIssue};
 ghost use Rattle.unit_world.specs.Sites.{IsSite};
 ghost use Rattle.job_world.specs.Answers.{is_made};
-ghost use Rattle.job_world.specs.Lawful.{IsLawfulRun};
+ghost use Rattle.job_world.specs.Lawful.{IsLawful};
 ghost use Rattle.job_world.specs.Making.{LeavesSite, MakesAtSite};
 ghost use Rattle.job_world.specs.Worlds.{site_state};
 
@@ -65,7 +65,7 @@ impl JobSite {
         ensures makes { IfOk result (λ answer. MakesAtSite (option_copied supply.entry.excp) (option_copied supply.entry.opening) (site_state self.old) answer (site_state self.new) step) }
         ensures nothing { IfOk result (λ answer. is_made answer ≡ false → site_state self.new ≡ site_state self.old) }
         ensures kept { OnErr result (LeavesSite step (site_state self.old) (site_state self.new)) }
-        ensures lawful { IsLawfulRun (site_state self.old) (site_state self.new) }
+        ensures lawful { IsLawful (site_state self.old) (site_state self.new) }
         ensures site { IsSite any_device (site_state self.old) }
     {
         calls_make_steps::<AnyDevice>();

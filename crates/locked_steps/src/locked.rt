@@ -15,7 +15,6 @@ use job_world::{Issuing, StepAnswer, Supply};
 use post_ledger::finish;
 use request_piece::{Posted, Scope};
 use std::alloc::{AllocError, Global};
-use std::io::Result as IoResult;
 use std::sync::Wait;
 use unit_book::{DcbError, OpenError, UnitBook};
 
@@ -85,17 +84,13 @@ impl<'a, 'r, S: Site, R: Wait> Locked<'a, 'r, S, R> {
         }
     }
 
-    /// Adds to a view what is printed of a unit, or takes what happened there as printed.
-    pub fn look(&self, unit: u16, view: &mut View, is_shown: bool) -> IoResult<()> {
+    /// Adds to a view what is printed of a unit.
+    pub fn look(&self, unit: u16, view: &mut View) -> Result<(), AllocError> {
         if usize::from(unit) >= self.units {
             return Ok(());
         }
         let state = self.system.lock_of(unit).lock(self.rt);
-        if is_shown {
-            return view.add(unit, state.book());
-        }
-        view.skip(unit, state.book());
-        Ok(())
+        view.add(unit, state.book())
     }
 
     /// Ends every request. Returns the books, and the posts that no task has collected, in order of tasks, units and posting.
@@ -140,27 +135,12 @@ fn make_at<S: Site, R: Wait>(
             unit.settle()?;
             Ok(StepAnswer::Settled)
         }
-        Step::Purge {
-            scope: Scope::Task(task),
-            mode,
-            ..
-        } => Ok(StepAnswer::Purged(unit.purge_task(rt, task, mode)?)),
-        Step::Purge {
-            scope: Scope::Dcb(dcb),
-            mode,
-            ..
-        } => match unit.purge(rt, dcb, mode) {
-            Ok(left) => Ok(StepAnswer::Purged(left)),
-            Err(error) => no_dcb(error),
+        Step::Purge { scope, mode, .. } => match scope {
+            Scope::Task(task) => Ok(StepAnswer::Purged(unit.purge_task(rt, task, mode)?)),
+            Scope::Dcb(dcb) => of_dcb(unit.purge(rt, dcb, mode).map(StepAnswer::Purged)),
         },
-        Step::Close { dcb, .. } => match unit.close(dcb) {
-            Ok(left) => Ok(StepAnswer::Closed(left)),
-            Err(error) => no_dcb(error),
-        },
-        Step::Reset { dcb, .. } => match unit.reset(dcb) {
-            Ok(()) => Ok(StepAnswer::Reset),
-            Err(error) => no_dcb(error),
-        },
+        Step::Close { dcb, .. } => of_dcb(unit.close(dcb).map(StepAnswer::Closed)),
+        Step::Reset { dcb, .. } => of_dcb(unit.reset(dcb).and(Ok(StepAnswer::Reset))),
         Step::Open { .. } => match opening {
             Some(opening) => match unit.open(opening.method, &opening.extents) {
                 Ok(dcb) => Ok(StepAnswer::Opened(dcb)),
@@ -173,10 +153,11 @@ fn make_at<S: Site, R: Wait>(
     }
 }
 
-/// The answer that there is no such DCB.
-fn no_dcb(error: DcbError) -> Result<StepAnswer, AllocError> {
-    match error {
-        DcbError::NoSuchDcb => Ok(StepAnswer::NoSuchDcb),
-        DcbError::NoMemory => Err(AllocError),
+/// The answer of a call that names a DCB.
+fn of_dcb(outcome: Result<StepAnswer, DcbError>) -> Result<StepAnswer, AllocError> {
+    match outcome {
+        Ok(answer) => Ok(answer),
+        Err(DcbError::NoSuchDcb) => Ok(StepAnswer::NoSuchDcb),
+        Err(DcbError::NoMemory) => Err(AllocError),
     }
 }

@@ -13,7 +13,7 @@ mod scenario;
 
 use job_check::Source;
 use job_script::JobError;
-use job_step::{Dialog, Purpose};
+use job_step::{Dialog, Printer, Purpose, Views};
 use scenario::with_rows;
 use std::env;
 use std::process::ExitCode;
@@ -38,19 +38,16 @@ fn carry_out<R: Wait>(rt: &HostRuntime, waits: &R) -> Result<bool, JobError> {
         name: "<stdin>",
         is_coloured: false,
     };
+    let views = Views {
+        trace: has_views,
+        state: has_views,
+    };
     let (mut out, mut errors) = (rt.stdout(), rt.stderr());
-    let (input, sizes) = (rt.stdin(), Vec::new(alloc));
-    let mut dialog = Dialog::new(
-        alloc,
-        Purpose::Step,
-        input,
-        sizes,
-        &mut out,
-        &mut errors,
-        source,
-    )?;
+    let printer = Printer::new(alloc, &mut out, &mut errors, source);
+    let sizes = Vec::new(alloc);
+    let mut dialog = Dialog::new(alloc, Purpose::Step, rt.stdin(), sizes, printer)?;
     if let Some(plan) = dialog.set_up()? {
-        with_rows(waits, alloc, &plan, has_views, &mut dialog)?;
+        with_rows(waits, alloc, &plan, views, &mut dialog)?;
     }
     Ok(dialog.printer.is_met())
 }

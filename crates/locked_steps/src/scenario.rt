@@ -22,7 +22,7 @@ pub fn with_rows<R: Wait, I: Read + Drop, W: Write, E: Write>(
     rt: &R,
     alloc: Global,
     plan: &Plan,
-    has_views: bool,
+    views: Views,
     dialog: &mut Dialog<'_, I, W, E>,
 ) -> Result<(), JobError>
     requires units { 1 ≤ vec_len plan.now.set_up.units }
@@ -31,12 +31,21 @@ pub fn with_rows<R: Wait, I: Read + Drop, W: Write, E: Write>(
     let units = plan.set_up.units.len() as u16;
     let (intake, post) = (plan.rooms.intake(), plan.rooms.post());
     let mut rows = Rows::new(alloc, plan.set_up.tasks, units, intake, post)?;
-    match dialog.books(plan, Vec::new(alloc), &[])? {
-        Some(books) => on_site::<Brand, R, I, W, E>(
-            rt, alloc, &mut rows, books, plan, has_views, dialog,
-        ),
-        None => Ok(()),
-    }
+    let Some(books) = dialog.books(plan, Vec::new(alloc), &[])? else {
+        return Ok(());
+    };
+    let view = View::new(alloc, views, &books)?;
+    let past = StepPast::new(alloc, usize::from(plan.set_up.tasks), &books)?;
+    on_site::<Brand, R, I, W, E>(
+        rt,
+        alloc,
+        &mut rows,
+        books,
+        &plan.set_up,
+        view,
+        past,
+        dialog,
+    )
 }
 
 /// Carries the events out on the units and rows of a site.
@@ -45,8 +54,9 @@ fn on_site<S: Site, R: Wait, I: Read + Drop, W: Write, E: Write>(
     alloc: Global,
     rows: &mut Rows,
     books: Vec<UnitBook<AnyDevice>>,
-    plan: &Plan,
-    has_views: bool,
+    set_up: &SetUp,
+    view: View,
+    past: StepPast,
     dialog: &mut Dialog<'_, I, W, E>,
 ) -> Result<(), JobError>
     requires site { S.rows ≡ site_of rows.old }
@@ -62,7 +72,7 @@ fn on_site<S: Site, R: Wait, I: Read + Drop, W: Write, E: Write>(
         system,
         tasks,
     };
-    all_events(alloc, locked, &plan.set_up, has_views, dialog)
+    all_events(alloc, locked, set_up, view, past, dialog)
 }
 
 /// Carries out all events, and prints their answers.
@@ -70,16 +80,10 @@ fn all_events<S: Site, R: Wait, I: Read + Drop, W: Write, E: Write>(
     alloc: Global,
     mut locked: Locked<'_, '_, S, R>,
     set_up: &SetUp,
-    has_views: bool,
+    mut view: View,
+    mut past: StepPast,
     dialog: &mut Dialog<'_, I, W, E>,
 ) -> Result<(), JobError> {
-    let views = Views {
-        trace: has_views,
-        state: has_views,
-    };
-    let mut view = View::new(alloc, views, locked.units)?;
-    look(&locked, &mut view, false)?;
-    let mut past = StepPast::new(alloc, usize::from(set_up.tasks), locked.units)?;
     for _ in 0..=LIMIT {
         let Some(mut steps) = dialog.next(set_up)? else {
             return Ok(());
@@ -88,15 +92,9 @@ fn all_events<S: Site, R: Wait, I: Read + Drop, W: Write, E: Write>(
             end(alloc, locked, &mut view, &mut past, dialog)?;
             break;
         }
-        dialog.answer.clear();
-        make_all(
-            alloc,
-            &mut locked,
-            &mut steps,
-            &mut past,
-            &mut dialog.answer,
-        )?;
-        look(&locked, &mut view, true)?;
+        let text = &mut dialog.answer;
+        make_all(alloc, &mut locked, &mut steps, &mut past, text)?;
+        look(&locked, &mut view)?;
         dialog.print(&view.text)?;
     }
     // the lines after `finish` expect its answer
@@ -119,24 +117,19 @@ fn make_all<S: Site, R: Wait>(
         let supply = steps.supply();
         let answer = locked.make(alloc, step, supply)?;
         past.note_task(supply.excp, &answer)?;
-        if steps.answered(text, &answer, past).is_err() {
-            return Err(AllocError);
-        }
+        steps.answered(text, &answer, past)?;
     }
     Ok(())
 }
 
-/// Puts together what is printed of all units, or takes what happened so far as printed.
+/// Puts together what is printed of all units.
 fn look<S: Site, R: Wait>(
     locked: &Locked<'_, '_, S, R>,
     view: &mut View,
-    is_shown: bool,
 ) -> Result<(), AllocError> {
     view.text.clear();
     for unit in 0..locked.units.min(64) {
-        if locked.look(unit as u16, view, is_shown).is_err() {
-            return Err(AllocError);
-        }
+        locked.look(unit as u16, view)?;
     }
     Ok(())
 }
@@ -151,15 +144,10 @@ fn end<S: Site, R: Wait, I: Read + Drop, W: Write, E: Write>(
 ) -> Result<(), JobError> {
     let (books, posts) = locked.finish(alloc)?;
     past.leave(&posts);
-    dialog.answer.clear();
-    if write_end(&mut dialog.answer, &posts, past).is_err() {
-        return Err(JobError::NoMemory);
-    }
+    write_end(&mut dialog.answer, &posts, past)?;
     view.text.clear();
     for (unit, book) in (0..=u16::MAX).zip(&books) {
-        if view.add(unit, book).is_err() {
-            return Err(JobError::NoMemory);
-        }
+        view.add(unit, book)?;
     }
     dialog.print(&view.text)
 }

@@ -1,6 +1,8 @@
 //! The one order of the entries of all units.
 
+use any_device::AnyDevice;
 use std::alloc::{AllocError, Global};
+use unit_book::UnitBook;
 
 /// The place of each entry of each unit in the order in which they were made. Entries from before the first event have the
 /// place 0, the others have the places from 1 on. Entries that one event made at several units are in the order of the units.
@@ -12,19 +14,13 @@ pub struct EntryOrder {
 }
 
 impl EntryOrder {
-    /// Of no units.
-    pub fn none(alloc: Global) -> Self {
-        EntryOrder {
-            units: Vec::new(alloc),
-            last: 0,
+    /// Of units with these books, whose entries are from before the first event.
+    pub fn new(alloc: Global, books: &[UnitBook<AnyDevice>]) -> Result<Self, AllocError> {
+        let mut units = Vec::with_capacity(alloc, books.len())?;
+        for book in books {
+            units.push(vec![in alloc; 0; book.trace().len()]?)?;
         }
-    }
-
-    /// Adds the next unit, which has this many entries from before the first event.
-    pub fn add_unit(&mut self, entries: usize) -> Result<(), AllocError> {
-        let mut places = Vec::new(*self.units.allocator());
-        places.resize(entries, 0)?;
-        Ok(self.units.push(places)?)
+        Ok(EntryOrder { units, last: 0 })
     }
 
     /// Gives the next places to the new entries of a unit, which has this many now. Returns the number of the first new one.

@@ -1,7 +1,5 @@
 //! What the steps of a scenario or of a seed did.
 
-ghost use Rattle.std.specs.Prelude.{◌<◌, length};
-
 use crate::order::EntryOrder;
 use any_device::AnyDevice;
 use job_report::unit_record;
@@ -11,6 +9,7 @@ use job_world::{Issuing, StepAnswer};
 use request_piece::{Name, Posted};
 use run_record::{TaskEvent, TaskRecord, UnitRecord};
 use std::alloc::{AllocError, Global};
+use unit_book::UnitBook;
 use unit_world::PlainSite;
 
 /// What the tasks did, by their numbers, and the order in which the units made their entries.
@@ -22,25 +21,21 @@ pub struct StepPast {
 }
 
 impl StepPast {
-    /// Of tasks that did nothing yet, at `units` units, whose entries are not noted.
-    pub fn new(alloc: Global, tasks: usize, units: usize) -> Result<Self, AllocError> {
+    /// Before the first step. The tasks did nothing yet, and the units have these books.
+    pub fn new(
+        alloc: Global,
+        tasks: usize,
+        books: &[UnitBook<AnyDevice>],
+    ) -> Result<Self, AllocError> {
         let mut records = Vec::with_capacity(alloc, tasks)?;
         for _ in 0..tasks {
-            records.push(TaskRecord::new(alloc, units)?)?;
+            records.push(TaskRecord::new(alloc, books.len())?)?;
         }
         Ok(StepPast {
             alloc,
             tasks: records,
-            order: EntryOrder::none(alloc),
+            order: EntryOrder::new(alloc, books)?,
         })
-    }
-
-    /// Takes the entries of the units of a site as made before the first step.
-    pub fn begin(&mut self, site: &PlainSite<AnyDevice>) -> Result<(), AllocError> {
-        for unit in 0..site.units().min(65_536) {
-            self.order.add_unit(entries(site, unit as u16))?;
-        }
-        Ok(())
     }
 
     /// Notes what a step did. An accepted push has issued this EXCP. The first entry that a command of a task makes is its own.
@@ -68,7 +63,8 @@ impl StepPast {
         task: Option<u16>,
     ) -> Result<(), AllocError> {
         for unit in 0..site.units().min(65_536) {
-            let first = self.order.note(unit, entries(site, unit as u16))?;
+            let entries = site.book(unit as u16).trace().len();
+            let first = self.order.note(unit, entries)?;
             if let (Some(task), Some(entry)) = (task, first) {
                 let unit = unit as u16;
                 self.add(task, TaskEvent::Controlled { unit, entry })?;
@@ -77,31 +73,27 @@ impl StepPast {
         Ok(())
     }
 
-    /// Notes what a step did for a task: it issued this EXCP, or collected a post.
+    /// Notes what a step did for a task: it issued this EXCP, whose post gets room, or collected a post.
     pub fn note_task(
         &mut self,
         excp: Option<&Excp>,
         answer: &StepAnswer,
     ) -> Result<(), AllocError> {
         match (answer, excp) {
-            (StepAnswer::Pushed(Issuing::Accepted(name)), Some(excp)) => self.issue(*name, excp),
+            (StepAnswer::Pushed(Issuing::Accepted(name)), Some(excp)) => {
+                if let Some(task) = self.tasks.get_mut(usize::from(name.task)) {
+                    let (unit, len) = (excp.dcb.unit, excp.len as usize);
+                    task.issue(self.alloc, unit, name.seq, excp.iob, excp.show, len)?;
+                }
+            }
             (StepAnswer::Collected(Some(posted)), _) => {
                 if let Some(task) = self.tasks.get_mut(usize::from(posted.name().task)) {
                     task.collect(posted);
                 }
-                Ok(())
             }
-            _ => Ok(()),
+            _ => {}
         }
-    }
-
-    /// Notes that a task issued the request of an EXCP under this name. Makes room for its post.
-    fn issue(&mut self, name: Name, excp: &Excp) -> Result<(), AllocError> {
-        let Some(task) = self.tasks.get_mut(usize::from(name.task)) else {
-            return Ok(());
-        };
-        let (unit, len) = (excp.dcb.unit, excp.len as usize);
-        task.issue(self.alloc, unit, name.seq, excp.iob, excp.show, len)
+        Ok(())
     }
 
     /// Notes an event of a task.
@@ -150,11 +142,4 @@ impl StepPast {
         }
         Ok(units)
     }
-}
-
-/// How many entries the trace of a unit has.
-fn entries(site: &PlainSite<AnyDevice>, unit: u16) -> usize
-    requires { unit < length site.now.units }
-{
-    site.book(unit).trace().len()
 }

@@ -13,6 +13,9 @@ use run_record::TaskEvent;
 use std::alloc::{AllocError, Global};
 use unit_book::UnitBook;
 
+/// The most commands that a program does in one step (profile).
+const TURN: u32 = 64;
+
 /// A run that came to its end: what its tasks did, and the books of the units.
 #[derive(Drop)]
 pub struct SeededRun {
@@ -39,9 +42,8 @@ impl<'a, 't> StepLog for SeedLog<'a, 't> {
         answer: &StepAnswer,
     ) -> Result<(), JobError> {
         if let Some(writer) = &mut self.writer {
-            if writer.write(&mut self.scenario, step).is_err() {
-                return Err(JobError::NoMemory);
-            }
+            let written = writer.write(&mut self.scenario, step);
+            written.or(Err(JobError::NoMemory))?;
         }
         let excp = match step {
             Step::Push { request, .. } => world.job().requests.get(usize::from(request)),
@@ -79,16 +81,21 @@ pub fn run_seeded(
 {
     let (job, books) = opened_job(alloc, script, given)?;
     let lines = ScriptLines::new(alloc, text)?;
-    let mut log = log_of(alloc, &job, &lines, script, has_scenario)?;
+    let past = StepPast::new(alloc, job.tasks.len(), &books)?;
+    let mut log = log_of(alloc, past, &job, &lines, script, has_scenario)?;
     let mut world = JobWorld::new(alloc, &job, books)?;
-    run_from(alloc, &mut world, seed, &mut log)?;
+    for task in 0..world.tasks().min(64) {
+        note_wait(&mut log.past, &world, task as u16)?;
+    }
+    run_schedule(alloc, &mut world, seed, TURN, &mut log)?;
     let books = world.into_site().into_books()?;
     ended(log, books)
 }
 
-/// What is kept before the first step: nothing, and the set-up of the scenario, if that is wanted.
+/// What is kept before the first step: this past, and the set-up of the scenario, if that is wanted.
 fn log_of<'a, 't>(
     alloc: Global,
+    past: StepPast,
     job: &'a NumberedJob,
     lines: &'a ScriptLines<'t>,
     script: &Script,
@@ -97,31 +104,14 @@ fn log_of<'a, 't>(
     let mut scenario = Vec::new(alloc);
     let mut writer = None;
     if has_scenario {
-        if write_set_up(&mut scenario, lines, script).is_err() {
-            return Err(JobError::NoMemory);
-        }
+        write_set_up(&mut scenario, lines, script).or(Err(JobError::NoMemory))?;
         writer = Some(StepWriter::new(alloc, job, lines)?);
     }
-    let past = StepPast::new(alloc, job.tasks.len(), job.units())?;
     Ok(SeedLog {
         past,
         writer,
         scenario,
     })
-}
-
-/// Makes all steps from the first one on.
-fn run_from(
-    alloc: Global,
-    world: &mut JobWorld<'_>,
-    seed: u64,
-    log: &mut SeedLog<'_, '_>,
-) -> Result<(), JobError> {
-    log.past.begin(world.site())?;
-    for task in 0..world.tasks().min(64) {
-        note_wait(&mut log.past, world, task as u16)?;
-    }
-    run_schedule(alloc, world, seed, log)
 }
 
 /// The run that ended so. A request without a post of its own is a fault.

@@ -1,9 +1,6 @@
-use Rattle.std.proofs.Common.{◌≡◌, None, OnErr, Option, Some, ap, refl, rules, slice_get, subst, sym}
+use Rattle.std.proofs.Common.{OnErr, ap, refl, subst, sym}
 use Rattle.std.specs.Option.{option_copied}
-use Rattle.any_device.specs.declared.device.AnyDevice.{AnyDevice}
 use Rattle.job_scenario.specs.declared.step.Step.{Step}
-use Rattle.request_piece.specs.PostedState.{PostedState}
-use Rattle.unit_world.specs.PostLists.{list_of}
 use Rattle.job_world.proofs.Collections.{collects-first}
 use Rattle.job_world.specs.Making.{Collects, LeavesSite, MakesAtSite, MakesNone, Passes}
 use Rattle.job_world.specs.declared.answer.StepAnswer.TheVariants as answers

@@ -1,5 +1,5 @@
 use Rattle.std.specs.Option.{option_copied}
-use Rattle.job_world.proofs.Lawful.{run-by-step}
+use Rattle.job_world.proofs.Lawful.{made-or-left}
 use Rattle.job_world.proofs.Nothing.{nothing-kept}
 use Rattle.job_world.proofs.site.JobSite.make.Goals as goal
 
@@ -10,5 +10,5 @@ returns-clause-nothing c =
 
 pub returns-clause-lawful : goal.returns-clause-lawful
 returns-clause-lawful c =
-    run-by-step c.calls_make_steps.ensures (option_copied c.args.supply.excp) (option_copied c.args.supply.opening) c.call.result
+    made-or-left c.calls_make_steps.ensures (option_copied c.args.supply.excp) (option_copied c.args.supply.opening) c.call.result
     c.args.step c.args.self.now.site c.call.new.self.site c.holds.ensures.site c.call.ensures.makes c.call.ensures.kept

@@ -1,6 +1,5 @@
-use Rattle.std.proofs.Common.{◌≡◌, None, Option, Some, ap, inl, inr, refl, rules, sym}
+use Rattle.std.proofs.Common.{◌≡◌, None, Some, ap, inl, inr, refl, rules}
 use Rattle.std.specs.Option.{option_copied}
-use Rattle.job_script.specs.declared.set_up.Opening.{Opening}
 use Rattle.job_world.specs.Making.{MakesNone, Opens, OpensNone}
 use Rattle.job_world.proofs.site.JobSite.open.Goals as goal
 

@@ -5,7 +5,7 @@ use Rattle.job_scenario.specs.declared.step.Step.TheVariants as steps
 use Rattle.job_script.specs.declared.set_up.Opening.{Opening}
 use Rattle.request_piece.specs.declared.piece.Piece.{Piece}
 use Rattle.unit_world.specs.Parts.{PartAccepts}
-use Rattle.unit_world.specs.Sites.{OnPart, OnUnit}
+use Rattle.unit_world.specs.Sites.{OnUnit}
 use Rattle.job_world.proofs.NextNames.{name-task}
 use Rattle.job_world.specs.Making.{HasNoExcp, MakesAtSite, MakesNone, Pushes, PushesFull, PushesNone}
 use Rattle.job_world.specs.declared.answer.StepAnswer.{StepAnswer}

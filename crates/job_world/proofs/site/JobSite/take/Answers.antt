@@ -1,7 +1,6 @@
-use Rattle.std.proofs.Common.{◌≤◌, Bool, false, length, refl, arith}
+use Rattle.std.proofs.Common.{◌≤◌, length, refl, arith}
 use Rattle.std.proofs.lemmas.List.{nil_from_length}
 use Rattle.unit_book.specs.Book.{occupancy}
-use Rattle.unit_book.specs.declared.answer.Intake.{Intake}
 use Rattle.unit_world.specs.Sites.{OnPart}
 use Rattle.job_world.proofs.Taking.{held-take, not-less, quiet-take, takes-first}
 use Rattle.job_world.specs.Making.{MakesNone, Takes}
