@@ -3,6 +3,7 @@
 import base64
 import json
 import os
+import pathlib
 import select
 import shutil
 import subprocess
@@ -102,7 +103,7 @@ class Browser:
         self.call("Emulation.setScriptExecutionDisabled", value=not has_scripts)
         self.look(width, height, is_dark)
         self.go("about:blank")
-        self.go(f"file://{os.path.realpath(path)}{part}")
+        self.go(pathlib.Path(os.path.realpath(path)).as_uri(), part)
         if has_scripts:
             self.value(BUILT)
 
@@ -112,12 +113,15 @@ class Browser:
         scheme = "dark" if is_dark else "light"
         self.call("Emulation.setEmulatedMedia", features=[{"name": "prefers-color-scheme", "value": scheme}])
 
-    def go(self, url):
-        """Goes to an address, and waits until it is loaded."""
+    def go(self, url, part=""):
+        """Goes to an address, or to a part of it, and waits until it is loaded. It asks the document, since the event of a load may
+        be that of the page before."""
         until = time.monotonic() + SECONDS
-        self.call("Page.navigate", url=url)
-        while self.message(until).get("method") != "Page.loadEventFired":
-            pass
+        self.call("Page.navigate", url=url + part)
+        while self.value("[location.href.split('#')[0], document.readyState]") != [url, "complete"]:
+            if time.monotonic() > until:
+                raise Failed(f"{url} is not loaded")
+            time.sleep(0.01)
 
     def value(self, expression):
         """The value of an expression in the page."""

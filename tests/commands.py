@@ -66,7 +66,7 @@ def of_text(text):
 
 
 def of_json(run):
-    """The same from the JSON of a run."""
+    """These facts, from the JSON of a run."""
     units = {it["unit"]: [] for it in run["units"]}
     for number, event in ((it["unit"], event) for it in run["units"] for event in it["events"]):
         if event["what"] == "started":

@@ -3,16 +3,17 @@
 import os
 import re
 import shlex
+import shutil
 import tempfile
 from dataclasses import dataclass
 
-from harness import TOP, expect, outcome, read, require, run
+from harness import TOP, Skipped, expect, outcome, read, require, run, without_states
 
 # The pages whose jobs have their posts in the next code block.
 JOBS = ["docs/MANUAL.md"]
 
-# A line that is a command, and how the shell sees it.
-COMMAND = re.compile(r"(?:\$ )?(?:\./|tests/|tools/|cd |rt )")
+# A line that is a command.
+COMMAND = re.compile(r"(?:\$ )?(?:\./|tests/|tools/|cd |rt |job=)")
 
 # ./excp of a folder in which commands run: it runs the programs that are tested, on a file or with a subcommand. The job whose outcomes
 # the pages show has several, of which the status tells.
@@ -77,11 +78,14 @@ def jobs(page):
 
 
 def prints_posts(setup, job, posts):
-    """A job, assembled and run, prints the posts of its page, or the report."""
+    """A job in symbols prints the report of its page, or the posts. These are also what its plain script prints."""
+    if any(line.startswith("# ") for line in posts.lines):
+        expect(setup.run("report", script=job.text()), (0, posts.text()))
+        return
+    expect(setup.run("report", "--posts", script=job.text()), (0, posts.text()))
     assembled = setup.run("assemble", script=job.text())
     require(assembled.status == 0, f"{job.page}, line {job.line}: the job is not assembled", assembled)
-    order = "report" if any(line.startswith("# ") for line in posts.lines) else "run"
-    expect(setup.run(order, script=assembled.out), (0, posts.text()))
+    expect(setup.run("run", script=assembled.out), (0, posts.text()))
 
 
 # What the commands of a block print.
@@ -91,40 +95,38 @@ AMONG = "the lines of the next block, among others"
 NOTHING = "nothing"
 ANYTHING = "anything"
 
-# Blocks of commands by their page and first command: what they print, and the files that they read, each a block of the page
-# by its first line, or a file of the repository.
+# Blocks of commands by their page and first command: what they print, and the files that they read, each the first block of the page
+# with a line, or a file of the repository.
 RUN = {
     ("README.md", "./excp samples/read.script"): (NEXT, {}),
-    ("README.md", "./excp - <<END"): (ANYTHING, {}),
-    ("README.md", "./excp report samples/read.script --steps"): (ANYTHING, {}),
+    ("README.md", "./excp report --posts - <<'END'"): (NEXT, {}),
+    ("README.md", "./excp outcomes samples/outcomes/a-halt.symbolic"): (ANYTHING, {}),
+    ("README.md", "./excp describe old.aws"): (ANYTHING, {"old.aws": "tests/cases/images/w.aws"}),
+    ("README.md", "./excp step samples/scenarios/halt-an-active-request.scenario"): (ANYTHING, {}),
     ("samples/README.md", "./excp report samples/read-a-tape.script | grep -v '^# unit\\|^#  '"): (ANYTHING, {}),
     ("samples/README.md", "./excp step samples/scenarios/halt-an-active-request.scenario"): (ANYTHING, {}),
+    ("samples/README.md", "./excp report samples/update-in-place.symbolic"): (ANYTHING, {}),
     ("samples/README.md", "./excp assemble samples/read.symbolic > /tmp/read.script"): (ANYTHING, {}),
-    ("docs/MANUAL.md", "./excp assemble tape | ./excp - | bash to_print > copy"): (
-        AMONG,
-        {"tape": "tape 0 0 100", "to_print": "#!/usr/bin/env bash"},
-    ),
+    ("docs/MANUAL.md", "./excp assemble job | ./excp -"): (ANYTHING, {"job": "LINE: DC  C'HELLO'"}),
+    ("docs/MANUAL.md", "./excp step halt"): (NEXT, {"halt": "purge 0 0 1 halt"}),
+    ("docs/MANUAL.md", "job=samples/outcomes/a-halt.symbolic"): (NEXT, {}),
     ("docs/MANUAL.md", "./excp job.script | awk"): (NOTHING, {"job.script": "samples/read.script"}),
-    ("docs/MANUAL.md", "./excp report first.script | awk"): (
-        NOTHING,
-        {"first.script": "samples/read.script", "rest.script": "samples/read.script"},
-    ),
-    ("docs/MANUAL.md", "./excp report --json first.script"): (ANYTHING, {"first.script": "samples/read.script"}),
-    ("docs/MANUAL.md", "./excp report --html first.script"): (NOTHING, {"first.script": "samples/read.script"}),
-    ("docs/MANUAL.md", "./excp outcomes samples/outcomes/a-halt.script"): (SESSION, {}),
-    ("docs/MANUAL.md", "./excp report --seed 7"): (ANYTHING, {"race.script": "samples/outcomes/a-halt.script"}),
+    ("docs/MANUAL.md", "./excp report first | awk"): (NOTHING, {"first": "samples/read.symbolic", "rest": "samples/read.script"}),
+    ("docs/MANUAL.md", "./excp report --json first"): (ANYTHING, {"first": "samples/read.symbolic"}),
+    ("docs/MANUAL.md", "./excp report --html first"): (NOTHING, {"first": "samples/read.symbolic"}),
+    ("docs/MANUAL.md", "./excp outcomes samples/outcomes/a-halt.symbolic"): (SESSION, {}),
+    ("docs/MANUAL.md", "./excp report --seed 12"): (ANYTHING, {}),
     ("samples/README.md", "./excp outcomes samples/outcomes/a-halt.script"): (ANYTHING, {}),
     ("docs/REPORT.md", "./excp report --json first.script"): (ANYTHING, {"first.script": "samples/read.script"}),
     ("docs/REPORT.md", "./excp report --html first.script"): (NOTHING, {"first.script": "samples/read.script"}),
     ("docs/REPORT.md", "./excp step --json samples/scenarios/halt-an-active-request.scenario"): (ANYTHING, {}),
+    ("docs/ASSEMBLER.md", "./excp report --posts job"): (NEXT, {"job": "tasks 1"}),
+    ("docs/ASSEMBLER.md", "./excp report --listing samples/read.script"): (AMONG, {}),
     ("docs/ASSEMBLER.md", "./excp assemble job | ./excp -"): (NEXT, {"job": "tasks 1"}),
-    ("docs/ASSEMBLER.md", "./excp assemble job > job.script"): (NOTHING, {"job": "tasks 1"}),
 }
 
 # Blocks of commands that the tests do not run, and why.
 NOT_RUN = {
-    ("README.md", "./excp --build"): "it proves every crate, which takes half an hour and more",
-    ("README.md", "tests/run --program out/quick/excp_job"): "it is the tests, on programs that a first use builds",
     ("docs/CLIENT.md", "cd crates/print_tape && rt run"): "`rt ci` proves the program and runs it",
     ("docs/CLIENT.md", "tools/library.py"): "the group library_clients builds and runs the examples",
     ("docs/MANUAL.md", "./excp describe tape.aws disk.ckd"): "it needs images; the group images runs such commands",
@@ -151,33 +153,36 @@ def commands(page):
 
 
 def content(page, source):
-    """The text of a file of the repository, or of the block of a page that has this line first or second."""
+    """The bytes of a file of the repository, or of the first block of a page that has this line."""
     if os.path.isfile(f"{TOP}/{source}"):
-        return read(f"{TOP}/{source}")
+        with open(f"{TOP}/{source}", "rb") as file:
+            return file.read()
     for block in blocks(page):
-        if source in block.lines[:2]:
-            return block.text()
+        if source in block.lines:
+            return block.text().encode()
     raise AssertionError(f"{page} has no block with the line {source}")
 
 
 def prints_page(setup, block, following):
     """The commands of a block succeed, and print what the page says."""
     kind, sources = named(block, RUN)
+    if "parallel " in block.text() and not shutil.which("parallel"):
+        raise Skipped("no GNU parallel (Debian's package `parallel`)")
     typed = [line.removeprefix("$ ") for line in block.lines if kind != SESSION or line.startswith("$ ")]
     with tempfile.TemporaryDirectory() as folder:
         for name in "samples", "tests":
             os.symlink(f"{TOP}/{name}", f"{folder}/{name}")
         files = {name: content(block.page, source) for name, source in sources.items()}
-        files["excp"] = EXCP.format(program=shlex.quote(setup.program), tools=shlex.quote(setup.tools))
-        for name, text in files.items():
-            with open(f"{folder}/{name}", "w", encoding="utf-8") as file:
-                file.write(text)
+        files["excp"] = EXCP.format(program=shlex.quote(setup.program), tools=shlex.quote(setup.tools)).encode()
+        for name, held in files.items():
+            with open(f"{folder}/{name}", "wb") as file:
+                file.write(held)
         os.chmod(f"{folder}/excp", 0o755)
         ran = run(["bash", "-e", "-o", "pipefail", "-c", "\n".join(typed)], cwd=folder)
     require(ran.status == 0, f"{block.page}, line {block.line}: {outcome(ran.status, ran.out, ran.err)}", ran)
-    shown = ran.out.split("\n")[:-1]
+    shown = without_states(ran.out).split("\n")[:-1]
     if kind == SESSION:
-        due = [line for line in block.lines if not line.startswith(("$ ", "excp: "))]
+        due = [without_states(line) for line in block.lines if not line.startswith(("$ ", "excp: "))]
         require(shown == due, f"{block.page}, line {block.line}: other lines", ran)
     elif kind == NEXT:
         due = [line for line in following.lines if not line.startswith("excp: ")]

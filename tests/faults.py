@@ -49,10 +49,7 @@ def place_of(line, name, words):
 
 
 def due(findings, script):
-    """What a run is to report, by the faults that `check` found, each a line, if it has one, and a name. Nothing if it is to run.
-
-    A script that is to be assembled first has one fault for `check`. A run may come to one before that, at a line of a
-    symbolic area: then any fault up to that line is right."""
+    """What a run is to report, by the faults that `check` found, each a line, if it has one, and a name. Nothing if it is to run."""
     if not findings:
         return ""
     words = words_of(script)
@@ -61,23 +58,69 @@ def due(findings, script):
     return f"excp_job: line {line}: {name}\n"
 
 
-def symbolic_end(script):
-    """The first line that ends a symbolic area, if one does."""
-    return next((at for at, words in words_of(script).items() if words[0].startswith(b"endarea")), None)
+# The words that show that a line is in symbols, in capitals or not, from which word of the line on. So does an apostrophe there.
+SIGNS = {
+    b"open": (3, b"all track tracks cylinder cylinders"),
+    b"rec": (5, b"key data"),
+    b"block": (2, b""),
+    b"fault": (2, b"at check reject required overrun"),
+}
+
+# A finding in a job with symbols.
+PLACED = re.compile(rf"<stdin>(?::([0-9]+)(?::[0-9]+)?)?: (note|{'|'.join([*OF_LINES, *OF_SCRIPTS])}): .+?(?: \(excp in line ([0-9]+)\))?\n")
 
 
-def is_due(ran, findings, script):
-    """Whether a run reports the first of these faults, or runs if none is found."""
-    end = symbolic_end(script)
-    if end is None:
-        return ran.err == due(findings, script)
-    reported = re.fullmatch(rf"excp_job: line ([0-9]+): ({'|'.join(OF_LINES)})\n", ran.err)
-    return findings == [(end, "Words")] and reported and 1 <= int(reported[1]) <= end
+def has_symbols(script):
+    """Whether a script has a symbolic form (docs/ASSEMBLER.md): then it is a job to be assembled, which no run takes."""
+    for line in encoded(script).split(b"\n"):
+        said = re.match(rb"(?:[^;']|'[^']*(?:'|$))*", line)[0].rstrip(b" \t").removesuffix(b"\r")
+        first, *words = [it for it in re.split(rb"[ \t]", said) if it] or [b""]
+        place, signs = SIGNS.get(first, (len(words) + 1, b""))
+        if first == b"endarea" or any(it.lower() in signs.split() or b"'" in it for it in words[place - 1 :]):
+            return True
+    return False
+
+
+def placed(out, script):
+    """The line and the name of each finding, in order. One in an area in symbols counts at the end of the area, where the plain
+    script has it, and one that names its request at that."""
+    ends, began = {}, 0
+    for number, words in words_of(script).items():
+        if words[0] == b"area":
+            began = number
+        if words[0] == b"endarea":
+            ends |= dict.fromkeys(range(began, number), number)
+    found = [PLACED.fullmatch(it) for it in out.splitlines(keepends=True)]
+    if not all(found):
+        raise Failed(f"`check` prints a line of another form: {out.splitlines()[found.index(None)]!r}")
+    return sorted((int(it[3] or ends.get(int(it[1] or 0), it[1] or 0)), it[2]) for it in found)
+
+
+def symbols_alike(setup, script):
+    """Fails unless a run rejects a job with symbols, and `check` prints the mistakes of `assemble`, or else finds what it finds in
+    the plain script."""
+    ran = setup.run("run", "--channels", "1", "--handlers", "1", script=script)
+    if ran.status != 1 or ran.out or not REPORTED.fullmatch(ran.err):
+        raise Failed("a run takes a job with symbols", ran)
+    assembled, checked = setup.run("assemble", script=script), setup.run("check", script=script)
+    found = checked.out
+    if assembled.status == 0:
+        plain = setup.run("check", script=assembled.out)
+        found, wanted = placed(found, script), (plain.status, placed(plain.out, script), plain.err)
+    else:
+        wanted = (1, assembled.err, "") if assembled.err != TOO_LONG else (1, "", TOO_LONG)
+    if (checked.status, found, checked.err) != wanted:
+        raise Failed("`check` finds something else than in the plain script", checked)
+    if assembled.status == 0 and not has_symbols(assembled.out):
+        require_alike(setup, assembled.out)
+    return ""
 
 
 def require_alike(setup, script, ran=None):
     """Fails unless `check` finds no fault in a script exactly if a run has none, and else first the one that the run reports.
     Returns the name of the run's fault, or nothing."""
+    if has_symbols(script):
+        return symbols_alike(setup, script)
     ran = ran or setup.run("run", "--channels", "1", "--handlers", "1", script=script)
     checked = setup.run("check", script=script)
 
@@ -102,7 +145,7 @@ def require_alike(setup, script, ran=None):
     places = [line or len(encoded(script)) + 2 for line, _ in findings]
     if places != sorted(places):
         fail("`check` does not print in the order of lines")
-    if not is_due(ran, faults, script):
+    if ran.err != due(faults, script):
         wanted = due(faults, script).strip() or "no fault"
         fail(f"by what `check` finds, a run is to report: {wanted}")
     return ran.err.split()[-1] if is_rejected else ""

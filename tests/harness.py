@@ -153,6 +153,11 @@ def expect_text(what, ran, expected, actual):
         raise Failed(what, ran, expected, actual)
 
 
+def without_states(text):
+    """A text without the numbers of states that a search went through, which no rule gives."""
+    return re.sub(r"\b\d+ states\b", "N states", text)
+
+
 def require(holds, what, ran=None):
     """Fails with this text if something does not hold."""
     if not holds:

@@ -55,6 +55,14 @@ REJECTED = [
     (["report", "--json", "--html"], "error: the argument '--json' cannot be used with '--html'"),
     (["report", "--html", "--json"], "error: the argument '--html' cannot be used with '--json'"),
     (["report", "--posts", "--json"], "error: the argument '--posts' cannot be used with '--json'"),
+    *(
+        (["report", "--listing", *it.split()], f"error: the argument '--listing' cannot be used with '{it}'")
+        for it in ("--steps", "--json", "--html", "--posts")
+    ),
+    (["report", "--listing", "--seed", "1"], "error: the argument '--listing' cannot be used with '--seed <N>'"),
+    (["report", "--listing", "--save", "0=x"], "error: the argument '--listing' cannot be used with '--save <U=FILE>'"),
+    (["report", "--listing", "--channels", "2"], "error: the argument '--listing' cannot be used with '--channels <N>'"),
+    (["report", "--listing", "--most-steps", "2"], "error: --most-steps N needs --steps or --json"),
     (["report", "--html", "--most-steps", "2"], "error: --most-steps N needs --steps or --json"),
     (["report", "--posts", "--most-steps", "2"], "error: --most-steps N needs --steps or --json"),
     (["report", "--posts", "--html"], "error: the argument '--posts' cannot be used with '--html'"),
@@ -289,7 +297,7 @@ FAULTY = [
     ("tasks 1\ntape 0 0 12\nopen 0 out 18\nwait 0\n", ":3: "),
     ("tasks 1\ntape 0 0 12\nopen 0 out\narea 0 001000 -\nexcp 0 0 1 001000 0 001000 0\n", ":5: Request: the IOB at 001000 does not lie"),
     ("tape 0 0 12\n", ": Order: no line declares the tasks: add a line 'tasks N'\n"),
-    ("area 0 001000\nECB\nendarea\n", ":3: Words: a symbolic area ends in this line: assemble the script first"),
+    ("area 0 001000\nECB 1\nendarea\n", ":2:5: Words: 1: one operand too many\n"),
 ]
 
 

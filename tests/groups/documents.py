@@ -4,7 +4,7 @@ examples; and whether the mutants still apply.
 tests/sentences measures the sentences, and tests/definitions finds names of definitions that several crates have. tests/closure
 has the definitions that the headline rests on. The layers of crates.txt, the steps of a request in ARCHITECTURE.md and the code
 that CLIENT.md and ADDING-A-DEVICE.md quote are compared with the sources, and so is what crates.txt lists. tests/comments measures
-the comments of the code, and finds phrases of tests/phrases. tests/edits applies the mutants to the code as it is.
+the comments of the code, and finds phrases of tests/phrases. tools/refusals.py finds what each call rejects in its comment. tests/edits applies the mutants to the code as it is.
 tests/examples.py has the jobs and the commands of the pages. A README that names another kit is a warning.
 """
 
@@ -14,15 +14,15 @@ import shutil
 import textwrap
 
 from examples import JOBS, NOT_RUN, are_known, commands, jobs, named, prints_page, prints_posts
-from harness import TOP, Case, Failed, Skipped, read, require, run
+from harness import TOP, Case, Failed, Skipped, expect, read, require, run
 
 
-def passes(program, *words):
-    """A program of tests/ with these words passes."""
-    ran = run([f"{TOP}/tests/{program}", *words], cwd=TOP)
+def passes(program, *words, folder="tests"):
+    """A program of a folder with these words passes."""
+    ran = run([f"{TOP}/{folder}/{program}", *words], cwd=TOP)
     if ran.status != 0 or not re.search(r"^\d+ passed, 0 failed$", ran.out.rstrip("\n").rpartition("\n")[2]):
-        raise Failed(f"tests/{program} found faults", ran, None, ran.out + ran.err)
-    return f"tests/{program}: {ran.out.rstrip().rpartition(chr(10))[2]}"
+        raise Failed(f"{folder}/{program} found faults", ran, None, ran.out + ran.err)
+    return f"{folder}/{program}: {ran.out.rstrip().rpartition(chr(10))[2]}"
 
 
 def names_kit():
@@ -145,18 +145,48 @@ def quotes_hold(page):
         require(has(file, block), f"docs/{page}: {file} has no such lines:\n{block}")
 
 
+# The devices of a row of the commands left out, as a script declares them, with a DCB.
+UNITS = {
+    "3390": "disk 0 0 1 1 100\nopen 0 out 18000000000000000000000000000001",
+    "3420": "tape 0 0 1000\nopen 0 out",
+    "3480": "tape 0 0 1000\nopen 0 out",
+    "1403": "printer 0 0 10 10\nopen 0 out",
+    "3211": "printer 0 0 10 10\nopen 0 out",
+}
+
+# The area of an unrelated request with one CCW, of this code, with eight bytes and SLI.
+AREA = f"{{place}} 001000 4200000000001028{0:016X}00001030{1:08X}{0:048X}{{code}}00103820000008{0:016X}"
+
+LEFT_OUT = re.compile(r"^\| ((?:3390|3420|3480|1403|3211)\b[^|]*) \| (.+) \|$", re.M)
+
+
+def left_out_is_rejected(setup):
+    """Each command of the table of commands left out is posted 41 with command reject."""
+    rows = LEFT_OUT.findall(read(f"{TOP}/docs/SPECIFICATION.md"))
+    require(len(rows) > 10, f"{len(rows)} rows of commands left out")
+    for device, commands_of_row in rows:
+        codes = re.findall(r"\b(?=[0-9A-F]*[0-9])[0-9A-F]{2}\b(?! to)|\b(?:AF|FA|DE|FB|EB|CB|DB)\b", commands_of_row.replace("2 to 12", ""))
+        areas = "".join(f"area {AREA.format(place=place, code=code)}\n" for place, code in enumerate(codes))
+        issues = "".join(f"excp 0 0 1 001000 {place} 001038 0\n" for place in range(len(codes)))
+        script = f"tasks 1\n{UNITS[device[:4]]}\n{areas}{issues}"
+        posts = "".join(f"post 0 0 {place} 41 001038 0E00 0008 8000 -\n" for place in range(1, len(codes) + 1))
+        expect(setup.run("run", script=script), (0, f"{posts}end {len(codes)}\n"))
+
+
 def cases(setup):
     yield Case("sentences", lambda: passes("sentences"), "tests/sentences, by CONTRIBUTING.md")
     yield Case("the measure of sentences", lambda: passes("sentences", "--self-test"), "tests/sentences, texts with known measures")
-    yield Case("definitions", lambda: passes("definitions"), "docs/GLOSSARY.md")
+    yield Case("definitions", lambda: passes("definitions"), "tests/shared_names")
     yield Case("the list of definitions", lambda: passes("definitions", "--self-test"), "tests/definitions, crates with known faults")
     yield Case("definitions of the headline", lambda: passes("closure", "--check"), "docs/PROVED.md, by tests/closure")
     yield Case("the list of the headline", lambda: passes("closure", "--self-test"), "tests/closure, specs with a known list")
+    yield Case("what calls reject", lambda: passes("refusals.py", folder="tools"), "tools/refusals.py, by the comments of the calls")
     yield Case("edits of mutants", lambda: passes("edits"), "docs/TESTING.md, by tests/edits")
     yield Case("the rules of edits", lambda: passes("edits", "--self-test"), "tests/edits, edits with known faults")
     yield Case("layers of crates.txt", layers_hold, "crates.txt, line 1")
     yield Case("crates below excp_job", run_is_small, "tests/groups/documents.py, by docs/ARCHITECTURE.md")
     yield Case("what crates.txt lists", lists_what_is_used, "crates.txt, by the sources")
+    yield Case("commands left out", lambda: left_out_is_rejected(setup), "docs/SPECIFICATION.md, 8.8")
     yield Case("steps of a request", steps_hold, "docs/ARCHITECTURE.md, by the sources")
     for page in QUOTING:
         yield Case(f"quotes of {page}", lambda page=page: quotes_hold(page), f"docs/{page}, by the sources")

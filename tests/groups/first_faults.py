@@ -1,4 +1,5 @@
-"""`check` finds no fault in a script exactly if it runs, and else finds the fault that a run reports, as the first one.
+"""`check` finds no fault in a script exactly if it runs, and else finds the fault that a run reports, as the first one. Of a job with
+symbols it finds the mistakes of `assemble`, or what it finds in the plain script.
 
 The scripts are those of samples/ and of tests/cases, and such scripts broken at random: a word dropped, replaced or swapped with
 another, a digit changed, a line dropped, moved or put in twice. tests/faults.py says which fault is the first. The group hostile
@@ -9,7 +10,7 @@ import glob
 import os
 import random
 
-from faults import OF_LINES, OF_SCRIPTS, require_alike, symbolic_end
+from faults import OF_LINES, OF_SCRIPTS, has_symbols, require_alike
 from groups.histories import DISK_AND_TAPE, RULES
 from harness import CASES, SAMPLES, TOP, Case, encoded, files, multiple, read, require
 
@@ -104,7 +105,7 @@ def cases(setup):
     origin = "docs/MANUAL.md, by the order in which a run looks for faults"
     small = []
     for name, script, place in stored():
-        if len(script) <= MOST and symbolic_end(script) is None and script:
+        if len(script) <= MOST and not has_symbols(script) and script:
             small.append(script)
         yield Case(name, lambda s=script: require_alike(setup, s) and None, f"{place}, and {origin}")
     words = words_by_place(small)

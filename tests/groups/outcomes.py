@@ -11,7 +11,7 @@ import re
 import tempfile
 import time
 
-from harness import SAMPLES, TOP, Case, expect, read, require
+from harness import SAMPLES, TOP, Case, expect, read, require, without_states
 from small_jobs import small_job
 
 ORIGIN = "docs/MANUAL.md and docs/SPECIFICATION.md"
@@ -289,9 +289,11 @@ def ends(setup, file):
 
 
 def is_stored(setup, file):
-    """A sample prints the stored outcomes."""
-    due = read(file.replace(".script", ".posts"))
-    expect(setup.run("outcomes", script=read(file)), (status_of(due.splitlines()[-1]), due))
+    """A sample prints the stored outcomes, in any number of states."""
+    due = without_states(read(file.replace(".script", ".posts")))
+    ran = setup.run("outcomes", script=read(file))
+    ran.out = without_states(ran.out)
+    expect(ran, (status_of(due.splitlines()[-1]), due))
 
 
 def is_cut(setup):
@@ -332,13 +334,18 @@ def prints_chosen(setup):
         expect(ran, (1, "", f"excp_job: no outcome {number} of request {request} of task {task} to unit {unit} was found\n"))
 
 
-# A hint: the lines that race, the wait before the later one, and a command in place of the later one or of the first one.
-HINT = re.compile(r"# lines (\d+) and (\d+) race: with '(wait \d+)'(?: and '(.*)' in place of line \2| before line \2(?:, and '(.*)' in place of "
-                  r"line \1,)?) it has one outcome")
+# A hint: the line of the request, those that race with it, and the changes with which it has one outcome.
+RIVALS = re.compile(r"# line (\d+) races with lines? \d+(, \d+)*( and \d+( more)?)?( together)?")
+CHANGES = "# its request has one outcome with these changes:"
+WAIT = re.compile(r"#   before line (\d+): (wait \d+)")
+MOVE = re.compile(r"#   line (\d+): task (\d+) in place of (\d+)")
 
-# How many small jobs have their hints tried, and how many of these have one at least.
+# How many small jobs have their hints tried, and how many of these have one at least. How many jobs are changed by one hint after the
+# other, and how many of these are deterministic then.
 HINTED = 60
 HINTS = 20
+FOLLOWED = 30
+SETTLED = 10
 
 
 def name_at(lines, number):
@@ -349,34 +356,81 @@ def name_at(lines, number):
     return " ".join([*words[1:3], str(sum(line.split()[:3] == words[:3] for line in lines[:number]))])
 
 
-def is_settled(setup, script, name, hint):
-    """With the change of a hint, the request that its line issues has one outcome."""
-    lines = script.splitlines()
-    first, later = int(hint[1]), int(hint[2])
-    at = first if name_at(lines, first) == name else later
-    require(first < later and name_at(lines, at) == name, f"a hint on other lines: {hint[0]}")
-    lines[later - 1] = hint[4] or lines[later - 1]
-    lines[first - 1] = hint[5] or lines[first - 1]
-    lines.insert(later - 1, hint[3])
-    told, last = outcomes_of(setup, "\n".join([*lines, ""]))
-    name = name_at(lines, at + (at == later))
-    require(len(told[name]) == 1 and not last.startswith("not all"), f"{hint[0]} leaves {told[name]}")
+def changed(script, changes):
+    """A script with the changes of a hint, and where each of its lines is then."""
+    lines, waits, places = script.splitlines(), {}, {}
+    for change in changes:
+        wait, move = WAIT.fullmatch(change), MOVE.fullmatch(change)
+        require(wait or move, f"another change: {change!r}")
+        if wait:
+            waits.setdefault(int(wait[1]), []).append(wait[2])
+        else:
+            words = lines[int(move[1]) - 1].split(" ", 2)
+            require(words[1] == move[3], f"{change!r} speaks of {words}")
+            lines[int(move[1]) - 1] = " ".join([words[0], move[2], *words[2:]])
+    new = []
+    for number, line in enumerate(lines, 1):
+        new += [*waits.get(number, []), line]
+        places[number] = len(new)
+    return "\n".join([*new, ""]), places
+
+
+def hints_of(lines):
+    """The hints of a search: the numbers of the request, its line, and the changes."""
+    name = line = None
+    for place, text in enumerate(lines):
+        if text.startswith("post "):
+            name, _ = numbers_and_post(text)
+        elif text.startswith("# line "):
+            rivals = RIVALS.fullmatch(text)
+            require(rivals, f"another hint: {text!r}")
+            line = int(rivals[1])
+        elif text == CHANGES:
+            rest = lines[place + 1:]
+            count = next(it for it, after in enumerate(rest) if not after.startswith("#   "))
+            yield name, line, rest[:count]
+
+
+def outcomes_in(told):
+    return sum(len(posts) for posts in told.values())
 
 
 def hints_hold(setup):
-    """What a hint says makes one outcome of the request above it."""
+    """What a hint says makes one outcome of the request above it. All requests have fewer outcomes together then, so that no hints go
+    in a circle; and each that could end without error still can."""
     tried = 0
     for seed in range(HINTED):
-        script, name = small_job(seed, tasks=3, units=2, requests=5, controls=3), ""
-        for line in setup.run("outcomes", script=script).out.splitlines():
-            if line.startswith("post "):
-                name, _ = numbers_and_post(line)
-            elif line.startswith("# lines "):
-                hint = HINT.fullmatch(line)
-                require(hint, f"another hint: {line!r}")
-                is_settled(setup, script, name, hint)
-                tried += 1
+        script = small_job(seed, tasks=3, units=2, requests=5, controls=3)
+        before, _ = outcomes_of(setup, script)
+        for name, line, changes in hints_of(setup.run("outcomes", script=script).out.splitlines()):
+            require(name_at(script.splitlines(), line) == name, f"job {seed}: line {line} does not issue {name}")
+            new, places = changed(script, changes)
+            told, last = outcomes_of(setup, new)
+            posts = told[name_at(new.splitlines(), places[line])]
+            require(len(posts) == 1 and not last.startswith("not all"), f"job {seed}: {changes} leave {posts}")
+            require(outcomes_in(told) < outcomes_in(before), f"job {seed}: {changes} leave {told}")
+            ends_well = [any(post.startswith("7F ") for post in posts) for posts in (before[name], posts)]
+            require(ends_well[1] or not ends_well[0], f"job {seed}: {changes} leave {posts}")
+            tried += 1
     require(tried >= HINTS, f"{tried} hints")
+
+
+def hints_lead_to_an_end(setup):
+    """Of jobs that are changed by their first hint, again and again, most become deterministic."""
+    settled = 0
+    for seed in range(FOLLOWED):
+        script = small_job(f"hints {seed}", tasks=3, units=1, requests=4, controls=2)
+        told, _ = outcomes_of(setup, script)
+        if outcomes_in(told) == len(told):
+            continue
+        for _ in range(outcomes_in(told)):
+            ran = setup.run("outcomes", script=script)
+            hint = next(hints_of(ran.out.splitlines()), None)
+            if not hint:
+                break
+            script, _ = changed(script, hint[2])
+        settled += ran.status == 0
+    require(settled >= SETTLED, f"{settled} jobs are deterministic")
 
 
 def is_compared(setup):
@@ -393,7 +447,7 @@ def shares_are_counted(setup):
     script, _, wanted = BY_HAND["a halt"]
     ran = setup.run("outcomes", "--often", "60", script=script)
     lines = ran.out.splitlines()
-    require((ran.status, ran.err) == (0, "") and lines[-1] == "60 runs by seeds; the shares are no probabilities of threads", "another end", ran)
+    require((ran.status, ran.err) == (5, "") and lines[-1] == "60 runs by seeds; the shares are no probabilities of threads", "another end", ran)
     count = 0
     for share, post in zip(lines[:-1:2], lines[1:-1:2]):
         told = re.fullmatch(r"# in (\d+) of 60 runs, first by seed (\d+)", share)
@@ -409,11 +463,40 @@ LONG = ("tasks 6\ntape 0 0 1200\n" + "block 0 01\n" * 60 + "open 0 in\narea 0 00
         + "0000000000000000 0000000000000000 0000000000000000 0200103820000001 00\n" + "".join(f"excp {n % 6} 0 1 001000 0 001038 1\n" for n in range(60)))
 
 
+# A request and a halt, and many more of such requests.
+FEW = DISK + OPEN + PLAIN + EXCP.format(0, 0) + "purge 1 0 1 halt\n"
+READS, MORE_READS = (DISK + OPEN + PLAIN + EXCP.format(0, 0) * count + "purge 1 0 1 halt\n" for count in (30, 500))
+
+# If eight such requests meet a halt, some have ended, one may be active, some may wait, and the others come later. So the outputs are
+# one in which all end, and for each of the two, the places of those that are halted or purged.
+EIGHT = DISK + OPEN + PLAIN + EXCP.format(0, 0) * 8 + "purge 1 0 1 halt\n"
+OUTPUTS_OF_EIGHT = 1 + 2 * (8 * 9 // 2)
+
+
 def is_ended(setup):
-    """A search ends after its seconds."""
-    begun = time.monotonic()
-    _, last = outcomes_of(setup, LONG, "--most-seconds", "1", "--most-states", "4294967295")
-    require(last.endswith(", ended by --most-seconds)") and time.monotonic() - begun < 30, f"the last line is {last!r}")
+    """A search ends after its seconds, and so does the printing of what it found."""
+    for script, words in (LONG, ("--most-states", "4294967295")), (MORE_READS, ("--all",)):
+        begun = time.monotonic()
+        ran = setup.run("outcomes", "--most-seconds", "2", *words, script=script)
+        last = (ran.out.splitlines() or [""])[-1]
+        require(ran.status == 6 and last.endswith(", ended by --most-seconds)") and time.monotonic() - begun < 30, f"the last line is {last!r}")
+        counted = re.search(r"^# and \d+ more requests?, for which --most-seconds left no time$", ran.out, re.M)
+        require(script == LONG or counted, "what was left out is not counted", ran)
+
+
+def says_it_was_cut(setup):
+    """An outcome of a search that ended early may have another number in a longer one."""
+    ran = setup.run("outcomes", "--outcome", "0", "0", "1", "1", "--most-states", "1", script=FEW)
+    require(ran.status in (1, 6) and "excp_job: the search ended early: " in ran.err, "it does not say that the search ended", ran)
+
+
+def is_quick(setup):
+    """A job of many requests with one halt is searched to its end: equal states go on only once."""
+    told, last = outcomes_of(setup, READS)
+    require(len(told) == 30 and last.startswith("30 requests have more than one outcome"), f"the last line is {last!r}")
+    require(told["0 0 30"] == [WAITED, "48 001030 0C00 0000 0000 -", ENDED], f"the last request has {told['0 0 30']}")
+    _, _, last = told_by(setup, EIGHT, "--whole")
+    require(last.endswith(f", {OUTPUTS_OF_EIGHT} whole outputs)"), f"the last line is {last!r}")
 
 
 def leaves_its_script(setup):
@@ -463,9 +546,12 @@ def cases(setup):
     yield Case("many outcomes", lambda: has_many(setup), ORIGIN)
     yield Case("one outcome", lambda: prints_chosen(setup), ORIGIN)
     yield Case("hints hold", lambda: hints_hold(setup), ORIGIN)
+    yield Case("hints lead to an end", lambda: hints_lead_to_an_end(setup), ORIGIN)
     yield Case("runs by seeds", lambda: is_compared(setup), ORIGIN)
     yield Case("shares of runs", lambda: shares_are_counted(setup), ORIGIN)
     yield Case("a search that takes long", lambda: is_ended(setup), ORIGIN)
+    yield Case("many requests and a halt", lambda: is_quick(setup), ORIGIN)
+    yield Case("one outcome of a search that is cut", lambda: says_it_was_cut(setup), ORIGIN)
     for file in sorted(glob.glob(f"{SAMPLES}/outcomes/*.script")):
         yield Case(os.path.relpath(file, TOP), lambda f=file: is_stored(setup, f), ORIGIN)
     for file in sorted(glob.glob(f"{SAMPLES}/*.script")):

@@ -332,7 +332,9 @@ def stays_text(setup):
         it.open(written(folder, text))
         require(it.value(SHAPE)["h1"] == name and not it.said, "the name is not text")
         it.open(written(folder, text), has_scripts=False)
-        shown = it.value("document.getElementById('post-lines').innerText")
+        # not `innerText`, which is empty as long as the browser has laid out only what is in the window
+        is_shown, shown = it.value("(lines => [lines.checkVisibility(), lines.textContent])(document.getElementById('post-lines'))")
+        require(is_shown, "without scripts the page hides its posts")
         expect_text("without scripts", None, pages.Page(text).texts["post-lines"].strip(), shown.strip())
 
 

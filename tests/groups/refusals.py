@@ -141,7 +141,7 @@ def is_purge_test(ran, text):
 
 
 def is_mounted_test(ran, text):
-    """A test passed, or it ended in a plain error of memory before its disk was mounted."""
+    """A test passed, or it ended in a plain error of memory before its device was mounted."""
     way = is_test(ran, text)
     return None if way == "out of memory" and re.search(r"^mounted$", ran.out, re.M) else way
 
@@ -274,8 +274,8 @@ def programs(setup):
     yield f"{name}: threads", it
     programs_end = f"{SAMPLES}/how-programs-end"
     yield plan("report", prints_a_part, f"{programs_end}.script", f"{programs_end}.steps", "--steps")
-    # the groups reports and pages judge these texts
-    for form in "--json", "--html":
+    # the groups listing, reports and pages judge these texts
+    for form in "--listing", "--json", "--html":
         whole = setup.run("report", form, file=f"{programs_end}.script").out
         words = setup.command("report", form)
         yield f"report samples/how-programs-end.script {form}", Plan(words, prints_a_part, f"{programs_end}.script", whole)
@@ -317,7 +317,7 @@ TESTS = [
         MUST_PASS,
     ),
     ("component_tests", ["two_senders_and_a_taker"], {}),
-    ("component_tests", ["run_without_memory"], RUNS_WITHOUT),
+    ("component_tests", ["run_without_memory", "commands_without_memory"], RUNS_WITHOUT),
     ("job_tests", ["controls_without_memory", "steps_without_memory"], MUST_PASS),
     (
         "system_tests",

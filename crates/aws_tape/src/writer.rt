@@ -11,9 +11,9 @@ use crate::layout::{Layout, Part};
 use std::io::{self, Write};
 use tape_unit::{Items, Stored, Tape};
 
-/// Writes the image of a tape. What it has in common with the tape that was mounted, from the load point on, is written
-/// in the chunks that the layout says, and the rest in one chunk for each block. So a tape that was loaded from an image
-/// and not written is saved as this image, byte for byte. A write changes no bytes of the items before it.
+/// Writes the image of a tape. What it has in common with the tape as mounted, from the load point on, is written in
+/// the chunks of the layout. The rest has one chunk for each block. So a tape that was loaded from an image and not
+/// written is saved as this image, byte for byte. A write changes no bytes of the items before it.
 ///
 /// Error: that of the writer. A part of the image is written then.
 pub fn save<W: Write>(writer: &mut W, layout: &Layout, mounted: &Tape, now: &Tape) -> io::Result<()>

@@ -96,16 +96,16 @@ abbrev pub areas : Flow → Storage → List Link → Areas
 areas flow m [] = Parts []
 areas flow m (l ∷ ls) = areas_joined l.at (parts_of flow m l.ccw) (areas flow m ls)
 
--- parts behind others
+-- a list of parts with more parts before it
 abbrev pub parts_after : List Segment → Result (List Segment) Rule → Result (List Segment) Rule
 parts_after old (Err rule) = Err rule
 parts_after old (Ok parts) = Ok (old ++ parts)
 
--- the parts were added behind others, or this rule is broken
+-- the parts were added after others, or this rule is broken
 abbrev pub AddsParts : List Segment → Result (List Segment) Rule → Result (Unit {0}) Rule → List Segment → Type 0
 AddsParts old parts result new = MatchResult result (λ _. parts_after old parts ≡ Ok new) (λ rule. parts_after old parts ≡ Err rule)
 
--- whole areas behind others
+-- whole areas with others before them
 abbrev pub preceded : List Segment → Areas → Areas
 preceded old (Parts parts) = Parts (old ++ parts)
 preceded old (Bad refusal) = Bad refusal

@@ -50,13 +50,13 @@ invalid_bits = 0x00
 abbrev pub is_transfer : Ccw → Bool
 is_transfer ccw = low_bits ccw == transfer_bits
 
--- a CCW that is no transfer may stand at this place of its chain: the first one has a command that
--- is valid in its low bits, the reserved flags are off, it has a count, and there are at most 16
+-- a CCW that is no transfer may be at this place of its chain: the first one has a command that is valid in its low
+-- bits, the reserved flags are off, it has a count, and there are at most 16
 abbrev pub is_allowed : ℕ → Ccw → Bool
 is_allowed place ccw =
     not ((place == 0) && (low_bits ccw == invalid_bits)) && is_off unusable_flags ccw.flags.0 && not (ccw.count == 0) && nat_lt place 16
 
--- what a CCW is at this place, where a transfer may come next or not
+-- what a CCW is at this place; `may_transfer` says whether it may be a transfer
 abbrev pub kind_of_fetch : Bool → ℕ → Ccw → Fetch
 kind_of_fetch may_transfer place ccw =
     if is_transfer ccw then (if may_transfer && (ccw.address % 8 == 0) then Transfer ccw.address else Refused)
@@ -67,8 +67,8 @@ abbrev pub fetch_at : Storage → Bool → ℕ → ℕ → Fetch
 fetch_at m may_transfer place at =
     if (at % 8 == 0) && lies_in m at 8 then kind_of_fetch may_transfer place (ccw_of (bytes_at m at 8)) else Refused
 
--- WHICH RULE a CCW breaks that is refused, the first in this order: that of a CCW at this place of its chain, where a
--- transfer may come next or not
+-- WHICH RULE a CCW at this place of its chain breaks: the first in the order below. `may_transfer` says whether it may
+-- be a transfer
 abbrev pub rule_of_kind : Bool → ℕ → Ccw → Rule
 rule_of_kind may_transfer place ccw =
     if is_transfer ccw then (if may_transfer then TransferMisaligned else TransferMisplaced)
@@ -76,7 +76,7 @@ rule_of_kind may_transfer place ccw =
     else (if not (is_off unusable_flags ccw.flags.0) then FlagsReserved
     else (if ccw.count == 0 then CountZero else ChainTooLong)))
 
--- and that of what is fetched from an address
+-- WHICH RULE a fetch from an address breaks: that of the address, or else that of the CCW there
 abbrev pub rule_at : Storage → Bool → ℕ → ℕ → Rule
 rule_at m may_transfer place at =
     if not (at % 8 == 0) then CcwMisaligned
@@ -88,11 +88,11 @@ pub data Fetched : Type 0 where
   Whole : List Link → ℕ → Fetched
   Broken : List Link → Refusal → Fetched
 
--- the CCW at an address failed, which is the first of these
+-- the chain is broken by its first CCW, at this address
 abbrev pub broken_at : ℕ → Rule → Fetched
 broken_at at rule = Broken [] (record { at = at; rule = rule })
 
--- the same chain behind one more CCW
+-- a chain with one more CCW before it
 abbrev pub after_ccw : Link → Fetched → Fetched
 after_ccw link (Whole links fetches) = Whole (link ∷ links) fetches
 after_ccw link (Broken links refusal) = Broken (link ∷ links) refusal
@@ -121,7 +121,7 @@ chain m at fetches = chain_within m (4096 - fetches) (not (fetches == 0)) 0 at
 abbrev pub chained : Storage → Link → ℕ → Fetched
 chained m link fetches = after_ccw link (chain_within m (4096 - fetches) true 1 (link.at + 8))
 
--- the same chain behind more CCWs
+-- a chain with more CCWs before it
 abbrev pub behind_all : List Link → Fetched → Fetched
 behind_all [] c = c
 behind_all (l ∷ ls) c = after_ccw l (behind_all ls c)

@@ -1,4 +1,4 @@
--- Where a channel program stands between two commands (Principles of Operation, chapters 15 and 16).
+-- The position of a channel program between two commands (Principles of Operation, chapters 15 and 16).
 use Rattle.std.specs.Prelude.{ℕ, ◌+◌, ◌%◌, ◌^◌}
 use Rattle.io_images.specs.Bits.{normal_end_status, program_check_bit}
 use Rattle.io_images.specs.declared.csw.Csw.{Csw}

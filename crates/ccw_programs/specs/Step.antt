@@ -51,11 +51,11 @@ sub_status flow first counted acted ended =
 abbrev pub moved : List Link → Acted → ℕ
 moved links acted = min (total_count links) acted.want
 
--- the program goes on to another command behind this last CCW (chapter 15, "Command Chaining")
+-- the program goes on to another command after this last CCW (chapter 15, "Command Chaining")
 abbrev pub goes_on : Link → ℕ → ℕ → Bool
 goes_on last unit sub = chains_command last.ccw && ((unit == normal_end_status) || (unit == modifier_end_status)) && (sub == 0)
 
--- the address of the next command: behind the last CCW, and behind one more with status modifier
+-- the address of the next command: after the last CCW, or after one more with status modifier
 abbrev pub next_address : Link → ℕ → ℕ
 next_address last unit = last.at + (if unit == modifier_end_status then 16 else 8)
 
@@ -78,7 +78,7 @@ acted_place place flow links fetches acted =
     placed place (last_of links) fetches acted (ending links (moved links acted))
     (sub_status flow (first_of links) (total_count links) acted (ending links (moved links acted)).link)
 
--- a channel program in flight: where it stands, the device and the area
+-- a channel program in flight: its position, the device and the area
 pub record Program (D : Type 0) : Type 0 where
   pub place : Place
   pub device : D

@@ -1,5 +1,5 @@
-//! Where a channel program stands between two commands, and what it stores when it ends or is halted (Principles
-//! of Operation, chapters 15 and 16).
+//! The position of a channel program between two commands, and what it stores when it ends or is halted (Principles of
+//! Operation, chapters 15 and 16).
 
 ghost use Rattle.std.specs.Prelude.{◌≡◌, ◌≤◌, ◌<◌, ◌^◌, ◌+◌, [], ◌∷◌, length, All};
 ghost use Rattle.ccw_programs.specs.Links.{Sound};
@@ -21,14 +21,14 @@ pub enum State {
     Ended(Csw, u16),
 }
 
-/// The commands that a burst did, and where the program then stands.
+/// The number of commands that a burst did, and the position of the program after them.
 #[derive(Clone, Copy, PartialEq, Eq, Debug)]
 pub struct Burst {
     pub commands: u32,
     pub state: State,
 }
 
-/// Where a channel program stands between two commands.
+/// The position of a channel program between two commands.
 #[derive(Drop)]
 pub struct Context {
     next: u32,
@@ -76,7 +76,7 @@ impl Context {
         }
     }
 
-    /// The same place.
+    /// Copies the place of a channel program: where it is, and how it ended if it ended. Never allocates.
     pub fn copy(&self) -> Context
         ensures { result ≡ self.now }
     {

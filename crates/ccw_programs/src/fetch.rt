@@ -42,7 +42,7 @@ fn is_transfer(ccw: &Ccw) -> bool
     ccw.command % LOW_VALUES == TRANSFER_BITS
 }
 
-/// Whether a CCW that is no transfer may stand at this place of its chain.
+/// Whether a CCW that is no transfer may be at this place of its chain.
 fn is_allowed(place: usize, ccw: &Ccw) -> bool
     ensures { result ≡ is_allowed place ccw.now }
 {
@@ -52,7 +52,7 @@ fn is_allowed(place: usize, ccw: &Ccw) -> bool
         && place < 16
 }
 
-/// What a CCW is at this place, where a transfer may come next or not.
+/// What a CCW is at this place of its chain. `may_transfer` says whether it may be a transfer.
 fn kind_of_fetch(may_transfer: bool, place: usize, ccw: Ccw) -> Fetch
     ensures value { result ≡ kind_of_fetch may_transfer place ccw }
     ensures tells { TellsKind result place }
@@ -98,8 +98,8 @@ fn read_ccw(image: &[u8]) -> Ccw
     ])
 }
 
-/// How the CCWs of a command begin: with the only one, or with one whose data the next CCW continues, each with the
-/// number of fetches after it; or the CCW at an address failed.
+/// How the CCWs of a command begin: with the only one, or with one whose data the next CCW continues. Each has the
+/// number of fetches after it. Or the CCW at an address failed.
 #[derive(Clone, Copy, PartialEq, Eq, Debug)]
 pub enum First {
     Single(Link, u16),
@@ -136,8 +136,8 @@ pub(crate) fn fetch_first(area: &Area, start: u32, fetches: u16) -> First
     First::Failed(at)
 }
 
-/// Fetches the CCWs of a command behind those that were fetched, from an address on, where a transfer may come next or
-/// not; gives the number of fetches after them, or tells which CCW failed.
+/// Fetches the remaining CCWs of a command, from the address `from` on. `transfers` says whether a transfer in channel
+/// may come first. Returns the number of fetches after them, or the CCW that failed.
 pub(crate) fn fetch_on(
     area: &Area,
     from: u32,
@@ -196,7 +196,7 @@ fn broken_rule(area: &Area, may_transfer: bool, place: usize, at: u32) -> Rule
     }
 }
 
-/// The rule that a CCW at this place breaks which is refused, where a transfer may come next or not.
+/// The first rule that a CCW at this place breaks. `may_transfer` says whether it may be a transfer.
 fn rule_of_kind(may_transfer: bool, place: usize, ccw: &Ccw) -> Rule
     ensures { result ≡ rule_of_kind may_transfer place ccw.now }
 {

@@ -46,7 +46,7 @@ pub(crate) fn sub_status(
     }
 }
 
-/// Whether the program goes on to another command behind its last CCW.
+/// Whether the program goes on to another command after its last CCW.
 #[inline(always)]
 pub(crate) fn goes_on(last: &Link, unit: UnitStatus, sub: SubStatus) -> bool
     ensures { result ≡ goes_on last.now unit.0 sub.0 }
@@ -56,7 +56,7 @@ pub(crate) fn goes_on(last: &Link, unit: UnitStatus, sub: SubStatus) -> bool
         && sub.is_clear()
 }
 
-/// The address of the next command behind the last CCW, and behind one more with status modifier.
+/// The address of the next command: after the last CCW, or after one more with status modifier.
 #[inline(always)]
 pub(crate) fn next_address(last: &Link, unit: UnitStatus) -> u32
     requires { Sound last.now }

@@ -4,8 +4,8 @@
 
 use thiserror::Error;
 
-/// A rule that a CCW breaks (chapter 16, "Program Check"). Those on a word of a list of indirect addresses name where
-/// the word stands.
+/// A rule that a CCW breaks (chapter 16, "Program Check"). Those on a word of a list of indirect addresses name the
+/// address of the word.
 #[derive(Clone, Copy, PartialEq, Eq, Debug, Error)]
 pub enum Rule {
     #[error("the CCW does not lie on a doubleword")]

@@ -1,4 +1,4 @@
--- Where the heads stand on a track, and what a command leaves for the next one. Places count records, R0 is 0.
+-- The position of the heads on a track, and what a command leaves for the next one. Places count records, R0 is 0.
 use Rattle.std.specs.Prelude.{ℕ, ◌<◌, List, length, ⊤}
 use Rattle.ckd_disk.specs.declared.access.Orientation.{Orientation as CodeOrientation}
 use Rattle.ckd_disk.specs.declared.access.Orientation.TheVariants as at
@@ -8,16 +8,16 @@ use Rattle.ckd_disk.specs.declared.access.Access.{Access}
 use Rattle.ckd_disk.specs.Track.{TrackState, IsSpot}
 use Rattle.ckd_disk.specs.Record.{Record}
 
--- ORIENTATION: at the index point, or behind the count area, the key area or the whole of the record at a
--- place (count-key-data devices)
+-- ORIENTATION: at the index point, or after the count area, the key area or the end of the record at a place
+-- (count-key-data devices)
 pub data Orientation : Type 0 where
   at_index : Orientation
   at_count : ℕ → Orientation
   at_key : ℕ → Orientation
   at_end : ℕ → Orientation
 
--- ARMED: whether the command before lets the next one write, and behind which record: a search of its CCHHR
--- or of its key that was equal, or a record just formatted (count-key-data devices)
+-- ARMED: whether the command before lets the next one write, and after which record: a search of its CCHHR or of its
+-- key that was equal, or a record just formatted (count-key-data devices)
 pub data Armed : Type 0 where
   unarmed : Armed
   armed_by_id : ℕ → Armed
@@ -48,7 +48,7 @@ armed_of (by.Format spot) = armed_by_format spot.place
 abbrev pub access_of : Access → AccessState
 access_of a = record { mask = a.mask.0; orientation = orientation_of a.orientation; passes = a.passes; armed = armed_of a.armed }
 
--- the spots stand on the track
+-- the spots are on the track
 abbrev pub IsOriented : CodeOrientation → List Record → Type 0
 IsOriented at.Index records = ⊤
 IsOriented (at.Count spot) records = IsSpot records spot

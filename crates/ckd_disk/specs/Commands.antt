@@ -26,7 +26,7 @@ pub record Written : Type 0 where
   pub access : AccessState
   pub track : TrackState
 
--- the same, as the code has it
+-- the answer of a command, made of the parts that the code has
 abbrev pub answer_of : Acted → Access → List ℕ → Answer
 answer_of acted access bytes = record { acted = acted; access = access_of access; bytes = bytes }
 
@@ -139,7 +139,7 @@ read_count_key_and_data track access = read_part packed track access (next_recor
 
 -- ---- writes
 
--- the record that may be written on, or behind which a record may be written
+-- the record that may be written, or after which a record may be written
 abbrev pub armed_for_data : Armed → Option ℕ
 armed_for_data unarmed = None
 armed_for_data (armed_by_id place) = Some place

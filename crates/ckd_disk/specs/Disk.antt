@@ -28,8 +28,8 @@ use Rattle.ckd_disk.specs.Commands.{Answer, Written, left, checked, no_operation
 use Rattle.ckd_disk.specs.Commands.{read_data, read_key_and_data, read_count_key_and_data, write_data, write_key_and_data}
 use Rattle.ckd_disk.specs.Commands.{write_count_key_and_data}
 
--- A DISK: the tracks stand in the order of their numbers, cylinder * heads + head; `track` is the number of the
--- one under the heads
+-- A DISK: the tracks are in the order of their numbers, cylinder * heads + head; `track` is the number of the one under
+-- the heads
 pub record DiskState : Type 0 where
   pub cylinders : ℕ
   pub heads : ℕ
@@ -38,7 +38,7 @@ pub record DiskState : Type 0 where
   pub access : AccessState
   pub ordinals : Ordinals
 
--- the same, as the code has it
+-- the state of a disk, made of the parts that the code has
 abbrev pub disk_state : ℕ → ℕ → List TrackState → ℕ → Access → Ordinals → DiskState
 disk_state cylinders heads tracks track access ordinals =
     record { cylinders = cylinders; heads = heads; tracks = tracks; track = track; access = access_of access; ordinals = ordinals }

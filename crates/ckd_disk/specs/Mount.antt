@@ -56,7 +56,7 @@ is_initial g r =
     nat_lt r.cylinder g.cylinders && nat_lt r.head g.heads && nat_le 1 r.number
     && nat_le (length r.key.items) 255 && nat_le (length r.content.items) 65_535
 
--- what stands on a record's track fits the track
+-- the records of a record's track fit the track
 abbrev pub has_room : Geometry → List InitialRecord → InitialRecord → Bool
 has_room g records r = nat_le (bytes_of (opening_records g records (track_of_initial g r))) g.track_bytes
 

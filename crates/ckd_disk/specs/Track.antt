@@ -52,6 +52,6 @@ with_key_and_content track place given =
 abbrev pub with_record_behind : TrackState → ℕ → Record → TrackState
 with_record_behind track place r = record { size = track.size; records = take (place + 1) track.records ++ r ∷ [] }
 
--- the track with a record behind the last one
+-- the track with a record after the last one
 abbrev pub with_last : TrackState → Record → TrackState
 with_last track r = record { size = track.size; records = track.records ++ r ∷ [] }

@@ -3,7 +3,7 @@ use Rattle.std.specs.Prelude.{ℕ, ◌+◌, Option, Some, None, nat_lt, if◌the
 use Rattle.ckd_disk.specs.declared.walk.Reached.{Reached as CodeReached}
 use Rattle.ckd_disk.specs.Access.{Orientation, at_index, at_count, at_key, at_end}
 
--- the record that a walk comes to, and how many index points it goes by
+-- the record at which a walk ends, and the number of index points that it passes
 pub record Reached : Type 0 where
   pub place : ℕ
   pub passed : ℕ
@@ -18,7 +18,7 @@ gone_by (at_count place) = Some place
 gone_by (at_key place) = Some place
 gone_by (at_end place) = Some place
 
--- NEXT: the record behind the one that went by. Behind the last one the index point goes by, and R0 comes next
+-- NEXT: the record after the one that went by. After the last one the index point goes by, and R0 comes next
 abbrev pub next_behind : Option ℕ → ℕ → Reached
 next_behind None count = record { place = 0; passed = 0 }
 next_behind (Some place) count = if nat_lt (place + 1) count then record { place = place + 1; passed = 0 }
@@ -27,7 +27,7 @@ next_behind (Some place) count = if nat_lt (place + 1) count then record { place
 abbrev pub next : Orientation → ℕ → Reached
 next orientation count = next_behind (gone_by orientation) count
 
--- NEXT EXCLUDING R0: the same, where R0 goes by too. There is none where R0 stands alone
+-- NEXT EXCLUDING R0: the next record that is not R0, which goes by too. There is none if the track has only R0
 abbrev pub next_record_behind : Option ℕ → ℕ → Option Reached
 next_record_behind None count = if nat_lt 1 count then Some (record { place = 1; passed = 0 }) else None
 next_record_behind (Some place) count =

@@ -1,12 +1,12 @@
-//! Where the heads stand, and what a command leaves for the next one.
+//! The position of the heads, and what a command leaves for the next one.
 
 ghost use Rattle.std.specs.Prelude.{◌≡◌};
 
 use crate::track::Spot;
 use io_images::FileMask;
 
-/// Where the heads stand on a track: at the index point, or behind the count area, the key area or the
-/// whole of a record.
+/// The position of the heads on a track: at the index point, or after the count area, the key area or the end of a
+/// record.
 #[derive(Clone, Copy, Debug, PartialEq, Eq)]
 pub enum Orientation {
     Index,
@@ -15,7 +15,7 @@ pub enum Orientation {
     End(Spot),
 }
 
-/// Which record the command before lets the next one write on or behind.
+/// The record on which, or after which, the command before lets the next one write.
 #[derive(Clone, Copy, Debug, PartialEq, Eq)]
 pub enum Armed {
     No,

@@ -65,8 +65,8 @@ impl Disk {
     /// Errors, in this order:
     ///
     /// - `BadGeometry`: a number of the geometry is outside its range.
-    /// - `BadMedium`: a record lies outside the geometry, is R0, has a key over 255 bytes or a data area over 65,535,
-    ///   or does not fit its track; or the faults are no fault script.
+    /// - `BadMedium`: a record is outside the geometry, is R0, has a key over 255 bytes or a data area over 65,535, or
+    ///   does not fit its track. Or the faults are no fault script.
     /// - `NoMemory`.
     pub fn mount(
         alloc: Global,
@@ -355,7 +355,7 @@ impl Device for Disk {
     ghost lawful = { disk_lawful };
 }
 
-/// The same tracks.
+/// Copies the tracks of a disk, in their order. Fails only if memory runs out.
 fn copy_tracks(tracks: &Vec<Track>) -> Result<Vec<Track>, AllocError>
     ensures { IfOk result (λ copies. copies.items ≡ tracks.now.items) }
 {

@@ -1,8 +1,8 @@
 //! A disk of count-key-data records: its mounting, its commands, and a reader of its medium.
 //!
-//! A track is seen as the list of its records, R0 first; in the code it is one image of the track's size with
-//! the records packed in order, so no command takes memory. A place on a track is kept beside its offset, so a
-//! command costs time in the bytes that it moves.
+//! In contracts a track is the list of its records, R0 first. In the code it is one image of the track's size, with the
+//! records packed in order, so no command takes memory. A place on a track is kept beside its offset, so a command
+//! costs time in the bytes that it moves.
 //!
 //! A volume is a disk that is recorded track by track, as from an image.
 //!

@@ -85,7 +85,7 @@ fn id_at(cylinder: u16, head: u16, number: u8) -> [u8; 5]
     [cylinder_high, cylinder_low, head_high, head_low, number]
 }
 
-/// The number of the track that a record stands on.
+/// The number of the track of a record.
 fn track_of(geometry: Geometry, initial: &InitialRecord) -> u64
     requires geometry { IsGeometry geometry }
     requires initial { IsInitial geometry initial.now }
@@ -105,7 +105,7 @@ fn size_of(initial: &InitialRecord) -> usize
     8 + initial.key.len() + initial.content.len()
 }
 
-/// How many bytes of a track a record takes: none where it stands on another.
+/// How many bytes of a track a record takes: none if it is on another track.
 fn bytes_on(geometry: Geometry, initial: &InitialRecord, track: u64) -> u64
     requires geometry { IsGeometry geometry }
     requires initial { IsInitial geometry initial.now }
@@ -119,7 +119,7 @@ fn bytes_on(geometry: Geometry, initial: &InitialRecord, track: u64) -> u64
     }
 }
 
-/// Whether what stands on a track at first fits the track.
+/// Whether the records of a track at first fit the track.
 fn fits_on(geometry: Geometry, records: &[InitialRecord], track: u64) -> bool
     requires geometry { IsGeometry geometry }
     requires each { All (IsInitial geometry) records.now }
@@ -135,8 +135,8 @@ fn fits_on(geometry: Geometry, records: &[InitialRecord], track: u64) -> bool
     true
 }
 
-/// Whether each record's track has room for what stands on it. Takes no memory, and time in the square of
-/// the number of records: it is asked only where there was no memory for the tracks.
+/// Whether each record's track has room for its records. Takes no memory, and time in the square of the number of
+/// records: it is called only if there was no memory for the tracks.
 pub fn have_room(geometry: Geometry, records: &[InitialRecord]) -> bool
     requires geometry { IsGeometry geometry }
     requires each { All (IsInitial geometry) records.now }

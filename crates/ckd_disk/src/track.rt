@@ -72,7 +72,7 @@ impl Track {
         })
     }
 
-    /// The same track.
+    /// Copies the track and its records. Fails only if memory runs out.
     pub fn copy(&self) -> Result<Self, AllocError>
         ensures { IfOk result (λ t. t ≡ self.now) }
     {
@@ -90,7 +90,7 @@ impl Track {
         len <= self.bytes.len() - self.used
     }
 
-    /// Adds a record behind the last one.
+    /// Adds a record after the last one.
     pub fn append(&mut self, id: &[u8; 5], key: &[u8], content: &[u8])
         requires key { length key.now < 256 }
         requires content { length content.now < 2 ^ 16 }
@@ -144,7 +144,7 @@ impl Track {
         }
     }
 
-    /// The record behind a record, unless that is the last one.
+    /// The record after a record, unless that is the last one.
     pub fn behind(&self, spot: Spot) -> Option<Spot>
         requires { IsSpot self.now.records spot }
         ensures { MatchOption result (length self.now.records ≡ spot.place + 1) (IsBehind self.now.records spot) }

@@ -8,7 +8,7 @@ ghost use Rattle.ckd_disk.specs.Walk.{reached_of, next, next_record, key_record,
 use crate::access::Orientation;
 use crate::track::{Spot, Track};
 
-/// The record that a walk comes to, and how many index points it goes by.
+/// The record at which a walk ends, and the number of index points that it passes.
 #[derive(Clone, Copy, Debug, PartialEq, Eq)]
 pub struct Reached {
     pub spot: Spot,

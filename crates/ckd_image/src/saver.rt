@@ -19,9 +19,9 @@ use std::io::Write;
 /// How many bytes of a track in an image its records never take: the home address and the end mark.
 const LEAST_BESIDE: usize = 13;
 
-/// Writes the image of a disk. A track whose records are those of the disk as it was mounted has the flag and the bytes
-/// after its end mark that are kept; any other has flag 00 and zeros. So a disk that was not written on since its image
-/// was read gives the same bytes.
+/// Writes the image of a disk. A track whose records are those of the disk as mounted has its kept flag, and the kept
+/// bytes after its end mark. Any other has flag 00 and zeros. So a disk that was not written on since its image was
+/// read gives the same bytes.
 ///
 /// What was written is an image, and loads to the volume that the disk is now.
 ///

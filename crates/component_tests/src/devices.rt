@@ -1,4 +1,4 @@
-//! What the tests of devices share: storage, a command and faults.
+//! What the tests of devices share: storage, commands and faults.
 
 use device_port::{Acted, Chain, Device, Fault, FaultScript, Flow, Segment, is_script};
 use io_area::Area;
@@ -36,6 +36,24 @@ pub fn act<D: Device>(
     device.act(command, &chain, area)
 }
 
+/// A command, its data address and count; then its unit status, its sense, and how many bytes it wants.
+pub type Row = (u8, u32, u16, u8, u16, u32);
+
+/// Asserts that each command ends as its row says, with no subchannel status.
+pub fn expect_acts<D: Device>(rt: &impl Abort, device: &mut D, area: &mut Area, rows: &[Row]) {
+    for (at, row) in rows.iter().enumerate() {
+        let (command, address, count, unit, sense, want) = *row;
+        let wanted = Acted {
+            unit: UnitStatus::new(unit),
+            sub: SubStatus::new(0),
+            sense,
+            want,
+        };
+        let acted = act(rt, device, area, command, address, count);
+        assert_eq!(rt; acted, wanted, "row {at}: {command:02X}");
+    }
+}
+
 /// A unit check at the command with this number.
 pub fn unit_check(ordinal: u64, sense: u16) -> Fault {
     Fault {
@@ -46,7 +64,7 @@ pub fn unit_check(ordinal: u64, sense: u16) -> Fault {
     }
 }
 
-/// A channel-data check at a command that no test comes to.
+/// A channel-data check at a command that no test reaches.
 pub fn late_fault() -> Fault {
     Fault {
         ordinal: 1000,

@@ -1,13 +1,13 @@
 //! A disk as a device: a seek under a file mask that no DCB has, and mounting and running without memory. What its
 //! commands do is in tests/cases/histories/disks.steps.
 
-use crate::devices::{act, holds, late_fault};
+use crate::devices::{Row, act, expect_acts, holds, late_fault};
 use crate::memory::TWICE;
-use crate::subchannels::ssch;
+use crate::subchannels::{expect_status, ssch};
 use ckd_disk::{Disk, Geometry, InitialRecord};
 use device_port::{Acted, Device, MountError};
 use io_area::Area;
-use io_images::{Seek, SubStatus, UnitStatus};
+use io_images::{Address, Seek, SubStatus, UnitStatus};
 use std::alloc::{AllocError, Global};
 use std::process::Abort;
 use std::test::Fail;
@@ -103,7 +103,7 @@ fn overfull(alloc: Global) -> Result<Option<MountError>, AllocError> {
 /// Record 0 as mounting makes it, and the record of the disk of two tracks.
 const MOUNTED: [(u8, &[u8], &[u8]); 2] = [(0, &[], &[0; 8]), (1, &[0xD1], &[0xC1])];
 
-/// A disk of two tracks with these records, and a fault that no command comes to.
+/// A disk of two tracks with these records, and a fault that no command reaches.
 fn two_tracks(alloc: Global, records: &[InitialRecord]) -> Result<Disk, MountError> {
     Disk::mount(alloc, geometry(1, 2, 40), records, &[late_fault()])
 }
@@ -144,25 +144,90 @@ fn mount_without_memory(rt: HostRuntime) -> Result<(), Fail> {
     Ok(())
 }
 
-/// A program from X'1000': it searches for R1 by its ID, at X'1018', and reads four bytes to X'1020'.
-const SEARCH_AND_READ: [u8; 36] = [
-    0x31, 0, 0x10, 0x18, 0x40, 0, 0, 5, 0x08, 0, 0x10, 0, 0, 0, 0, 0, 0x06, 0, 0x10, 0x20, 0, 0, 0,
-    4, 0, 0, 0, 0, 1, 0, 0, 0, 0, 0, 0, 0,
+/// A seek address at X'1000', the ID of R1 at X'1008', and R2 with its count area at X'1010'. For R1: its key at X'1020',
+/// data at X'1028', another key and data at X'1030'. What is read goes to X'1040' and after.
+const DATA: [u8; 96] = [
+    0, 0, 0, 0, 0, 0, 0, 0, 0, 0, 0, 0, 1, 0, 0, 0, 0, 0, 0, 0, 2, 1, 0, 2, 0xD2, 0xE1, 0xE2, 0, 0,
+    0, 0, 0, 0xD1, 0, 0, 0, 0, 0, 0, 0, 0xF1, 0xF2, 0xF3, 0xF4, 0, 0, 0, 0, 0xD3, 0xA1, 0xA2, 0xA3,
+    0xA4, 0, 0, 0, 0, 0, 0, 0, 0, 0, 0, 0, 0, 0, 0, 0, 0, 0, 0, 0, 0, 0, 0, 0, 0, 0, 0, 0, 0, 0, 0,
+    0, 0, 0, 0, 0, 0, 0, 0, 0, 0, 0, 0, 0,
 ];
 
-/// Once a disk is mounted and there is storage, a channel program on it takes no memory. Run it with all allocations made
-/// to fail from each one on: after it has printed that the disk is mounted, none is left to fail.
+/// Every command. A key that is found lets data be written, an ID that is found key and data, or the next record. The
+/// second search for the ID begins at R0, as the first one goes past the index point.
+const COMMANDS: [Row; 20] = [
+    (0x03, 0x1040, 1, 0x0C, 0, 0),
+    (0x04, 0x1040, 2, 0x0C, 0, 2),
+    (0x07, 0x1000, 6, 0x0C, 0, 6),
+    (0x1F, 0x1040, 1, 0x0E, 0x8000, 0),
+    (0x12, 0x1040, 8, 0x0C, 0, 8),
+    (0x29, 0x1020, 1, 0x4C, 0, 1),
+    (0x05, 0x1028, 4, 0x0C, 0, 4),
+    (0x31, 0x1008, 5, 0x0C, 0, 5),
+    (0x31, 0x1008, 5, 0x4C, 0, 5),
+    (0x06, 0x1040, 4, 0x0C, 0, 4),
+    (0x31, 0x1008, 5, 0x0C, 0, 5),
+    (0x31, 0x1008, 5, 0x4C, 0, 5),
+    (0x0D, 0x1030, 5, 0x0C, 0, 5),
+    (0x31, 0x1008, 5, 0x0C, 0, 5),
+    (0x31, 0x1008, 5, 0x4C, 0, 5),
+    (0x1D, 0x1010, 11, 0x0C, 0, 11),
+    (0x0E, 0x1044, 5, 0x0C, 0, 5),
+    (0x06, 0x1049, 2, 0x0C, 0, 2),
+    (0x1E, 0x1050, 13, 0x0C, 0, 13),
+    (0x02, 0x1040, 1, 0x0E, 0x8000, 0),
+];
+
+/// What they read: the data that was written first, key and data of R1, the data of R2, and R1.
+const READ: [u8; 29] = [
+    0xF1, 0xF2, 0xF3, 0xF4, 0xD3, 0xA1, 0xA2, 0xA3, 0xA4, 0xE1, 0xE2, 0, 0, 0, 0, 0, 0, 0, 0, 0, 1,
+    1, 0, 4, 0xD3, 0xA1, 0xA2, 0xA3, 0xA4,
+];
+
+/// The records after them, which fill the track.
+const WRITTEN: [(u8, &[u8], &[u8]); 3] = [
+    (0, &[], &[0; 8]),
+    (1, &[0xD3], &[0xA1, 0xA2, 0xA3, 0xA4]),
+    (2, &[0xD2], &[0xE1, 0xE2]),
+];
+
+/// Once a disk is mounted and there is storage, no command takes memory. Run it with all allocations made to fail from
+/// each one on: after it has printed that the disk is mounted, none is left to fail.
+#[test]
+fn commands_without_memory(rt: HostRuntime) -> Result<(), Fail> {
+    let records = record(rt.alloc(), 0, &[0xD1], &[0xC1, 0xC2, 0xC3, 0xC4])?;
+    let mut disk = Disk::mount(rt.alloc(), geometry(1, 1, 40), &records, &[])?;
+    let mut area = Area::new(rt.alloc(), 0x1000, &DATA)?;
+    println!(rt; "mounted")?;
+    let seek = Seek::default();
+    assert!(rt; disk.fits(&seek));
+    disk.prefix(&seek, 0xC0);
+    expect_acts(&rt, &mut disk, &mut area, &COMMANDS);
+    assert!(rt; holds(&area, 0x1040, &READ));
+    expect_records(&rt, &disk, &WRITTEN);
+    Ok(())
+}
+
+/// A program at X'1030' searches for R1 by its ID, at X'1050', and reads four bytes to X'1060'.
+const SEARCH_AND_READ: [u8; 52] = [
+    0x31, 0, 0x10, 0x50, 0x40, 0, 0, 5, 0x08, 0, 0x10, 0x30, 0, 0, 0, 0, 0x06, 0, 0x10, 0x60, 0, 0,
+    0, 4, 0, 0, 0, 0, 0, 0, 0, 0, 0, 0, 0, 0, 1, 0, 0, 0, 0, 0, 0, 0, 0, 0, 0, 0, 0, 0, 0, 0,
+];
+
+/// Once a disk is mounted and there is storage, a channel program on it takes no memory. Run it as
+/// `commands_without_memory`.
 #[test]
 fn run_without_memory(rt: HostRuntime) -> Result<(), Fail> {
     let data = [0xC1, 0xC2, 0xC3, 0xC4];
     let records = record(rt.alloc(), 0, &[], &data)?;
     let disk = Disk::mount(rt.alloc(), geometry(1, 1, 40), &records, &[])?;
-    let mut area = Area::new(rt.alloc(), 0x1000, &SEARCH_AND_READ)?;
+    let mut area = Area::new(rt.alloc(), 0x1030, &SEARCH_AND_READ)?;
     let mut channel = Subchannel::new(disk, 0);
     println!(rt; "mounted")?;
-    let code = ssch(&mut channel);
+    let code = ssch(&mut channel, Address::new(0x1030));
     let ran = channel.run(&mut area, 16).is_some();
     assert!(rt; code == 0 && ran && channel.pending());
-    assert!(rt; holds(&area, 0x1020, &data));
+    expect_status(&rt, &mut channel, 0x1048, 0x0C, 0);
+    assert!(rt; holds(&area, 0x1060, &data));
     Ok(())
 }

@@ -17,12 +17,12 @@ fn tape(rt: &HostRuntime) -> Result<ToyBlock, Fail> {
     Ok(block)
 }
 
-/// SSCH at X'1000' with a seek address of zeros, where the device takes it.
-pub fn ssch<D: Device>(channel: &mut Subchannel<D>) -> u8 {
+/// SSCH at an address with a seek address of zeros, where the device takes it.
+pub fn ssch<D: Device>(channel: &mut Subchannel<D>, start: Address) -> u8 {
     let seek = Seek::default();
     match channel.device() {
         Some(device) if !device.fits(&seek) => 9,
-        _ => channel.ssch(Address::new(0x1000), &seek, 0),
+        _ => channel.ssch(start, &seek, 0),
     }
 }
 
@@ -38,7 +38,7 @@ enum Instruction {
 /// The condition code of an instruction; 0 for a run of one command where a program is in progress, else 9.
 fn code(channel: &mut Subchannel<ToyBlock>, area: &mut Area, instruction: Instruction) -> u8 {
     match instruction {
-        Instruction::Ssch => ssch(channel),
+        Instruction::Ssch => ssch(channel, Address::new(0x1000)),
         Instruction::Tsch => channel.tsch().0,
         Instruction::Hsch => channel.hsch(),
         Instruction::Run => match channel.run(area, 1) {
@@ -65,9 +65,9 @@ fn expect_codes(
 }
 
 /// Asserts that TSCH gives a status of this address, unit status and residual count, with no sense.
-fn expect_status(
+pub fn expect_status<D: Device>(
     rt: &impl Abort,
-    channel: &mut Subchannel<ToyBlock>,
+    channel: &mut Subchannel<D>,
     address: u32,
     unit: u8,
     residual: u16,

@@ -1,8 +1,10 @@
-//! A tape as a device: mounting and recording without memory. What its commands do is in tests/cases/histories/tapes.steps.
+//! A tape as a device: mounting, recording and commands without memory. What its commands do is in
+//! tests/cases/histories/tapes.steps.
 
-use crate::devices::late_fault;
+use crate::devices::{Row, expect_acts, holds, late_fault};
 use crate::memory::TWICE;
 use device_port::{Device, MountError};
+use io_area::Area;
 use std::alloc::{AllocError, Global};
 use std::process::Abort;
 use std::test::Fail;
@@ -36,12 +38,12 @@ pub fn expect_items(rt: &impl Abort, tape: &Tape, expected: &[&[u8]]) {
     assert!(rt; items.next().is_none());
 }
 
-/// A tape of the most bytes with these items, and a fault that no command comes to.
+/// A tape of the most bytes with these items, and a fault that no command reaches.
 fn longest(alloc: Global, items: &[InitialItem]) -> Result<Tape, MountError> {
     Tape::mount(alloc, items, 16_777_216, &[late_fault()])
 }
 
-/// Mounts a recording with a fault that no command comes to, once more if memory runs out.
+/// Mounts a recording with a fault that no command reaches, once more if memory runs out.
 pub fn mounted(rt: &impl Abort, alloc: Global, recording: Recording) -> Option<Tape> {
     match recording.mount(alloc, &[late_fault()]) {
         Ok(tape) => Some(tape),
@@ -107,5 +109,42 @@ fn record_without_memory(rt: HostRuntime) -> Result<(), Fail> {
     assert_eq!(rt; tape.used(), 9);
     let tape = mounted(&rt, rt.alloc(), tape).ok_or(TWICE)?;
     expect_items(&rt, &tape, &TWO_ITEMS);
+    Ok(())
+}
+
+/// Every command: a block of three bytes, a tape mark and a block of two are written, read backward from X'1012' on, and
+/// passed by in both directions.
+const COMMANDS: [Row; 17] = [
+    (0x03, 0x1010, 1, 0x0C, 0, 0),
+    (0x04, 0x1010, 2, 0x0C, 0, 2),
+    (0x01, 0x1000, 3, 0x0C, 0, 3),
+    (0x1F, 0x1000, 1, 0x0C, 0, 0),
+    (0x01, 0x1003, 2, 0x0C, 0, 2),
+    (0x27, 0x1000, 1, 0x0C, 0, 0),
+    (0x0C, 0x1012, 3, 0x0D, 0, 0),
+    (0x0C, 0x1012, 3, 0x0C, 0, 3),
+    (0x0C, 0x1012, 3, 0x0E, 0x8000, 0),
+    (0x3F, 0x1000, 1, 0x0C, 0, 0),
+    (0x02, 0x1013, 2, 0x0C, 0, 2),
+    (0x02, 0x1013, 2, 0x0E, 0x1000, 0),
+    (0x2F, 0x1000, 1, 0x0C, 0, 0),
+    (0x37, 0x1000, 1, 0x0D, 0, 0),
+    (0x07, 0x1000, 1, 0x0C, 0, 0),
+    (0x27, 0x1000, 1, 0x0E, 0x8000, 0),
+    (0x05, 0x1000, 1, 0x0E, 0x8000, 0),
+];
+
+/// Once a tape is mounted and there is storage, no command takes memory. Run it with all allocations made to fail from
+/// each one on: after it has printed that the tape is mounted, none is left to fail.
+#[test]
+fn commands_without_memory(rt: HostRuntime) -> Result<(), Fail> {
+    let mut tape = Tape::mount(rt.alloc(), &[], 17, &[])?;
+    let mut data = [0; 24];
+    data[..5].copy_from_slice(&[0xA1, 0xA2, 0xA3, 0xB1, 0xB2]);
+    let mut area = Area::new(rt.alloc(), 0x1000, &data)?;
+    println!(rt; "mounted")?;
+    expect_acts(&rt, &mut tape, &mut area, &COMMANDS);
+    assert!(rt; holds(&area, 0x1010, &[0xA1, 0xA2, 0xA3, 0xB1, 0xB2]));
+    expect_items(&rt, &tape, &[&[0xA1, 0xA2, 0xA3], &[], &[0xB1, 0xB2]]);
     Ok(())
 }

@@ -37,6 +37,6 @@ sense_bytes = 0 ∷ 0 ∷ []
 abbrev pub sense_ended : Acted
 sense_ended = normal_end (length sense_bytes)
 
--- COMMAND REJECT: a code that is not listed for a device, or a command that it does not take where it stands
+-- COMMAND REJECT: a code that is not listed for a device, or a command that it does not take at its position
 abbrev pub rejected : Acted
 rejected = unit_check command_reject

@@ -45,7 +45,7 @@ stored (s ∷ ss) bytes m = stored ss (drop s.count bytes) (if s.skip then m els
 abbrev pub with_bytes_down : Storage → ℕ → List ℕ → Storage
 with_bytes_down m address bytes = with_bytes m (address + 1 - length bytes) (reverse bytes)
 
--- the same at falling addresses
+-- storage after bytes were stored in the parts of a chain at falling addresses
 abbrev pub stored_back : List Segment → List ℕ → Storage → Storage
 stored_back [] bytes m = m
 stored_back (s ∷ ss) bytes m = stored_back ss (drop s.count bytes) (if s.skip then m else with_bytes_down m s.address (take s.count bytes))

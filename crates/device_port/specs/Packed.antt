@@ -1,4 +1,4 @@
--- Items packed one behind the other in a buffer, whatever they are: a medium's records, blocks or marks (profile).
+-- Items packed one after the other in a buffer, whatever they are: a medium's records, blocks or marks (profile).
 use Rattle.std.specs.Prelude.{◌≡◌, ℕ, zero, suc, ◌≤◌, List, [], ◌∷◌, ◌++◌, length, take, drop}
 use Rattle.std.specs.List.{flat_map, AllByRecursion}
 
@@ -14,7 +14,7 @@ pub record ReadsBack {X : Type 0} (s : Spelling X) : Type 0 where
   pub item : (x : X) (rest : List ℕ) → s.Fits x → s.item_at (s.packed x ++ rest) ≡ x
   pub size : (x : X) (rest : List ℕ) → s.Fits x → s.size_at (s.packed x ++ rest) ≡ length (s.packed x)
 
--- the bytes of items, one behind the other
+-- the bytes of items, one after the other
 abbrev pub image_of : {X : Type 0} → Spelling X → List X → List ℕ
 image_of s items = flat_map s.packed items
 

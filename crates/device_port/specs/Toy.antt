@@ -63,7 +63,7 @@ toy_act_by None d command given = toy_command d command given
 abbrev pub toy_act : ToyBlock → ℕ → List ℕ → Outcome ToyBlock
 toy_act d command given = toy_act_by (fault_met d.ordinals) (record d { ordinals = counted d.ordinals }) command given
 
--- one track where it stands for a disk
+-- one track if it stands in for a disk
 abbrev pub tracks_of : Kind → ℕ
 tracks_of Disk = 1
 tracks_of Tape = 0

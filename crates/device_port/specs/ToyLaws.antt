@@ -42,7 +42,7 @@ toy_kind None d command given =
 toy_stays : (d : ToyBlock) (command : ℕ) (given : List ℕ) → (toy_act d command given).device.kind ≡ d.kind
 toy_stays d command given = toy_kind (fault_met d.ordinals) (record d { ordinals = counted d.ordinals }) command given
 
--- only where it stands for a disk has it a track
+-- it has a track only if it stands in for a disk
 off_disk : (kind : Kind) → kind ≢ Disk → tracks_of kind ≡ 0
 off_disk Disk off = absurd (off refl)
 off_disk Tape off = refl

@@ -93,7 +93,7 @@ impl Acted {
         Self::normal_end(SENSE_BYTES.len() as u32)
     }
 
-    /// The end of a command that a device does not have, or does not take where it stands.
+    /// The end of a command that a device does not have, or does not take at its position.
     pub fn rejected() -> Self
         ensures { result ≡ rejected }
     {

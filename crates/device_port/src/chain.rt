@@ -9,8 +9,8 @@ use crate::moves::{store, store_back};
 use io_area::Area;
 use std::marker::Model;
 
-/// The most parts that the data of a command has: 16 CCWs of 33 parts, since a count of 65,535 bytes
-/// from within a block of 2,048 takes 33 words of an address list.
+/// The most parts that the data of a command has: 16 CCWs of 33 parts. A count of 65,535 bytes from within a block of
+/// 2,048 takes 33 words of an address list.
 pub const MOST_SEGMENTS: usize = 528;
 
 /// A part of the data of a command: the address of its first byte to be moved, the number of bytes, and

@@ -51,7 +51,7 @@ pub trait Device: Drop {
         ensures area { area.new ≡ (effect meaning self.old command chain.now area.old).area }
         ensures place { SamePlace area.old area.new };
 
-    /// The same device with its medium.
+    /// Copies the device with its medium and its faults still to come. Fails only if memory runs out.
     fn copy(&self) -> Result<Self, AllocError>
         ensures { IfOk result (λ d. d ≡ self.now) };
 

@@ -58,7 +58,7 @@ fn is_channel_check(sub: SubStatus) -> bool
         || sub == SubStatus::INTERFACE_CONTROL_CHECK
 }
 
-/// Whether the faults are such that a device may show and their numbers rise from at least 1.
+/// Whether a device may show these faults, and their numbers rise from at least 1.
 pub fn is_script(faults: &[Fault]) -> bool
     ensures { result ≡ is_script faults.now }
 {
@@ -107,7 +107,7 @@ impl FaultScript {
         })
     }
 
-    /// Counts a command where the next fault is known to be ahead; elsewhere it answers false and counts nothing.
+    /// Counts a command if the next fault is known to come later. Else it returns false and counts nothing.
     #[inline(always)]
     pub fn pass(&mut self) -> bool
         ensures clear { IsTrue result → fault_met self.old ≡ None }
@@ -132,7 +132,8 @@ impl FaultScript {
         self.count_in_script()
     }
 
-    /// The same by a look into the script, which also tells how far the next commands are clear of faults.
+    /// Counts a command by a look into the script, and returns the fault that it meets. Notes how many of the next
+    /// commands are clear of faults.
     #[inline(never)]
     fn count_in_script(&mut self) -> Option<Fault>
         ensures fault { result ≡ fault_met self.old }
@@ -160,7 +161,7 @@ impl FaultScript {
         Some(self.done)
     }
 
-    /// The same script at the same place.
+    /// Copies the fault script and its place: how many commands were counted. Fails only if memory runs out.
     pub fn copy(&self) -> Result<Self, AllocError>
         ensures { IfOk result (λ s. s ≡ self.now) }
     {
@@ -173,7 +174,7 @@ impl FaultScript {
     }
 }
 
-/// The fault of the next command, where the faults before `next` are passed.
+/// The fault of the next command. Assumes that the faults before `next` are passed.
 fn fault_met(faults: &[Fault], next: usize, done: u64) -> Option<Fault>
     requires { Follows faults.now next done }
     ensures met { result ≡ fault_met (record { script = faults.now; done = done }) }
@@ -190,7 +191,7 @@ fn fault_met(faults: &[Fault], next: usize, done: u64) -> Option<Fault>
     }
 }
 
-/// The place of the next fault behind a command that met this one, or none.
+/// The place of the next fault after a command that met this one, or did not.
 fn place_behind(faults: &[Fault], next: usize, done: u64, met: &Option<Fault>) -> usize
     requires follows { Follows faults.now next done }
     requires met { met.now ≡ fault_met (record { script = faults.now; done = done }) }
@@ -200,7 +201,7 @@ fn place_behind(faults: &[Fault], next: usize, done: u64, met: &Option<Fault>) -
     if met.is_some() { next + 1 } else { next }
 }
 
-/// How many commands can be done until the next one may meet a fault, where the faults before `next` are passed.
+/// How many commands can be done until the next one may meet a fault. Assumes that the faults before `next` are passed.
 fn clear_until(faults: &[Fault], next: usize, done: u64) -> u64
     requires { Follows faults.now next done }
     ensures { IsClear faults.now done result }

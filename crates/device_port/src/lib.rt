@@ -1,5 +1,5 @@
-//! The port between a channel and a device: the commands on which a device acts, the bytes that they move between a
-//! program's data areas and the device, and the faults that a device shows.
+//! The port between a channel and a device: the commands of a device, the bytes that they move between it and a
+//! program's data areas, and its faults.
 //!
 //! Tests: component_tests (`devices`), tests/cases/histories/tapes.steps.
 #![tactic(auto)]

@@ -27,7 +27,7 @@ pub struct Room {
     pub held: u32,
 }
 
-/// The same, as a site takes it.
+/// The room of `excp_room` as a site takes it.
 pub(crate) fn room_of(room: &Room) -> excp_site::Room
     ensures { result ≡ record { in_flight = room.now.in_flight; held = room.now.held } }
 {

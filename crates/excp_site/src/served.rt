@@ -17,6 +17,6 @@ pub enum ServedEnd {
     All,
     /// The post row of the next post's task is full.
     RowFull,
-    /// As many commands were done as were asked for.
+    /// The number of commands that the caller asked for was done.
     Commands,
 }

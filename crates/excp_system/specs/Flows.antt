@@ -15,7 +15,7 @@ use Rattle.fifo_row.specs.Lists.{of, Met}
 use Rattle.excp_system.specs.Sites.{RequestFact, NoFact, task_of, unit_of, for_task}
 
 module _ {D : Type 0} (meaning : Meaning D) where
-  -- where what arrived at the book is what was taken, then of each task what arrived and what is in flight is what it
+  -- if what arrived at the book is what was taken, then of each task what arrived and what is in flight is what it
   -- sent: while it has its seat, and after it was met
   abbrev pub IntakeFlows : Type 0
   IntakeFlows = (b : Book D) (items : List Piece) (views : List (View Piece)) (v w : View Piece) (pass : ℕ) →

@@ -45,7 +45,7 @@ module _ {D : Type 0} (meaning : Meaning D) (s : SiteRows) where
     pub named : value.name ≡ name
     pub of_task : value.name.task < s.tasks
 
-  -- what `deliver` answers: quiet where nothing is out, full where the post row of the task was
+  -- what `deliver` answers: quiet if nothing is out, full if the post row of the task was
   abbrev pub UnitDelivers : Locked D → Delivery → Locked D → Type 0
   UnitDelivers old delivery.Quiet new = (old.book.out ≡ []) × (new ≡ old)
   UnitDelivers old (delivery.Delivered name) new =

@@ -60,7 +60,7 @@ impl<'r, I: Item, F: Reach> Fan<'r, I, F> {
         end.sent_len()
     }
 
-    /// Sends an item into a row. It comes back only where the row was full at one moment of the call.
+    /// Sends an item into a row. It comes back only if the row was full at one moment of the call.
     pub(crate) fn send<R: Wait>(&mut self, rt: &R, k: u16, item: I) -> Result<(), Full<I>>
         requires row { k < length self.old.sent }
         requires number { I.from item ≡ self.old.number }
@@ -74,7 +74,7 @@ impl<'r, I: Item, F: Reach> Fan<'r, I, F> {
         end.send(rt, item)
     }
 
-    /// Puts the end of the next row behind the others.
+    /// Puts the end of the next row after the others.
     pub(crate) fn push(&mut self, end: Sender<'r, I>) -> Result<(), AllocError>
         requires { end ≡ end_of F.reached self.old.number (length self.old.sent) end.sent }
         ensures pushed { OnOk result (self.new ≡ record { number = self.old.number; sent = self.old.sent ++ end.entry.sent ∷ [] }) }

@@ -50,8 +50,8 @@ impl<'r, S: Site> IscTaker<'r, S> {
         self.isc
     }
 
-    /// The unit of the next notice, and none only where the row was empty at one moment of the call. It takes no memory
-    /// and no unit's lock.
+    /// Returns the unit of the next notice. Returns none only if the row was empty at one moment of the call. It takes
+    /// no memory and no unit's lock.
     pub(crate) fn next<R: Wait>(&mut self, rt: &R) -> Option<u16>
         ensures taken { IfSome result (λ unit. TakesNotice self.old unit self.new) }
         ensures of_unit { IfSome result (λ unit. unit < S.rows.units) }

@@ -1,8 +1,8 @@
 //! Units under locks, the rows between them and the tasks, and the workers that serve them.
 //!
-//! A request goes from its task's end of the unit's intake row into the unit's book, and what it was posted with goes
-//! from the book through the task's post row back. What lies under a unit's lock keeps that the book's arrivals are
-//! what was taken from the intake row, and that each task was sent what the book gave of its posted values.
+//! A request goes from its task through the unit's intake row into the unit's book. Its posted value goes back from the
+//! book through the task's post row. A unit's lock keeps two facts. The book's arrivals are what was taken from the
+//! intake row. Each task was sent what the book gave of its posted values.
 //!
 //! Tests: system_tests (`units`), tests/mutants/excp_system.
 #![tactic(auto)]

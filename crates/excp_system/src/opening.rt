@@ -24,8 +24,8 @@ pub(crate) fn new_fans<'r, I: Item, F: Reach>(
     Ok(fans)
 }
 
-/// Gives the fans the ends of all rows, and answers the rows' takers in order. Where there is no memory, some fans
-/// have their ends and some have not.
+/// Gives the fans the ends of all rows, and answers the rows' takers in order. If memory runs out, some fans have their
+/// ends and some do not.
 pub(crate) fn seat_rows<'r, I: Item, F: Reach>(
     alloc: Global,
     rows: &'r mut Vec<Row<I>>,

@@ -93,7 +93,7 @@ impl Rota {
         false
     }
 
-    /// Notes what a turn on a unit found. Only an idle unit comes to rest, and no other.
+    /// Notes what a turn on a unit found. Only an idle unit may rest after it.
     pub(crate) fn note(&mut self, unit: u16, turn: Turn)
         ensures busy { turn ≢ Turn.Idle → self.new ≡ self.old }
         ensures others { (other : ℕ) → other ≢ unit → rest_of self.new other ≡ rest_of self.old other }

@@ -2,8 +2,8 @@
 
 use std::marker::{Brand, PhantomData};
 
-/// The rows of one system. It has no calls. Code that makes a system is generic in it and is called with [`Brand`],
-/// so what comes back from a lock or a thread is known to be on that system's rows.
+/// The rows of one system. It has no calls. Code that makes a system is generic in it, and is called with [`Brand`]. So
+/// what comes back from a lock or a thread is on that system's rows.
 pub trait Site {
     ghost use Rattle.excp_system.specs.Sites.{SiteRows};
 

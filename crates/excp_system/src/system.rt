@@ -99,7 +99,9 @@ impl<'r, S: Site, D: Device> System<'r, S, D> {
         Ok(answers)
     }
 
-    /// The states of the units, in order of the locks. Where there is no memory the system is handed back.
+    /// The states of the units, in order of the locks.
+    ///
+    /// Error: out of memory. The system is handed back.
     pub fn into_units(self) -> Result<Vec<UnitState<'r, S, D>>, AllocFailed<System<'r, S, D>>>
         ensures units { IfOk result (λ units. vec_len units ≡ S.rows.units) }
         ensures handed_back { IfErr result (λ failed. failed.value ≡ self.entry) }

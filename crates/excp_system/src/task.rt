@@ -102,9 +102,10 @@ impl<'r, S: Site> Task<'r, S> {
         })
     }
 
-    /// Issues a request, whose name is the next to its unit (DFSMSdfp Advanced Services, EXCP). It comes back only
-    /// where the unit's row was full at one moment of the call, and then uses no number. It takes no memory and no
-    /// unit's lock.
+    /// Issues a request, whose name is the next to its unit (DFSMSdfp Advanced Services, EXCP). Never allocates, and
+    /// takes no unit's lock.
+    ///
+    /// Error: the unit's row was full at one moment of the call. The request is handed back, and uses no number.
     pub fn excp<R: Wait>(&mut self, rt: &R, request: Request) -> Result<(), Full<Request>>
         requires unit { request.unit < S.rows.units }
         requires name { request.name ≡ next_name self.old request.unit }
@@ -122,7 +123,7 @@ impl<'r, S: Site> Task<'r, S> {
         }
     }
 
-    /// Collects the next posted value, and none only where the row was empty at one moment of the call. It takes no
+    /// Collects the next posted value. Returns none only if the row was empty at one moment of the call. It takes no
     /// memory and no unit's lock.
     pub fn take_post<R: Wait>(&mut self, rt: &R) -> Option<Posted>
         ensures collected { IfSome result (λ value. TaskCollects self.old value self.new) }

@@ -139,8 +139,9 @@ impl<'r, S: Site, D: Device> UnitState<'r, S, D> {
         self.back.sent_len(task)
     }
 
-    /// Lets the first request of the intake row arrive at the book, if the book has room. Where there is no memory
-    /// for it, nothing is taken.
+    /// Lets the first request of the intake row arrive at the book, if the book has room.
+    ///
+    /// Error: out of memory. Nothing is taken then.
     pub fn take<R: Wait>(&mut self, rt: &R) -> Result<Intake, AllocError>
         ensures answer { IfOk result (λ answer. TakesIn D.meaning S.rows self.old answer self.new) }
         ensures err { OnErr result (self.new ≡ self.old) }

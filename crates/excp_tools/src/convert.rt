@@ -2,17 +2,18 @@
 
 use crate::describe::loaded;
 use crate::images::{failed, size_of};
-use crate::opened;
 use crate::rejected::{ReadScript, with_findings};
 use crate::saver::{Medium, said, written_beside};
 use crate::screen::Screen;
+use crate::script::plain_script_of;
 use crate::target::{Content, Output, Targets};
+use crate::{REJECTED, opened};
 use any_device::AnyDevice;
 use device_port::MountError;
 use job_mount::mounted;
 use job_options::Format;
 use job_report::{are_declarable, write_medium};
-use job_script::{FaultName, JobError, LIMIT, Medium as Declared, Script, UnitSetup, read_script};
+use job_script::{FaultName, JobError, LIMIT, Medium as Declared, Script, UnitSetup};
 use std::cell::Cell;
 use std::io;
 use std::io::{BufWriter, Read, Write};
@@ -146,17 +147,19 @@ fn image_of_script(
         Ok(file) => file,
         Err(status) => return Ok(status),
     };
-    let text = read_script(rt.alloc(), &mut file)?;
-    let done = make_image_of(rt, format, name, &text, output, targets);
+    let Some(read) = plain_script_of(rt, &mut file, &[], name)? else {
+        return Ok(REJECTED);
+    };
+    let done = make_image_of(rt, format, name, &read.script, output, targets);
     let script = ReadScript {
         name,
-        text: &text,
+        read: &read,
         loads: &[],
     };
     with_findings(rt, done, script)
 }
 
-/// Does so with the script of this text.
+/// Writes the image of the medium that the script of this text declares.
 fn make_image_of(
     rt: &HostRuntime,
     format: Format,

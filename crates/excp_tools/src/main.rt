@@ -43,6 +43,7 @@ use report::{ReportOrder, report};
 use run_options::Counts;
 use scenario::{StepOrder, step};
 use screen::Screen;
+use script::plain_script;
 use std::cell::Cell;
 use std::env;
 use std::fs::File;
@@ -58,11 +59,24 @@ const REJECTED: u8 = 1;
 /// The name of a script that is standard input.
 const STANDARD_INPUT: &str = "<stdin>";
 
+/// Where a script is read from.
+#[derive(Clone, Copy)]
+struct Origin<'a> {
+    name: &'a str,
+    /// Whether its lines may come one by one, each after the answer to the one before: it is no file of a disk.
+    is_dialog: bool,
+}
+
+const DIALOG: Origin<'static> = Origin {
+    name: STANDARD_INPUT,
+    is_dialog: true,
+};
+
 fn main(rt: HostRuntime) -> ExitCode {
     let status = match words::read(&rt) {
         Ok(Words::Script { order, file, media }) => match file {
             Some(file) => of_file(&rt, &rt, order, &media, &file),
-            None => carry_out(&rt, &rt, order, &media, &mut rt.stdin(), STANDARD_INPUT),
+            None => carry_out(&rt, &rt, order, &media, &mut rt.stdin(), DIALOG),
         },
         Ok(
             Words::Outcomes {
@@ -120,7 +134,7 @@ fn explore<I: Read>(rt: &HostRuntime, asked: &Exploring, input: &mut I, name: &s
     }
 }
 
-/// Does so, and writes scenarios by these rules.
+/// Prints every outcome of the script that is read, writes scenarios by these rules, and returns the exit status.
 fn explore_by<I: Read>(
     rt: &HostRuntime,
     asked: &Exploring,
@@ -187,7 +201,11 @@ fn of_file<R: Threads + Wait + Sync>(
     name: &str,
 ) -> u8 {
     match opened(rt, name) {
-        Ok(mut file) => carry_out(rt, threads, order, media, &mut file, name),
+        Ok(mut file) => {
+            let is_dialog = !is_regular(&file);
+            let origin = Origin { name, is_dialog };
+            carry_out(rt, threads, order, media, &mut file, origin)
+        }
         Err(status) => status,
     }
 }
@@ -206,6 +224,14 @@ fn opened(rt: &HostRuntime, name: &str) -> Result<File, u8> {
 fn is_directory(file: &File) -> bool {
     match file.metadata() {
         Ok(metadata) => metadata.is_dir(),
+        Err(_) => false,
+    }
+}
+
+/// Whether a file is one of a disk, which can be read whole at any time.
+fn is_regular(file: &File) -> bool {
+    match file.metadata() {
+        Ok(metadata) => metadata.is_file(),
         Err(_) => false,
     }
 }
@@ -233,24 +259,25 @@ fn carry_out<R: Threads + Wait + Sync, I: Read>(
     order: Order,
     media: &RunFiles,
     input: &mut I,
-    name: &str,
+    origin: Origin<'_>,
 ) -> u8 {
-    match Targets::of(rt, name, media) {
-        Ok(targets) => carry_out_by(rt, threads, order, media, input, name, &targets),
+    match Targets::of(rt, origin.name, media) {
+        Ok(targets) => carry_out_by(rt, threads, order, media, input, origin, &targets),
         Err(status) => status,
     }
 }
 
-/// Does so, and writes files by these rules.
+/// Carries out an order, writes files by these rules, and returns the exit status.
 fn carry_out_by<R: Threads + Wait + Sync, I: Read>(
     rt: &HostRuntime,
     threads: &R,
     order: Order,
     media: &RunFiles,
     input: &mut I,
-    name: &str,
+    origin: Origin<'_>,
     targets: &Targets<'_>,
 ) -> u8 {
+    let Origin { name, is_dialog } = origin;
     let images = match load_all(rt, &media.loads) {
         Ok(images) => images,
         Err(status) => return status,
@@ -281,6 +308,7 @@ fn carry_out_by<R: Threads + Wait + Sync, I: Read>(
                 media,
                 targets,
                 name,
+                is_dialog,
                 is_broken: &is_broken,
             };
             step(rt, input, asked, images)
@@ -292,7 +320,7 @@ fn carry_out_by<R: Threads + Wait + Sync, I: Read>(
     ended(rt, done, is_broken.get())
 }
 
-/// Prints what is wrong in a script, or in a scenario, and returns the exit status.
+/// Prints what is wrong in a script, or in a scenario, and returns the exit status. One in symbols is assembled first.
 fn check<I: Read>(
     rt: &HostRuntime,
     input: &mut I,
@@ -302,12 +330,21 @@ fn check<I: Read>(
     is_broken: &Cell<bool>,
 ) -> Result<u8, JobError> {
     let is_coloured = takes_colour(rt, rt.stdout());
-    let source = Source { name, is_coloured };
+    let source = Source::new(name, is_coloured);
+    let screen = Screen::new(rt.stdout(), false, is_broken);
+    let Some(read) = plain_script(rt.alloc(), input, &images, source, screen)? else {
+        return Ok(REJECTED);
+    };
+    let mut text = read.script.as_slice();
+    let source = Source {
+        layouts: &read.layouts,
+        ..source
+    };
     let mut screen = Screen::new(rt.stdout(), false, is_broken);
     let is_rejected = if scenario {
-        check_scenario_on(rt.alloc(), images, input, &mut screen, source)?
+        check_scenario_on(rt.alloc(), images, &mut text, &mut screen, source)?
     } else {
-        check_script_on(rt.alloc(), images, input, source, screen)?
+        check_script_on(rt.alloc(), images, &mut text, source, screen)?
     };
     Ok(if is_rejected { REJECTED } else { 0 })
 }
@@ -320,7 +357,7 @@ fn assemble<I: Read>(
     is_broken: &Cell<bool>,
 ) -> Result<u8, JobError> {
     let is_coloured = takes_colour(rt, rt.stderr());
-    let source = Source { name, is_coloured };
+    let source = Source::new(name, is_coloured);
     let screen = Screen::new(rt.stdout(), false, is_broken);
     let is_rejected = assemble_script(rt.alloc(), input, source, screen, rt.stderr())?;
     Ok(if is_rejected { REJECTED } else { 0 })

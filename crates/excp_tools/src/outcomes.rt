@@ -6,15 +6,15 @@ use crate::rejected::{ReadScript, with_findings};
 use crate::replacement::{BESIDE, ReplaceError};
 use crate::saver::{said, undeclared};
 use crate::screen::Screen;
-use crate::script::{SizedScript, sized};
+use crate::script::{SizedScript, plain_script_of, sized};
 use crate::target::{Output, Targets};
 use job_media::{MountedImages, mount_images};
 use job_options::{OutcomeOptions, OutcomePlace, RunFiles};
 use job_outcomes::{
-    ChosenOutcome, OutcomeQuery, OutcomeVerdict, ScenarioKeeper, scenario_of_outcome,
-    write_outcomes, write_shares,
+    ChosenOutcome, ChosenScenario, OutcomeQuery, OutcomeVerdict, ScenarioKeeper,
+    scenario_of_outcome, write_outcomes, write_shares,
 };
-use job_script::{JobError, read_script};
+use job_script::JobError;
 use medium_image::Image;
 use request_piece::Name;
 use std::alloc::AllocError;
@@ -153,17 +153,19 @@ pub fn outcomes<I: Read>(
     asked: OutcomeOrder<'_>,
     images: Vec<Option<Image>>,
 ) -> Result<u8, JobError> {
-    let text = read_script(rt.alloc(), input)?;
-    let done = outcomes_of_text(rt, &text, asked, images);
+    let Some(read) = plain_script_of(rt, input, &images, asked.name)? else {
+        return Ok(REJECTED);
+    };
+    let done = outcomes_of_text(rt, &read.script, asked, images);
     let script = ReadScript {
         name: asked.name,
-        text: &text,
+        read: &read,
         loads: &asked.media.loads,
     };
     with_findings(rt, done, script)
 }
 
-/// Does so with the script of this text.
+/// Prints every outcome of the script of this text, and returns the exit status.
 fn outcomes_of_text(
     rt: &HostRuntime,
     text: &[u8],
@@ -184,9 +186,13 @@ fn outcomes_of_text(
             Some(chosen) => scenario_of_outcome(
                 alloc, &text, &script, devices, &query, chosen, &mut pace,
             )?,
-            None => None,
+            // no job has such a unit or task
+            None => ChosenScenario {
+                text: None,
+                is_complete: true,
+            },
         };
-        return print_scenario(rt, asked.is_broken, place, scenario);
+        return print_scenario(rt, asked.is_broken, place, &scenario);
     }
     let mut directory = Directory {
         rt,
@@ -207,9 +213,9 @@ fn outcomes_of_text(
     let options = asked.options;
     if options.often > 0 {
         let (seeds, turn) = (options.often, options.turn);
-        write_shares(alloc, &text, &script, devices, seeds, turn, &mut out)?;
+        let several = write_shares(alloc, &text, &script, devices, seeds, turn, &mut out)?;
         out.flush().or(Err(JobError::NotWritten))?;
-        return Ok(0);
+        return Ok(if several { SEVERAL } else { 0 });
     }
     let verdict = write_outcomes(
         alloc,
@@ -248,7 +254,7 @@ fn print_scenario(
     rt: &HostRuntime,
     is_broken: &Cell<bool>,
     place: OutcomePlace,
-    scenario: Option<Vec<u8>>,
+    scenario: &ChosenScenario,
 ) -> Result<u8, JobError> {
     let OutcomePlace {
         task,
@@ -256,16 +262,21 @@ fn print_scenario(
         request,
         number,
     } = place;
-    let Some(scenario) = scenario else {
+    if !scenario.is_complete {
+        let _ = eprintln!(rt;
+            "excp_job: the search ended early: in a longer one this outcome may have another number"
+        );
+    }
+    let Some(text) = &scenario.text else {
         let _ = eprintln!(rt;
             "excp_job: no outcome {number} of request {request} of task {task} to unit {unit} was found"
         );
         return Ok(REJECTED);
     };
     let mut screen = Screen::new(rt.stdout(), false, is_broken);
-    screen.write_all(&scenario).or(Err(JobError::NotWritten))?;
+    screen.write_all(text).or(Err(JobError::NotWritten))?;
     screen.flush().or(Err(JobError::NotWritten))?;
-    Ok(0)
+    Ok(if scenario.is_complete { 0 } else { NOT_ALL })
 }
 
 /// The exit status that says what the outcomes come to. A search that is wrong has a message.

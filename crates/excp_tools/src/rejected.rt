@@ -2,16 +2,17 @@
 
 use crate::images::load_all;
 use crate::{REJECTED, takes_colour};
+use job_assembler::Assembled;
 use job_check::{Source, check_script_on};
 use job_options::UnitFile;
 use job_script::JobError;
 use medium_image::Image;
 
-/// A script that was read: its name, its text, and the images of its units.
+/// A script that was read: its name, what it was assembled to, and the images of its units.
 #[derive(Clone, Copy)]
 pub struct ReadScript<'a> {
     pub name: &'a str,
-    pub text: &'a [u8],
+    pub read: &'a Assembled,
     pub loads: &'a [UnitFile],
 }
 
@@ -39,10 +40,10 @@ fn found(
 ) -> Result<u8, JobError> {
     let is_coloured = takes_colour(rt, rt.stderr());
     let source = Source {
-        name: script.name,
-        is_coloured,
+        layouts: &script.read.layouts,
+        ..Source::new(script.name, is_coloured)
     };
-    let mut text = script.text;
+    let mut text = script.read.script.as_slice();
     if check_script_on(rt.alloc(), images, &mut text, source, rt.stderr())? {
         return Ok(REJECTED);
     }

@@ -1,16 +1,17 @@
-//! A run of a script, on threads or by a seed, and its report.
+//! A run of a script, on threads or by a seed, and its report; or the listing of a script.
 
 use crate::pictures::{Left, print_script};
 use crate::rejected::{ReadScript, with_findings};
 use crate::saver::{Medium, Saver};
 use crate::screen::Screen;
-use crate::script::{SizedScript, sized};
+use crate::script::{SizedScript, plain_script_of, sized};
 use crate::target::{Output, Targets};
-use crate::{takes_colour, workers};
+use crate::{REJECTED, takes_colour, workers};
 use any_device::AnyDevice;
+use job_listing::write_listing;
 use job_media::{MountedImages, mount_images};
 use job_options::{Print, RunFiles};
-use job_script::{JobError, Script, read_script};
+use job_script::{JobError, Script};
 use medium_image::{Image, Kept};
 use recorded_run::{report_script, run_recorded, write_report};
 use run_options::Counts;
@@ -49,17 +50,19 @@ pub fn report<R: Threads + Wait + Sync, I: Read>(
             return Ok(status);
         }
     }
-    let text = read_script(rt.alloc(), input)?;
-    let done = report_text(rt, threads, &text, asked, images);
+    let Some(read) = plain_script_of(rt, input, &images, asked.name)? else {
+        return Ok(REJECTED);
+    };
+    let done = report_text(rt, threads, &read.script, asked, images);
     let script = ReadScript {
         name: asked.name,
-        text: &text,
+        read: &read,
         loads: &asked.files.loads,
     };
     with_findings(rt, done, script)
 }
 
-/// Does so with the script of this text.
+/// Prints the report of the script of this text, and returns the exit status.
 fn report_text<R: Threads + Wait + Sync>(
     rt: &HostRuntime,
     threads: &R,
@@ -71,6 +74,7 @@ fn report_text<R: Threads + Wait + Sync>(
     let steps = match asked.print {
         Print::Report if is_plain => None,
         Print::Steps(most) if is_plain => Some(most),
+        Print::Listing => return list(rt, text, asked, &images),
         _ => return report_parsed(rt, threads, text, asked, images),
     };
     let mut out = screen(rt, asked)?;
@@ -86,7 +90,20 @@ fn report_text<R: Threads + Wait + Sync>(
     Ok(0)
 }
 
-/// Does so with media from images, in another form, or by a seed.
+/// Prints the listing of a script, and runs nothing.
+fn list(
+    rt: &HostRuntime,
+    text: &[u8],
+    asked: ReportOrder<'_>,
+    images: &[Option<Image>],
+) -> Result<u8, JobError> {
+    let SizedScript { text: _, script } = sized(rt.alloc(), text, images)?;
+    let mut out = screen(rt, asked)?;
+    write_listing(rt.alloc(), text, &script, &mut out)?;
+    Ok(0)
+}
+
+/// Prints the report of a script with media from images, in another form, or by a seed. Returns the exit status.
 fn report_parsed<R: Threads + Wait + Sync>(
     rt: &HostRuntime,
     threads: &R,
@@ -157,7 +174,7 @@ fn print_report(
 ) -> Result<(), JobError> {
     let steps = match asked.print {
         Print::Posts => return print_posts(rt, left, asked),
-        Print::Report => None,
+        Print::Report | Print::Listing => None,
         Print::Steps(most) => Some(most),
         Print::As(form) => {
             let screen = Screen::new(rt.stdout(), false, asked.is_broken);

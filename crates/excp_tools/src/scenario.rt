@@ -3,6 +3,7 @@
 use crate::pictures::print_run;
 use crate::saver::{Medium, Saver};
 use crate::screen::Screen;
+use crate::script::plain_script_of;
 use crate::target::Targets;
 use crate::{REJECTED, takes_colour};
 use any_device::AnyDevice;
@@ -23,6 +24,8 @@ pub struct StepOrder<'a> {
     pub media: &'a RunFiles,
     pub targets: &'a Targets<'a>,
     pub name: &'a str,
+    /// Whether its lines may come one by one, each after the answer to the one before.
+    pub is_dialog: bool,
     /// Set once nothing reads any more what is printed.
     pub is_broken: &'a Cell<bool>,
 }
@@ -57,8 +60,24 @@ impl<'a> Keeper for EndKeeper<'a> {
     }
 }
 
-/// Carries out a scenario, and returns the exit status.
+/// Carries out a scenario, and returns the exit status. One that is no dialog is read whole, and assembled if it has symbols.
 pub fn step<I: Read>(
+    rt: &HostRuntime,
+    input: &mut I,
+    asked: StepOrder<'_>,
+    images: Vec<Option<Image>>,
+) -> Result<u8, JobError> {
+    if asked.is_dialog {
+        return step_lines(rt, input, asked, images);
+    }
+    match plain_script_of(rt, input, &images, asked.name)? {
+        Some(read) => step_lines(rt, &mut read.script.as_slice(), asked, images),
+        None => Ok(REJECTED),
+    }
+}
+
+/// Carries out a scenario of plain lines.
+fn step_lines<I: Read>(
     rt: &HostRuntime,
     input: &mut I,
     asked: StepOrder<'_>,
@@ -90,10 +109,7 @@ fn carry_out<I: Read, W: Write>(
     answers: &mut W,
 ) -> Result<u8, JobError> {
     let is_coloured = takes_colour(rt, rt.stderr());
-    let source = Source {
-        name: asked.name,
-        is_coloured,
-    };
+    let source = Source::new(asked.name, is_coloured);
     let mut keeper = EndKeeper {
         rt,
         saver: Saver::new(rt, asked.media, asked.targets),

@@ -117,7 +117,7 @@ impl<'a> Targets<'a> {
         Ok(targets)
     }
 
-    /// The same, and it loads and saves these media.
+    /// The rules for a command that reads the script of this name, and loads and saves these media.
     ///
     /// Error: what is wrong was printed; the exit status.
     pub fn of(rt: &'a HostRuntime, script: &str, files: &RunFiles) -> Result<Self, u8> {

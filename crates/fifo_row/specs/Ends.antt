@@ -7,7 +7,7 @@ use Rattle.fifo_row.specs.Lists.{of, Met}
 abbrev pub RowName : Type 0
 RowName = TableId
 
--- the name of no row, where a row is picked only later
+-- the name of no row, if a row is picked only later
 abbrev pub no_name : RowName
 no_name = record { words = 0; slots = 0; views_name = 0; atom = 0; block = 0; offset = 0; slot_names = [] }
 
@@ -62,8 +62,8 @@ pub record Seats {I : Type 0} (senders : List (Sending I)) (taker : Taking I) (r
   pub each : (k : ℕ) → k < row.senders → slice_get senders k ≡ Some (fresh_sender row k)
   pub taker_is : taker ≡ fresh_taker row
 
--- an item is the next of its sender: that sender is of the row, and the item has its fact at the place behind those
--- that were taken
+-- an item is the next of its sender: that sender is of the row, and the item has its fact at the place after those that
+-- were taken
 pub record IsNextItem {I : Type 0} (from : I → ℕ) (fact : I → ℕ → ℕ → ℕ → Type 0) (t : Taking I) (x : I) : Type 0 where
   pub of_row : from x < t.senders
   pub lawful : fact x (from x) (suc (length (of from (from x) t.taken))) t.tag

@@ -12,12 +12,12 @@ use Rattle.fifo_row.specs.Ends.{Sending, Taking}
 use Rattle.fifo_row.specs.Views.{sender_view, taker_view}
 use Rattle.fifo_row.specs.Rule.{Kept}
 
--- a push that enters: the item is behind what this sender sent
+-- a push that enters: the item is after all that this sender sent
 abbrev pub Sends : {I : Type 0} → View I → I → View I → Type 0
 Sends v x w = w ≡ sender_view v.tag v.number (v.sent ++ x ∷ [])
 
 module _ {I : Type 0} (from : I → ℕ) (fact : I → ℕ → ℕ → ℕ → Type 0) where
-  -- a pop that takes: the item is behind what was taken, is of one of the senders, and has its fact at its place
+  -- a pop that takes: the item is after all that was taken, is of one of the senders, and has its fact at its place
   abbrev pub TakesItem : View I → I → View I → Type 0
   TakesItem v x w =
       (w ≡ taker_view v.tag v.made (v.taken ++ x ∷ []) v.met)

@@ -60,8 +60,8 @@ impl<I: Item> Row<I> {
         })
     }
 
-    /// The ends of the row: its senders, in order of number, and its one taker. They can be asked for once, and where
-    /// there is no memory the row is only dropped.
+    /// The ends of the row: its senders, in order of number, and its one taker. They can be made once. If memory runs
+    /// out, the row can only be dropped.
     pub fn seats(&mut self) -> Result<(Vec<Sender<'_, I>>, Taker<'_, I>), AllocError>
         requires { self.old.seated ≡ false }
         ensures { IfOk result (λ ends. Seats ends.0.items ends.1 self.old) }

@@ -87,10 +87,10 @@ impl<'r, I: Item> Sender<'r, I> {
         self.count
     }
 
-    /// Sends an item of this sender, which has its fact at the place behind all that was sent. It takes no memory, and
+    /// Sends an item of this sender, which has its fact at the place after all that was sent. It takes no memory, and
     /// may wait; after 2^62 items it waits for ever.
     ///
-    /// The item comes back only where the row was full at one moment of the call, and then nothing was sent.
+    /// Error: the row was full at one moment of the call. The item is handed back, and nothing was sent.
     pub fn send<R: Wait>(&mut self, rt: &R, item: I) -> Result<(), Full<I>>
         requires number { I.from item ≡ self.old.number }
         requires fact { I.fact item self.old.number (suc (length self.old.sent)) self.old.tag }

@@ -76,7 +76,7 @@ impl<'r, I: Item> Taker<'r, I> {
 
     /// Takes the oldest item of the row. It takes no memory, and may wait.
     ///
-    /// There is none only where the row was empty at one moment of the call. Of each sender that was met, all was then
+    /// Returns none only if the row was empty at one moment of the call. Of each sender that was met, all was then
     /// taken.
     pub fn take<R: Wait>(&mut self, rt: &R) -> Option<I>
         ensures taken { IfSome result (λ item. self.new ≡ record self.old { taken = self.old.taken ++ item ∷ [] }) }

@@ -9,7 +9,7 @@ use std::io;
 use std::io::Write;
 use unit_history::Count;
 
-/// What the records of a disk come to, R0 left out.
+/// The number and sizes of a disk's records, without R0.
 #[derive(Clone, Copy)]
 struct Totals {
     records: u64,
@@ -53,7 +53,7 @@ fn track_bytes(disk: &Disk) -> usize {
     }
 }
 
-/// What the records of a disk come to.
+/// Counts the records of a disk, without R0.
 fn totals_of(disk: &Disk) -> Totals {
     let mut totals = Totals {
         records: 0,

@@ -10,7 +10,7 @@ use unit_history::Count;
 /// The fewest bytes of a tape.
 const LEAST: u64 = 4;
 
-/// What the items of a tape come to.
+/// The number and sizes of a tape's items.
 #[derive(Clone, Copy)]
 struct Totals {
     blocks: u64,

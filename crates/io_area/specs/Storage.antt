@@ -21,7 +21,7 @@ with_bytes m at new = record {
   bytes = take (at - m.base) m.bytes ++ new ++ drop (at - m.base + length new) m.bytes;
 }
 
--- the place of `count` bytes from `at` among the bytes of the area, where they lie in it
+-- the place of `count` bytes from `at` among the bytes of the area, if they are in it
 pub record IsOffset (m : Storage) (at count from : ℕ) : Type 0 where
   pub lies : lies_in m at count ≡ true
   pub offset : from + m.base ≡ at

@@ -33,9 +33,9 @@ impl Area {
     /// Where addresses end, 2^24.
     pub const TOP: usize = 0x100_0000;
 
-    /// An area of these bytes from `base` on. It is refused, for the first reason that applies,
-    /// where `base` is not a multiple of 8, there are more than 8,192 bytes, the end is past 2^24, or
-    /// there is no memory (profile).
+    /// An area of these bytes from `base` on (profile).
+    ///
+    /// Errors, in this order: `base` is not a multiple of 8; more than 8,192 bytes; the end is past 2^24; out of memory.
     pub fn new(alloc: Global, base: u32, bytes: &[u8]) -> Result<Area, AreaError>
         ensures area { IfOk result (λ a. a ≡ record { base = base; bytes = bytes.now }) }
         ensures ok { IsOk result → NoAreaFault base (length bytes.now) }
@@ -75,7 +75,7 @@ impl Area {
         self.bytes.is_empty()
     }
 
-    /// The `count` bytes from `at`, where they lie in the area. No byte lies in every area.
+    /// The `count` bytes from `at`, if they are in the area. No byte lies in every area.
     pub fn get(&self, at: u32, count: usize) -> Option<&[u8]>
         ensures answer { MatchOption result (lies_in self.now at count ≡ false) (λ s. (lies_in self.now at count ≡ true) × (s.now ≡ bytes_at self.now at count)) }
         ensures length { IfSome result (λ s. length s.now ≡ count) }
@@ -88,8 +88,7 @@ impl Area {
         Some(&self.bytes.as_slice()[from..from + count])
     }
 
-    /// Writes the bytes from `at` where they lie in the area, and answers whether they do; where they
-    /// do not, nothing changes.
+    /// Writes the bytes from `at` on, if they are in the area, and returns whether they are. Else nothing changes.
     pub fn put(&mut self, at: u32, new: &[u8]) -> bool
         ensures lies { result ≡ lies_in self.old at (length new.now) }
         ensures wrote { self.new ≡ (if result then with_bytes self.old at new.now else self.old) }
@@ -115,7 +114,7 @@ impl Area {
         })
     }
 
-    /// The place in `bytes` of `count` bytes from `at`, where they lie in the area.
+    /// The place in `bytes` of `count` bytes from `at`, if they are in the area.
     fn offset(&self, at: u32, count: usize) -> Option<usize>
         requires { 0 < count }
         ensures { MatchOption result (lies_in self.now at count ≡ false) (IsOffset self.now at count) }

@@ -19,7 +19,7 @@ inhibits_writes mask = bit_and mask write_bits == no_writes
 abbrev pub inhibits_formatting : ℕ → Bool
 inhibits_formatting mask = inhibits_writes mask || (bit_and mask write_bits == no_formatting)
 
--- bits 3 and 4: a seek is let only where they are 00
+-- bits 3 and 4: a seek is allowed only if they are 00
 abbrev pub seek_bits : ℕ
 seek_bits = 0x18
 

@@ -8,7 +8,7 @@ ghost use Rattle.io_images.specs.FileMask.{inhibits_writes, inhibits_formatting,
 #[derive(Clone, Copy, PartialEq, Eq, Debug)]
 pub struct FileMask(pub u8);
 
-/// Bits 0 and 1, and what they are where all writes and where those that format are inhibited.
+/// Bits 0 and 1, and their values that inhibit all writes, and those that format.
 const WRITE_BITS: u8 = 0xC0;
 
 const NO_WRITES: u8 = 0x40;

@@ -52,13 +52,13 @@ impl UnitStatus {
     /// Channel end and device end, which come at once (profile): a command has ended normally.
     pub const NORMAL_END: UnitStatus = UnitStatus(0x0C);
 
-    /// The same with status modifier.
+    /// Status modifier, channel end and device end: a search has found its record, and the next CCW is skipped.
     pub const MODIFIER_END: UnitStatus = UnitStatus(0x4C);
 
-    /// The same with unit check.
+    /// Channel end, device end and unit check: a command has ended with an error that the sense bytes describe.
     pub const CHECK_END: UnitStatus = UnitStatus(0x0E);
 
-    /// The same with unit exception.
+    /// Channel end, device end and unit exception: a command has met a tape mark or a record without data.
     pub const EXCEPTION_END: UnitStatus = UnitStatus(0x0D);
 
     /// The status with these bits on.

@@ -3,9 +3,16 @@
 ghost use Rattle.std.specs.Prelude.{◌≤◌, IfOk};
 
 use crate::finding::{Refusal, Wrong};
-use crate::labels::{Labels, is_label};
+use crate::labels::{Labelled, Labels, is_label};
+use crate::line::Word;
 use crate::numbers::{TOP, hexadecimal, value_of};
 use job_script::FaultName;
+
+/// How the length of a label begins.
+const LENGTH: &[u8] = b"L'";
+
+const NO_LENGTH: &str =
+    "this label is alone on its line, and has no length: put it before the statement that it names";
 
 const NO_ADDRESS: &str = "not an address: expected a label, * or a number, then +N, -N or nothing";
 
@@ -24,24 +31,28 @@ const TOO_LARGE: &str = "too large: expected at most X'FFFFFF'";
 const NO_NUMBER: &str =
     "not a number: expected decimal digits, or hexadecimal ones as X'1F', up to X'FFFFFF'";
 
-/// Returns the address of an expression; `*` is the address of the place, if there is one. `unknown` is the text on a
-/// label that is none of these.
+/// Returns the address of an expression, or the length of a label; `*` is the address of the place, if there is one.
+/// `unknown` is the text on a label that is none of these.
 pub fn address<'a>(
-    expression: &'a [u8],
+    expression: Word<'a>,
     place: Option<u32>,
     labels: &Labels<'a>,
     unknown: &'static str,
 ) -> Result<u32, Refusal<'a>> {
     let end = expression
+        .bytes
         .iter()
-        .position(|byte| *byte == b'+' || *byte == b'-')
-        .unwrap_or(expression.len());
+        .position(|byte| *byte == b'+' || *byte == b'-');
     let (term, offset) = expression.split_at(end);
+    let (sign, number) = offset.split_at(Some(1));
+    if term.is_empty() || (number.is_empty() && !sign.is_empty()) {
+        return Err(Refusal::Wrong(Wrong::of(expression, NO_ADDRESS)));
+    }
     let start = term_address(term, place, labels, unknown)?;
-    let moved = match offset.split_first() {
-        None => Some(start),
-        Some((b'+', number)) => start.checked_add(self::number(number)?),
-        Some((_, number)) => start.checked_sub(self::number(number)?),
+    let moved = match sign.bytes {
+        b"" => Some(start),
+        b"+" => start.checked_add(value_to_top(number, NO_NUMBER)?),
+        _ => start.checked_sub(value_to_top(number, NO_NUMBER)?),
     };
     match moved {
         Some(address) if address <= TOP => Ok(address),
@@ -50,33 +61,46 @@ pub fn address<'a>(
 }
 
 fn term_address<'a>(
-    term: &'a [u8],
+    term: Word<'a>,
     place: Option<u32>,
     labels: &Labels<'a>,
     unknown: &'static str,
 ) -> Result<u32, Refusal<'a>> {
-    if let b"*" = term {
+    if let b"*" = term.bytes {
         return place.ok_or(Refusal::Wrong(Wrong::of(term, NO_PLACE)));
     }
-    if let Some(address) = labels.address(term) {
-        return Ok(address);
+    if let Some(label) = term.after(LENGTH) {
+        let length = labelled(label, labels, unknown)?.length;
+        return length.ok_or(Refusal::Wrong(Wrong::of(label, NO_LENGTH)));
     }
-    if is_label(term) {
-        let mut wrong = Wrong::named(FaultName::Name, term, unknown);
-        wrong.meant = labels.nearest(term)?;
-        return Err(Refusal::Wrong(wrong));
+    if is_label(term.bytes) {
+        return Ok(labelled(term, labels, unknown)?.address);
     }
     Ok(value_to_top(term, NO_ADDRESS)?)
 }
 
-/// A number, up to X'FFFFFF'.
-fn number(word: &[u8]) -> Result<u32, Wrong<'_>> {
-    value_to_top(word, NO_NUMBER)
+/// What a label says.
+fn labelled<'a>(
+    label: Word<'a>,
+    labels: &Labels<'a>,
+    unknown: &'static str,
+) -> Result<Labelled, Refusal<'a>> {
+    if let Some(labelled) = labels.get(label.bytes) {
+        return Ok(labelled);
+    }
+    let mut wrong = Wrong::named(FaultName::Name, label, unknown);
+    wrong.meant = labels.nearest(label.bytes)?;
+    Err(Refusal::Wrong(wrong))
+}
+
+/// Whether an expression begins with the length of a label.
+pub fn is_length(expression: Word<'_>) -> bool {
+    expression.bytes.starts_with(LENGTH)
 }
 
 /// The value of a word up to X'FFFFFF', or what is wanted in its place.
-fn value_to_top<'a>(word: &'a [u8], wanted: &'static str) -> Result<u32, Wrong<'a>> {
-    match value(word) {
+fn value_to_top<'a>(word: Word<'a>, wanted: &'static str) -> Result<u32, Wrong<'a>> {
+    match number_of(word.bytes) {
         Some(value) if value <= TOP => Ok(value),
         Some(_) => Err(Wrong::of(word, TOO_LARGE)),
         None => Err(Wrong::of(word, wanted)),
@@ -84,17 +108,17 @@ fn value_to_top<'a>(word: &'a [u8], wanted: &'static str) -> Result<u32, Wrong<'
 }
 
 /// A number up to this one, or what is wanted in its place.
-pub fn number_to<'a>(word: &'a [u8], most: u32, wanted: &'static str) -> Result<u32, Wrong<'a>>
+pub fn number_to<'a>(word: Word<'a>, most: u32, wanted: &'static str) -> Result<u32, Wrong<'a>>
     ensures { IfOk result (λ number. number ≤ most) }
 {
-    match value(word) {
+    match number_of(word.bytes) {
         Some(number) if number <= most => Ok(number),
         _ => Err(Wrong::of(word, wanted)),
     }
 }
 
 /// The value of decimal digits, or of hexadecimal ones between `X'` and `'`; of more than 32 bits the highest one.
-fn value(word: &[u8]) -> Option<u32> {
+pub fn number_of(word: &[u8]) -> Option<u32> {
     match hexadecimal(word) {
         Some(digits) => value_of(digits, 16),
         None => value_of(word, 10),

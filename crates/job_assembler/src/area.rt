@@ -5,37 +5,47 @@ ghost use Rattle.std.specs.Prelude.{◌≡◌, ◌≤◌, vec_len, OnOk};
 use crate::address::{NOT_EARLIER, UNDEFINED, address};
 use crate::finding::{Finding, Refusal, Wrong, note};
 use crate::labels::Labels;
+use crate::line::Word;
 use crate::numbers::TOP;
-use job_script::FaultName;
+use job_check::{AreaLayout, Place};
+use job_script::{FaultName, Message};
 use std::alloc::{AllocError, Global};
 
 /// The most bytes of an area (docs/SPECIFICATION.md, "Limits").
-const LONGEST: u32 = 8192;
+pub const LONGEST: u32 = 8192;
 
 const NO_ROOM: &str =
     "this is outside of the area: an area has at most 8192 bytes, and ends at X'FFFFFF' at the latest";
 
 const OUTSIDE: &str = "this address is outside of the area: expected one in its 8192 bytes";
 
-/// Three bytes of an area that are to have the address of an expression, which is looked at where all labels are known.
+const TOO_LONG: &str = "too long: a key has at most 255 bytes";
+
+const NO_COUNT: &str = "too long: a count is at most 65535";
+
+/// Bytes of an area that are to have the value of an expression, which is looked at where all labels are known.
 #[derive(Clone, Copy)]
 struct Reference<'a> {
-    line: usize,
     offset: usize,
+    /// How many bytes it has: three of an address, one or two of a length.
+    width: usize,
     /// The address of the statement, which `*` stands for.
     place: u32,
-    expression: &'a [u8],
+    expression: Word<'a>,
 }
 
 /// A symbolic area that was opened and not ended.
 #[derive(Drop)]
 pub struct Area<'a> {
-    /// The line that opens it, and the words of that line for its number and address.
-    pub line: usize,
-    pub number: &'a [u8],
-    pub address: &'a [u8],
-    base: u32,
+    pub alloc: Global,
+    /// The word for its number in the line that opens it.
+    pub number: Word<'a>,
+    pub base: u32,
+    /// The place of the name of the statement that is assembled.
+    pub statement: Place,
     bytes: Vec<u8>,
+    /// The place of the word that has set each byte; line 0 if none has.
+    places: Vec<Place>,
     /// The place of the next statement, in bytes from the base.
     next: u32,
     /// Whether there was no room for a statement: nothing is added then, but the further lines are looked at.
@@ -46,13 +56,14 @@ pub struct Area<'a> {
 
 impl<'a> Area<'a> {
     /// An area without bytes, from a multiple of 8.
-    pub fn new(alloc: Global, line: usize, number: &'a [u8], address: &'a [u8], base: u32) -> Self {
+    pub fn new(alloc: Global, number: Word<'a>, base: u32) -> Self {
         Area {
-            line,
+            alloc,
             number,
-            address,
             base,
+            statement: number.place,
             bytes: Vec::new(alloc),
+            places: Vec::new(alloc),
             next: 0,
             is_full: false,
             labels: Labels::new(alloc),
@@ -90,7 +101,7 @@ impl<'a> Area<'a> {
     {
         if end > LONGEST || self.base.saturating_add(end) > TOP + 1 {
             self.is_full = true;
-            return Err(Refusal::Wrong(Wrong::named(FaultName::Area, &[], NO_ROOM)));
+            return Err(Refusal::Wrong(Wrong::with(FaultName::Area, Message::new(NO_ROOM, &[]))));
         }
         let len = end as usize;
         if self.bytes.len() < len {
@@ -105,21 +116,34 @@ impl<'a> Area<'a> {
             return Ok(());
         }
         let start = self.next;
-        let Ok(count) = u32::try_from(image.len()) else {
-            return Err(Refusal::Wrong(Wrong::named(FaultName::Area, &[], NO_ROOM)));
-        };
+        let count = u32::try_from(image.len()).unwrap_or(u32::MAX);
         let end = start.saturating_add(count);
         self.reach(end)?;
         let (_, part) = self.bytes.split_at_mut(start as usize);
         for (byte, new) in part.iter_mut().zip(image) {
             *byte = *new;
         }
+        if self.places.len() < end as usize {
+            let none = Place { line: 0, column: 0 };
+            self.places.resize(end as usize, none)?;
+        }
+        let statement = self.statement;
+        let before = (start as usize).min(self.places.len());
+        let (_, part) = self.places.split_at_mut(before);
+        for place in part.iter_mut().take(image.len()) {
+            *place = statement;
+        }
         self.next = end;
         Ok(())
     }
 
+    /// Whether a statement had no room.
+    pub fn is_full(&self) -> bool {
+        self.is_full
+    }
+
     /// Goes on at the address of an expression whose labels are known, or behind the highest byte.
-    pub fn go_to(&mut self, expression: &'a [u8]) -> Result<(), Refusal<'a>> {
+    pub fn go_to(&mut self, expression: Word<'a>) -> Result<(), Refusal<'a>> {
         let target = if expression.is_empty() {
             let len = u32::try_from(self.bytes.len()).unwrap_or(LONGEST);
             self.base.saturating_add(len)
@@ -129,28 +153,26 @@ impl<'a> Area<'a> {
         if self.is_full {
             return Ok(());
         }
-        let Some(next) = target.checked_sub(self.base) else {
-            return Err(Refusal::Wrong(Wrong::named(FaultName::Area, expression, OUTSIDE)));
+        let next = match target.checked_sub(self.base) {
+            Some(next) if next <= LONGEST => next,
+            _ => return Err(Refusal::Wrong(Wrong::named(FaultName::Area, expression, OUTSIDE))),
         };
-        if next > LONGEST {
-            return Err(Refusal::Wrong(Wrong::named(FaultName::Area, expression, OUTSIDE)));
-        }
         self.reach(next)?;
         self.next = next;
         Ok(())
     }
 
-    /// Three bytes are to have the address of an expression. They come `behind` bytes after the place of the next
-    /// statement.
+    /// Bytes are to have the value of an expression: three an address, fewer a length. They come `behind` bytes after the
+    /// place of the next statement.
     pub fn refer(
         &mut self,
-        line: usize,
-        behind: u8,
-        expression: &'a [u8],
+        behind: usize,
+        width: usize,
+        expression: Word<'a>,
     ) -> Result<(), AllocError> {
         let reference = Reference {
-            line,
-            offset: (self.next as usize).saturating_add(usize::from(behind)),
+            offset: (self.next as usize).saturating_add(behind),
+            width,
             place: self.place(),
             expression,
         };
@@ -158,37 +180,59 @@ impl<'a> Area<'a> {
         Ok(())
     }
 
-    /// Puts in the addresses, and gives the bytes and the labels.
-    pub fn end(self, findings: &mut Vec<Finding<'a>>) -> Result<(Vec<u8>, Labels<'a>), AllocError> {
+    /// Puts in the addresses, and gives the bytes, the labels, and where the bytes are in the job.
+    pub fn end(
+        self,
+        findings: &mut Vec<Finding<'a>>,
+    ) -> Result<(Vec<u8>, Labels<'a>, AreaLayout), AllocError> {
         let Area {
-            line: _,
-            number: _,
-            address: _,
-            base: _,
+            number,
+            base,
             mut bytes,
-            next: _,
-            is_full: _,
+            mut places,
             labels,
             references,
+            ..
         } = self;
         for reference in &references {
-            let place = Some(reference.place);
-            match address(reference.expression, place, &labels, UNDEFINED) {
-                Ok(value) => put_address(&mut bytes, reference.offset, value),
-                Err(refusal) => note(findings, reference.line, refusal)?,
+            match reference.value(&labels) {
+                Ok(value) => reference.put(value, &mut bytes, &mut places),
+                Err(refusal) => note(findings, reference.expression.place.line, refusal)?,
             }
         }
-        Ok((bytes, labels))
+        let line = number.place.line;
+        Ok((bytes, labels, AreaLayout { line, base, places }))
     }
 }
 
-/// Puts an address into three bytes, where they are there.
-fn put_address(bytes: &mut Vec<u8>, offset: usize, value: u32) {
-    if offset > bytes.len() {
-        return;
+impl<'a> Reference<'a> {
+    /// Puts in its value, but not in bytes that a later statement has set.
+    fn put(&self, value: u32, bytes: &mut [u8], places: &mut [Place]) {
+        let word = self.expression.place;
+        let image = value.to_be_bytes();
+        let image = image.iter().skip(4usize.saturating_sub(self.width));
+        let before = self.offset.min(bytes.len()).min(places.len());
+        let (_, bytes) = bytes.split_at_mut(before);
+        let (_, places) = places.split_at_mut(before);
+        for ((byte, place), new) in bytes.iter_mut().zip(places).zip(image) {
+            if place.line == word.line {
+                *byte = *new;
+                *place = word;
+            }
+        }
     }
-    let (_, part) = bytes.split_at_mut(offset);
-    for (byte, new) in part.iter_mut().zip(&value.to_be_bytes()[1..]) {
-        *byte = *new;
+
+    /// The value of its expression, if its bytes have room for it.
+    fn value(&self, labels: &Labels<'a>) -> Result<u32, Refusal<'a>> {
+        let value = address(self.expression, Some(self.place), labels, UNDEFINED)?;
+        let (most, text) = match self.width {
+            1 => (255, TOO_LONG),
+            2 => (65_535, NO_COUNT),
+            _ => return Ok(value),
+        };
+        if value > most {
+            return Err(Refusal::Wrong(Wrong::of(self.expression, text)));
+        }
+        Ok(value)
     }
 }

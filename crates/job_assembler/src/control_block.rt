@@ -1,10 +1,9 @@
-//! Input/output blocks (docs/SPECIFICATION.md, "Control blocks").
+//! Input/output blocks: a row for each operand (docs/SPECIFICATION.md, "Control blocks").
 
-use crate::address::number_to;
 use crate::area::Area;
 use crate::finding::{Refusal, Wrong};
-use crate::line::parts_operands;
-use io_images::{Address, Iob};
+use crate::line::{Operands, Word};
+use crate::operation::{Field, RECORD, TRACK, number_in};
 use job_script::FaultName;
 
 const LACKS: &str =
@@ -17,240 +16,140 @@ const NO_VALUE: &str = "expected a value after this, as ecb=LABEL, with no blank
 
 const TWICE: &str = "this operand comes twice";
 
-const NO_DCB: &str = "not a DCB: expected a number from 1 to 65535";
-
-const NO_TRACK: &str = "not a cylinder or a head: expected a number from 0 to 65535";
-
-const NO_RECORD: &str = "not a record: expected a number from 0 to 255";
-
-const NO_EXTENT: &str = "not an extent: expected a number from 0 to 255";
-
 const NO_SEEK: &str = "seek=CYLINDER,HEAD,RECORD has three numbers";
 
-/// The name of an operand of an IOB.
+/// What an operand says.
 #[derive(Clone, Copy)]
-enum Name {
-    Ecb,
-    Start,
-    Dcb,
-    Seek,
-    Extent,
-    Related,
-    Unrelated,
+enum IobOperand {
+    /// An address, which three bytes from this one on have.
+    Address(usize),
+    /// Numbers in fields, from this byte on.
+    Numbers(usize, &'static [Field]),
+    /// The flags of the first byte.
+    Flags(u8),
 }
 
-const NAMES: [(Name, &[u8]); 7] = [
-    (Name::Ecb, b"ecb"),
-    (Name::Start, b"start"),
-    (Name::Dcb, b"dcb"),
-    (Name::Seek, b"seek"),
-    (Name::Extent, b"extent"),
-    (Name::Related, b"related"),
-    (Name::Unrelated, b"unrelated"),
+const DCB: [Field; 1] = [(2, 1, "not a DCB: expected a number from 1 to 65535")];
+
+const SEEK: [Field; 3] = [TRACK, TRACK, RECORD];
+
+const EXTENT: [Field; 1] = [(1, 0, "not an extent: expected a number from 0 to 255")];
+
+/// The operands. Of those with one number in the last place one may come; the first three are needed.
+const OPERANDS: [(&[u8], IobOperand, usize); 7] = [
+    (b"ecb", IobOperand::Address(5), 0),
+    (b"start", IobOperand::Address(17), 1),
+    (b"dcb", IobOperand::Numbers(22, &DCB), 2),
+    (b"seek", IobOperand::Numbers(35, &SEEK), 3),
+    (b"extent", IobOperand::Numbers(32, &EXTENT), 4),
+    (b"related", IobOperand::Flags(0x40), 5),
+    (b"unrelated", IobOperand::Flags(0x42), 5),
 ];
 
-/// The operands of an IOB that were read.
-#[derive(Clone, Copy)]
-struct Operands<'a> {
-    ecb: Option<&'a [u8]>,
-    start: Option<&'a [u8]>,
-    dcb: Option<u16>,
-    extent: Option<u8>,
-    is_related: Option<bool>,
-    seek: SeekAddress,
-}
-
-/// The numbers of a seek address. They come in this order.
-#[derive(Clone, Copy)]
-struct SeekAddress {
-    /// Whether `seek=` was read.
-    is_given: bool,
-    cylinder: Option<u16>,
-    head: Option<u16>,
-    record: Option<u8>,
+/// An IOB as far as its operands were read.
+#[derive(Drop)]
+struct Block {
+    image: [u8; 40],
+    /// Which operands came.
+    given: [bool; 6],
+    /// How many numbers of an operand are to come next, the first of them for the field at this byte.
+    left: usize,
+    at: usize,
 }
 
 /// `IOB ecb=ADDRESS start=ADDRESS dcb=NUMBER ..`: one of a request that chains commands, and is unrelated unless it
 /// says that it is related. The other bytes are zeros.
-pub fn put_block<'a>(
-    area: &mut Area<'a>,
-    line: usize,
-    operands: &'a [u8],
-) -> Result<(), Refusal<'a>> {
-    let mut given = Operands::none();
-    let read = given.read_all(operands);
-    if let Some(ecb) = given.ecb {
-        area.refer(line, 5, ecb)?;
+pub fn put_block<'a>(area: &mut Area<'a>, operands: Word<'a>) -> Result<(), Refusal<'a>> {
+    let mut block = Block {
+        image: [0; 40],
+        given: [false; 6],
+        left: 0,
+        at: 0,
+    };
+    block.image[0] = 0x42;
+    let count = operands.bytes.len();
+    let mut operands = Operands { rest: operands };
+    for _ in 0..count {
+        let operand = operands.next_operand();
+        if !operand.is_empty() {
+            block.read(area, operand)?;
+        }
     }
-    if let Some(start) = given.start {
-        area.refer(line, 17, start)?;
+    let [ecb, start, dcb, ..] = block.given;
+    if !(ecb && start && dcb) {
+        return Err(Refusal::Wrong(Wrong::line(LACKS)));
     }
-    read?;
-    let mut image = [0; 40];
-    given.check_and_write(&mut image)?;
-    area.put(&image)
+    if block.left > 0 {
+        return Err(Refusal::Wrong(Wrong::line(NO_SEEK)));
+    }
+    area.put(&block.image)
 }
 
-impl<'a> Operands<'a> {
-    fn none() -> Self {
-        Operands {
-            ecb: None,
-            start: None,
-            dcb: None,
-            extent: None,
-            is_related: None,
-            seek: SeekAddress {
-                is_given: false,
-                cylinder: None,
-                head: None,
-                record: None,
-            },
-        }
-    }
-
-    /// Writes the IOB into an image of zeros, if no operand is missing. The addresses follow once all labels are known.
-    fn check_and_write(&self, image: &mut [u8; 40]) -> Result<(), Wrong<'a>> {
-        let (Some(_), Some(_), Some(dcb)) = (self.ecb, self.start, self.dcb) else {
-            return Err(Wrong::line(LACKS));
-        };
-        if self.seek.is_given && self.seek.record.is_none() {
-            return Err(Wrong::line(NO_SEEK));
-        }
-        let mut iob = Iob::read(image);
-        iob.command_chaining = true;
-        iob.unrelated = self.is_related != Some(true);
-        iob.dcb = Address::new(u32::from(dcb));
-        iob.seek.extent = self.extent.unwrap_or(0);
-        iob.seek.cylinder = self.seek.cylinder.unwrap_or(0);
-        iob.seek.head = self.seek.head.unwrap_or(0);
-        iob.seek.record = self.seek.record.unwrap_or(0);
-        iob.write(image);
-        Ok(())
-    }
-
-    /// Reads the operands, up to the first that is none.
-    fn read_all(&mut self, operands: &'a [u8]) -> Result<(), Wrong<'a>> {
-        for operand in operands.split(|byte| parts_operands(*byte)) {
-            if !operand.is_empty() {
-                self.read(operand)?;
-            }
-        }
-        Ok(())
-    }
-
+impl Block {
     /// Reads an operand, or one more number of a seek address.
-    fn read(&mut self, operand: &'a [u8]) -> Result<(), Wrong<'a>> {
-        let end = operand
-            .iter()
-            .position(|byte| *byte == b'=')
-            .unwrap_or(operand.len());
+    fn read<'a>(&mut self, area: &mut Area<'a>, operand: Word<'a>) -> Result<(), Refusal<'a>> {
+        let end = operand.bytes.iter().position(|byte| *byte == b'=');
+        if self.left > 0 {
+            return match operand.bytes {
+                b"related" | b"unrelated" => Err(Refusal::Wrong(Wrong::line(NO_SEEK))),
+                _ if end.is_some() => Err(Refusal::Wrong(Wrong::line(NO_SEEK))),
+                _ => self.read_number(area, &SEEK, operand),
+            };
+        }
         let (name, value) = operand.split_at(end);
-        if self.seek.is_under_way() {
-            return match name {
-                b"related" | b"unrelated" => Err(Wrong::line(NO_SEEK)),
-                _ if !value.is_empty() => Err(Wrong::line(NO_SEEK)),
-                _ => self.seek.read_number(operand),
-            };
+        let (_, value) = value.split_at(Some(1));
+        match self.form_of(operand, name.bytes, value.bytes)? {
+            IobOperand::Address(at) => area.refer(at, 3, value)?,
+            IobOperand::Numbers(at, fields) => {
+                self.at = at;
+                self.left = fields.len();
+                self.read_number(area, fields, value)?;
+            }
+            IobOperand::Flags(flags) => self.image[0] = flags,
         }
-        let value = match value.split_first() {
-            Some((_, value)) => value,
-            None => value,
-        };
-        self.read_named(operand, name, value)
+        Ok(())
     }
 
-    fn read_named(
+    /// The form of an operand of this name and value, which did not come yet.
+    fn form_of<'a>(
         &mut self,
-        operand: &'a [u8],
-        name: &'a [u8],
-        value: &'a [u8],
-    ) -> Result<(), Wrong<'a>> {
-        let Some(name) = Name::of(name) else {
-            return Err(Wrong::of(operand, NO_OPERAND));
-        };
-        if name.is_alone() != value.is_empty() {
-            let text = if name.is_alone() {
-                NO_OPERAND
-            } else {
-                NO_VALUE
-            };
-            return Err(Wrong::of(operand, text));
-        }
-        if self.has(name) {
-            return Err(Wrong::named(FaultName::Order, operand, TWICE));
-        }
-        self.read_value(name, value)
-    }
-
-    /// Whether the operand of this name was read.
-    fn has(&self, name: Name) -> bool {
-        match name {
-            Name::Ecb => self.ecb.is_some(),
-            Name::Start => self.start.is_some(),
-            Name::Dcb => self.dcb.is_some(),
-            Name::Seek => self.seek.is_given,
-            Name::Extent => self.extent.is_some(),
-            Name::Related | Name::Unrelated => self.is_related.is_some(),
-        }
-    }
-
-    /// Reads the value of the operand of this name.
-    fn read_value(&mut self, name: Name, value: &'a [u8]) -> Result<(), Wrong<'a>> {
-        match name {
-            Name::Ecb => self.ecb = Some(value),
-            Name::Start => self.start = Some(value),
-            Name::Dcb => self.dcb = Some(dcb_number(value)?),
-            Name::Seek => {
-                self.seek.is_given = true;
-                self.seek.read_number(value)?;
+        operand: Word<'a>,
+        name: &[u8],
+        value: &[u8],
+    ) -> Result<IobOperand, Wrong<'a>> {
+        for (known, form, place) in &OPERANDS {
+            if name == *known {
+                let is_alone = matches!(form, IobOperand::Flags(_));
+                if is_alone != value.is_empty() {
+                    let text = if is_alone { NO_OPERAND } else { NO_VALUE };
+                    return Err(Wrong::of(operand, text));
+                }
+                return match self.given.get_mut(*place) {
+                    Some(given) if !*given => {
+                        *given = true;
+                        Ok(*form)
+                    }
+                    _ => Err(Wrong::named(FaultName::Order, operand, TWICE)),
+                };
             }
-            Name::Extent => self.extent = Some(number_to(value, 255, NO_EXTENT)? as u8),
-            Name::Related => self.is_related = Some(true),
-            Name::Unrelated => self.is_related = Some(false),
+        }
+        Err(Wrong::of(operand, NO_OPERAND))
+    }
+
+    /// Reads the number of the next one of these fields.
+    fn read_number<'a>(
+        &mut self,
+        area: &mut Area<'a>,
+        fields: &[Field],
+        word: Word<'a>,
+    ) -> Result<(), Refusal<'a>> {
+        if let Some(field) = fields.get(fields.len().saturating_sub(self.left)) {
+            let (width, ..) = *field;
+            number_in(*field, word)?;
+            area.refer(self.at, width, word)?;
+            self.at = self.at.saturating_add(width);
+            self.left = self.left.saturating_sub(1);
         }
         Ok(())
     }
-}
-
-impl Name {
-    fn of(word: &[u8]) -> Option<Name> {
-        for (name, called) in NAMES {
-            if word == called {
-                return Some(name);
-            }
-        }
-        None
-    }
-
-    /// Whether it has no value.
-    fn is_alone(self) -> bool {
-        matches!(self, Name::Related | Name::Unrelated)
-    }
-}
-
-impl SeekAddress {
-    /// Whether a number of it was read, and the last one was not.
-    fn is_under_way(&self) -> bool {
-        self.cylinder.is_some() && self.record.is_none()
-    }
-
-    /// Reads its next number.
-    fn read_number<'a>(&mut self, value: &'a [u8]) -> Result<(), Wrong<'a>> {
-        if self.cylinder.is_none() {
-            self.cylinder = Some(number_to(value, 65535, NO_TRACK)? as u16);
-        } else if self.head.is_none() {
-            self.head = Some(number_to(value, 65535, NO_TRACK)? as u16);
-        } else {
-            self.record = Some(number_to(value, 255, NO_RECORD)? as u8);
-        }
-        Ok(())
-    }
-}
-
-fn dcb_number(value: &[u8]) -> Result<u16, Wrong<'_>> {
-    let number = number_to(value, 65535, NO_DCB)?;
-    if number == 0 {
-        return Err(Wrong::of(value, NO_DCB));
-    }
-    Ok(number as u16)
 }

@@ -1,5 +1,6 @@
 //! What is wrong with a line, and how it is printed.
 
+use crate::line::Word;
 use job_check::{Found, write_meant};
 use job_script::{FaultName, Message, write_word};
 use std::alloc::{AllocError, AllocFailed};
@@ -10,7 +11,7 @@ use std::fmt;
 #[derive(Clone, Copy)]
 pub struct Wrong<'a> {
     pub name: FaultName,
-    pub word: &'a [u8],
+    pub word: Word<'a>,
     pub message: Message,
     /// The known word that this one may mean.
     pub meant: Option<&'a str>,
@@ -18,20 +19,28 @@ pub struct Wrong<'a> {
 
 impl<'a> Wrong<'a> {
     /// A word is not of its form.
-    pub fn of(word: &'a [u8], text: &'static str) -> Self {
+    pub fn of(word: Word<'a>, text: &'static str) -> Self {
         Wrong::named(FaultName::Number, word, text)
     }
 
     /// The words of a line are not those that it should have.
     pub fn line(text: &'static str) -> Self {
-        Wrong::named(FaultName::Words, &[], text)
+        Wrong::with(FaultName::Words, Message::new(text, &[]))
     }
 
     /// A fault of another name. If it is not of a word, `word` has no byte.
-    pub fn named(name: FaultName, word: &'a [u8], text: &'static str) -> Self {
+    pub fn named(name: FaultName, word: Word<'a>, text: &'static str) -> Self {
         Wrong {
             word,
             ..Wrong::with(name, Message::new(text, &[]))
+        }
+    }
+
+    /// A word is not of its form, which a text with numbers says.
+    pub fn counted(word: Word<'a>, text: &'static str, numbers: &[u64]) -> Self {
+        Wrong {
+            word,
+            ..Wrong::with(FaultName::Number, Message::new(text, numbers))
         }
     }
 
@@ -39,7 +48,7 @@ impl<'a> Wrong<'a> {
     pub fn with(name: FaultName, message: Message) -> Self {
         Wrong {
             name,
-            word: &[],
+            word: Word::of_line(0, &[]),
             message,
             meant: None,
         }
@@ -71,7 +80,7 @@ impl<'a, T: Drop> From<AllocFailed<T>> for Refusal<'a> {
     }
 }
 
-/// What is wrong with the line that has this number.
+/// What is wrong with the line of this number.
 #[derive(Clone, Copy)]
 pub struct Finding<'a> {
     pub line: usize,
@@ -81,6 +90,11 @@ pub struct Finding<'a> {
 impl<'a> Found for Finding<'a> {
     fn line(&self) -> Option<usize> {
         Some(self.line)
+    }
+
+    fn column(&self) -> Option<usize> {
+        let word = self.wrong.word;
+        (!word.is_empty()).then_some(word.place.column)
     }
 
     fn is_fault(&self) -> bool {
@@ -93,7 +107,7 @@ impl<'a> fmt::Display for Finding<'a> {
         let wrong = self.wrong;
         write!(f, "{}: ", wrong.name)?;
         if !wrong.word.is_empty() {
-            write_word(f, wrong.word)?;
+            write_word(f, wrong.word.bytes)?;
             f.write_str(": ")?;
         }
         wrong.message.write(f, &[])?;

@@ -1,6 +1,7 @@
 //! The labels of an area.
 
 use crate::finding::{Refusal, Wrong};
+use crate::line::Word;
 use command_table::flag_bit;
 use job_check::nearest;
 use job_script::FaultName;
@@ -20,11 +21,19 @@ const FLAG: &str = "a flag has this name: give the label another one";
 /// How many labels of an area an unknown one is compared with.
 const COMPARED: usize = 64;
 
-/// The labels of an area, each with its address.
+/// What a label says.
+#[derive(Clone, Copy)]
+pub struct Labelled {
+    pub address: u32,
+    /// The number of bytes of its statement. A label that is alone on its line has none.
+    pub length: Option<u32>,
+}
+
+/// The labels of an area, each with what it says.
 #[derive(Drop)]
 pub struct Labels<'a> {
     alloc: Global,
-    addresses: BTreeMap<Vec<u8>, u32>,
+    labelled: BTreeMap<Vec<u8>, Labelled>,
     /// The labels that were first defined, with which an unknown one is compared.
     first: Vec<&'a str>,
 }
@@ -34,27 +43,27 @@ impl<'a> Labels<'a> {
     pub fn new(alloc: Global) -> Self {
         Labels {
             alloc,
-            addresses: BTreeMap::new(alloc),
+            labelled: BTreeMap::new(alloc),
             first: Vec::new(alloc),
         }
     }
 
-    /// Gives a label its address, where it is a label and has none yet.
-    pub fn define(&mut self, label: &'a [u8], address: u32) -> Result<(), Refusal<'a>> {
-        if !is_label(label) {
+    /// Gives a label what it says, where it is a label and has none yet.
+    pub fn define(&mut self, label: Word<'a>, labelled: Labelled) -> Result<(), Refusal<'a>> {
+        if !is_label(label.bytes) {
             return Err(Refusal::Wrong(Wrong::of(label, NO_LABEL)));
         }
-        if flag_bit(label).is_some() {
+        if flag_bit(label.bytes).is_some() {
             return Err(Refusal::Wrong(Wrong::of(label, FLAG)));
         }
-        if self.address(label).is_some() {
+        if self.get(label.bytes).is_some() {
             return Err(Refusal::Wrong(Wrong::named(FaultName::Order, label, TWICE)));
         }
         let mut name = Vec::new(self.alloc);
-        name.extend_from_slice(label)?;
-        self.addresses.insert(name, address)?;
+        name.extend_from_slice(label.bytes)?;
+        self.labelled.insert(name, labelled)?;
         if self.first.len() < COMPARED {
-            if let Ok(label) = str::from_utf8(label) {
+            if let Ok(label) = str::from_utf8(label.bytes) {
                 self.first.push(label)?;
             }
         }
@@ -69,9 +78,16 @@ impl<'a> Labels<'a> {
         nearest(self.alloc, label, &self.first)
     }
 
-    /// The address of a label, if it has one.
-    pub fn address(&self, label: &[u8]) -> Option<u32> {
-        self.addresses.get(label).copied()
+    /// Gives a label the length of its statement.
+    pub fn measure(&mut self, label: Word<'_>, length: u32) {
+        if let Some(labelled) = self.labelled.get_mut(label.bytes) {
+            labelled.length = Some(length);
+        }
+    }
+
+    /// What a label says, if it is defined.
+    pub fn get(&self, label: &[u8]) -> Option<Labelled> {
+        self.labelled.get(label).copied()
     }
 }
 

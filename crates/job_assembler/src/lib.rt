@@ -1,9 +1,8 @@
-//! Symbolic areas of a script: labels, control blocks and CCWs by name, which are assembled to the words of a plain
-//! script (profile).
+//! Scripts in symbols, as labels, mnemonics, extents by tracks, text and names of faults, assembled to plain ones (profile).
 //!
-//! A line `area A ADDR` without words opens a symbolic area, which goes on to the line `endarea`. Each line between
-//! them is `LABEL: OPERATION OPERANDS ; COMMENT`. An `excp` line may name its IOB, and what it shows, by labels of its
-//! area. All other lines are those of a script, and are passed on.
+//! A line `area A ADDR` or `area A` without further words opens a symbolic area, which goes on to the line `endarea`. Each
+//! line between them is `LABEL: OPERATION OPERANDS ; COMMENT`. An `excp` line may name its IOB, and what it shows, by labels
+//! of its area. Lines on DCBs, records, blocks and faults have forms of their own. Others are those of a script.
 //!
 //! Tests: tests/cases/assembler.
 #![tactic(auto)]
@@ -11,15 +10,18 @@
 mod address;
 mod area;
 mod assembly;
-mod constant;
 mod control_block;
 mod excp;
+mod extent;
 mod finding;
+mod form;
 mod labels;
 mod line;
 mod numbers;
 mod operation;
 mod program;
 mod statement;
+mod value;
 
-pub use assembly::assemble_script;
+pub use assembly::{Assembled, assemble_script, assemble_text};
+pub use form::has_symbols;

@@ -3,29 +3,26 @@
 ghost use Rattle.std.specs.Prelude.{◌+◌};
 ghost use Rattle.job_script.specs.Reading.{ReadsAtMost};
 
-use crate::finding::{Finding, FindingKind, SCRIPT, add, tell};
+use crate::finding::{Finding, FindingKind, SCRIPT, add, add_at, tell};
+use crate::layout::{AreaLayout, opening_line, place_of};
 use crate::media::{check_unit, check_unit_on};
 use crate::notes::{early, note_doubles, note_unused};
 use crate::programs::{Issued, note_requests};
 use crate::races::Races;
-use crate::requests::why_rejected;
+use crate::requests::{why_rejected, wrong_word};
 use crate::suggestion::meant_in_script;
 use crate::telling::{Found, Source, write_findings};
 use job_media::{sizes_of, with_sizes};
 use job_scenario::begins_event;
 use job_script::{
-    Action, BYTE_ORDER_MARK, Cause, Command, DcbName, ExcpLine, FaultName, JobError, LIMIT, Line,
-    Message, Refusal, SetUp, first_unprintable, late, read_script,
+    Action, BYTE_ORDER_MARK, Cause, Command, DcbName, Excp, ExcpLine, FaultName, JobError, LIMIT,
+    Line, Message, Refusal, SetUp, first_unprintable, late, read_script,
 };
 use medium_image::{Image, Size};
-use script_words::{Words, next_word};
+use script_words::Words;
 use std::alloc::{AllocError, Global};
 use std::io::{Read, Write};
 use std::vec::IntoIter;
-
-/// A line ends a symbolic area, which no run takes.
-const SYMBOLIC: &str =
-    "a symbolic area ends in this line: assemble the script first, and check its output";
 
 /// Only a line of a scenario begins with this word.
 const EVENT: &str = "'{w}' begins an event of a scenario: use 'check --scenario' and 'step'";
@@ -43,7 +40,8 @@ pub fn check_script<R: Read, W: Write + Drop>(
     check_script_on(alloc, Vec::new(alloc), reader, source, writer)
 }
 
-/// Does so with the media of units from images, by their numbers.
+/// Writes each fault of a script whose units may have media from images. `images` has, by unit number, the image of each.
+/// Returns whether a run would reject the script.
 pub fn check_script_on<R: Read, W: Write + Drop>(
     alloc: Global,
     images: Vec<Option<Image>>,
@@ -56,29 +54,21 @@ pub fn check_script_on<R: Read, W: Write + Drop>(
     let text = read_script(alloc, reader)?;
     let sizes = sizes_of(alloc, &images)?;
     let text = with_sizes(alloc, &text, &sizes)?;
-    let findings = findings(alloc, images, &text, &sizes)?;
+    let findings = findings(alloc, images, &text, &sizes, source.layouts)?;
     write_findings(alloc, source, &findings, writer)?;
     Ok(refuses(&findings))
 }
 
-/// What is found in the text of a script, in the order of lines. A script with symbolic areas has one finding, which says
-/// that. `sizes` has the sizes of images, by the numbers of their units.
+/// What is found in the text of a script, in the order of lines. `sizes` has the sizes of images, by the numbers of their
+/// units, and `layouts` the layouts of the areas of a job in symbols.
 fn findings<'a>(
     alloc: Global,
     images: Vec<Option<Image>>,
     text: &'a [u8],
     sizes: &[Option<Size>],
+    layouts: &'a [AreaLayout],
 ) -> Result<Vec<Finding<'a>>, AllocError> {
-    if let Some(line) = end_of_symbolic(text) {
-        let mut findings = Vec::new(alloc);
-        tell(
-            &mut findings,
-            line,
-            Cause::new(FaultName::Words, SYMBOLIC, &[]),
-        )?;
-        return Ok(findings);
-    }
-    let mut check = Check::new(alloc);
+    let mut check = Check::new(alloc, layouts);
     for (place, bytes) in text.split(|byte| *byte == b'\n').enumerate() {
         check.line(alloc, place.saturating_add(1), bytes)?;
     }
@@ -88,18 +78,6 @@ fn findings<'a>(
     }
     findings.sort_by_key(|finding| finding.line)?;
     Ok(findings)
-}
-
-/// The first line that ends a symbolic area, if one does. It begins with `endarea`, as no line of a plain script does.
-fn end_of_symbolic(text: &[u8]) -> Option<usize> {
-    for (place, bytes) in text.split(|byte| *byte == b'\n').enumerate() {
-        if let Some((first, _)) = next_word(bytes) {
-            if first.starts_with(b"endarea") {
-                return Some(place.saturating_add(1));
-            }
-        }
-    }
-    None
 }
 
 /// Whether a run rejects the script for what was found.
@@ -195,6 +173,7 @@ fn fault_of<'a>(
 #[derive(Drop)]
 pub(crate) struct Check<'a> {
     pub(crate) set_up: SetUp,
+    layouts: &'a [AreaLayout],
     /// The line of the first command.
     first_command: Option<usize>,
     findings: Vec<Finding<'a>>,
@@ -216,9 +195,10 @@ pub(crate) struct Check<'a> {
 }
 
 impl<'a> Check<'a> {
-    fn new(alloc: Global) -> Self {
+    fn new(alloc: Global, layouts: &'a [AreaLayout]) -> Self {
         Check {
             set_up: SetUp::new(alloc),
+            layouts,
             first_command: None,
             findings: Vec::new(alloc),
             requests: Vec::new(alloc),
@@ -342,16 +322,35 @@ impl<'a> Check<'a> {
         let command = self.set_up.excp(excp)?;
         self.begin_command(&command)?;
         if let (Action::Excp(excp), false) = (&command.action, is_assumed) {
-            if let Some(cause) = why_rejected(excp, self.set_up.place_of_area(number)) {
+            if self.tell_word(command.line, number, excp)? {
+                return Ok(());
+            }
+            let mut place = self.set_up.place_of_area(number);
+            place.line = opening_line(self.layouts, number as usize, place.line);
+            if let Some(cause) = why_rejected(excp, place) {
                 return Err(Refusal::Caused(cause));
             }
         }
         self.issue(alloc, &command)?;
         let Command { line, action, .. } = command;
         if let (Action::Excp(excp), false) = (action, is_assumed) {
-            self.requests.push(Issued { line, excp })?;
+            let area = number;
+            self.requests.push(Issued { line, area, excp })?;
         }
         Ok(())
+    }
+
+    /// Adds what is wrong in the IOB of the request of a line, if a word of a job in symbols has set it. Returns whether it has.
+    fn tell_word(&mut self, line: usize, area: u64, excp: &Excp) -> Result<bool, AllocError> {
+        let Some((at, cause)) = wrong_word(excp) else {
+            return Ok(false);
+        };
+        let Some(place) = place_of(self.layouts, area, at) else {
+            return Ok(false);
+        };
+        let kind = FindingKind::Fault(cause.name, cause.message);
+        add_at(&mut self.findings, place, line, kind)?;
+        Ok(true)
     }
 
     /// No set-up line comes after this line, which is a command.
@@ -410,7 +409,13 @@ impl<'a> Check<'a> {
         self.check_units(alloc, images)?;
         let set_up = &self.set_up;
         let findings = &mut self.findings;
-        note_unused(&set_up.area_lines, &self.used, &self.assumed, findings)?;
+        note_unused(
+            &set_up.area_lines,
+            &self.used,
+            &self.assumed,
+            self.layouts,
+            findings,
+        )?;
         self.races.note(&set_up.units, findings)
     }
 
@@ -423,7 +428,7 @@ impl<'a> Check<'a> {
         tell_unmounted(self.set_up.units.len(), images, &mut self.findings)
     }
 
-    /// Does so for one of them.
+    /// Mounts one unit on its image, if it has one, and checks what is asked of it.
     fn check_unit(
         &mut self,
         alloc: Global,
@@ -441,7 +446,15 @@ impl<'a> Check<'a> {
         };
         if let Some(device) = device {
             note_doubles(alloc, unit, findings)?;
-            note_requests(number, unit, &device, &self.requests, assumed, findings)?;
+            note_requests(
+                number,
+                unit,
+                &device,
+                &self.requests,
+                assumed,
+                self.layouts,
+                findings,
+            )?;
         }
         Ok(())
     }

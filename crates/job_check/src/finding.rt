@@ -1,5 +1,6 @@
 //! A finding: a fault or a note, with its line.
 
+use crate::layout::Place;
 use crate::telling::Found;
 use ccw_programs::Refusal as BrokenRule;
 use job_media::MediaRefusal;
@@ -36,20 +37,35 @@ pub struct Finding<'a> {
     pub(crate) kind: FindingKind,
     /// The known word that an unknown one may mean.
     pub meant: Option<&'static str>,
+    /// The column of its word, if that is known.
+    column: Option<usize>,
+    /// The line of the request that meets it, if that is another one.
+    excp: Option<usize>,
 }
 
 impl<'a> Finding<'a> {
     /// A fault of the line with this number and these bytes.
     pub fn fault(line: usize, bytes: &'a [u8], cause: Cause) -> Self {
+        let kind = FindingKind::Fault(cause.name, cause.message);
         Finding {
-            line,
             bytes,
-            kind: FindingKind::Fault(cause.name, cause.message),
-            meant: None,
+            ..Finding::without_words(line, kind)
         }
     }
 
-    /// The same. If the line is not as it should be for a reason that its words alone do not tell, it has the text on that.
+    /// What is found in a line, in a text without words of it.
+    fn without_words(line: usize, kind: FindingKind) -> Self {
+        Finding {
+            line,
+            bytes: &[],
+            kind,
+            meant: None,
+            column: None,
+            excp: None,
+        }
+    }
+
+    /// This finding. If the line is not as it should be for a reason that its words alone do not tell, it has the text on that.
     /// `sizes` has the sizes of images, by the numbers of their units.
     pub(crate) fn explained(self, sizes: &[Option<Size>]) -> Self {
         match (self.kind, explanation(self.bytes, sizes)) {
@@ -72,11 +88,10 @@ impl<'a> Finding<'a> {
             Some(_) => Message::new("no line begins with '{w}'", &[1]),
             None => cause.message,
         };
+        let cause = Cause { message, ..cause };
         Finding {
-            line,
-            bytes,
-            kind: FindingKind::Fault(cause.name, message),
             meant,
+            ..Finding::fault(line, bytes, cause)
         }
     }
 }
@@ -84,6 +99,10 @@ impl<'a> Finding<'a> {
 impl<'a> Found for Finding<'a> {
     fn line(&self) -> Option<usize> {
         (self.line != SCRIPT).then_some(self.line)
+    }
+
+    fn column(&self) -> Option<usize> {
+        self.column
     }
 
     fn is_fault(&self) -> bool {
@@ -128,11 +147,21 @@ pub(crate) fn add(
     line: usize,
     kind: FindingKind,
 ) -> Result<(), AllocError> {
+    findings.push(Finding::without_words(line, kind))?;
+    Ok(())
+}
+
+/// Adds what the request of a line meets in a word at a place.
+pub(crate) fn add_at(
+    findings: &mut Vec<Finding<'_>>,
+    place: Place,
+    excp: usize,
+    kind: FindingKind,
+) -> Result<(), AllocError> {
     findings.push(Finding {
-        line,
-        bytes: &[],
-        kind,
-        meant: None,
+        column: Some(place.column),
+        excp: Some(excp),
+        ..Finding::without_words(place.line, kind)
     })?;
     Ok(())
 }
@@ -153,6 +182,10 @@ impl<'a> fmt::Display for Finding<'a> {
             FindingKind::Broken(BrokenRule { at, rule }) => {
                 write!(f, "note: the CCW at {at:06X} is a program check: {rule}")
             }
+        }?;
+        match self.excp {
+            Some(line) => write!(f, " (excp in line {line})"),
+            None => Ok(()),
         }
     }
 }

@@ -9,6 +9,7 @@
 mod assumed;
 mod check;
 mod finding;
+mod layout;
 mod lengths;
 mod media;
 mod notes;
@@ -20,6 +21,7 @@ mod telling;
 
 pub use check::{check_script, check_script_on};
 pub use finding::{Finding, SCRIPT, write_meant};
+pub use layout::{AreaLayout, Place};
 pub use media::{mount_faults, mount_faults_but};
 pub use requests::why_rejected;
 pub use suggestion::{fault_of_scenario, nearest};

@@ -30,8 +30,8 @@ pub fn mount_faults(
     Ok(findings)
 }
 
-/// Does so, but of units from images it returns only why their DCBs cannot be opened. `kept` has by the numbers of the units
-/// what their images have beside the media.
+/// Why units cannot be mounted, and why their DCBs cannot be opened, in the order of the units' numbers. Of a unit from an
+/// image it returns only why its DCBs cannot be opened. `kept` has, by unit number, what an image holds beside its medium.
 pub fn mount_faults_but(
     alloc: Global,
     units: &[UnitSetup],

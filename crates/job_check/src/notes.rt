@@ -3,6 +3,7 @@
 
 use crate::assumed::is_assumed;
 use crate::finding::{Finding, FindingKind, add};
+use crate::layout::{AreaLayout, opening_line};
 use job_script::{Action, Command, DcbName, Medium, Message, UnitSetup};
 use std::alloc::{AllocError, Global};
 
@@ -26,12 +27,14 @@ pub fn note_unused(
     lines: &[usize],
     used: &[bool],
     assumed: &[usize],
+    layouts: &[AreaLayout],
     findings: &mut Vec<Finding<'_>>,
 ) -> Result<(), AllocError> {
     for (number, (line, used)) in lines.iter().zip(used).enumerate() {
         if !*used && !is_assumed(assumed, *line) {
             let note = Message::new("no excp uses area {n}", &[number as u64]);
-            add(findings, *line, FindingKind::Note(note))?;
+            let line = opening_line(layouts, number, *line);
+            add(findings, line, FindingKind::Note(note))?;
         }
     }
     Ok(())

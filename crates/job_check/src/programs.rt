@@ -4,7 +4,8 @@ ghost use Rattle.std.specs.Prelude.{◌≡◌};
 ghost use Rattle.ccw_programs.specs.declared.context.State.{State};
 
 use crate::assumed::is_assumed;
-use crate::finding::{Finding, FindingKind, add};
+use crate::finding::{Finding, FindingKind, add, add_at};
+use crate::layout::{AreaLayout, place_of};
 use crate::lengths::{Lengths, may_format};
 use any_device::AnyDevice;
 use ccw_programs::{Context, Link, Listing, Rule, Workspace, look};
@@ -30,10 +31,10 @@ const MASK_SET: &str =
 /// A disk has no such command.
 const NOT_OF_DISK: &str = "the CCW at {a} ends with command reject: a disk has no command X'{b}'";
 
-/// A tape has none.
+/// The note on a command code that no tape has.
 const NOT_OF_TAPE: &str = "the CCW at {a} ends with command reject: a tape has no command X'{b}'";
 
-/// A printer has none.
+/// The note on a command code that no printer has.
 const NOT_OF_PRINTER: &str =
     "the CCW at {a} ends with command reject: a printer has no command X'{b}'";
 
@@ -41,12 +42,16 @@ const NOT_OF_PRINTER: &str =
 const VIOLATED: &str =
     "M {n}, BB {n}, CC {n}, HH {n} of the IOB is outside the extents of the DCB: the request is posted 42";
 
-/// A request that can be made, and the line that issues it.
+/// A request that can be made, the line that issues it, and the number of its area.
 #[derive(Drop)]
 pub struct Issued {
     pub line: usize,
+    pub area: u64,
     pub excp: Excp,
 }
+
+/// What is sure to fail, and the address of the bytes for which it does.
+type Failure = (u32, FindingKind);
 
 /// Notes why requests to a unit, which has this number and is mounted as this device, are sure to fail. Notes nothing of
 /// a DCB that is only assumed.
@@ -56,6 +61,7 @@ pub fn note_requests(
     device: &AnyDevice,
     requests: &[Issued],
     assumed: &[usize],
+    layouts: &[AreaLayout],
     findings: &mut Vec<Finding<'_>>,
 ) -> Result<(), AllocError> {
     let mut workspace = Workspace::new();
@@ -69,8 +75,12 @@ pub fn note_requests(
         if is_assumed(assumed, opening.line) {
             continue;
         }
-        if let Some(kind) = sure_failure(&request.excp, opening, device, is_kept, &mut workspace) {
-            add(findings, request.line, kind)?;
+        let failure = sure_failure(&request.excp, opening, device, is_kept, &mut workspace);
+        if let Some((at, kind)) = failure {
+            match place_of(layouts, request.area, at) {
+                Some(place) => add_at(findings, place, request.line, kind)?,
+                None => add(findings, request.line, kind)?,
+            }
         }
     }
     Ok(())
@@ -93,7 +103,7 @@ fn sure_failure(
     device: &AnyDevice,
     is_kept: bool,
     workspace: &mut Workspace,
-) -> Option<FindingKind> {
+) -> Option<Failure> {
     let mut image = [0; 40];
     image.copy_from_slice(excp.area.get(excp.iob, 40)?);
     let iob = Iob::read(&image);
@@ -103,7 +113,7 @@ fn sure_failure(
         return None;
     }
     if !passes_check(kind, device.heads(), extents, &iob.seek) {
-        return Some(violated(&iob.seek));
+        return Some((excp.iob.saturating_add(35), violated(&iob.seek)));
     }
     let mask = opening.method.file_mask();
     let writes = is_kept && !mask.inhibits_writes();
@@ -143,14 +153,14 @@ struct Walk<'a> {
 #[derive(Clone, Copy)]
 enum Step {
     /// The walk ends, with a note or without.
-    Ends(Option<FindingKind>),
+    Ends(Option<Failure>),
     /// The program goes on at an address. A search that finds its record goes on one CCW further.
     GoesOn { next: u32, searches: bool },
 }
 
 impl<'a> Walk<'a> {
     /// The note on the first CCW that ends the program if the program comes to it.
-    fn first_note(&mut self, start: Address, workspace: &mut Workspace) -> Option<FindingKind> {
+    fn first_note(&mut self, start: Address, workspace: &mut Workspace) -> Option<Failure> {
         let mut next = None;
         for _ in 0..MOST_COMMANDS {
             match self.step(start, next, workspace) {
@@ -181,7 +191,7 @@ impl<'a> Walk<'a> {
         if let Some(refusal) = listing.refusal {
             let is_noted = !self.reads.cover(refusal.at)
                 && (self.reads.is_empty() || !is_of_word(refusal.rule));
-            return Step::Ends(is_noted.then_some(FindingKind::Broken(refusal)));
+            return Step::Ends(is_noted.then_some((refusal.at, FindingKind::Broken(refusal))));
         }
         if listing.links.iter().any(|link| self.reads.cover(link.at)) {
             return Step::Ends(None);
@@ -190,10 +200,10 @@ impl<'a> Walk<'a> {
             return Step::Ends(None);
         };
         if let Some(note) = self.rejection(first) {
-            return Step::Ends(Some(FindingKind::Note(note)));
+            return Step::Ends(Some((first.at, FindingKind::Note(note))));
         }
         if let Some(note) = self.lengths.note(&listing, self.reads) {
-            return Step::Ends(Some(FindingKind::Note(note)));
+            return Step::Ends(Some((first.at, FindingKind::Note(note))));
         }
         if !last.ccw.flags.chains_command() {
             return Step::Ends(None);

@@ -35,6 +35,44 @@ const OTHER_DCB: &str =
 const SHOWN: &str =
     "{n} byte{s} at {a}, which are shown, do not lie in area {n} (line {n}) of {n} byte{s} at {a}";
 
+/// Texts on a job in symbols, whose finding is in the IOB. Their numbers are the address, and the length and base of the area.
+const ECB_WORD: Texts = [
+    "the ECB at {a} is not on a fullword boundary",
+    "no ECB at {a} lies in the area of {n} byte{s} at {a}",
+    "an ECB at {a} overlaps this IOB",
+];
+
+const PROGRAM_WORD: Texts = [
+    "the CCW at {a} is not on a doubleword boundary",
+    "no CCW at {a} lies in the area of {n} byte{s} at {a}",
+    "a CCW at {a} overlaps this IOB",
+];
+
+const OTHER_DCB_WORD: &str = "this IOB has DCB {n}, but its request has DCB {n}";
+
+/// What is wrong in the IOB of an EXCP that is rejected for it, and the address of the bytes that are wrong.
+pub(crate) fn wrong_word(excp: &Excp) -> Option<(u32, Cause)> {
+    let dcb = excp.dcb.number;
+    let [len, base] = [excp.area.len() as u64, u64::from(excp.area.base())];
+    let (offset, text, numbers) = match Request::refusal(dcb, excp.iob, &excp.area)? {
+        RequestRefusal::Iob(_) => return None,
+        RequestRefusal::Ecb(ecb, wrong) => {
+            (5, text_of(ECB_WORD, wrong), [u64::from(ecb), len, base])
+        }
+        RequestRefusal::Program(start, wrong) => {
+            (
+                17,
+                text_of(PROGRAM_WORD, wrong),
+                [u64::from(start), len, base],
+            )
+        }
+        RequestRefusal::OtherDcb(named) => {
+            (22, OTHER_DCB_WORD, [u64::from(named), u64::from(dcb), 0])
+        }
+    };
+    Some((excp.iob.saturating_add(offset), cause(text, &numbers)))
+}
+
 /// Why the request of an EXCP on the area with this number and line is rejected, if it is. If nothing else is wrong, the
 /// bytes that are shown do not lie in the area.
 pub fn why_rejected(excp: &Excp, place: AreaPlace) -> Option<Cause>

@@ -2,11 +2,22 @@
 
 use crate::finding::Finding;
 use job_scenario::begins_event;
-use job_script::{Cause, begins_line, is_symbolic};
+use job_script::{Cause, Message, begins_line, is_symbolic};
 use medium_image::Size;
 use script_words::{Words, is_word};
 use std::alloc::{AllocError, Global};
 use strsim::osa_distance;
+
+const AREA_IN_SYMBOLS: &str =
+    "an area without an address is in symbols: 'endarea' ends it, and 'step' takes it from a file only, as step FILE";
+
+const LINE_IN_SYMBOLS: &str =
+    "'{w}' begins a line of a symbolic area: expected 'area A' before it, 'endarea' after it, and a file, as step FILE";
+
+const IN_SYMBOLS: &str =
+    "a form of jobs in symbols: 'step' takes it from a file only, as step FILE";
+
+const SYMBOLS: [&[u8]; 6] = [b"all", b"tracks", b"cylinder", b"key", b"data", b"at"];
 
 /// The most bytes of a word that is compared.
 const MOST_BYTES: usize = 16;
@@ -87,8 +98,34 @@ pub fn fault_of_scenario<'a>(
 ) -> Result<Finding<'a>, AllocError> {
     let mut words = Words::new();
     words.scan(bytes);
+    if let Some(text) = text_on_symbols(&words) {
+        let message = Message::new(text, &[]);
+        return Ok(Finding::fault(line, &[], Cause { message, ..cause }));
+    }
     let meant = meant(alloc, &words, &FIRST_WORDS[1..])?;
+    if meant.is_none() && words.is_printable() && is_symbolic(words.word(0)) {
+        let message = Message::new(LINE_IN_SYMBOLS, &[1]);
+        return Ok(Finding::fault(line, bytes, Cause { message, ..cause }));
+    }
     Ok(Finding::of_first_word(line, bytes, cause, meant).explained(sizes))
+}
+
+/// The text on a line that only a job in symbols has: an area without an address, or a symbol in place of digits.
+fn text_on_symbols(words: &Words<'_>) -> Option<&'static str> {
+    let is_in_symbols = match words.word(0) {
+        b"area" => return words.word(2).is_empty().then_some(AREA_IN_SYMBOLS),
+        b"open" => is_symbol(words.word(3)),
+        b"rec" => is_symbol(words.word(5)),
+        b"block" => is_symbol(words.word(2)),
+        b"fault" => is_symbol(words.word(2)) || is_symbol(words.word(3)),
+        _ => false,
+    };
+    is_in_symbols.then_some(IN_SYMBOLS)
+}
+
+/// Whether only a job in symbols has a word in place of digits.
+fn is_symbol(word: &[u8]) -> bool {
+    word.contains(&b'\'') || SYMBOLS.iter().any(|symbol| *symbol == word)
 }
 
 /// The known word that may be meant by an unknown first word. A name in capitals is of a symbolic area, unless it is such a

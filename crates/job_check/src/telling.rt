@@ -3,6 +3,7 @@
 ghost use Rattle.std.specs.Prelude.{IfErr};
 ghost use Rattle.job_check.specs.Printing.{IsPrintFault};
 
+use crate::layout::AreaLayout;
 use job_script::JobError;
 use std::alloc::Global;
 use std::fmt::Write as _;
@@ -23,6 +24,19 @@ pub struct Source<'a> {
     pub name: &'a str,
     /// Whether the places of faults are red and those of notes yellow.
     pub is_coloured: bool,
+    /// The layouts of its areas by their numbers, if it is in symbols.
+    pub layouts: &'a [AreaLayout],
+}
+
+impl<'a> Source<'a> {
+    /// A plain script of this name.
+    pub fn new(name: &'a str, is_coloured: bool) -> Self {
+        Source {
+            name,
+            is_coloured,
+            layouts: &[],
+        }
+    }
 }
 
 /// The name of a file as a text shows it: a control character as `\x` and its code in two hexadecimal digits.
@@ -47,11 +61,17 @@ pub trait Found: fmt::Display {
     /// The number of its line, from 1; none if it is of the script as a whole.
     fn line(&self) -> Option<usize>;
 
+    /// The place in its line of the word that it is of, from 1, if it is known.
+    fn column(&self) -> Option<usize> {
+        None
+    }
+
     /// Whether a run rejects the script for it.
     fn is_fault(&self) -> bool;
 }
 
-/// Writes each finding on a line of its own, as `NAME:LINE: TEXT`, or `NAME: TEXT` if it is of the script as a whole.
+/// Writes each finding on a line of its own, as `NAME:LINE: TEXT`, or `NAME:LINE:COLUMN: TEXT` if its column is known, or
+/// `NAME: TEXT` if it is of the script as a whole.
 pub fn write_findings<F: Found, W: Write + Drop>(
     alloc: Global,
     source: Source<'_>,
@@ -75,27 +95,23 @@ fn write_all<F: Found, W: Write>(
     findings: &[F],
 ) -> io::Result<()> {
     for finding in findings {
-        write_place(out, source, finding.line(), finding.is_fault())?;
+        write_place(out, source, finding)?;
         writeln!(out, "{finding}")?;
     }
     out.flush()
 }
 
 /// Writes the place of a finding.
-fn write_place<W: Write>(
-    out: &mut W,
-    source: Source<'_>,
-    line: Option<usize>,
-    is_fault: bool,
-) -> io::Result<()> {
+fn write_place<F: Found, W: Write>(out: &mut W, source: Source<'_>, finding: &F) -> io::Result<()> {
     let name = FileName(source.name);
-    let (begin, end) = match (source.is_coloured, is_fault) {
+    let (begin, end) = match (source.is_coloured, finding.is_fault()) {
         (false, _) => ("", ""),
         (true, true) => (RED, PLAIN),
         (true, false) => (YELLOW, PLAIN),
     };
-    match line {
-        Some(line) => write!(out, "{begin}{name}:{line}:{end} "),
-        None => write!(out, "{begin}{name}:{end} "),
+    match (finding.line(), finding.column()) {
+        (Some(line), Some(column)) => write!(out, "{begin}{name}:{line}:{column}:{end} "),
+        (Some(line), None) => write!(out, "{begin}{name}:{line}:{end} "),
+        (None, _) => write!(out, "{begin}{name}:{end} "),
     }
 }

@@ -44,6 +44,6 @@ excp_of (actions.Close dcb) = None
 excp_of (actions.Reset dcb) = None
 excp_of actions.Wait = None
 
--- where the command issues a request, it can be made
+-- if the command issues a request, it can be made
 abbrev pub CanBeDone : Command → Type 0
 CanBeDone c = ForSome (excp_of c.action) CanIssue

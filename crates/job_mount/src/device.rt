@@ -13,6 +13,8 @@ use std::alloc::Global;
 use tape_unit::Tape;
 
 /// The device of a unit, just mounted, with the faults that it is to meet.
+///
+/// Errors: those of `mount` of the device.
 pub fn mounted(alloc: Global, unit: &UnitSetup) -> Result<AnyDevice, MountError>
     ensures { MountsDevice (device_of (unit_said unit.now)) result }
 {

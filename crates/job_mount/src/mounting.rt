@@ -19,10 +19,12 @@ use std::alloc::{AllocError, Global};
 use std::vec::IntoIter;
 use unit_book::{OpenError, UnitBook};
 
-/// The books of a script's units, in the order of their numbers, each for up to `capacity` requests at a time (1 to
-/// 65,536), with the DCBs of the script open. `given` has the device that each unit is given, by its number, as one from
-/// an image. A unit without one is mounted as its lines say. The first of these faults ends it: of a medium,
-/// in the order of units; of extents, in the order of lines; of a request, in the order of lines.
+/// The books of a script's units, in the order of their numbers, with the DCBs of the script open. Each is for up to
+/// `capacity` requests at a time (1 to 65,536). `given` has the device that each unit is given, by its number, as one
+/// from an image. A unit without one is mounted as its lines say.
+///
+/// Errors: the first fault of a medium, in the order of units; else of extents, in the order of lines; else of a
+/// request, in the order of lines; out of memory.
 #[tactic(auto, unfolding(crate::specs::Mounting::books_with))]
 pub fn books(
     alloc: Global,
@@ -88,8 +90,10 @@ fn next_given(given: &mut IntoIter<Option<AnyDevice>>) -> Option<AnyDevice>
     }
 }
 
-/// The book of a unit, for up to `capacity` requests at a time (1 to 65,536), without a DCB, on the device that is given,
+/// The book of a unit without a DCB, for up to `capacity` requests at a time (1 to 65,536). It is on the given device,
 /// or else on the one that its lines say.
+///
+/// Errors: the fault `Medium` of the unit; out of memory.
 pub fn mounted_book(
     alloc: Global,
     unit: &UnitSetup,

@@ -39,7 +39,7 @@ fn argument<'a>(alloc: Global, entry: &Entry) -> Result<Arg<'a>, AllocError> {
     related(taking(arg, entry), entry)
 }
 
-/// Its name, and how it is typed.
+/// An option or an argument with its name, its help, and how it is typed.
 fn named<'a>(alloc: Global, entry: &Entry) -> Arg<'a> {
     let arg = Arg::new(alloc, entry.name).help(entry.help);
     if entry.long.is_empty() {
@@ -51,7 +51,7 @@ fn named<'a>(alloc: Global, entry: &Entry) -> Arg<'a> {
     }
 }
 
-/// And what it takes.
+/// Adds what the option or argument takes: nothing, a text, a number in its range.
 fn taking<'a>(arg: Arg<'a>, entry: &Entry) -> Arg<'a> {
     let arg = valued(arg, entry);
     match entry.takes {
@@ -69,7 +69,7 @@ fn taking<'a>(arg: Arg<'a>, entry: &Entry) -> Arg<'a> {
     }
 }
 
-/// And the name and the default of its value.
+/// Adds the name and the default of the value that an option takes.
 fn valued<'a>(arg: Arg<'a>, entry: &Entry) -> Arg<'a> {
     if entry.value.is_empty() {
         return arg;
@@ -82,7 +82,7 @@ fn valued<'a>(arg: Arg<'a>, entry: &Entry) -> Arg<'a> {
     }
 }
 
-/// And which others it needs, or goes not with.
+/// Adds which other options it needs, and with which it conflicts.
 fn related<'a>(arg: Arg<'a>, entry: &Entry) -> Result<Arg<'a>, AllocError> {
     let mut arg = arg;
     for other in entry.conflicts {

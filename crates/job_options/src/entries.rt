@@ -48,6 +48,8 @@ pub const STEPS: &str = "steps";
 
 pub const JSON: &str = "json";
 
+pub const LISTING: &str = "listing";
+
 const HTML: &str = "html";
 
 pub const MOST_STEPS: &str = "most-steps";
@@ -218,6 +220,13 @@ const ON_JOBS: &[Subcommand] = &[
                 long: "posts",
                 help: "The posts and their count alone, as `run` prints them",
                 conflicts: &[STEPS, JSON, HTML],
+                ..FLAG
+            },
+            Entry {
+                name: LISTING,
+                long: LISTING,
+                help: "Runs nothing: the script with each area in symbols, and each statement's address and bytes beside it",
+                conflicts: &[STEPS, JSON, HTML, "posts", SEED, SAVE, CHANNELS, HANDLERS],
                 ..FLAG
             },
             Entry {

@@ -1,6 +1,6 @@
 //! The command line of every word but `run`, which is in run_options. `report` takes `--channels N` and `--handlers N`, as `run`
-//! does; and `--posts`, `--html`, or `--steps` or `--json` with `--most-steps N`. `step` takes `--html`, or `--json` with it. All
-//! take the name of a file. `--load U=FILE` and `--save U=FILE` name images of media.
+//! does; and `--posts`, `--listing`, `--html`, or `--steps` or `--json` with `--most-steps N`. `step` takes `--html`, or `--json`
+//! with it. All take the name of a file. `--load U=FILE` and `--save U=FILE` name images of media.
 //!
 //! Tests: `tests/run command_line`.
 #![tactic(auto)]
@@ -13,8 +13,8 @@ use clap::error::ErrorKind;
 use clap::{ArgMatches, Command, Error};
 use commands::command;
 use entries::{
-    ALL, FILE, FORCE, IMAGES, JSON, LOAD, MOST_SECONDS, MOST_STATES, MOST_STEPS, OFTEN, OUTCOME,
-    SAVE, SCENARIOS, SCHEDULE, SCRIPT, SEED, SEEDS, STEPS, TURN, WHOLE,
+    ALL, FILE, FORCE, IMAGES, JSON, LISTING, LOAD, MOST_SECONDS, MOST_STATES, MOST_STEPS, OFTEN,
+    OUTCOME, SAVE, SCENARIOS, SCHEDULE, SCRIPT, SEED, SEEDS, STEPS, TURN, WHOLE,
 };
 use run_options::{Counts, counts_of};
 use std::alloc::{AllocError, Global};
@@ -50,12 +50,14 @@ pub enum Form {
 pub enum Print {
     /// The posts and their count.
     Posts,
-    /// And what the run left behind.
+    /// The posts and what the run left.
     Report,
-    /// And that many commands of each unit.
+    /// The posts, what the run left, and at most this many commands of each unit.
     Steps(u64),
-    /// All of that in another form.
+    /// The whole run in another form.
     As(Form),
+    /// Nothing of a run: the script, with each area as a symbolic one.
+    Listing,
 }
 
 /// What is asked for a script.
@@ -255,7 +257,7 @@ fn of_script(
 fn lacks_form(order: Order, options: &ArgMatches<'_>) -> Option<&'static str> {
     let why = match order {
         Order::Report {
-            print: Print::Report | Print::Posts | Print::As(Form::Html),
+            print: Print::Report | Print::Posts | Print::Listing | Print::As(Form::Html),
             ..
         } => "--most-steps N needs --steps or --json",
         Order::Step(
@@ -349,6 +351,8 @@ fn asked_for(name: &str, options: &ArgMatches<'_>) -> Option<Order> {
 fn print_of(options: &ArgMatches<'_>) -> Print {
     if options.get_flag("posts") {
         Print::Posts
+    } else if options.get_flag(LISTING) {
+        Print::Listing
     } else if options.get_flag(STEPS) {
         Print::Steps(most_steps(options))
     } else {

@@ -28,6 +28,14 @@ pub struct ChosenOutcome {
     pub number: usize,
 }
 
+/// The scenario of an outcome, and whether the search came to its end. If not, outcomes may have other numbers in a longer search.
+#[derive(Drop)]
+pub struct ChosenScenario {
+    /// `None` if the search found no such outcome.
+    pub text: Option<Vec<u8>>,
+    pub is_complete: bool,
+}
+
 /// What the outcomes of a job come to.
 #[derive(Clone, Copy, PartialEq, Eq)]
 pub enum OutcomeVerdict {

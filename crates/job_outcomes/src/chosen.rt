@@ -2,7 +2,7 @@
 
 ghost use Rattle.std.specs.Prelude.{◌≤◌, vec_len};
 
-use crate::asked::{ChosenOutcome, OutcomeQuery};
+use crate::asked::{ChosenOutcome, ChosenScenario, OutcomeQuery};
 use crate::bench::Bench;
 use crate::scenario::Scenes;
 use crate::teller::outcomes_of;
@@ -13,8 +13,7 @@ use numbered_job::{ScriptLines, opened_job};
 use outcome_search::{Search, SearchWatch};
 use std::alloc::Global;
 
-/// Searches as [`crate::write_outcomes`] does, and returns the scenario that runs to one outcome. `None` if the search finds no
-/// such outcome.
+/// Searches as [`crate::write_outcomes`] does, and returns the scenario that runs to one outcome.
 ///
 /// Errors: those of the script's requests and units; out of memory.
 pub fn scenario_of_outcome<H: SearchWatch>(
@@ -25,7 +24,7 @@ pub fn scenario_of_outcome<H: SearchWatch>(
     asked: &OutcomeQuery,
     chosen: ChosenOutcome,
     watch: &mut H,
-) -> Result<Option<Vec<u8>>, JobError>
+) -> Result<ChosenScenario, JobError>
     requires units { vec_len script.now.set_up.units ≤ 64 }
 {
     let (job, books) = opened_job(alloc, script, given)?;
@@ -38,7 +37,10 @@ pub fn scenario_of_outcome<H: SearchWatch>(
         lines: &lines,
     };
     let mut search = explored(scenes, asked, watch)?;
-    scenario_in(scenes, &mut search, chosen)
+    Ok(ChosenScenario {
+        is_complete: search.is_complete(),
+        text: scenario_in(scenes, &mut search, chosen)?,
+    })
 }
 
 /// The scenario of an outcome that a search found.

@@ -10,18 +10,20 @@
 mod asked;
 mod bench;
 mod chosen;
+mod draft;
 mod hints;
+mod measure;
 mod outputs;
 mod rerun;
 mod scenario;
-mod seeds;
 mod shares;
 mod shortening;
 mod summary;
+mod tally;
 mod teller;
 mod telling;
 
-pub use asked::{ChosenOutcome, OutcomeQuery, OutcomeVerdict, ScenarioKeeper};
+pub use asked::{ChosenOutcome, ChosenScenario, OutcomeQuery, OutcomeVerdict, ScenarioKeeper};
 pub use chosen::scenario_of_outcome;
 pub use outcome_search::SearchWatch;
 pub use shares::write_shares;

@@ -34,7 +34,7 @@ impl WholeRun {
     }
 
     /// The post of a request, by its number, if it has this outcome.
-    pub fn with_outcome(
+    fn with_outcome(
         &self,
         scenes: Scenes<'_>,
         request: u16,

@@ -3,9 +3,9 @@
 use crate::bench::{Bench, WholeWitness, Witness};
 use job_scenario::Step;
 use job_script::Script;
-use numbered_job::{ScriptLines, StepWriter, write_set_up};
+use numbered_job::{NumberedRequest, ScriptLines, StepWriter, write_set_up};
 use post_lines::{shown, write_posted};
-use request_piece::Posted;
+use request_piece::{Posted, Scope};
 use std::alloc::{AllocError, Global};
 
 /// What scenarios are written from: the job, and the lines of its script.
@@ -56,22 +56,24 @@ impl<'t> Scenes<'t> {
         text.extend_from_slice(b"\n")
     }
 
-    /// Adds steps, each as a comment. A control among them, as a purge, has this mark if there is no other.
+    /// Adds steps, each as a comment. If one control among them, as a purge, covers this request, it has a mark.
     pub fn add_steps(
         &self,
         text: &mut Vec<u8>,
         steps: &[Step],
-        mark: &[u8],
+        request: Option<u16>,
     ) -> Result<(), AllocError> {
-        let controls = steps.iter().filter(|step| step.control().is_some()).count();
+        let number = usize::from(request.unwrap_or(u16::MAX));
+        let request = self.bench.job.requests.get(number);
+        let covers = |step: &Step| request.map_or(false, |request| is_covered(request, *step));
+        let is_only = steps.iter().filter(|step| covers(*step)).count() == 1;
         let mut writer = StepWriter::new(self.alloc, self.bench.job, self.lines)?;
         for step in steps {
             text.extend_from_slice(b"#   ")?;
             writer.write(text, *step).or(Err(AllocError))?;
-            if controls == 1 && step.control().is_some() {
+            if is_only && covers(step) {
                 text.pop();
-                text.extend_from_slice(mark)?;
-                text.extend_from_slice(b"\n")?;
+                text.extend_from_slice(b" <-\n")?;
             }
         }
         Ok(())
@@ -97,5 +99,14 @@ impl<'t> Scenes<'t> {
     fn expect(&self, text: &mut Vec<u8>, posted: &Posted) -> Result<(), AllocError> {
         text.extend_from_slice(b"expect ")?;
         self.add_post(text, posted)
+    }
+}
+
+/// Whether a step is a control that covers a request.
+fn is_covered(request: &NumberedRequest, step: Step) -> bool {
+    match step.control() {
+        Some((unit, Scope::Dcb(dcb))) => unit == request.unit && dcb == request.dcb,
+        Some((unit, Scope::Task(task))) => unit == request.unit && task == request.task,
+        None => false,
     }
 }

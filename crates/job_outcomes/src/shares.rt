@@ -3,8 +3,9 @@
 ghost use Rattle.std.specs.Prelude.{◌≤◌, vec_len};
 
 use crate::bench::Bench;
+use crate::measure::Patience;
 use crate::scenario::Scenes;
-use crate::seeds::Tally;
+use crate::tally::Tally;
 use crate::telling::in_order;
 use any_device::AnyDevice;
 use job_script::{JobError, Script};
@@ -13,7 +14,8 @@ use std::alloc::Global;
 use std::io::Write;
 
 /// Runs the job of a script, whose text this is, by the seeds from 1 to `seeds`, and writes how often each outcome came. `given` has
-/// the device that each unit is given, by its number. A program does at most `turn` commands in one step.
+/// the device that each unit is given, by its number. A program does at most `turn` commands in one step. Returns whether a request
+/// came to more than one outcome.
 ///
 /// Errors: those of the script's requests and units; out of memory; a write that fails.
 pub fn write_shares<W: Write>(
@@ -24,7 +26,7 @@ pub fn write_shares<W: Write>(
     seeds: u32,
     turn: u32,
     out: &mut W,
-) -> Result<(), JobError>
+) -> Result<bool, JobError>
     requires units { vec_len script.now.set_up.units ≤ 64 }
 {
     let (job, books) = opened_job(alloc, script, given)?;
@@ -37,10 +39,12 @@ pub fn write_shares<W: Write>(
         lines: &lines,
     };
     let requests = in_order(alloc, &job)?;
-    Tally::of(scenes, seeds, turn)?.write(out, &requests, seeds)?;
+    let tally = Tally::of(scenes, seeds, turn, &Patience)?;
+    tally.write(out, &requests, seeds)?;
     let last = writeln!(
         out,
         "{seeds} runs by seeds; the shares are no probabilities of threads"
     );
-    last.or(Err(JobError::NotWritten))
+    last.or(Err(JobError::NotWritten))?;
+    Ok(tally.has_several())
 }

@@ -1,16 +1,15 @@
 //! The last line: whether the job is deterministic, and how far the search came.
 
-use crate::asked::{OutcomeQuery, OutcomeVerdict};
-use outcome_search::{Search, SearchEnd};
+use crate::asked::{OutcomeVerdict, ScenarioKeeper};
+use crate::teller::Teller;
+use outcome_search::{Search, SearchEnd, SearchWatch};
 use std::io::{Result, Write};
 
-/// Writes whether each of these requests has one outcome, and returns it. `lost` outcomes were not told.
-pub(crate) fn write_summary<W: Write>(
-    out: &mut W,
+/// Writes whether each of these requests has one outcome, and returns it.
+pub(crate) fn write_summary<W: Write, K: ScenarioKeeper, H: SearchWatch>(
+    teller: &mut Teller<'_, W, K, H>,
     search: &Search<'_>,
     requests: &[u16],
-    asked: &OutcomeQuery,
-    lost: usize,
 ) -> Result<OutcomeVerdict> {
     let outcomes = requests.iter().map(|request| search.outcomes(*request));
     let several = outcomes.filter(|outcomes| outcomes.len() > 1).count();
@@ -18,15 +17,20 @@ pub(crate) fn write_summary<W: Write>(
     let has_each = requests
         .iter()
         .all(|request| !search.outcomes(*request).is_empty());
-    let is_all = search.is_complete() && lost == 0 && has_each;
+    let is_all = search.is_complete() && teller.lost == 0 && !teller.is_cut && has_each;
     let verdict = match several {
         _ if !is_all => OutcomeVerdict::NotAll,
         0 => OutcomeVerdict::Deterministic,
         _ => OutcomeVerdict::Several,
     };
+    let end = match search.ended() {
+        SearchEnd::Whole if teller.is_cut => SearchEnd::Watch,
+        end => end,
+    };
+    let out = &mut *teller.out;
     write_verdict(out, verdict, several)?;
     write!(out, " (turns of ")?;
-    write_count(out, u64::from(asked.turn), "command", "commands")?;
+    write_count(out, u64::from(teller.asked.turn), "command", "commands")?;
     write!(out, ", ")?;
     write_count(out, search.states() as u64, "state", "states")?;
     if let Some(wholes) = search.wholes() {
@@ -36,7 +40,7 @@ pub(crate) fn write_summary<W: Write>(
     write!(
         out,
         "{}",
-        match search.ended() {
+        match end {
             SearchEnd::Whole => "",
             SearchEnd::States => ", ended by --most-states",
             SearchEnd::Memory => ", ended by memory",

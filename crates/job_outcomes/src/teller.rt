@@ -2,12 +2,13 @@
 
 use crate::asked::{OutcomeQuery, OutcomeVerdict, ScenarioKeeper};
 use crate::bench::Witness;
-use crate::hints::{MOST_STATES, add_hint};
+use crate::hints::add_hint;
+use crate::measure::{Measure, Trials, measures};
 use crate::outputs::{WholeRun, in_order};
 use crate::scenario::Scenes;
-use crate::seeds::Tally;
+use crate::tally::Tally;
 use job_script::JobError;
-use outcome_search::{Outcome, Search};
+use outcome_search::{Outcome, Search, SearchWatch};
 use request_piece::Name;
 use std::alloc::{AllocError, Global};
 use std::io::Write;
@@ -20,6 +21,9 @@ const MOST: usize = 100;
 
 /// The most steps of a witness that are printed, and that it is made short for, unless all are asked for.
 const MOST_STEPS: usize = 500;
+
+/// What is said of outcomes that were left out.
+const NO_TIME: &str = ", for which --most-seconds left no time";
 
 /// What becomes of an outcome.
 #[derive(Clone, Copy, PartialEq, Eq)]
@@ -34,59 +38,139 @@ enum Telling {
     Nothing,
 }
 
-/// What tells outcomes.
+/// What is known of outcomes beside the search.
 #[derive(Drop)]
-pub(crate) struct Teller<'t, W: Write, K: ScenarioKeeper> {
-    scenes: Scenes<'t>,
-    asked: OutcomeQuery,
-    /// How many states searches of changed scripts may still have.
-    left: u32,
-    /// A whole run, if one was found.
-    run: Option<WholeRun>,
-    out: &'t mut W,
-    keeper: &'t mut K,
-    /// How many outcomes have no witness. The search is wrong about these, and they are not told.
-    pub lost: usize,
+pub(crate) struct Evidence<'t> {
+    /// What runs came to that were carried out.
+    pub tally: Tally<'t>,
+    trials: Trials<'t>,
+    /// What the requests have without a change.
+    base: Vec<Measure>,
 }
 
-impl<'t, W: Write, K: ScenarioKeeper> Teller<'t, W, K> {
-    pub fn new(
+impl<'t> Evidence<'t> {
+    /// Runs seeds, if the search has come to its end, and the whole run that it found, if there is one.
+    pub fn of<H: SearchWatch>(
         scenes: Scenes<'t>,
         search: &mut Search<'_>,
-        asked: OutcomeQuery,
-        out: &'t mut W,
-        keeper: &'t mut K,
+        asked: &OutcomeQuery,
+        watch: &H,
     ) -> Result<Self, JobError> {
-        let run = match search.run()? {
-            Some(steps) => WholeRun::of(scenes, &steps)?,
-            None => None,
-        };
-        Ok(Teller {
-            scenes,
-            asked,
-            left: MOST_STATES,
-            run,
-            out,
-            keeper,
-            lost: 0,
+        let seeds = if search.is_complete() { asked.seeds } else { 0 };
+        Ok(Evidence {
+            tally: Tally::of(scenes, seeds, asked.turn, watch)?,
+            trials: Trials::new(scenes, asked, search.bytes()),
+            base: measures(scenes.alloc, scenes.bench.job, search, None)?,
         })
     }
 
-    /// An outcome that a run by a seed came to, and that a search did not find, though it has come to its end.
-    pub fn missed(&self, search: &Search<'_>) -> Result<Option<OutcomeVerdict>, JobError> {
-        if !search.is_complete() {
-            return Ok(None);
+    /// Adds what the whole run came to that a search found, if there is one.
+    pub fn add_run(&mut self, search: &mut Search<'_>) -> Result<(), JobError> {
+        let Some(steps) = search.run()? else {
+            return Ok(());
+        };
+        match self.trials.scenes.bench.carry_out_all(&steps)? {
+            Some(whole) => Ok(self.tally.add_all(&whole.posts)?),
+            None => Ok(()),
         }
-        let scenes = self.scenes;
-        let tally = Tally::of(scenes, self.asked.seeds, self.asked.turn)?;
-        Ok(tally.missed(search))
+    }
+
+    /// The line of an outcome of a request: that of a run that came to it, or else of its witness. `None` if the search is wrong about
+    /// it.
+    fn line_of(
+        &mut self,
+        search: &mut Search<'_>,
+        request: u16,
+        outcome: Outcome,
+    ) -> Result<Option<Vec<u8>>, JobError> {
+        let scenes = self.trials.scenes;
+        let key = search.key(outcome.key).to_vec(scenes.alloc)?;
+        if let Some(line) = self.tally.line_of(request, &key)? {
+            return Ok(Some(line));
+        }
+        let Some(witness) = carried_out(scenes, search, request, outcome, &key)? else {
+            return Ok(None);
+        };
+        let mut line = Vec::new(scenes.alloc);
+        scenes.add_post(&mut line, &witness.posted)?;
+        self.tally.add_all(&witness.posts)?;
+        Ok(Some(line))
+    }
+}
+
+/// What tells outcomes.
+#[derive(Drop)]
+pub(crate) struct Teller<'t, W: Write, K: ScenarioKeeper, H: SearchWatch> {
+    pub scenes: Scenes<'t>,
+    pub asked: OutcomeQuery,
+    pub evidence: Evidence<'t>,
+    pub out: &'t mut W,
+    pub keeper: &'t mut K,
+    pub watch: &'t H,
+    /// How many outcomes have no witness. The search is wrong about these, and they are not told.
+    pub lost: usize,
+    /// Whether there was no time for some.
+    pub is_cut: bool,
+}
+
+impl<'t, W: Write, K: ScenarioKeeper, H: SearchWatch> Teller<'t, W, K, H> {
+    /// Tells what is found in words, by this evidence, as long as there is time.
+    pub fn new(
+        scenes: Scenes<'t>,
+        asked: OutcomeQuery,
+        evidence: Evidence<'t>,
+        out: &'t mut W,
+        keeper: &'t mut K,
+        watch: &'t H,
+    ) -> Self {
+        Teller {
+            scenes,
+            asked,
+            evidence,
+            out,
+            keeper,
+            watch,
+            lost: 0,
+            is_cut: false,
+        }
+    }
+
+    /// Tells the outcomes of these requests, one after the other, as long as there is time.
+    pub fn tell_all(&mut self, search: &mut Search<'_>, requests: &[u16]) -> Result<(), JobError> {
+        if let Some(last) = requests.last() {
+            self.look_ahead(search, *last)?;
+        }
+        for (before, request) in requests.iter().enumerate() {
+            if !self.watch.has_time() {
+                self.is_cut = true;
+                let left = requests.len().saturating_sub(before);
+                return self.tell_more(left, "request", NO_TIME);
+            }
+            self.tell(search, *request)?;
+        }
+        Ok(())
+    }
+
+    /// Carries out long witnesses of the last request, whose steps nobody reads: they come to outcomes of many others too.
+    fn look_ahead(&mut self, search: &mut Search<'_>, request: u16) -> Result<(), JobError> {
+        let outcomes = outcomes_of(self.scenes.alloc, search, request)?;
+        for outcome in outcomes.iter().take(GROUPED) {
+            if self.is_long(*outcome) && self.watch.has_time() {
+                self.line_of(search, request, *outcome)?;
+            }
+        }
+        Ok(())
     }
 
     /// Tells the outcomes of a request in order: all or each of a few, or else the first of each completion code.
-    pub fn tell(&mut self, search: &mut Search<'_>, request: u16) -> Result<(), JobError> {
+    fn tell(&mut self, search: &mut Search<'_>, request: u16) -> Result<(), JobError> {
         let outcomes = outcomes_of(self.scenes.alloc, search, request)?;
         let mut left: usize = 0;
         for (place, outcome) in outcomes.iter().enumerate() {
+            if !self.watch.has_time() {
+                self.is_cut = true;
+                return self.tell_more(outcomes.len().saturating_sub(place), "outcome", NO_TIME);
+            }
             let number = place.saturating_add(1);
             let mut text = Vec::new(self.scenes.alloc);
             let told = telling_of(search, &outcomes, place, self.asked.all);
@@ -112,12 +196,18 @@ impl<'t, W: Write, K: ScenarioKeeper> Teller<'t, W, K> {
             return Ok(());
         }
         let mut text = Vec::new(self.scenes.alloc);
-        add_hint(self.scenes, request, &self.asked, &mut self.left, &mut text)?;
+        let evidence = &mut self.evidence;
+        add_hint(&mut evidence.trials, &evidence.base, request, &mut text)?;
         self.out.write_all(&text).or(Err(JobError::NotWritten))
     }
 
-    /// Tells an outcome of a request, with its number among those of the request, after this text. It is printed as the post of the
-    /// whole run, if that has it and nobody reads its steps, or else of its witness.
+    /// Whether the steps to an outcome are too many to be printed.
+    fn is_long(&self, outcome: Outcome) -> bool {
+        outcome.length() > MOST_STEPS && !self.asked.all && !self.keeper.is_wanted()
+    }
+
+    /// Tells an outcome of a request, with its number among those of the request, after this text. If nobody reads its steps, it is
+    /// printed as the post of any run that came to it, or else of its witness.
     fn tell_one(
         &mut self,
         search: &mut Search<'_>,
@@ -127,18 +217,30 @@ impl<'t, W: Write, K: ScenarioKeeper> Teller<'t, W, K> {
         told: Telling,
         text: Vec<u8>,
     ) -> Result<(), JobError> {
-        let is_read = told == Telling::Steps || self.keeper.is_wanted();
-        if !is_read {
-            if told == Telling::Scenario || self.tell_of_run(search, request, outcome)? {
-                return Ok(());
+        if !self.keeper.is_wanted() {
+            match told {
+                Telling::Scenario => return Ok(()),
+                Telling::Steps if self.is_long(outcome) => {
+                    return self.tell_long(search, request, outcome, number, text);
+                }
+                Telling::Line => {
+                    let line = self.line_of(search, request, outcome)?;
+                    return self.out.write_all(&line).or(Err(JobError::NotWritten));
+                }
+                _ => {}
             }
         }
-        let Some(witness) = self.witness(search, request, outcome, is_read)? else {
+        let key = search.key(outcome.key).to_vec(self.scenes.alloc)?;
+        let Some(steps) = search.witness(request, outcome.key)? else {
+            self.lost = self.lost.saturating_add(1);
+            return Ok(());
+        };
+        let Some(witness) = self.scenes.bench.witness(&steps, request, &key)? else {
             self.lost = self.lost.saturating_add(1);
             return Ok(());
         };
         if told != Telling::Scenario {
-            self.tell_witness(&witness, number, told, text)?;
+            self.tell_witness(&witness, request, told, text)?;
         }
         if self.keeper.is_wanted() {
             let scenes = self.scenes;
@@ -150,67 +252,58 @@ impl<'t, W: Write, K: ScenarioKeeper> Teller<'t, W, K> {
         Ok(())
     }
 
-    /// Tells the post that a request has in the whole run, if it has this outcome. Returns whether it has.
-    fn tell_of_run(
+    /// The line of an outcome of a request. It is empty if the search is wrong about it.
+    fn line_of(
         &mut self,
-        search: &Search<'_>,
-        request: u16,
-        outcome: Outcome,
-    ) -> Result<bool, JobError> {
-        let Some(run) = &self.run else {
-            return Ok(false);
-        };
-        let key = search.key(outcome.key);
-        let Some(posted) = run.with_outcome(self.scenes, request, key)? else {
-            return Ok(false);
-        };
-        let mut text = Vec::new(self.scenes.alloc);
-        self.scenes.add_post(&mut text, posted)?;
-        self.out.write_all(&text).or(Err(JobError::NotWritten))?;
-        Ok(true)
-    }
-
-    /// The witness of an outcome. It is made short if anybody reads its steps, and it has not too many.
-    fn witness(
-        &self,
         search: &mut Search<'_>,
         request: u16,
         outcome: Outcome,
-        is_read: bool,
-    ) -> Result<Option<Witness>, AllocError> {
-        let Some(steps) = search.witness(request, outcome.key)? else {
-            return Ok(None);
-        };
-        let bench = self.scenes.bench;
-        let key = search.key(outcome.key);
-        if is_read && (steps.len() <= MOST_STEPS || self.asked.all || self.keeper.is_wanted()) {
-            bench.witness(&steps, request, key)
-        } else {
-            Ok(bench.carry_out(&steps, request, key)?.witness)
+    ) -> Result<Vec<u8>, JobError> {
+        match self.evidence.line_of(search, request, outcome)? {
+            Some(line) => Ok(line),
+            None => {
+                self.lost = self.lost.saturating_add(1);
+                Ok(Vec::new(self.scenes.alloc))
+            }
         }
     }
 
-    /// Writes a text, the post of a witness, and its steps if they are wanted. Of many steps it says how to print them.
+    /// Tells an outcome whose steps are not printed, after this text, and how to print them.
+    fn tell_long(
+        &mut self,
+        search: &mut Search<'_>,
+        request: u16,
+        outcome: Outcome,
+        number: usize,
+        text: Vec<u8>,
+    ) -> Result<(), JobError> {
+        let mut text = text;
+        let line = self.line_of(search, request, outcome)?;
+        text.extend_from_slice(&line)?;
+        if let Some(issued) = self.scenes.bench.job.requests.get(usize::from(request)) {
+            let (unit, Name { task, seq }) = (issued.unit, issued.name);
+            let words = writeln!(
+                text,
+                "#   more than {MOST_STEPS} steps, which --outcome {task} {unit} {seq} {number} prints"
+            );
+            words.or(Err(AllocError))?;
+        }
+        self.out.write_all(&text).or(Err(JobError::NotWritten))
+    }
+
+    /// Writes a text, the post of a witness, and its steps if they are wanted.
     fn tell_witness(
         &mut self,
         witness: &Witness,
-        number: usize,
+        request: u16,
         told: Telling,
         text: Vec<u8>,
     ) -> Result<(), JobError> {
         let mut text = text;
         let scenes = self.scenes;
         scenes.add_post(&mut text, &witness.posted)?;
-        let count = witness.steps.len();
-        if told == Telling::Steps && (count <= MOST_STEPS || self.asked.all) {
-            scenes.add_steps(&mut text, &witness.steps, b" <-")?;
-        } else if told == Telling::Steps {
-            let (unit, Name { task, seq }) = (witness.posted.unit(), witness.posted.name());
-            let line = writeln!(
-                text,
-                "#   {count} steps, which --outcome {task} {unit} {seq} {number} prints"
-            );
-            line.or(Err(AllocError))?;
+        if told == Telling::Steps {
+            scenes.add_steps(&mut text, &witness.steps, Some(request))?;
         }
         self.out.write_all(&text).or(Err(JobError::NotWritten))
     }
@@ -251,6 +344,10 @@ impl<'t, W: Write, K: ScenarioKeeper> Teller<'t, W, K> {
         let places = in_order(self.scenes.alloc, search, requests)?;
         let most = if self.asked.all { usize::MAX } else { MOST };
         for (before, place) in places.iter().enumerate().take(most) {
+            if !self.watch.has_time() {
+                self.is_cut = true;
+                return self.tell_more(places.len().saturating_sub(before), "whole output", NO_TIME);
+            }
             let number = before.saturating_add(1);
             let mut text = Vec::new(self.scenes.alloc);
             writeln!(text, "output {number}").or(Err(AllocError))?;
@@ -291,7 +388,7 @@ impl<'t, W: Write, K: ScenarioKeeper> Teller<'t, W, K> {
         let mut text = text;
         let scenes = self.scenes;
         if has_steps {
-            scenes.add_steps(&mut text, &run.witness.steps, b"")?;
+            scenes.add_steps(&mut text, &run.witness.steps, None)?;
         }
         self.out.write_all(&text).or(Err(JobError::NotWritten))?;
         if self.keeper.is_wanted() {
@@ -299,6 +396,20 @@ impl<'t, W: Write, K: ScenarioKeeper> Teller<'t, W, K> {
             self.keeper.keep_output(number, &scenario)?;
         }
         Ok(())
+    }
+}
+
+/// The witness of an outcome, as the search found it.
+fn carried_out(
+    scenes: Scenes<'_>,
+    search: &mut Search<'_>,
+    request: u16,
+    outcome: Outcome,
+    key: &[u8],
+) -> Result<Option<Witness>, AllocError> {
+    match search.witness(request, outcome.key)? {
+        Some(steps) => Ok(scenes.bench.carry_out(&steps, request, key)?.witness),
+        None => Ok(None),
     }
 }
 

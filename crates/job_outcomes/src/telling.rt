@@ -6,7 +6,7 @@ use crate::asked::{OutcomeQuery, OutcomeVerdict, ScenarioKeeper};
 use crate::bench::Bench;
 use crate::scenario::Scenes;
 use crate::summary::write_summary;
-use crate::teller::Teller;
+use crate::teller::{Evidence, Teller};
 use any_device::AnyDevice;
 use job_script::{JobError, Script};
 use numbered_job::{NumberedJob, ScriptLines, opened_job};
@@ -41,7 +41,21 @@ pub fn write_outcomes<W: Write, K: ScenarioKeeper, H: SearchWatch>(
         lines: &lines,
     };
     let mut search = explored(scenes, asked, watch)?;
-    tell_all(scenes, &mut search, asked, out, keeper)
+    tell_found(scenes, &mut search, asked, out, keeper, watch)
+}
+
+/// Tells what a search found, by the evidence that runs give beside it.
+fn tell_found<W: Write, K: ScenarioKeeper, H: SearchWatch>(
+    scenes: Scenes<'_>,
+    search: &mut Search<'_>,
+    asked: &OutcomeQuery,
+    out: &mut W,
+    keeper: &mut K,
+    watch: &H,
+) -> Result<OutcomeVerdict, JobError> {
+    let evidence = Evidence::of(scenes, search, asked, watch)?;
+    let mut teller = Teller::new(scenes, *asked, evidence, out, keeper, watch);
+    tell_all(search, &mut teller)
 }
 
 /// A search of a job, up to its end or its limits.
@@ -60,38 +74,22 @@ pub(crate) fn explored<'t, H: SearchWatch>(
     Ok(search)
 }
 
-/// Tells what a search found: the outcomes of each request, the whole outputs that were sought, and the last line.
-fn tell_all<W: Write, K: ScenarioKeeper>(
-    scenes: Scenes<'_>,
+/// Tells what a search found: the outcomes of each request, the whole outputs that were sought, and the last line. The search is
+/// wrong if a run by a seed came to another outcome.
+fn tell_all<W: Write, K: ScenarioKeeper, H: SearchWatch>(
     search: &mut Search<'_>,
-    asked: &OutcomeQuery,
-    out: &mut W,
-    keeper: &mut K,
+    teller: &mut Teller<'_, W, K, H>,
 ) -> Result<OutcomeVerdict, JobError> {
-    let requests = in_order(scenes.alloc, scenes.bench.job)?;
-    let (lost, missed) = tell_each(scenes, search, &requests, asked, out, keeper)?;
-    match write_summary(out, search, &requests, asked, lost) {
+    let Scenes { alloc, bench, .. } = teller.scenes;
+    let missed = teller.evidence.tally.missed(search);
+    teller.evidence.add_run(search)?;
+    let requests = in_order(alloc, bench.job)?;
+    teller.tell_all(search, &requests)?;
+    teller.tell_outputs(search, &requests)?;
+    match write_summary(teller, search, &requests) {
         Ok(verdict) => Ok(missed.unwrap_or(verdict)),
         Err(_) => Err(JobError::NotWritten),
     }
-}
-
-/// Tells the outcomes of these requests, and the whole outputs. Returns how many have no witness, and what the search missed.
-fn tell_each<W: Write, K: ScenarioKeeper>(
-    scenes: Scenes<'_>,
-    search: &mut Search<'_>,
-    requests: &[u16],
-    asked: &OutcomeQuery,
-    out: &mut W,
-    keeper: &mut K,
-) -> Result<(usize, Option<OutcomeVerdict>), JobError> {
-    let mut teller = Teller::new(scenes, search, *asked, out, keeper)?;
-    for request in requests {
-        teller.tell(search, *request)?;
-    }
-    teller.tell_outputs(search, requests)?;
-    let missed = teller.missed(search)?;
-    Ok((teller.lost, missed))
 }
 
 /// The numbers of the requests in the order in which a run prints their posts: by tasks, by units, and by their numbers.

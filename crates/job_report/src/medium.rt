@@ -37,13 +37,13 @@ pub fn write_medium<W: Write>(
         (Medium::Printer { lines, pages }, AnyDevice::Printer(printer)) => {
             write_printer(out, at, *lines, *pages, printer)
         }
-        // no device comes to this: it was mounted as its set-up says
+        // unreachable: a device is mounted as its set-up says
         _ => Ok(()),
     }
 }
 
-/// Whether lines of a script declare all that lies on a device: on a disk, no other data in R0, and no record with a CCHHR of
-/// another track.
+/// Whether lines of a script can declare all that is on a device. On a disk R0 has no other data, and no record has a
+/// CCHHR of another track.
 pub fn are_declarable(device: &AnyDevice) -> bool {
     match device {
         AnyDevice::Disk(disk) => has_declarable(disk),

@@ -10,9 +10,9 @@ use std::io::Write;
 use unit_book::UnitBook;
 use unit_history::{CommandList, Dcbs, HistoryError, write_history};
 
-/// Writes of each unit of a script its history and its medium, as its book has them at the end of a run; with `steps` also
-/// that many commands of each unit. The books are in the order of the units' numbers, and the table has room for the DCBs
-/// of each. Only the commands take memory.
+/// Writes the history and the medium of each unit of a script, as its book has them at the end of a run. With `steps`
+/// it also writes that many commands of each unit. The books are in the order of the units' numbers, and the table has
+/// room for the DCBs of each. Only the commands take memory.
 pub fn write_units<W: Write>(
     out: &mut W,
     set_up: &SetUp,

@@ -57,8 +57,10 @@ impl<'a, 'r, S: Site> Job<'a, 'r, S> {
         }
     }
 
-    /// Does all that a task does: its commands, up to the first fault, and then waits until all its requests were posted.
-    /// Returns what that came to, or why it ended. Out of memory outranks the fault of a line.
+    /// Does all that a task does: its commands, up to the first fault, and then waits until all its requests were
+    /// posted. Returns how its requests ended, and its notes.
+    ///
+    /// Errors: out of memory; else those of `commands`.
     pub fn task<R: Wait, N: Notes>(
         &self,
         rt: &R,
@@ -76,7 +78,7 @@ impl<'a, 'r, S: Site> Job<'a, 'r, S> {
         Ok(end)
     }
 
-    /// Does so for a task whose posts come to these slots.
+    /// Does the commands of a task up to the first fault, and then waits for all its posts. Each post goes to its slot.
     fn to_the_end<R: Wait, N: Notes>(
         &self,
         rt: &R,
@@ -98,6 +100,8 @@ impl<'a, 'r, S: Site> Job<'a, 'r, S> {
 
     /// Does the commands of a task, in order, up to the first fault. Whatever other threads do, the task sends the requests
     /// of its commands, in their order, and no other.
+    ///
+    /// Errors: the first command that fails, as an `excp` after the last number; out of memory.
     pub fn commands<R: Wait, N: Notes>(
         &self,
         rt: &R,

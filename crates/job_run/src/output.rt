@@ -10,6 +10,8 @@ use std::io::Write;
 
 /// Writes what the requests of each task were posted with, in order of tasks, units and numbers, each with its shown
 /// bytes, and then how many there are.
+///
+/// Error: a failed write, after a part.
 pub fn write<W: Write, N: Drop>(tasks: &[TaskEnd<N>], writer: &mut W) -> Result<(), JobError>
     ensures { IfErr result (λ fault. fault ≡ JobError.NotWritten) }
 {

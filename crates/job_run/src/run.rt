@@ -36,8 +36,10 @@ pub struct Finished<N> {
 }
 
 /// Reads a script, at most 1,048,576 bytes and one more. Runs its tasks beside these numbers of channel workers and
-/// interruption handlers, and writes the posts of its requests, or returns its first fault. It writes only after the
-/// run, so every fault but that of a write leaves the writer as it was.
+/// interruption handlers, and writes the posts of its requests.
+///
+/// Errors: the first fault of the script; no thread for a worker; out of memory; a failed write. It writes only after
+/// the run, so every error but a failed write leaves the writer as it was.
 pub fn run_script<R: Threads + Wait + Sync, I: Read, W: Write>(
     rt: &R,
     alloc: Global,
@@ -59,6 +61,8 @@ pub fn run_script<R: Threads + Wait + Sync, I: Read, W: Write>(
 }
 
 /// Reads a script, at most 1,048,576 bytes and one more, and runs it to its end. Its tasks note what `N` does.
+///
+/// Errors: those of `read_script` and `Script::parse`, and then those of `run_parsed`.
 pub fn read_and_run<R: Threads + Wait + Sync, N: Notes + Send + Sync, I: Read>(
     rt: &R,
     alloc: Global,
@@ -75,9 +79,11 @@ pub fn read_and_run<R: Threads + Wait + Sync, N: Notes + Send + Sync, I: Read>(
     Ok((script, run))
 }
 
-/// Runs a script that was parsed, to its end. `given` has for each unit, by its number, the device that it is given, as
-/// one from an image; a unit without one is mounted as its lines say. The books of the run have for each unit the
-/// device as it was mounted, and the device as the run left it. [`write`] prints the run.
+/// Runs a script that was parsed, to its end. `given` has for each unit, by its number, a device, as one from an image.
+/// A unit without one is mounted as its lines say. The books of the run have for each unit the device as it was
+/// mounted, and the device as the run left it. [`write`] prints the run.
+///
+/// Errors: those of `books` of job_mount, and then those of `run_on`.
 pub fn run_parsed<R: Threads + Wait + Sync, N: Notes + Send + Sync>(
     rt: &R,
     alloc: Global,
@@ -95,8 +101,10 @@ pub fn run_parsed<R: Threads + Wait + Sync, N: Notes + Send + Sync>(
     run_on(rt, alloc, rows, books, script, workers)
 }
 
-/// Runs a script on a system of these rows and books, to its end. Returns `NoThread` if no thread can be made for a
-/// worker, `NoMemory` if `run_program` fails for another cause, and else what [`ended`] returns.
+/// Runs a script on a system of these rows and books, to its end.
+///
+/// Errors: `NoThread` if no thread can be made for a worker; `NoMemory` if `run_program` fails for another cause; else
+/// those of [`ended`].
 pub fn run_on<R: Threads + Wait + Sync, N: Notes + Send + Sync>(
     rt: &R,
     alloc: Global,

@@ -26,7 +26,7 @@ abbrev pub Reads : {X : Type 0} → Result X Cause → Result X FaultName → Ty
 Reads (Ok x) read = read ≡ Ok x
 Reads (Err cause) read = read ≡ Err cause.name
 
--- the same of a value that says something
+-- a call that takes no memory returned a value, and what this value says was to be read
 abbrev pub ReadsAs : {X Y : Type 0} → (X → Y) → Result X Cause → Result Y FaultName → Type 0
 ReadsAs view (Ok x) read = read ≡ Ok (view x)
 ReadsAs view (Err cause) read = read ≡ Err cause.name

@@ -26,7 +26,8 @@ Faults ls line name = script_of (text_of ls) ≡ Err (record { line = line; name
 abbrev pub small : List (List ℕ)
 small = codes "tasks 1" ∷ codes "disk 0 0 1 1 40" ∷ []
 
--- the same with a record of four bytes on the disk, a DCB for output, and an area with an IOB, an ECB and a channel program
+-- a task and a disk of one track with a record of four bytes, a DCB for output, and an area with an IOB, an ECB and a
+-- channel program
 abbrev pub stored_script : List (List ℕ)
 stored_script =
     small ++ codes "rec 0 0 0 1 - C1C2C3C4"
@@ -40,7 +41,7 @@ stored_script =
 abbrev pub one_track : Geometry
 one_track = record { cylinders = 1; heads = 1; track_bytes = 40 }
 
--- what its line says
+-- what the line of the small disk says
 abbrev pub small_disk : UnitSaid
 small_disk = record { line = 2; isc = 0; medium = disk one_track []; faults = []; openings = [] }
 

@@ -58,7 +58,7 @@ pub enum JobError {
     Unreadable,
     #[error("output not written")]
     NotWritten,
-    /// The posts are not those of the requests. No run comes to this.
+    /// The posts are not those of the requests. No run returns this.
     #[error("posts do not match requests")]
     Unmatched,
     #[error("out of memory")]

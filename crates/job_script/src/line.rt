@@ -35,7 +35,7 @@ const UNKNOWN: &str =
 
 /// Only a line of a symbolic area begins with this word.
 const SYMBOLIC: &str =
-    "'{w}' begins a line of a symbolic area: assemble the script first, and check its output";
+    "'{w}' begins a line of a symbolic area: expected a line 'area A' before it, and 'endarea' after it";
 
 /// A line that declares something; the number in front is that of the unit.
 #[derive(Drop)]
@@ -57,7 +57,7 @@ pub struct TasksLine {
     ghost few: { tasks ≤ 64 },
 }
 
-/// A line that declares a unit: its number, 0 to 63, the number of the line, the unit's interruption subclass, 0 to 7, and
+/// A line that declares a unit: its number (0 to 63), the number of the line, its interruption subclass (0 to 7), and
 /// its medium, with nothing on it.
 #[derive(Drop)]
 pub struct UnitLine {

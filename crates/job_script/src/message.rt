@@ -51,7 +51,7 @@ impl Message {
     }
 }
 
-/// Writes an s where the number is not 1.
+/// Writes an s if the number is not 1.
 fn write_plural<W: fmt::Write>(f: &mut fmt::Formatter<W>, number: u64) -> fmt::Result {
     if number == 1 {
         return Ok(());

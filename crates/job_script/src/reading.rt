@@ -11,6 +11,8 @@ use std::io::Read;
 pub const LIMIT: usize = 1_048_576;
 
 /// Reads a script to its end, and no further than one byte past its limit.
+///
+/// Errors: the reader fails; the script is too long; out of memory.
 pub fn read_script<R: Read>(alloc: Global, reader: &mut R) -> Result<Vec<u8>, JobError>
     ensures bounded { ReadsAtMost (LIMIT + 1) (R.remaining reader.old) (R.remaining reader.new) }
     ensures whole { IfOk result (λ text. ReadsAll LIMIT (R.remaining reader.old) (R.remaining reader.new) text.items) }

@@ -46,8 +46,9 @@ impl Script {
     ghost use Rattle.job_script.specs.Said.{says_set_up};
     ghost use Rattle.job_script.specs.Views.{command_said, said};
 
-    /// Reads the lines of a script, first to last; the first fault ends it. A script without tasks or units has a fault
-    /// at line 0.
+    /// Reads the lines of a script, first to last.
+    ///
+    /// Errors: the first fault of a line; else `Order` at line 0, if the script has no tasks or no units; out of memory.
     pub fn parse(alloc: Global, text: &[u8]) -> Result<Self, JobError>
         ensures grammar { Gives said result (script_of text.now) }
         ensures tasks { IfOk result (λ script. (1 ≤ script.set_up.tasks) × (script.set_up.tasks ≤ 64)) }
@@ -112,7 +113,7 @@ impl Script {
         }
     }
 
-    /// Adds what a line of this kind says. Each kind is added where it is read, so that no line is moved.
+    /// Adds what a line of this kind says. Each kind is added when it is read, so that no line is moved.
     #[inline(always)]
     #[tactic(auto, unfolding(crate::specs::Lines::by_verb, crate::specs::Adding::add_line))]
     fn by_verb(

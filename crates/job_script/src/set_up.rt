@@ -1,4 +1,4 @@
-//! What the set-up lines of a script declare: its tasks, units, DCBs and areas; and the faults of such lines: of their
+//! What the set-up lines of a script declare: its tasks, units, DCBs and areas. The faults of such lines: of their
 //! order, of names, of kinds and of areas.
 
 ghost use Rattle.std.specs.Prelude.{◌≡◌, ◌≤◌, ◌<◌, OnErr, OnOk, vec_len};
@@ -84,7 +84,7 @@ pub struct AreaPlace {
 /// What the set-up lines of a script declare.
 #[derive(Drop)]
 pub struct SetUp {
-    /// How many tasks there are, and 0 where no line has said so.
+    /// How many tasks there are: 0 if no line declares them.
     pub tasks: u16,
     /// The units, in the order of their numbers.
     pub units: Vec<UnitSetup>,
@@ -490,7 +490,7 @@ fn undeclared(texts: Texts, number: u64, count: usize) -> Cause
     Cause::new(FaultName::Name, text, &[number, last])
 }
 
-/// That a line stands out of its order.
+/// The fault of a line that is out of order.
 fn order(text: &'static str, numbers: &[u64]) -> Refusal
     ensures { IsNamed names.Order result }
 {

@@ -30,7 +30,7 @@ pub struct Supply<'a> {
 }
 
 impl<'a> Supply<'a> {
-    /// Neither.
+    /// Supplies neither an EXCP nor extents.
     pub fn none() -> Self
         ensures excp { result.excp ≡ None }
         ensures opening { result.opening ≡ None }
@@ -57,9 +57,9 @@ impl JobSite {
         JobSite { alloc, site }
     }
 
-    /// Carries out a step: the call of its name, once. It is none if there is no such unit, request or opening, or a run is to do
-    /// no command; and none for `Finish`, which is a list of steps ([`JobSite::finish`]). If memory runs out, nothing changes, but
-    /// that some requests of a unit that is settled may have ended.
+    /// Carries out a step: the call of its name, once. It is none if there is no such unit, request or opening, or if a
+    /// run is to do no command. It is none for `Finish`, which is a list of steps ([`JobSite::finish`]). If memory runs
+    /// out, nothing changes, but that some requests of a unit that is settled may have ended.
     pub fn make(&mut self, step: Step, supply: Supply<'_>) -> Result<StepAnswer, AllocError>
         requires issuable { IfSome (option_copied supply.excp) CanIssue }
         ensures makes { IfOk result (λ answer. MakesAtSite (option_copied supply.entry.excp) (option_copied supply.entry.opening) (site_state self.old) answer (site_state self.new) step) }

@@ -1,4 +1,4 @@
--- Which printers can be mounted, and how they stand then (profile).
+-- Which printers can be mounted, and their opening state (profile).
 use Rattle.std.specs.Prelude.{◌≡◌, ℕ, Bool, true, false, nat_le, ◌&&◌, List, [], Result, Ok, Err}
 use Rattle.device_port.specs.declared.device.MountError.{MountError}
 use Rattle.device_port.specs.declared.device.MountError.TheVariants.{BadGeometry, BadMedium, NoMemory}
@@ -11,7 +11,7 @@ use Rattle.line_printer.specs.Printer.{PrinterState}
 abbrev pub is_paper : ℕ → ℕ → Bool
 is_paper lines pages = nat_le 1 lines && nat_le lines 100_000 && nat_le 1 pages && nat_le pages 10_000
 
--- THE OPENING STATE: nothing is printed, and the paper stands at line 1 of page 1
+-- THE OPENING STATE: nothing is printed, and the paper is at line 1 of page 1
 abbrev pub opening : ℕ → ℕ → List Fault → PrinterState
 opening lines pages faults = record {
   most = lines;

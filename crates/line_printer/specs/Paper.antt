@@ -4,7 +4,7 @@ use Rattle.line_printer.specs.declared.paper.Motion.{Motion}
 use Rattle.line_printer.specs.declared.paper.Motion.TheVariants as motion
 use Rattle.line_printer.specs.declared.paper.Position.{Position}
 
--- A PRINTED LINE: where it stands, and its bytes
+-- A PRINTED LINE: its position and its bytes
 pub record Line : Type 0 where
   pub at : Position
   pub bytes : List ℕ
@@ -27,7 +27,7 @@ after_motion motion.SpaceTwo at = spaced 2 at
 after_motion motion.SpaceThree at = spaced 3 at
 after_motion motion.SkipToChannelOne at = skipped at
 
--- where the paper stands when it is put in
+-- the position of the paper when it is put in
 abbrev pub first_line : Position
 first_line = record { page = 1; line = 1 }
 

@@ -1,4 +1,4 @@
--- A line printer: what it has printed, where its paper stands, and what its commands mean (line printers, in the
+-- A line printer: what it has printed, the position of its paper, and what its commands mean (line printers, in the
 -- profile's choice).
 use Rattle.std.specs.Prelude.{ℕ, List, [], ◌∷◌, ◌++◌, Option, Some, None, Bool, nat_lt, nat_le, ◌||◌, length, take, if◌then◌else◌}
 use Rattle.device_port.specs.declared.faults.Fault.{Fault}
@@ -28,7 +28,7 @@ pub record PrinterState : Type 0 where
 abbrev pub is_full : PrinterState → Bool
 is_full printer = nat_le printer.most (length printer.printed)
 
--- a position is behind the last page
+-- a position is after the last page
 abbrev pub is_past : PrinterState → Position → Bool
 is_past printer at = nat_lt printer.pages at.page
 
@@ -40,8 +40,8 @@ columns_of given = take 132 given
 abbrev pub with_line : PrinterState → List ℕ → Position → PrinterState
 with_line printer bytes to = record printer { printed = printer.printed ++ record { at = printer.at; bytes = bytes } ∷ []; at = to }
 
--- PRINT a line where the paper stands, then move the paper: 01 by no line, 09 by one, 11 by two, 19 by three, 89 to
--- channel 1. Without room for the line, or behind the last page, the operator has to put paper in
+-- PRINT a line at the position of the paper, then move the paper: 01 by no line, 09 by one, 11 by two, 19 by three, 89
+-- to channel 1. Without room for the line, or after the last page, the operator has to put paper in
 abbrev pub print : PrinterState → Motion → List ℕ → Outcome PrinterState
 print printer motion given =
     let to = after_motion motion printer.at in

@@ -35,7 +35,7 @@ impl Listing {
         })
     }
 
-    /// The same lines, with the same room.
+    /// Copies the listing: its lines, and room for as many more. Fails only if memory runs out.
     pub fn copy(&self) -> Result<Self, AllocError>
         ensures { IfOk result (λ l. l ≡ self.now) }
     {
@@ -63,7 +63,7 @@ impl Listing {
         self.room <= self.lines.len()
     }
 
-    /// Adds a line behind the others.
+    /// Adds a line after the others.
     pub fn push(&mut self, line: PrintedLine)
         requires { length self.old.lines < self.old.room }
         ensures { self.new ≡ record { room = self.old.room; lines = self.old.lines ++ line ∷ [] } }

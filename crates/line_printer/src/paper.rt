@@ -1,4 +1,4 @@
-//! Where the paper stands, and how it moves.
+//! The position of the paper, and how it moves.
 
 ghost use Rattle.std.specs.Prelude.{◌≡◌, ◌≤◌, ◌<◌, ◌^◌};
 ghost use Rattle.line_printer.specs.Paper.{IsOnPage, after_motion, spaced};

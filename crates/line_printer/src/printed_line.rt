@@ -10,7 +10,7 @@ use std::marker::Model;
 /// The columns of a line.
 const COLUMNS: usize = 132;
 
-/// A line that was printed, as contracts see it: where it stands, and its bytes.
+/// A line that was printed, as contracts see it: its position and its bytes.
 #[derive(Drop)]
 pub struct PrintedLine {
     position: Position,
@@ -44,7 +44,7 @@ impl PrintedLine {
         }
     }
 
-    /// The same line.
+    /// Copies the printed line. Never allocates.
     pub(crate) fn copy(&self) -> Self
         ensures { result ≡ self.now }
     {
@@ -55,7 +55,7 @@ impl PrintedLine {
         }
     }
 
-    /// Where the line stands.
+    /// The position of the line: page and line.
     pub fn position(&self) -> Position
         ensures { result ≡ self.now.at }
     {

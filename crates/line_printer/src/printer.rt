@@ -23,8 +23,8 @@ use std::alloc::{AllocError, Global};
 use std::marker::Model;
 use std::slice::Iter;
 
-/// A line printer (profile), as contracts see it: the lines that it has printed, where the next one goes, how
-/// many lines and pages it prints at most, and the fault script.
+/// A line printer (profile). Contracts see the lines that it has printed, where the next one goes, how many lines and
+/// pages it prints at most, and the fault script.
 #[derive(Drop)]
 pub struct Printer {
     listing: Listing,

@@ -34,10 +34,7 @@ fn main(rt: HostRuntime) -> ExitCode {
 fn carry_out<R: Wait>(rt: &HostRuntime, waits: &R) -> Result<bool, JobError> {
     let alloc = rt.alloc();
     let has_views = env::args(rt).is_ok_and(|words| words.count() > 1);
-    let source = Source {
-        name: "<stdin>",
-        is_coloured: false,
-    };
+    let source = Source::new("<stdin>", false);
     let views = Views {
         trace: has_views,
         state: has_views,

@@ -75,7 +75,7 @@ impl Kept {
                 kept.forget_written(mounted, now),
             (Kept::Tape(layout), AnyDevice::Tape(mounted), AnyDevice::Tape(now)) =>
                 layout.forget_written(mounted, now),
-            // no unit comes to this: its device stays of one kind
+            // unreachable: the device of a unit stays of one kind
             _ => {}
         }
     }
@@ -83,6 +83,8 @@ impl Kept {
 
 impl Image {
     /// Reads an image to its end. If it begins with `CKD_`, it is one of a disk, and else one of a tape.
+    ///
+    /// Errors: those of `load` of the format. What was read is dropped.
     pub fn load<R: Read>(alloc: Global, reader: &mut R) -> Result<Self, ImageError>
         ensures { LoadsImage (R.remaining reader.old) result }
     {

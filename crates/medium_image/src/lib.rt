@@ -1,5 +1,5 @@
-//! Images of media: an [`Image`] is loaded from a reader, and [`save`] writes the medium of a device: a disk or a tape as an image,
-//! what a printer printed as text.
+//! Images of media. An [`Image`] is loaded from a reader. [`save`] writes the medium of a device: a disk or a tape as
+//! an image, what a printer printed as text.
 //!
 //! Tests: the group images of tests/run.
 #![tactic(auto)]

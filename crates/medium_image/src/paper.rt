@@ -15,9 +15,9 @@ const BLANK: u8 = 0x40;
 /// The top of the first page.
 const TOP: Position = Position { page: 1, line: 1 };
 
-/// Writes what a printer has printed, as text in UTF-8: each printed line without its trailing blanks, and after it how the
-/// paper moved. A line feed is a line down, a form feed is the top of the next page, and a carriage return says that the
-/// next line is printed over this one.
+/// Writes what a printer has printed, as text in UTF-8: each printed line without its trailing blanks, and after it how
+/// the paper moved. A line feed is a line down, and a form feed the top of the next page. A carriage return says that
+/// the next line is printed over this one.
 pub(crate) fn write_paper<W: Write>(out: &mut W, printer: &Printer) -> io::Result<()>
     ensures { OnOk result (Appends (W.contents out.old) (W.contents out.new) (paper_text printer.now)) }
 {

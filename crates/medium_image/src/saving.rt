@@ -70,7 +70,7 @@ pub fn save<W: Write>(
             Ok(()) => Ok(()),
             Err(error) => Err(not_written(error)),
         },
-        // no unit comes to this: its device stays of one kind
+        // unreachable: the device of a unit stays of one kind
         _ => Err(SaveError::NotWritten(ErrorKind::Other)),
     }
 }

@@ -30,7 +30,7 @@ pub record AreLists (units tasks : ℕ) (lists : List (List (List PostedState)))
   pub few : length lists ≤ tasks
   pub each : All (λ of_units. length of_units ≡ units) lists
 
--- some unit's state does not stand at the place of its number
+-- some unit's state is not at the place of its number
 abbrev pub AreMixed : {D : Type 0} → List (Locked D) → Type 0
 AreMixed {D} units = (k : ℕ) × (v : Locked D) × (slice_get units k ≡ Some v) × (v.unit ≢ k)
 

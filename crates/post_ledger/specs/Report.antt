@@ -54,7 +54,7 @@ module _ {D : Type 0} (meaning : Meaning D) where
   Returned report tasks =
       OfEach (λ u t b w. of unit_of u w.got ++ list_at report t u ≡ of for_task t (posted meaning b.mounted b.trace)) report tasks
 
-  -- the same where some of it was collected for the report already, and stands in these lists
+  -- RETURNED, while a report is made: what `lists` hold was collected for it already, and the rest is in the report
   abbrev pub ReturnedRest : List (List (List PostedState)) → ReportState D → List TaskState → Type 0
   ReturnedRest lists report tasks =
       OfEach (λ u t b w. (before : List PostedState) → of unit_of u w.got ≡ before ++ list_of (lists_of lists t) u →

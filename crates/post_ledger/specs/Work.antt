@@ -47,7 +47,7 @@ pub record Gathers (units : ℕ) (old new : TaskState) (before after : List (Lis
   pub task : new ≡ record old { got = old.got ++ values }
   pub lists : (unit : ℕ) → unit < units → list_of after unit ≡ list_of before unit ++ of unit_of unit values
 
--- each task has collected values, which stand in its lists
+-- each task has collected values, which are in its lists
 pub record CollectsAll (units : ℕ) (old new : List TaskState) (before after : List (List (List PostedState))) : Type 0 where
   pub count : length new ≡ length old
   pub each : (t : ℕ) (w v : TaskState) → slice_get old t ≡ Some w → slice_get new t ≡ Some v →

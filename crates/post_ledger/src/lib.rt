@@ -1,4 +1,4 @@
-//! The end of a run: what is under way is brought to its end, the ends of each row come together, and each task gets
+//! The end of a run. All that is under way is brought to its end, the ends of each row are joined, and each task gets
 //! an account of all that it sent.
 //!
 //! [`finish`] holds for every run, whatever its threads did. Each unit received what its tasks sent, once and in

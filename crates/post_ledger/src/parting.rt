@@ -62,7 +62,7 @@ impl<'r, S: Site, D: Device> Room<'r, S, D> {
     }
 }
 
-/// Takes units apart, where there is room for their parts.
+/// Takes units apart. There is room for their parts.
 fn split_units<'r, S: Site, D: Device>(
     units: Vec<UnitState<'r, S, D>>,
     parts: UnitParts<'r, S, D>,
@@ -94,7 +94,7 @@ fn split_units<'r, S: Site, D: Device>(
     }
 }
 
-/// Takes tasks apart, where there is room for their parts.
+/// Takes tasks apart. There is room for their parts.
 fn split_tasks<'r, S: Site>(tasks: Vec<Task<'r, S>>, parts: TaskParts<'r, S>) -> TaskParts<'r, S>
     requires outs { (parts.outs.items ≡ []) × (vec_len tasks ≤ vec_capacity parts.outs) }
     requires collected { (parts.collected.items ≡ []) × (vec_len tasks ≤ vec_capacity parts.collected) }

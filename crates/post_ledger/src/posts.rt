@@ -67,7 +67,7 @@ impl Posts {
     }
 }
 
-/// Collects what is on its way back to a task, each value behind those of its unit.
+/// Collects what is on its way back to a task, each value after those of its unit.
 fn gather<S: Site, R: Wait>(
     rt: &R,
     task: &mut Task<'_, S>,

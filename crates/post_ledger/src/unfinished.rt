@@ -25,9 +25,9 @@ use unit_book::laws::finished_posts_once;
 /// The units of a run.
 #[derive(Drop)]
 pub enum Units<L, F> {
-    /// They are under their locks.
+    /// The units under their locks.
     Locked(L),
-    /// Their locks are off.
+    /// The units without locks: the end of the run has taken these off.
     Free(F),
 }
 
@@ -112,7 +112,9 @@ impl<'r, S: Site, D: Device> Unfinished<'r, S, D> {
         (units, tasks, posts)
     }
 
-    /// Goes on to bring the run to its end, as [`finish`], from where it stands.
+    /// Goes on to bring the run to its end, as [`finish`], from where it stopped.
+    ///
+    /// Errors: those of `finish`. Nothing is lost then.
     pub fn resume<R: Wait>(self, rt: &R) -> Result<Report<D>, Unfinished<'r, S, D>>
         ensures complete { IfOk result (λ report. IsFor S.rows.units S.rows.tasks report) }
         ensures legal { IfOk result (λ report. AreLegal D.meaning report) }
@@ -148,9 +150,9 @@ impl<'r, S: Site, D: Device> Unfinished<'r, S, D> {
     }
 }
 
-/// Brings a run to its end, once its workers have ended. It takes the locks off, lets units and tasks do all that is
-/// left to do until nothing is on its way between them, and joins the ends of each row. The tasks are all tasks of
-/// the system, each at the place of its number.
+/// Brings a run to its end, once its workers have ended. It takes the locks off. Units and tasks do all that is left,
+/// until nothing is on its way between them. Then it joins the ends of each row. The tasks are all tasks of the system,
+/// each at the place of its number.
 ///
 /// Whatever the threads of the run did, this holds of each unit of the report, with the trace of its book:
 ///
@@ -161,7 +163,8 @@ impl<'r, S: Site, D: Device> Unfinished<'r, S, D> {
 ///   order, each value as its trace gives it.
 /// - The device of the book is that of its trace on the device as it was mounted ([`unit_book::UnitBook::device`]).
 ///
-/// If memory runs out, or a unit's state is not under its own lock, nothing is lost: see [`Unfinished`].
+/// Errors, in this order: out of memory for the list of states; a unit's state that is not under its own lock; out of
+/// memory. Nothing is lost then: see [`Unfinished`].
 pub fn finish<'r, S: Site, D: Device, R: Wait>(
     rt: &R,
     alloc: Global,

@@ -1,5 +1,5 @@
--- The definitions of request_piece: requests, where their control blocks stand, what they are posted with, and the
--- scope of a purge.
+-- The definitions of request_piece: requests, where their control blocks are, what they are posted with, and the scope
+-- of a purge.
 pub mod Final
 pub mod Places
 pub mod PostedState

@@ -1,4 +1,4 @@
--- Where the control blocks and the channel program of a request may stand (profile).
+-- Where the control blocks and the channel program of a request may be (profile).
 use Rattle.std.specs.Prelude.{◌≡◌, ℕ, ◌+◌, ◌%◌, ◌==◌, nat_le, Bool, true, ◌&&◌, ◌||◌}
 use Rattle.io_area.specs.Storage.{Storage, lies_in}
 use Rattle.request_piece.specs.declared.piece.Piece.{Piece}

@@ -52,7 +52,8 @@ impl Issued {
         }
     }
 
-    /// The same request, over the same storage. Takes no memory, and fails only if the storage has too many owners.
+    /// Copies the request as issued, over the same storage. Never allocates, and fails only if the storage has too many
+    /// owners.
     pub fn copy(&self) -> Result<Issued, AllocError>
         ensures { IfOk result (λ i. i ≡ self.now) }
     {

@@ -36,7 +36,7 @@ pub struct Piece {
 }
 
 impl Piece {
-    /// The same request, with storage of its own.
+    /// Copies the request that is worked on, with storage of its own. Fails only if memory runs out.
     pub fn copy(&self) -> Result<Piece, AllocError>
         ensures { IfOk result (λ p. p ≡ self.now) }
     {

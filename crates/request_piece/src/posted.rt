@@ -49,7 +49,7 @@ impl Posted {
         }
     }
 
-    /// The same post, with storage of its own.
+    /// Copies the posted value, with storage of its own. Fails only if memory runs out.
     pub fn copy(&self, alloc: Global) -> Result<Posted, AllocError>
         ensures { IfOk result (λ p. p ≡ self.now) }
     {

@@ -78,7 +78,9 @@ impl Request {
     }
 
     /// The request that the IOB at `iob` describes, over storage that is shared: its storage as issued takes no
-    /// memory of its own. It is refused as by `new`.
+    /// memory of its own.
+    ///
+    /// Errors: as of `new`. The caller keeps the area.
     pub fn over(
         alloc: Global,
         name: Name,
@@ -207,8 +209,7 @@ fn piece_of(name: Name, unit: u16, dcb: u16, iob: u32, image: &Iob, area: Area) 
     }
 }
 
-/// The IOB at a place of the area, where it, its ECB and its channel program have their places and it
-/// names the DCB.
+/// The IOB at a place of the area, if it, its ECB and its channel program have their places and it names the DCB.
 pub(crate) fn read_iob(dcb: u16, iob: u32, area: &Area) -> Result<Iob, RequestError>
     ensures iob { IfOk result (λ i. i ≡ iob_at area.now iob) }
     ensures ok { IfOk result (λ i. NoFault dcb iob area.now) }
@@ -232,7 +233,7 @@ pub(crate) fn read_iob(dcb: u16, iob: u32, area: &Area) -> Result<Iob, RequestEr
     Ok(image)
 }
 
-/// The 40 bytes of an IOB, where they lie in the area.
+/// The 40 bytes of an IOB, if they are in the area.
 pub(crate) fn iob_image(iob: u32, area: &Area) -> Option<[u8; 40]>
     ensures { MatchOption result (lies_in area.now iob 40 ≡ false) (IsImageAt area.now iob) }
 {

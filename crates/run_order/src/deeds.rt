@@ -35,7 +35,7 @@ pub(crate) struct Deeds {
 }
 
 impl Deeds {
-    /// Those of a run.
+    /// The deeds of the tasks of a run, by request and by control.
     pub fn of(alloc: Global, run: &Run<'_>) -> Result<Deeds, AllocError> {
         let mut deeds = Deeds {
             units: run.units.len(),

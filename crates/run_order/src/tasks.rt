@@ -5,8 +5,8 @@ use crate::unit::Moment;
 use run_record::{TaskEvent, TaskRecord};
 use std::alloc::{AllocError, Global};
 
-/// How far each task has come: a task goes on to the first request that it collects and that is not posted, or to the first entry
-/// that it makes and that has no column.
+/// How far each task has come. A task goes on to the first request that it collects and that is not posted, or to the
+/// first entry that it makes and that has no column.
 #[derive(Drop)]
 pub(crate) struct Tasks<'r> {
     records: &'r [TaskRecord],

@@ -19,7 +19,7 @@ pub struct Controls {
 }
 
 impl Controls {
-    /// Those of these tasks.
+    /// The controls that these tasks have called.
     pub fn of(alloc: Global, tasks: &[TaskRecord]) -> Result<Controls, AllocError> {
         let mut sorted = Vec::new(alloc);
         for (task, record) in tasks.iter().enumerate() {

@@ -127,8 +127,9 @@ fn push_pairs(bytes: &mut Vec<u8>, word: &[u8]) -> Result<(), FormError>
     }
 }
 
-/// Adds the bytes of a word: an even number of hexadecimal digits, or `-` for no byte. After an error `bytes` may hold
-/// some of them.
+/// Adds the bytes of a word: an even number of hexadecimal digits, or `-` for no byte.
+///
+/// Errors: the word is not of this form; out of memory. `bytes` may hold some of its bytes then.
 #[tactic(auto, using(crate::proofs::Numbers::after_none), unfolding(crate::specs::Forms::hex_bytes))]
 pub fn push_bytes(bytes: &mut Vec<u8>, word: &[u8]) -> Result<(), FormError>
     ensures { Leaves result bytes.new.items (put_after bytes.old.items (hex_bytes word.now)) }
@@ -140,6 +141,8 @@ pub fn push_bytes(bytes: &mut Vec<u8>, word: &[u8]) -> Result<(), FormError>
 }
 
 /// Reads the bytes of a word: an even number of hexadecimal digits, or `-` for no byte.
+///
+/// Errors: the word is not of this form; out of memory.
 #[tactic(auto, using(crate::proofs::Numbers::after_nothing))]
 pub fn bytes_of(alloc: Global, word: &[u8]) -> Result<Vec<u8>, FormError>
     ensures { ReturnsForm (λ v. v.items) result (hex_bytes word.now) }

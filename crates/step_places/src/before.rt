@@ -13,7 +13,7 @@ use line_printer::Position;
 
 /// A device whose commands have places.
 pub trait Placed: Device {
-    /// The same device, as one of the three kinds.
+    /// Returns the device as one of the three kinds: disk, tape or printer.
     fn as_any(&self) -> &AnyDevice;
 }
 

@@ -1,5 +1,5 @@
-//! The run of a script by one schedule that a seed chooses, on one thread: the same posts, histories and media each time and on
-//! every machine, with one order of all entries. It can be written as a scenario, which comes to the same end.
+//! The run of a script by one schedule that a seed chooses, on one thread. It has the same posts, histories and media
+//! on every machine, with one order of all entries. It can be written as a scenario, which ends with the same posts.
 
 ghost use Rattle.std.specs.Prelude.{◌≤◌, vec_len};
 

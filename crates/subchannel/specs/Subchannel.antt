@@ -56,7 +56,7 @@ status_of Idle = None
 status_of (Running place) = None
 status_of (Pending status) = Some status
 
--- where the program that runs stands
+-- the position of the program that runs
 abbrev pub place_of : Phase → Option Place
 place_of Absent = None
 place_of Idle = None
@@ -126,7 +126,7 @@ running_program (Some d) Idle m = None
 running_program (Some d) (Running place) m = Some (program place d m)
 running_program (Some d) (Pending status) m = None
 
--- `run` answers None where no program runs, and changes nothing
+-- `run` returns None if no program runs, and changes nothing
 abbrev pub RunsAs : {D : Type 0} → Meaning D → Channel D → Storage → ℕ → Option (Program D) → Option Burst → Channel D → Storage → Type 0
 RunsAs meaning old m max None None new n = (new ≡ old) × (n ≡ m)
 RunsAs meaning old m max None (Some b) new n = ⊥

@@ -45,7 +45,7 @@ enum Phase {
 }
 
 impl Phase {
-    /// The same phase.
+    /// Copies the phase of a subchannel. Never allocates.
     fn copy(&self) -> Phase
         ensures { result ≡ self.now }
     {
@@ -106,7 +106,7 @@ impl<D: Device> Subchannel<D> {
         }
     }
 
-    /// The same subchannel, with a device of its own.
+    /// Copies the subchannel, with a device of its own. Fails only if memory runs out.
     pub fn copy(&self) -> Result<Self, AllocError>
         ensures { IfOk result (λ s. s ≡ self.now) }
     {
@@ -232,7 +232,7 @@ impl<D: Device> Subchannel<D> {
         Some(done)
     }
 
-    /// Where the program that runs stands.
+    /// The position of the program that runs.
     pub fn place(&self) -> Option<Context>
         ensures { result ≡ place_of self.now.phase }
     {

@@ -10,7 +10,7 @@ use request_piece::Name;
 use std::alloc::{AllocError, Global};
 use std::sync::atomic::{AtomicBool, Ordering};
 
-/// Wakes a task that sleeps when a post is there for it, and all tasks when a call of a worker runs out of memory in
+/// Wakes a sleeping task when it has a post. Wakes all tasks when a call of a worker runs out of memory in
 /// [`LASTING_TURNS`](crate::LASTING_TURNS) turns in a row. It is a gate that holds nobody up.
 #[derive(Drop)]
 pub struct Alarm {

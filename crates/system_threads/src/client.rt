@@ -105,8 +105,9 @@ impl<'r, S: Site> Client<'r, S> {
         self.task.name(unit)
     }
 
-    /// Issues a request, whose name is the next to its unit, as [`Task::excp`]. It comes back only where the unit's row
-    /// was full at one moment of the call.
+    /// Issues a request, whose name is the next to its unit, as [`Task::excp`].
+    ///
+    /// Error: the unit's row was full at one moment of the call. The request is handed back.
     pub fn excp<R: Wait>(&mut self, rt: &R, request: Request) -> Result<(), Full<Request>>
         requires unit { request.unit < S.rows.units }
         requires name { request.name ≡ next_name self.old request.unit }
@@ -122,8 +123,10 @@ impl<'r, S: Site> Client<'r, S> {
     }
 
     /// Issues the request that the IOB at the address `iob` of an area describes, to a DCB of a unit (DFSMSdfp Advanced
-    /// Services, EXCP). It is refused, with the area, where the last number is used, where the area describes no
-    /// request, and where the unit's row was full at one moment of the call.
+    /// Services, EXCP).
+    ///
+    /// Errors, each with the area, in this order: the last number is used; the area describes no request, or memory runs
+    /// out; the unit's row was full at one moment of the call.
     pub fn issue<R: Wait>(
         &mut self,
         rt: &R,
@@ -153,6 +156,8 @@ impl<'r, S: Site> Client<'r, S> {
     /// Issues the request that the IOB at the address `iob` of a shared area describes, as `issue`. The request works on
     /// a copy, which its post has. The trace keeps the area itself, so issuing over it again takes no memory for a
     /// further one.
+    ///
+    /// Errors: as of `issue`. The caller keeps the area.
     pub fn issue_over<R: Wait>(
         &mut self,
         rt: &R,

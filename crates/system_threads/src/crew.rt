@@ -132,9 +132,9 @@ fn work<'r, S: Site, D: Device, G: Gate, R: Wait>(
     serve(rt, system, units, takers.as_mut_slice(), gate, stop);
 }
 
-/// Starts the workers that have something to serve: a channel worker and the handler with its number share a thread, so
-/// that the state of a unit that both serve stays with one processor. If no thread can be made for one of them, the
-/// others go on until they are stopped.
+/// Starts the workers that have something to serve. A channel worker and the handler with its number share a thread, so
+/// that the state of a unit stays with one processor. If no thread can be made for one of them, the others go on until
+/// they are stopped.
 pub(crate) fn start<
     's,
     'r,

@@ -33,7 +33,7 @@ const MOST_TASKS: usize = 64;
 /// unit runs out of memory in [`LASTING_TURNS`](crate::LASTING_TURNS) turns in a row, the tasks are woken, and their
 /// [`Client::next_post`](crate::Client::next_post) returns an error.
 ///
-/// The run returns an error, and is dropped, in three cases:
+/// Errors, which drop the run:
 ///
 /// - Memory runs out for its parts, before the tasks run.
 /// - No thread can be made for a worker.
@@ -61,7 +61,7 @@ pub fn run_program<D: Device + Send + Sync, P: TaskProgram<D>, R: Threads + Wait
     run_at::<Brand, D, P, R>(rt, alloc, &mut rows, books, workers, program)
 }
 
-/// Does so on the system of a site.
+/// Runs a program of tasks on the system of a site, as `run_program` does.
 fn run_at<
     S: Site + Send + Sync,
     D: Device + Send + Sync,
@@ -150,7 +150,7 @@ fn is_used<S: Site>(used: &[bool; 8], taker: &IscTaker<'_, S>) -> bool {
     used[usize::from(taker.isc())]
 }
 
-/// Brings a run to its end whose workers have ended; once more from where it stands where that was refused.
+/// Ends a run whose workers have ended. If that fails, tries once more from where it stopped.
 fn brought_to_end<'r, S: Site, D: Device, R: Wait>(
     rt: &R,
     alloc: Global,
@@ -176,9 +176,11 @@ fn brought_to_end<'r, S: Site, D: Device, R: Wait>(
 }
 
 /// Runs all tasks by the program beside the workers, which pass this gate, and stops and joins these. The gate has to
-/// hand on each of its calls to the alarm, which counts the turns without memory and wakes the tasks; the alarm has to
-/// be [`Alarm::of`] these runners. If no thread can be made for a worker, no task runs, and the runners come back. The
-/// crew does not: workers that were started have its takers until they end.
+/// hand on each of its calls to the alarm, which counts the turns without memory and wakes the tasks. The alarm has to
+/// be [`Alarm::of`] these runners.
+///
+/// Error: no thread can be made for a worker. Then no task runs, and the runners come back. The crew does not: workers
+/// that were started have its takers until they end.
 pub fn run_beside<
     'r,
     S: Site + Send + Sync,

@@ -27,9 +27,9 @@ pub trait TaskProgram<D: Device>: Sync {
     // what a task does: what it has sent and collected before and after its run, and what it leaves behind
     ghost runs: { Self → TaskState → TaskState → Self.Outcome → Type 0 };
 
-    /// Runs a task to its end. By the client it issues requests and collects their posts; by the system it may purge,
-    /// close and reset (who delivers a post there has to tell the alarm, or its task sleeps on). The number of the client
-    /// says which task it is.
+    /// Runs a task to its end. By the client it issues requests and collects their posts. By the system it may purge,
+    /// close and reset. If it delivers a post there, it has to tell the alarm, or the post's task sleeps on. The number
+    /// of the client says which task it is.
     fn run<S: Site, R: Wait>(
         &self,
         rt: &R,

@@ -33,7 +33,7 @@ abbrev pub is_medium : ℕ → List InitialItem → List Fault → Bool
 is_medium bytes items faults =
     is_script faults && list_all is_initial items && nat_le (bytes_of (opening_items items)) bytes
 
--- THE OPENING STATE of a tape with this reel: it stands at the load point
+-- THE OPENING STATE of a tape with this reel: it is at the load point
 abbrev pub wound : ReelState → List Fault → TapeState
 wound reel faults = record { reel = reel; place = 0; ordinals = record { script = faults; done = 0 } }
 

@@ -23,7 +23,7 @@ bytes_of items = length (image_of on_tape items)
 abbrev pub bytes_before : List Item → ℕ → ℕ
 bytes_before items place = offset_of on_tape items place
 
--- whether an item with so much data can stand at a place: it and the items before the place fit the medium
+-- whether an item with so much data can be at a place: it and the items before the place fit the medium
 abbrev pub has_room_at : ReelState → ℕ → ℕ → Bool
 has_room_at reel place len = nat_le (bytes_before reel.items place + (4 + len)) reel.size
 

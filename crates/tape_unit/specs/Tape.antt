@@ -1,5 +1,5 @@
--- A tape: its reel, the place where the tape stands, and what its commands mean (magnetic tape units, in the
--- profile's choice). Places count items from the load point.
+-- A tape: its reel, the place of the tape, and what its commands mean (magnetic tape units, in the profile's choice).
+-- Places count items from the load point.
 use Rattle.std.specs.Prelude.{ℕ, ◌+◌, ◌-◌, List, [], ◌∷◌, Option, Some, None, length, take, drop, reverse, if◌then◌else◌}
 use Rattle.std.specs.List.{position}
 use Rattle.device_port.specs.declared.answer.Acted.{Acted}
@@ -82,7 +82,7 @@ backspace_block tape = backspace_first tape (items_after tape)
 
 -- ---- commands that move over a file: over the blocks up to a tape mark, and over the mark
 
--- 3F FORWARD SPACE FILE: without a mark the tape stops behind the last item
+-- 3F FORWARD SPACE FILE: without a mark the tape stops after the last item
 abbrev pub forward_space_over : TapeState → Option ℕ → Outcome TapeState
 forward_space_over tape None = checked (moved_to tape (length tape.reel.items)) equipment_check
 forward_space_over tape (Some blocks) = unchanged (moved_to tape (tape.place + (blocks + 1))) (normal_end 0)

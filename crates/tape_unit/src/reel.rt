@@ -70,7 +70,7 @@ impl Reel {
         Reel { bytes, used, count }
     }
 
-    /// The same reel.
+    /// Copies the reel: its items, its position and its size. Fails only if memory runs out.
     pub fn copy(&self) -> Result<Self, AllocError>
         ensures { IfOk result (λ r. r ≡ self.now) }
     {
@@ -197,7 +197,7 @@ impl Reel {
         None
     }
 
-    /// Whether an item with so much data can stand at a position.
+    /// Whether the reel has room for an item with `len` bytes of data at a position.
     pub fn has_room(&self, at: Position, len: usize) -> bool
         requires on { IsOn self.now.items at }
         requires len { len ≤ 65_535 }

@@ -110,7 +110,7 @@ impl Tape {
         self.reel.len()
     }
 
-    /// Where the tape stands: how many items lie before its head.
+    /// The position of the tape: the number of items before its head.
     pub fn place(&self) -> usize
         ensures { result ≡ self.now.place }
     {

@@ -1,3 +1,3 @@
--- What stands at each place of a replay.
+-- The device, storage and program at each place of a replay.
 pub mod Replayed
 pub mod Ties

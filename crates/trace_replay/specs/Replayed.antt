@@ -43,8 +43,7 @@ so_far p = replayed (reverse p.book.trace) p.done p.ran
 abbrev pub behind_command : {D : Type 0} → ℕ → ReplayPlace D → ReplayPlace D
 behind_command commands p = if p.ran + 1 == commands then record p { done = p.done + 1; ran = 0 } else record p { ran = p.ran + 1 }
 
--- THE NEXT PLACE: behind the next entry, or behind its next command where it is of commands that ran; the same at the
--- end
+-- THE NEXT PLACE: after the next entry, or after the next command of an entry of commands; at the end, the same place
 abbrev pub place_after : {D : Type 0} → Option Entry → ReplayPlace D → ReplayPlace D
 place_after None p = p
 place_after (Some (Ran n j)) p = behind_command j p
@@ -69,7 +68,7 @@ ShowsArea meaning p None = active (so_far p) ≡ None
 ShowsArea meaning p (Some m) = (n : Name) × (active (so_far p) ≡ Some n)
     × (m ≡ area meaning p.book.mounted (request_named n (so_far p)) (so_far p))
 
--- this is where the program of the active request stands, if there is one
+-- this is the position of the active request's program, if there is one
 abbrev pub ShowsContext : {D : Type 0} → Meaning D → ReplayPlace D → Option Standing → Type 0
 ShowsContext meaning p None = active (so_far p) ≡ None
 ShowsContext meaning p (Some c) = IsSome (active (so_far p)) × (c ≡ (current meaning p.book.mounted (so_far p)).place)
@@ -84,7 +83,7 @@ ListsNext meaning p =
     let now = current meaning p.book.mounted (so_far p) in
     Lists meaning (device meaning p.book.mounted (so_far p)) now.area now.place
 
--- a start, behind a trace in which nothing is active: the first one of its request
+-- a start, after a trace in which nothing is active: the first one of its request
 abbrev pub IsFirstStart : List Entry → Option Entry → Type 0
 IsFirstStart H (Some (Start n)) = active H ≡ None
 IsFirstStart H _ = ⊥

@@ -44,7 +44,7 @@ pub fn find_arrival(entries: &[Entry], from: usize, name: Name) -> Option<(usize
     Some(found)
 }
 
-/// The same of a request that arrived.
+/// The request of this name, which arrived among the entries, and its place. The search begins at `from`.
 pub(crate) fn arrival_of(entries: &[Entry], from: usize, name: Name) -> (usize, &Issued)
     requires { list_any (arrives name) entries.now ≡ true }
     ensures { ArrivesAt entries.now name result.0 result.1.now }

@@ -93,7 +93,7 @@ impl<'t, D: Device> Replay<'t, D> {
         }
     }
 
-    /// Where the program of the active request stands at this place.
+    /// The position of the active request's program at this place.
     pub fn context(&self) -> Option<&Context>
         ensures { ShowsContext D.meaning self.now (option_copied result) }
     {
@@ -103,8 +103,8 @@ impl<'t, D: Device> Replay<'t, D> {
         }
     }
 
-    /// What the program of the active request is to do next, put together in a workspace, where it has not ended: a
-    /// step that goes on to a command does this.
+    /// The next command of the active request's program, if it has not ended, put together in a workspace. A step that
+    /// goes on to a command does it.
     pub fn next_command<'w>(&self, workspace: &'w mut Workspace) -> Option<Listing<'w>>
         ensures { MatchOption result (IsBetweenPrograms D.meaning self.now) (λ l. ListsNext D.meaning self.now l.links.now l.flow l.parts.now l.refusal) }
     {
@@ -117,8 +117,8 @@ impl<'t, D: Device> Replay<'t, D> {
         Some(look(&attempt.context, &self.device, &attempt.area, workspace))
     }
 
-    /// Goes on behind the next entry, or behind its next command where it is of commands that ran, and answers which of
-    /// these it was. Where all entries were replayed it stays. It takes memory at the first start of a request alone.
+    /// Replays the next entry, or the next command of an entry of commands. Returns which of these it was. Stays if all
+    /// entries were replayed. Allocates only at the first start of a request.
     pub fn step(&mut self) -> Result<Step, AllocError>
         ensures ok { OnOk result (self.new ≡ next_place self.old) }
         ensures kind { IfOk result (λ step. step ≡ step_to (slice_get (reverse self.old.book.trace) self.old.done)) }

@@ -98,14 +98,14 @@ module _ {D : Type 0} (meaning : Meaning D) where
     pub fits : PostsActive meaning old.mounted n status code old.trace
     pub posts : PostsOne old n status code doom new
 
-  -- or it awaits its restart
+  -- what taking a status does: nothing if none is pending; else the active request awaits its restart, or is posted
   abbrev pub TakesStatus : Book D → Taken → Book D → Type 0
   TakesStatus old taking.Quiet new = (is_pending meaning old ≡ false) × (new ≡ old)
   TakesStatus old (taking.Again n) new =
       (is_pending meaning old ≡ true) × StartsAgain meaning old.mounted n old.trace × (new ≡ record old { awaits = true })
   TakesStatus old (taking.Posted n code doom) new = (is_pending meaning old ≡ true) × TakesByPost old n code doom new
 
-  -- `start`: a first Start where nothing is active, a further one of what awaits its restart
+  -- `start`: a first Start if nothing is active, a further one of what awaits its restart
   pub data MayStart (old : Book D) (n : Name) : Type 0 where
     MayFirst : StartsFirst meaning old.mounted n old.trace → MayStart old n
     MayAgain : old.awaits ≡ true → StartsAgain meaning old.mounted n old.trace → MayStart old n

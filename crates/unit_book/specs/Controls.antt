@@ -83,7 +83,7 @@ module _ {D : Type 0} (meaning : Meaning D) where
   abbrev pub halts_program : Book D → Scope → Mode → Bool
   halts_program b scope mode = is_halt mode && is_some (covered_by scope b.trace (running_name meaning b))
 
-  -- the active request awaited its restart and is purged behind those that waited
+  -- the active request awaited its restart, and is purged after those that waited
   pub record PurgesAwaiting (old : Book D) (scope : Scope) (mode : Mode) (new : Book D) : Type 0 where
     pub name : Name
     pub status : Status

@@ -59,7 +59,7 @@ active_field_count (Some a) = 1
 abbrev pub with_area : Active → Storage → Active
 with_area a m = record a { piece = with_value a.piece (record a.piece.value { area = m }) }
 
--- the same active request, in a box of its own
+-- a copy of the active request, in a box of its own
 pub record IsSameActive (a copy : Active) : Type 0 where
   pub piece : copy.piece.value ≡ a.piece.value
   pub starts : copy.starts ≡ a.starts

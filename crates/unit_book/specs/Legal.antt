@@ -96,7 +96,7 @@ module _ {D : Type 0} (meaning : Meaning D) (mounted : D) where
     pub active : active H ≡ Some n
     pub as_ended : PostsAs n status code H
 
-  -- THE POST of the first that waits, where nothing is active and it fails the extent check
+  -- THE POST of the first that waits, if nothing is active and it fails the extent check
   pub record FailsCheck (n : Name) (H : List Entry) : Type 0 where
     pub none : active H ≡ None
     pub request : Piece
@@ -125,7 +125,7 @@ module _ {D : Type 0} (meaning : Meaning D) (mounted : D) where
   CanPurge (Dcb d) H = is_opened d H ≡ true
   CanPurge (Task t) H = Unit {0}
 
-  -- what fits where nothing is due
+  -- what fits if nothing is due
   abbrev pub FitsFree : Entry → List Entry → Type 0
   FitsFree (Opened d method extents) H = OpenFits d extents H
   FitsFree (Arrive r) H = r.name.seq ≡ arrived_of r.name.task H + 1

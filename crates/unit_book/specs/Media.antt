@@ -67,7 +67,7 @@ module _ {D : Type 0} (meaning : Meaning D) (mounted : D) where
   abbrev pub reached : Stand D → Attempt → Program D
   reached s a = after meaning a.commands (beginning s a)
 
-  -- what stands after these attempts, newest first
+  -- the device and the areas after these attempts, newest first
   unfoldable pub stand : List Attempt → Stand D
   stand [] = record { device = mounted; area = λ r. r.area }
   stand (a ∷ rest) = record {

@@ -1,4 +1,4 @@
--- WHAT SETTLING A BOOK COMES TO: starts, runs and interruptions, until nothing waits and nothing is active
+-- WHAT SETTLING A BOOK DOES: starts, runs and interruptions, until nothing waits and nothing is active
 -- (profile).
 use Rattle.std.specs.Prelude.{◌≡◌, ◌≤◌, ◌<◌, ℕ, ◌+◌, ◌-◌, ◌*◌, Bool, true, false, if◌then◌else◌, Option, Some, None, List, [], ◌++◌, length}
 use Rattle.std.specs.List.{list_all}
@@ -57,7 +57,7 @@ pub record IsIdle (H : List Entry) : Type 0 where
   pub none_waits : waiting H ≡ []
   pub none_active : active H ≡ None
 
--- an attempt of a request brings the book nearer; there is none where it is idle
+-- an attempt of a request brings the book nearer to its end; there is none if it is idle
 abbrev pub Attempts : {D : Type 0} → Book D → Bool → Book D → Type 0
 Attempts old true new = distance new < distance old
 Attempts old false new = IsIdle new.trace

@@ -134,7 +134,7 @@ request_named n [] = no_request
 request_named n (Arrive r ∷ H) = if same r.name n then r else request_named n H
 request_named n (_ ∷ H) = request_named n H
 
--- how many Starts of a name stand in the trace
+-- how many Starts of a name are in the trace
 abbrev pub starts_of : Name → List Entry → ℕ
 starts_of n H = length (filter (starts n) H)
 
@@ -143,14 +143,14 @@ abbrev pub since : (Entry → Bool) → List Entry → List Entry
 since test [] = []
 since test (e ∷ H) = if test e then [] else e ∷ since test H
 
--- a Halted of the name stands after its last Start
+-- a Halted of the name is after its last Start
 abbrev pub is_halted : Name → List Entry → Bool
 is_halted n H = list_any (halts n) (since (starts n) H)
 
--- COVERED: a purge with Halt that covers the request stands after its last Start
+-- COVERED: a purge with Halt that covers the request is after its last Start
 abbrev pub is_covered : Piece → List Entry → Bool
 is_covered r H = list_any (purges_halting r) (since (starts r.name) H)
 
--- a purge that covers the request stands after its Arrive
+-- a purge that covers the request is after its Arrive
 abbrev pub is_purged : Piece → List Entry → Bool
 is_purged r H = list_any (purges r) (since (arrives r.name) H)

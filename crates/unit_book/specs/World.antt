@@ -45,7 +45,7 @@ pub record World (D : Type 0) : Type 0 where
   pub back : ℕ → List PostedState
   pub got : ℕ → List PostedState
 
--- one more item behind those of the task
+-- one more item after those of the task
 abbrev pub one_more_of_task : {X : Type 0} → (ℕ → List X) → ℕ → X → ℕ → List X
 one_more_of_task lists task x t = if task == t then lists t ++ x ∷ [] else lists t
 

@@ -13,7 +13,7 @@ use Rattle.unit_book.specs.Lists.{Each}
 use Rattle.unit_book.specs.Laws.{first_starts, PostsLast, OnePlace, StartsInOrder, NoDoomedStarts, FewStarts}
 use Rattle.unit_book.specs.World.{World, IsOpening, IsFinished, Reaches, requests_of, values_of}
 
--- how many Posts of a name stand in the trace
+-- how many Posts of a name are in the trace
 abbrev pub posts_of : Name → List Entry → ℕ
 posts_of n H = length (filter (posts n) H)
 

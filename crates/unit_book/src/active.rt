@@ -34,7 +34,7 @@ pub(crate) struct Active {
 }
 
 impl Active {
-    /// The same request, with storage of its own.
+    /// Copies the active request, with storage of its own. Fails only if memory runs out.
     pub fn copy(&self, alloc: Global) -> Result<Self, AllocError>
         ensures { IfOk result (IsSameActive self.now) }
     {
@@ -148,7 +148,7 @@ impl Active {
         }
     }
 
-    /// The completion code of a request whose status is this, or None where it is to be tried again.
+    /// The completion code of a request with this status, or None if it is to be tried again.
     pub fn code(&self, kind: Kind, status: &Status) -> Option<Code>
         ensures { result ≡ pending_code kind status.now self.now.starts self.now.halted self.now.covered }
     {

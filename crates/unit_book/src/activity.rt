@@ -21,7 +21,7 @@ pub struct Activity<'a> {
 /// What the active request of a unit waits for.
 #[derive(Drop)]
 pub enum ActivityPhase {
-    /// Its program runs, and stands here.
+    /// Its program runs, and is at this position.
     Running(Context),
     /// This status is pending.
     Pending(Status),

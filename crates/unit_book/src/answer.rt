@@ -42,7 +42,7 @@ pub enum Interruption {
 pub enum Purging {
     /// No request that it covers is active.
     Quiet,
-    /// This one is.
+    /// This request is still active.
     Active(Name),
 }
 
@@ -51,7 +51,7 @@ pub enum Purging {
 pub enum Closing {
     /// This request of the DCB is active.
     Closing(Name),
-    /// None is.
+    /// No request of the DCB is active: it is closed.
     Closed,
 }
 

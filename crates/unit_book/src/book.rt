@@ -60,7 +60,8 @@ impl<D: Device> UnitBook<D> {
         })
     }
 
-    /// The same book, with a device, a trace and storage of its own. What was issued is shared with this book.
+    /// Copies the book, with a device, a trace and storage of its own. The storage of requests as issued is shared with
+    /// this book. Fails only if memory runs out.
     pub fn copy(&self) -> Result<Self, AllocError>
         ensures { IfOk result (λ b. b ≡ record self.now { spare = b.spare }) }
     {
@@ -84,6 +85,8 @@ impl<D: Device> UnitBook<D> {
     }
 
     /// Makes room for the entries of one arrival.
+    ///
+    /// Error: out of memory, only if the trace has no such room. Nothing changes then.
     pub fn reserve(&mut self) -> Result<(), AllocError>
         ensures room { OnOk result (2 ≤ self.new.spare) }
         ensures book { self.new ≡ record self.old { spare = self.new.spare } }
@@ -94,9 +97,11 @@ impl<D: Device> UnitBook<D> {
         self.entries.reserve(2)
     }
 
-    /// A request arrives: it waits, or is posted at once where it is doomed, because its DCB is not open or
-    /// it is related and its DCB has the error flag (profile). It is handed back where the book is full, and
-    /// where there is no memory, which cannot be where `reserve` has made room.
+    /// A request arrives: it waits. It is posted at once if it is doomed, because its DCB is not open, or
+    /// because it is related and its DCB has the error flag (profile).
+    ///
+    /// Errors, in this order, which hand the request back and change nothing: the book is full; out of memory, but not
+    /// if `reserve` has made room.
     pub fn arrive(&mut self, request: Request) -> Result<(), (ArriveError, Request)>
         requires { request.name.seq ≡ arrived_of request.name.task self.old.trace + 1 }
         ensures ok { OnOk result (Extends D.meaning self.old (after_dooms (Entry.Arrive request ∷ self.old.trace)) self.old.awaits self.new) }
@@ -167,6 +172,8 @@ impl<D: Device> UnitBook<D> {
     /// Starts the program of the active request once more if it awaits its restart, or that of the first
     /// request that waits if nothing is active. A first request whose seek address fails the extent check is
     /// posted 42 instead, with what that dooms (profile).
+    ///
+    /// Error: out of memory, only if an entry is added. Nothing changes then.
     pub fn start(&mut self) -> Result<Starting, AllocError>
         ensures ok { IfOk result (λ answer. StartsBook D.meaning self.old answer self.new) }
         ensures err { OnErr result (self.new ≡ self.old) }
@@ -185,6 +192,8 @@ impl<D: Device> UnitBook<D> {
     }
 
     /// Does up to `max` commands of the program that runs.
+    ///
+    /// Error: out of memory, only if an entry is added. Nothing changes then.
     pub fn run(&mut self, max: u32) -> Result<Running, AllocError>
         requires { 1 ≤ max }
         ensures ok { IfOk result (λ answer. RunsBook D.meaning self.old max answer self.new) }
@@ -202,6 +211,8 @@ impl<D: Device> UnitBook<D> {
 
     /// Takes the status that is pending: the active request is posted, with what that dooms, or awaits its
     /// restart.
+    ///
+    /// Error: out of memory, only if an entry is added. Nothing changes then.
     pub fn interrupt(&mut self) -> Result<Interruption, AllocError>
         ensures ok { IfOk result (λ answer. InterruptsBook D.meaning self.old answer self.new) }
         ensures err { OnErr result (self.new ≡ self.old) }

@@ -50,7 +50,7 @@ pub(crate) struct Dcb {
 }
 
 impl Dcb {
-    /// The same DCB.
+    /// Copies a DCB: its extents and its flags. Fails only if memory runs out.
     fn copy(&self) -> Result<Dcb, AllocError>
         ensures { IfOk result (λ dcb. dcb ≡ self.now) }
     {
@@ -87,7 +87,7 @@ impl DcbTable {
         }
     }
 
-    /// The same DCBs.
+    /// Copies the table of a unit's DCBs. Fails only if memory runs out.
     pub fn copy(&self) -> Result<Self, AllocError>
         ensures { IfOk result (λ table. table ≡ self.now) }
     {
@@ -172,7 +172,7 @@ impl DcbTable {
     }
 }
 
-/// The same rows.
+/// Copies the rows of a table of DCBs. Fails only if memory runs out.
 fn copy_rows(rows: &Vec<Dcb>) -> Result<Vec<Dcb>, AllocError>
     ensures { IfOk result (λ copies. copies.items ≡ rows.now.items) }
 {

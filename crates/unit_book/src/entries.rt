@@ -58,7 +58,7 @@ impl<D: Device> Model for Entries<D> {
     ghost invariant = { λ a. Ties D.meaning a.mounted (fields_of (reverse a.trace.items) a.channel a.waiting.pieces a.dcbs a.out.items) a.active × Rooms a.active a.waiting a.swept a.out };
 }
 
-/// Adds an entry where there is room.
+/// Adds an entry. There is room.
 fn write(trace: &mut Vec<Entry>, entry: Entry)
     requires { vec_len trace.old < vec_capacity trace.old }
     ensures items { reverse trace.new.items ≡ entry ∷ reverse trace.old.items }
@@ -67,7 +67,7 @@ fn write(trace: &mut Vec<Entry>, entry: Entry)
     trace.push_reserved(entry);
 }
 
-/// Adds a posted value where there is room.
+/// Adds a posted value. There is room.
 fn hand_out(out: &mut HeapCircularBuffer<Posted>, posted: Posted)
     requires { length out.old.items < out.old.capacity }
     ensures { out.new ≡ buffer (out.old.items ++ posted ∷ []) out.old.capacity }
@@ -75,7 +75,7 @@ fn hand_out(out: &mut HeapCircularBuffer<Posted>, posted: Posted)
     out.push_back(posted);
 }
 
-/// Puts a posted value back in front where there is room.
+/// Puts a posted value back before all others. There is room.
 fn hand_back(out: &mut HeapCircularBuffer<Posted>, posted: Posted)
     requires { length out.old.items < out.old.capacity }
     ensures { out.new ≡ buffer (posted ∷ out.old.items) out.old.capacity }

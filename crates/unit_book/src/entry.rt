@@ -40,7 +40,7 @@ pub enum Entry {
 }
 
 impl Entry {
-    /// The same entry.
+    /// Copies an entry of a trace. Fails if memory runs out, or the storage of a request has too many owners.
     pub(crate) fn copy(&self) -> Result<Entry, AllocError>
         ensures { IfOk result (λ entry. entry ≡ self.now) }
     {

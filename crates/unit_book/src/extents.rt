@@ -39,7 +39,7 @@ impl Extents {
         })
     }
 
-    /// The same extents.
+    /// Copies the extents of a DCB. Fails only if memory runs out.
     pub(crate) fn copy(&self) -> Result<Self, AllocError>
         ensures { IfOk result (λ e. e ≡ self.now) }
     {

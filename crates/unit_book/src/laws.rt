@@ -37,7 +37,7 @@ pub fn posts_have_values<D: Device>()
     ensures { HaveValues D.meaning }
 {}
 
-/// Where nothing waits and nothing is active, each request that arrived has just one post.
+/// If nothing waits and nothing is active, each request that arrived has exactly one post.
 pub fn finished_posts_once<D: Device>()
     ensures { FinishedOnce D.meaning }
 {}

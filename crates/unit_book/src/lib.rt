@@ -1,8 +1,8 @@
 //! The book of one unit: the requests that arrived, waited, were started and posted, as a trace that is
 //! proved legal, with the subchannel that runs them.
 //!
-//! What a trace is and which ones are legal stands in `specs/`, from `Trace.antt` to `Legal.antt`; what each
-//! call adds and answers stands in `Answers.antt`.
+//! `specs/` says what a trace is and which ones are legal, from `Trace.antt` to `Legal.antt`. `Answers.antt` says what
+//! each call adds and returns.
 //!
 //! Tests: system_tests (`units`), job_tests, tests/cases/scripts, tests/mutants/unit_book.
 #![tactic(auto)]

@@ -31,7 +31,7 @@ static GRAPHICS: [char; 192] = [
     '0', '1', '2', '3', '4', '5', '6', '7', '8', '9', '³', 'Û', 'Ü', 'Ù', 'Ú', '.',
 ];
 
-/// The character of a byte, a dot where it is none that can be seen or a blank.
+/// The character of a byte: a dot, unless it can be seen or is a blank.
 fn character(byte: u8) -> char {
     match byte.checked_sub(0x40) {
         Some(place) => GRAPHICS[usize::from(place)],

@@ -56,7 +56,7 @@ pub enum Shown<'c> {
     Outside,
 }
 
-/// A CCW that breaks a rule: its address, its image where it can be fetched, and the rule.
+/// A CCW that breaks a rule: its address, its image if it can be fetched, and the rule.
 #[derive(Clone, Copy)]
 pub struct Broken<'c> {
     pub at: u32,
@@ -219,7 +219,7 @@ fn moved_bytes(links: &[Link], stored: &Csw) -> u32 {
     moved
 }
 
-/// Status modifier, where a program goes on at this address and so has left out the CCW after its last one.
+/// The bit of status modifier, if the program goes on at `next` and so has left out the CCW after its last one; else 0.
 fn leaves_out(links: &[Link], next: u32) -> u16 {
     match links.last() {
         Some(link) if link.at.saturating_add(16) & 0xFF_FFFF == next => 0x4000,

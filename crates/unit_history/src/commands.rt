@@ -52,7 +52,7 @@ pub enum Next<'c> {
 }
 
 impl<'t, D: Device> Commands<'t, D> {
-    /// Nothing is replayed.
+    /// The commands of a unit, of which none is replayed yet.
     pub fn of(
         book: &'t UnitBook<D>,
         commands: &CommandList<'t>,
@@ -110,8 +110,8 @@ impl<'t, D: Device> Commands<'t, D> {
 }
 
 impl<'t, D: Placed> Commands<'t, D> {
-    /// Replays the next command, and describes it: what is listed of it before, and then the places of its program and its
-    /// storage, and where it was on the medium.
+    /// Replays the next command, and describes it: its CCWs and data areas, its program and storage after it, and where
+    /// it was on the medium.
     pub fn next_command(&mut self) -> Result<Next<'_>, AllocError>
         ensures ok { IfOk result (GivesNext D.meaning self.old.replay self.old.left) }
         ensures err { OnErr result ((self.old.left ≢ 0) × StartsNext self.old.replay) }

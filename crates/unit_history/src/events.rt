@@ -124,7 +124,7 @@ fn turn(entry: &Entry, name: Name) -> Option<u32>
     }
 }
 
-/// Goes on behind the entries of the next event, whose first entry is this one.
+/// Goes on after the entries of the next event, whose first entry is this one.
 fn go_on<'t>(past: &mut Past<'t, '_>, entry: &'t Entry, told: &Told<'t>)
     requires knows { Knows past.old }
     requires next { slice_get past.old.trace.now past.old.done ≡ Some entry.now }

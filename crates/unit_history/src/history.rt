@@ -19,6 +19,8 @@ use unit_book::{Mode, ProcessingMethod, UnitBook};
 
 /// Writes what happened at a unit, oldest first, as comments of a script, and its commands if they are asked for. The
 /// table has to have room for the DCBs of the unit.
+///
+/// Errors: a failed write; out of memory, only if commands are asked for. A part may be written then.
 pub fn write_history<W: Write, D: Placed>(
     out: &mut W,
     unit: usize,

@@ -126,7 +126,7 @@ impl<'t, 'd> Past<'t, 'd> {
         code.is_error() && self.request(name).1.is_related()
     }
 
-    /// Goes on behind the next entry, which is this one.
+    /// Goes on after the next entry, which is this one.
     pub fn note(&mut self, entry: &'t Entry)
         requires knows { Knows self.old }
         requires next { slice_get self.old.trace.now self.old.done ≡ Some entry.now }
@@ -144,7 +144,7 @@ impl<'t, 'd> Past<'t, 'd> {
         self.done = number;
     }
 
-    /// Goes on behind the turns of a request that come next.
+    /// Goes on after the turns of a request that come next.
     pub fn pass(&mut self, name: Name, count: usize)
         requires knows { Knows self.old }
         requires turns { count ≡ length (turns name (drop self.old.done self.old.trace.now)) }
@@ -328,7 +328,7 @@ impl<'t, 'd> Past<'t, 'd> {
         }
     }
 
-    /// The same, found in the trace.
+    /// The request of this name, as issued, and the place of its arrival, found in the trace.
     fn arrival(&self, name: Name) -> (usize, &'t Issued)
         requires knows { Knows self.now }
         requires arrived { has_arrived name (before self.now) ≡ true }
@@ -355,7 +355,7 @@ impl<'t> Active<'t> {
         }
     }
 
-    /// What it is after a halt of this name.
+    /// The active request after a halt of the request with this name.
     fn halted_by(self, name: Name) -> Active<'t>
         ensures { result ≡ active_halted name self.entry }
     {
@@ -365,7 +365,7 @@ impl<'t> Active<'t> {
         }
     }
 
-    /// What it is after a purge, which has this number.
+    /// The active request after a purge, which has this number.
     fn purged_by(self, scope: Scope, mode: Mode, number: usize) -> Active<'t>
         ensures { result ≡ purged_by scope mode number self.entry }
     {

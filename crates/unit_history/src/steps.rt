@@ -166,8 +166,8 @@ fn write_passed<W: Write>(out: &mut W, passed: &Passed<'_>) -> io::Result<()> {
     )
 }
 
-/// Writes how a command ended: unit status, subchannel status and residual count, the names of what is more than a normal
-/// end, and where the program goes on, or the sense bytes of its end.
+/// Writes how a command ended: unit status, subchannel status, residual count, and the names of all but a normal end.
+/// Then comes where the program goes on, or the sense bytes.
 fn write_ending<W: Write>(out: &mut W, ending: &Ending) -> io::Result<()> {
     let Ending {
         status,

@@ -39,7 +39,7 @@ impl WaitQueue {
         })
     }
 
-    /// The same queue, with requests of its own.
+    /// Copies the queue and its capacity, with requests of its own. Fails only if memory runs out.
     pub fn copy(&self, alloc: Global) -> Result<WaitQueue, AllocError>
         ensures { IfOk result (λ q. q ≡ self.now) }
     {
@@ -89,7 +89,7 @@ impl WaitQueue {
         self.ring.is_full()
     }
 
-    /// Puts a request behind the others.
+    /// Puts a request after the others.
     pub fn push(&mut self, piece: Box<Piece>)
         requires { length self.old.pieces < self.old.capacity }
         ensures { self.new ≡ queue (self.old.pieces ++ piece.value ∷ []) self.old.capacity }
@@ -120,7 +120,7 @@ impl WaitQueue {
         self.ring.pop_front()
     }
 
-    /// Moves the requests of a selection behind those of `into`. Both orders are kept.
+    /// Moves the requests of a selection after those of `into`. Both orders are kept.
     pub fn sweep(&mut self, selection: &Selection, into: &mut WaitQueue)
         requires { length into.old.pieces + length self.old.pieces ≤ into.old.capacity }
         ensures kept { self.new ≡ queue (filter (λ r. not (selects selection.now r)) self.old.pieces) self.old.capacity }

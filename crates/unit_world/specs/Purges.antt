@@ -25,7 +25,7 @@ module _ {D : Type 0} (meaning : Meaning D) (task : ℕ) (mode : Mode) where
     pub each : (unit : ℕ) (p : UnitPart D) (answer : Result Purging AllocError) (q : UnitPart D) → slice_get old unit ≡ Some p →
         slice_get answers unit ≡ Some answer → slice_get new unit ≡ Some q → PurgesPart p answer q
 
-  -- and nothing else changes
+  -- at a site: each unit, and nothing else
   pub record PurgesSite (old : SiteState D) (answers : List (Result Purging AllocError)) (new : SiteState D) : Type 0 where
     pub parts : PurgesParts old.units answers new.units
     pub is : new ≡ record old { units = new.units }

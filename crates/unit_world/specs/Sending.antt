@@ -21,7 +21,7 @@ pub record SendsOne {D : Type 0} (book : Book D) (rows : PostLists) (name : Name
   pub book_is : book_after ≡ record book { out = drop 1 book.out }
   pub rows_are : rows_after ≡ record rows { lists = with_value rows.lists value.name.task value }
 
--- or the row is full
+-- the first value that is out at a book stays there, since the row of its task is full
 pub record SendsNone {D : Type 0} (book : Book D) (rows : PostLists) (name : Name) (book_after : Book D)
     (rows_after : PostLists) : Type 0 where
   pub value : PostedState

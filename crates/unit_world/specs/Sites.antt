@@ -64,7 +64,7 @@ pub record IsFirstOut {D : Type 0} (s : SiteState D) (unit : ℕ) (name : Name) 
   pub of_unit : value.unit ≡ unit
   pub of_task : name.task < length s.rows
 
--- it goes into the row of its task, after all others
+-- the first value that is out at a unit goes into the row of its task, after all others
 pub record DeliversPost {D : Type 0} (old : SiteState D) (unit : ℕ) (name : Name) (new : SiteState D) : Type 0 where
   pub out : IsFirstOut old unit name
   pub room : length (list_of old.rows name.task) < old.post_room
@@ -73,7 +73,7 @@ pub record DeliversPost {D : Type 0} (old : SiteState D) (unit : ℕ) (name : Na
     rows = with_value old.rows name.task out.value;
   }
 
--- or that row is full
+-- the first value that is out at a unit stays there, since the row of its task is full
 pub record HoldsPost {D : Type 0} (old : SiteState D) (unit : ℕ) (name : Name) (new : SiteState D) : Type 0 where
   pub out : IsFirstOut old unit name
   pub full : old.post_room ≤ length (list_of old.rows name.task)

@@ -16,9 +16,9 @@ pub fn reached_states_keep_requests<D: Device>()
     ensures { (v : WorldState D) → IsReached D.meaning v → KeepsLaws D.meaning v }
 {}
 
-/// What a call of a site does is the step of the call's name in the world of one unit, with the same arguments and answer,
-/// and changes no other unit's world. `settle` is a list of steps of one unit, and a purge of a task is one step of each
-/// unit at which memory does not run out.
+/// A call of a site is the step of its name in the world of one unit, with the same arguments and answer. It changes no
+/// other unit's world. `settle` is a list of steps of one unit, and a purge of a task is one step of each unit at which
+/// memory does not run out.
 pub fn calls_make_steps<D: Device>()
     ensures { CallsMakeSteps D.meaning }
 {}

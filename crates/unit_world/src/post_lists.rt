@@ -80,7 +80,9 @@ impl PostLists {
         rings_have_none_of(&self.rings, unit)
     }
 
-    /// Puts a post into the row of its task, after all others. It is handed back if the row is full.
+    /// Puts a post into the row of its task, after all others.
+    ///
+    /// Error: the row is full. The post is handed back, and nothing changes.
     pub fn push(&mut self, value: Posted) -> Result<(), Posted>
         requires { value.name.task < length self.old.lists }
         ensures ok { OnOk result (self.new ≡ record self.old { lists = with_value self.old.lists value.name.task value }) }

@@ -108,8 +108,9 @@ impl<D: Device> PlainSite<D> {
     }
 
     /// Accepts the next request of a task to a unit ([`PlainSite::next_name`]), which is then in flight to the unit
-    /// (DFSMSdfp Advanced Services, EXCP). If the unit has no room for another request in flight, the request is handed
-    /// back, and uses no number. Never allocates.
+    /// (DFSMSdfp Advanced Services, EXCP). Never allocates.
+    ///
+    /// Error: the unit has no room for another request in flight. The request is handed back, and uses no number.
     pub fn accept(&mut self, request: Request) -> Result<(), Request>
         requires unit { request.unit < length self.old.units }
         requires next { OnPart self.old request.unit (λ p. next_name_of p.issued request.name.task ≡ Some request.name) }

@@ -80,7 +80,9 @@ impl<D: Device> UnitSide<D> {
         book
     }
 
-    /// Accepts the next request of a task for this unit.
+    /// Accepts the next request of a task for this unit. Never allocates.
+    ///
+    /// Error: the unit has no room for another request in flight. The request is handed back.
     pub fn accept(&mut self, request: Request) -> Result<(), Request>
         requires { next_name_of (unit_part self.old).issued request.name.task ≡ Some request.name }
         ensures ok { OnOk result (PartAccepts (unit_part self.old) request (unit_part self.new)) }

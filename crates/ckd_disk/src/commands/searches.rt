@@ -24,7 +24,7 @@ fn is_match<const N: usize>(field: &[u8], given: &Given<'_>) -> bool
     }
 }
 
-/// The same of bytes that are given in many parts.
+/// Whether the first bytes given are those of a field of at most `N` bytes, if the bytes lie in many parts of storage.
 #[inline(never)]
 fn is_match_of_parts<const N: usize>(field: &[u8], given: &Given<'_>) -> bool
     requires fits { length field.now ≤ N }

@@ -27,7 +27,7 @@ pub enum GeometryRefusal {
 }
 
 impl Geometry {
-    /// Which number is outside its range, the first of them, where the numbers are no geometry.
+    /// Returns the first number that is outside its range. Assumes that the numbers are no geometry.
     pub fn refusal(self) -> Option<GeometryRefusal>
         ensures none { IfNone result (is_geometry self ≡ true) }
         ensures some { IfSome result (λ r. is_geometry self ≡ false) }
@@ -69,7 +69,7 @@ pub enum RecordRefusal {
 }
 
 impl InitialRecord {
-    /// What is wrong with the record, the first of these, where mounting refuses it on every track.
+    /// Returns the first reason why no track can hold this record.
     pub fn refusal(&self, geometry: Geometry) -> Option<RecordRefusal>
         ensures none { IfNone result (is_initial geometry self.now ≡ true) }
         ensures some { IfSome result (λ r. is_initial geometry self.now ≡ false) }
@@ -94,17 +94,17 @@ impl InitialRecord {
     }
 }
 
-/// A track that is too small for the records that are to stand on it.
+/// A track that is too small for its records.
 #[derive(Clone, Copy)]
 pub struct Overfull {
-    /// The place, among the records, of the first one that does not fit behind those before it.
+    /// The place, among the records, of the first one that does not fit after those before it.
     pub record: usize,
     /// How many bytes the track's records take in all, its R0 among them.
     pub needed: u64,
 }
 
-/// The track that is first too small for its records, where geometry and records are not refused for something else. It
-/// takes as much memory as a disk that is mounted.
+/// Returns the first track whose records do not fit. Assumes that geometry and records are valid otherwise. Takes as
+/// much memory as a mounted disk.
 pub fn first_overfull(
     alloc: Global,
     geometry: Geometry,
@@ -126,7 +126,7 @@ pub fn first_overfull(
     Ok(Some(Overfull { record, needed }))
 }
 
-/// How many records were put on tracks behind their R0.
+/// How many records were put on tracks after their R0.
 fn placed(tracks: &[Track]) -> usize {
     let mut count: usize = 0;
     for track in tracks {

@@ -35,6 +35,8 @@ fn leaves_pending(answer: Running) -> bool
 
 impl<'r, S: Site, D: Device> UnitState<'r, S, D> {
     /// Opens a DCB, as [`unit_book::UnitBook::open`].
+    ///
+    /// Errors: those of the book. Only the room for entries may have grown then.
     pub fn open(&mut self, method: ProcessingMethod, extents: &[Extent]) -> Result<u16, OpenError>
         ensures ok { IfOk result (λ dcb. OpensBook D.meaning self.old.book dcb method extents.now self.new.book) }
         ensures refused { IfErr result (OpenRefused D.meaning self.old.book extents.now) }
@@ -57,8 +59,10 @@ impl<'r, S: Site, D: Device> UnitState<'r, S, D> {
         self.book.start()
     }
 
-    /// Runs the active program for at most `max` commands, as [`unit_book::UnitBook::run`]. Where it ends, or a
-    /// notice is owed, the unit's interruption handler is sent one; it is owed where the row of its subclass is full.
+    /// Runs the active program for at most `max` commands, as [`unit_book::UnitBook::run`]. If it ends, or a notice
+    /// is owed, the unit's interruption handler gets one. If the row of its subclass is full, the notice is owed.
+    ///
+    /// Error: that of the book, which changes nothing.
     pub fn run<R: Wait>(&mut self, rt: &R, max: u32) -> Result<Running, AllocError>
         requires { 1 ≤ max }
         ensures ok { IfOk result (λ answer. RunsBook D.meaning self.old.book max answer self.new.book) }
@@ -73,8 +77,9 @@ impl<'r, S: Site, D: Device> UnitState<'r, S, D> {
         Ok(answer)
     }
 
-    /// Takes the pending status, as [`unit_book::UnitBook::interrupt`]. Where there is no memory for it, a notice is
-    /// sent again at the next `run`.
+    /// Takes the pending status, as [`unit_book::UnitBook::interrupt`].
+    ///
+    /// Error: out of memory. The next `run` sends a notice again.
     pub fn interrupt(&mut self) -> Result<Interruption, AllocError>
         ensures ok { IfOk result (λ answer. InterruptsBook D.meaning self.old.book answer self.new.book) }
         ensures full { OnErr result (InterruptLacks D.meaning self.old.book) }
@@ -87,8 +92,10 @@ impl<'r, S: Site, D: Device> UnitState<'r, S, D> {
         answer
     }
 
-    /// Purges the requests of a DCB, as [`unit_book::UnitBook::purge`]. Where that halts the active program, the
-    /// unit's interruption handler is sent a notice.
+    /// Purges the requests of a DCB, as [`unit_book::UnitBook::purge`]. If that halts the active program, the
+    /// unit's interruption handler gets a notice.
+    ///
+    /// Errors: those of the book, which change nothing.
     pub fn purge<R: Wait>(&mut self, rt: &R, dcb: u16, mode: Mode) -> Result<Purging, DcbError>
         ensures opened { OnOk result (is_opened dcb self.old.book.trace ≡ true) }
         ensures ok { IfOk result (λ answer. PurgesBook D.meaning self.old.book (Scope.Dcb dcb) mode answer self.new.book) }
@@ -127,6 +134,8 @@ impl<'r, S: Site, D: Device> UnitState<'r, S, D> {
     }
 
     /// Closes a DCB, as [`unit_book::UnitBook::close`].
+    ///
+    /// Errors: those of the book, which change nothing.
     pub fn close(&mut self, dcb: u16) -> Result<Closing, DcbError>
         ensures ok { IfOk result (λ answer. ClosesBook D.meaning self.old.book dcb answer self.new.book) }
         ensures refused { IfErr result (DcbRefused self.old.book dcb) }
@@ -139,6 +148,8 @@ impl<'r, S: Site, D: Device> UnitState<'r, S, D> {
     }
 
     /// Clears the error flag of an open DCB, as [`unit_book::UnitBook::reset`].
+    ///
+    /// Errors: those of the book, which change nothing.
     pub fn reset(&mut self, dcb: u16) -> Result<(), DcbError>
         ensures ok { OnOk result (Adds self.old.book (Entry.Reset dcb) self.new.book) }
         ensures opened { OnOk result (is_open dcb self.old.book.trace ≡ true) }
@@ -170,7 +181,7 @@ impl<'r, S: Site, D: Device> UnitState<'r, S, D> {
         answer
     }
 
-    /// Sends a notice, if one is due; it is owed where the row of the unit's subclass is full.
+    /// Sends a notice, if one is due. It is owed if the row of the unit's subclass is full.
     fn notify<R: Wait>(&mut self, rt: &R, due: bool)
         ensures book { self.new.book ≡ self.old.book }
         ensures notice { Notifies S.rows due self.old self.new }

@@ -67,7 +67,7 @@ fn write_cylinder<W: Write>(
     Ok(())
 }
 
-/// Writes the records of a track. Of R0, which has no line, nothing is said where it is as mounting makes it.
+/// Writes the records of a track. R0 has no line, and no comment if it is as mounting makes it.
 fn write_track<W: Write>(out: &mut W, unit: usize, disk: &Disk, track: Track) -> io::Result<()> {
     let mut records = disk.records(track.cylinder, track.head);
     if let Some(first) = records.next() {
@@ -98,7 +98,7 @@ fn write_record<W: Write>(
     out.write_all(b"\n")
 }
 
-/// Writes, as a comment, a record that no line can declare where it stands.
+/// Writes, as a comment, a record that no line can declare at its place.
 fn write_undeclared<W: Write>(out: &mut W, track: Track, record: &Stored<'_>) -> io::Result<()> {
     let Track { cylinder, head } = track;
     write!(

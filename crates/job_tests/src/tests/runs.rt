@@ -37,7 +37,7 @@ open 0 out 18000000000000000000000000000001
 open 1 out 18000000000000000000000000000001
 ";
 
-/// The same with four DCBs each.
+/// Two disks of a track, each with DCBs 1 to 4.
 const FOUR_DCBS: &str = "disk 0 3 1 1 40
 disk 1 6 1 1 40
 open 0 out 18000000000000000000000000000001
@@ -112,16 +112,17 @@ enum Way {
     Unawaited,
     /// Until its tasks have ended.
     Tasks,
-    /// And a worker runs out of memory in turns on unit 0, but in too few of them in a row to end the run.
+    /// Until its tasks have ended. A worker runs out of memory in turns on unit 0, but in too few of them in a row to end
+    /// the run.
     Brief,
-    /// And no handler takes a status, so that nothing is posted, and a worker runs out of memory before each such call
-    /// on unit 0 from some time on.
+    /// Until its tasks have ended. No handler takes a status, so that nothing is posted, and from some time on a worker
+    /// runs out of memory before each such call on unit 0.
     Late(Point),
-    /// And no handler takes a status, and a worker ran out of memory for good before the tasks began.
+    /// Until its tasks have ended. No handler takes a status, and a worker ran out of memory for good before they began.
     Raised,
-    /// And there is no worker, and one ran out of memory for good before the tasks began.
+    /// Until its tasks have ended, without a worker. One ran out of memory for good before they began.
     Alone,
-    /// And there is no worker.
+    /// Until its tasks have ended, without a worker.
     Unserved,
 }
 

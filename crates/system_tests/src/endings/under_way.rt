@@ -133,8 +133,8 @@ fn finish_after_excp_without_memory(rt: HostRuntime) -> Result<(), Fail> {
     tell(&rt, expect_ended(&rt, false)?)
 }
 
-/// The same of a run that ends while a request awaits its restart, one waits, and one is on its way. It rejects the
-/// mutants of finish_does_not_purge.
+/// A run that ends while a request awaits its restart, one waits, and one is on its way: run it with each allocation
+/// made to fail in turn, and with each two. It rejects the mutants of finish_does_not_purge.
 #[test]
 fn finish_without_memory(rt: HostRuntime) -> Result<(), Fail> {
     tell(&rt, expect_ended(&rt, true)?)

@@ -67,7 +67,7 @@ fn is_set(flag: &AtomicBool) -> bool {
 /// The unit of a posted value that the task collected, and how it ended.
 type Collected = Option<(u16, Code)>;
 
-/// What a run comes to before its end: its tasks, and what the first of them collected.
+/// The state of a run before its end: its tasks, and what the first of them collected.
 type Served<'r, S> = (Vec<Task<'r, S>>, [Collected; 2]);
 
 /// The next posted value of the task.

@@ -37,6 +37,8 @@ impl<D: Device> UnitBook<D> {
     /// - A running program is halted, and the next `interrupt` posts it 48.
     /// - A pending status is posted 48 only if it would be tried again.
     /// - A request that awaits its restart is posted 48 at once, after the others.
+    ///
+    /// Errors, in this order, which change nothing: the DCB was never opened; out of memory.
     pub fn purge(&mut self, dcb: u16, mode: Mode) -> Result<Purging, DcbError>
         ensures opened { OnOk result (is_opened dcb self.old.trace ≡ true) }
         ensures ok { IfOk result (λ answer. PurgesBook D.meaning self.old (Scope.Dcb dcb) mode answer self.new) }
@@ -53,6 +55,8 @@ impl<D: Device> UnitBook<D> {
     }
 
     /// Purges the requests of a task, as `purge` those of a DCB (profile).
+    ///
+    /// Error: out of memory. Nothing changes then.
     pub fn purge_task(&mut self, task: u16, mode: Mode) -> Result<Purging, AllocError>
         ensures ok { IfOk result (λ answer. PurgesBook D.meaning self.old (Scope.Task task) mode answer self.new) }
         ensures err { OnErr result (self.new ≡ self.old) }
@@ -86,7 +90,7 @@ impl<D: Device> UnitBook<D> {
         }
     }
 
-    /// Purges the requests of a scope, where there is room for the entries.
+    /// Purges the requests of a scope. There is room for the entries.
     fn purge_in_room(&mut self, scope: Scope, mode: Mode)
         requires spare { length (waiting self.old.trace) + 2 ≤ self.old.spare }
         requires can { CanPurge D.meaning self.old.mounted scope self.old.trace }
@@ -100,7 +104,9 @@ impl<D: Device> UnitBook<D> {
     }
 
     /// Closes a DCB (DFSMSdfp Advanced Services, CLOSE): its requests that wait are posted 48, an active one goes
-    /// on (profile). Where the DCB was closed before nothing changes. Answers whether a request of it is active.
+    /// on (profile). A DCB that is closed already stays as it is. Returns whether a request of it is active.
+    ///
+    /// Errors, in this order, which change nothing: the DCB was never opened; out of memory.
     pub fn close(&mut self, dcb: u16) -> Result<Closing, DcbError>
         ensures ok { IfOk result (λ answer. ClosesBook D.meaning self.old dcb answer self.new) }
         ensures refused { IfErr result (DcbRefused self.old dcb) }
@@ -135,6 +141,8 @@ impl<D: Device> UnitBook<D> {
 
     /// Clears the error flag of an open DCB, as storing 00 in DCBIFLGS (DFSMSdfp Advanced Services, "Data
     /// Control Block Fields").
+    ///
+    /// Errors, in this order, which change nothing: the DCB is not open; out of memory.
     pub fn reset(&mut self, dcb: u16) -> Result<(), DcbError>
         ensures ok { OnOk result (Adds self.old (Entry.Reset dcb) self.new) }
         ensures opened { OnOk result (is_open dcb self.old.trace ≡ true) }

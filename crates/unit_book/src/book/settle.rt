@@ -11,8 +11,9 @@ use device_port::Device;
 use std::alloc::AllocError;
 
 impl<D: Device> UnitBook<D> {
-    /// Starts, runs and interrupts until nothing waits and nothing is active. Where there is no memory for
-    /// the entries of the next step, the steps that were made so far stand.
+    /// Starts, runs and interrupts until nothing waits and nothing is active.
+    ///
+    /// Error: out of memory for the entries of the next step. The steps that were made so far stay.
     pub fn settle(&mut self) -> Result<(), AllocError>
         ensures steps { Settles D.meaning self.old self.new }
         ensures adds { AddsService self.old.trace self.new.trace }

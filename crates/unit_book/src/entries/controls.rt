@@ -18,7 +18,7 @@ use request_piece::{Name, Scope};
 use subchannel::Subchannel;
 use unit_queue::Selection;
 
-/// Halts the program on a channel, and adds the entry of the halt where there is room.
+/// Halts the program on a channel, and adds the entry of the halt. There is room.
 fn halt<D: Device>(channel: &mut Subchannel<D>, trace: &mut Vec<Entry>, name: Name)
     requires { vec_len trace.old < vec_capacity trace.old }
     ensures state { channel.new ≡ record channel.old { phase = halted_phase channel.old.phase } }

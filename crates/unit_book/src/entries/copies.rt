@@ -12,7 +12,7 @@ use request_piece::Posted;
 use std::alloc::{AllocError, Global};
 
 impl<D: Device> Entries<D> {
-    /// The same book, with a device, a trace and storage of its own.
+    /// Copies the entries of a book, with a device, a trace and storage of its own. Fails only if memory runs out.
     pub fn copy(&self) -> Result<Self, AllocError>
         ensures { IfOk result (λ b. b ≡ record self.now { spare = b.spare }) }
     {
@@ -38,7 +38,7 @@ impl<D: Device> Entries<D> {
     }
 }
 
-/// The same active request.
+/// Copies the active request, if there is one. Fails only if memory runs out.
 fn copy_active(alloc: Global, active: &Option<Active>) -> Result<Option<Active>, AllocError>
     ensures { IfOk result (IsSameActivity active.now) }
 {
@@ -48,7 +48,7 @@ fn copy_active(alloc: Global, active: &Option<Active>) -> Result<Option<Active>,
     }
 }
 
-/// The same entries.
+/// Copies the entries of a trace, in their order. Fails only if memory runs out.
 fn copy_trace(trace: &Vec<Entry>) -> Result<Vec<Entry>, AllocError>
     ensures { IfOk result (λ copies. copies.items ≡ trace.now.items) }
 {
@@ -60,7 +60,7 @@ fn copy_trace(trace: &Vec<Entry>) -> Result<Vec<Entry>, AllocError>
     Ok(copies)
 }
 
-/// The same posted values, with the same room.
+/// Copies the posted values that await delivery, and keeps their room. Fails only if memory runs out.
 fn copy_posts(
     alloc: Global,
     posts: &HeapCircularBuffer<Posted>,

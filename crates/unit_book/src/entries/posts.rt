@@ -35,7 +35,7 @@ pub(super) fn posted_from(piece: Box<Piece>, status: &Status, code: Code) -> Pos
     Posted::new(piece, code, status.csw, status.sense)
 }
 
-/// Adds the entry of a post where there is room.
+/// Adds the entry of a post. There is room.
 pub(super) fn write_post(trace: &mut Vec<Entry>, name: Name, status: &Status, code: Code)
     requires { vec_len trace.old < vec_capacity trace.old }
     ensures items { reverse trace.new.items ≡ Entry.Post name status.now.csw status.now.sense code ∷ reverse trace.old.items }

@@ -48,7 +48,7 @@ pub fn extents_refusal(
     }
 }
 
-/// The same for a disk: of the extents, the first that is none.
+/// Returns what is wrong with the extents of a disk's DCB: their number, or else the first extent that is outside the disk.
 fn on_disk(cylinders: u16, heads: u16, extents: &[Extent]) -> ExtentsRefusal {
     if extents.len() > MOST_EXTENTS {
         return ExtentsRefusal::Count;

@@ -22,8 +22,9 @@ use unit_book::{
 };
 
 impl<D: Device> PlainSite<D> {
-    /// Opens a DCB of a unit, as [`unit_book::UnitBook::open`]. If it is refused, only the room for entries may have
-    /// grown.
+    /// Opens a DCB of a unit, as [`unit_book::UnitBook::open`].
+    ///
+    /// Errors: those of the book. Only the room for entries may have grown then.
     pub fn open(
         &mut self,
         unit: u16,
@@ -74,6 +75,8 @@ impl<D: Device> PlainSite<D> {
     }
 
     /// Purges the requests of a DCB of a unit, as [`unit_book::UnitBook::purge`].
+    ///
+    /// Errors: those of the book, which change nothing.
     pub fn purge(&mut self, unit: u16, dcb: u16, mode: Mode) -> Result<Purging, DcbError>
         requires unit { unit < length self.old.units }
         ensures opened { OnOk result (OnPart self.old unit (λ p. is_opened dcb p.book.trace ≡ true)) }
@@ -113,6 +116,8 @@ impl<D: Device> PlainSite<D> {
     }
 
     /// Closes a DCB of a unit, as [`unit_book::UnitBook::close`].
+    ///
+    /// Errors: those of the book, which change nothing.
     pub fn close(&mut self, unit: u16, dcb: u16) -> Result<Closing, DcbError>
         requires unit { unit < length self.old.units }
         ensures ok { IfOk result (λ answer. OnBook self.old unit (λ b c. ClosesBook D.meaning b dcb answer c) self.new) }
@@ -125,6 +130,8 @@ impl<D: Device> PlainSite<D> {
     }
 
     /// Clears the error flag of an open DCB of a unit, as [`unit_book::UnitBook::reset`].
+    ///
+    /// Errors: those of the book, which change nothing.
     pub fn reset(&mut self, unit: u16, dcb: u16) -> Result<(), DcbError>
         requires unit { unit < length self.old.units }
         ensures ok { OnOk result (OnBook self.old unit (λ b c. Adds b (Entry.Reset dcb) c) self.new) }

@@ -1,4 +1,4 @@
-//! Runs by seeds, and the outcomes that they come to.
+//! Runs that were carried out, and the outcomes that they came to.
 
 use crate::asked::OutcomeVerdict;
 use crate::scenario::Scenes;
@@ -7,9 +7,9 @@ use indexmap::IndexMap;
 use job_scenario::Step;
 use job_script::JobError;
 use job_world::{JobWorld, StepAnswer, StepLog, run_schedule};
-use outcome_search::Search;
+use outcome_search::{Search, SearchWatch};
 use request_piece::Posted;
-use std::alloc::AllocError;
+use std::alloc::{AllocError, Global};
 use std::io::{Result as IoResult, Write};
 
 /// An outcome of a request that runs came to.
@@ -31,7 +31,13 @@ struct Ranked<'s> {
     seen: &'s Seen,
 }
 
-/// What runs by seeds come to.
+/// The most bytes that lines of other posts than those of runs by seeds take, about.
+const MOST_BYTES: usize = 32 << 20;
+
+/// What a line takes beside its bytes and those of its outcome, about.
+const LINE_BYTES: usize = 160;
+
+/// What runs came to.
 #[derive(Drop)]
 pub(crate) struct Tally<'t> {
     scenes: Scenes<'t>,
@@ -39,6 +45,8 @@ pub(crate) struct Tally<'t> {
     seed: u32,
     /// The outcomes, by the number of the request and the key of the outcome.
     seen: IndexMap<Vec<u8>, Seen>,
+    /// How many bytes they take, about.
+    bytes: usize,
 }
 
 impl<'t> StepLog for Tally<'t> {
@@ -51,19 +59,48 @@ impl<'t> StepLog for Tally<'t> {
 }
 
 impl<'t> Tally<'t> {
-    /// What the runs by the seeds from 1 to `seeds` come to. A program does at most `turn` commands in one step.
-    pub fn of(scenes: Scenes<'t>, seeds: u32, turn: u32) -> Result<Self, JobError> {
+    /// What the runs by the seeds from 1 to `seeds` come to, as long as there is time. A program does at most `turn` commands in one
+    /// step.
+    pub fn of<H: SearchWatch>(
+        scenes: Scenes<'t>,
+        seeds: u32,
+        turn: u32,
+        watch: &H,
+    ) -> Result<Self, JobError> {
         let mut tally = Tally {
             scenes,
             seed: 0,
             seen: IndexMap::new(scenes.alloc),
+            bytes: 0,
         };
         for seed in 1..=seeds {
+            if !watch.has_time() {
+                break;
+            }
             tally.seed = seed;
             let mut world = scenes.bench.world()?;
             run_schedule(scenes.alloc, &mut world, u64::from(seed), turn, &mut tally)?;
         }
         Ok(tally)
+    }
+
+    /// Adds posts of other runs, as long as there is room.
+    pub fn add_all(&mut self, posts: &[Posted]) -> Result<(), AllocError> {
+        for posted in posts {
+            if self.bytes < MOST_BYTES {
+                self.add(posted)?;
+            }
+        }
+        Ok(())
+    }
+
+    /// The line of a post of a request that has this outcome, if a run came to it.
+    pub fn line_of(&self, request: u16, outcome: &[u8]) -> Result<Option<Vec<u8>>, AllocError> {
+        let key = key_of(self.scenes.alloc, request, outcome)?;
+        match self.seen.get(key.as_slice()) {
+            Some(seen) => Ok(Some(seen.line.to_vec(self.scenes.alloc)?)),
+            None => Ok(None),
+        }
     }
 
     /// Adds the post of a request.
@@ -77,8 +114,7 @@ impl<'t> Tally<'t> {
         ) else {
             return Ok(());
         };
-        let mut key = Vec::new(scenes.alloc);
-        key.extend_from_slice(&request.to_be_bytes())?;
+        let mut key = key_of(scenes.alloc, request, &[])?;
         write_outcome_key(&mut key, posted, &issued.excp)?;
         if let Some(seen) = self.seen.get_mut(key.as_slice()) {
             seen.runs = seen.runs.saturating_add(1);
@@ -86,6 +122,8 @@ impl<'t> Tally<'t> {
         }
         let mut line = Vec::new(scenes.alloc);
         scenes.add_post(&mut line, posted)?;
+        let bytes = key.len().saturating_add(line.len());
+        self.bytes = self.bytes.saturating_add(bytes.saturating_add(LINE_BYTES));
         let (runs, seed) = (1, self.seed);
         self.seen.insert_full(
             key,
@@ -116,6 +154,11 @@ impl<'t> Tally<'t> {
             }
         }
         None
+    }
+
+    /// Whether a request came to more than one outcome. In each run, each request comes to one.
+    pub fn has_several(&self) -> bool {
+        self.seen.len() > self.scenes.bench.job.requests.len()
     }
 
     /// Writes each outcome, and in how many of the runs it came, with the requests in this order.
@@ -149,6 +192,14 @@ impl<'t> Tally<'t> {
         order.sort_by_key(|ranked| (ranked.rank, ranked.key))?;
         Ok(order)
     }
+}
+
+/// The key of an outcome of a request.
+fn key_of(alloc: Global, request: u16, outcome: &[u8]) -> Result<Vec<u8>, AllocError> {
+    let mut key = Vec::new(alloc);
+    key.extend_from_slice(&request.to_be_bytes())?;
+    key.extend_from_slice(outcome)?;
+    Ok(key)
 }
 
 /// Writes an outcome, and in how many of the runs it came.

@@ -1,0 +1,153 @@
+"""Listings: `report --listing` prints a script with its areas in symbols, of which `assemble` makes the same script again.
+
+- A listing of each stored script that is not rejected, and of each sample, comes back to the same areas and the same other lines. What
+  comes of a sample prints its posts.
+- So do listings of programs at random, with valid and odd IOBs, CCWs and data.
+- `tests/cases/listing/*.listing` has scripts and their listings, written by hand.
+"""
+
+import os
+import random
+
+from groups import first_faults, reports
+from harness import SAMPLES, Case, expect, expect_text, files, multiple, read, require
+
+ORIGIN = "docs/ASSEMBLER.md, a listing"
+
+# How many stored scripts are one case.
+BATCH = 50
+
+# How many scripts at random there are, and how many programs each has.
+SCRIPTS = 20
+PROGRAMS = 50
+
+# The lines of units, each with codes of commands that it has.
+UNITS = [
+    ("disk 0 0 1 1 40", bytes.fromhex("03 04 05 06 07 0D 0E 12 1D 1E 1F 29 31 31 31")),
+    ("tape 1 1 60", bytes.fromhex("01 02 02 03 04 07 0C 1F 27 2F 37 3F")),
+    ("printer 2 2 3 1", bytes.fromhex("01 03 04 09 0B 11 13 19 1B 89 8B")),
+]
+
+# The flags of CCWs: most chain commands or data, and one in ten has a bit that no word names.
+FLAGS = bytes.fromhex("00 20 04 40 40 40 40 40 40 60 60 48 44 44 80 80 90 84 41 02")
+
+
+def same(script):
+    """What a script says: its lines without comments, each with one blank between words, and the bytes of an area as one word."""
+    lines = []
+    for words in (line.split() for line in script.split("\n")):
+        if words and not words[0].startswith("#"):
+            if words[0] == "area":
+                words = ["area", str(int(words[1])), words[2].upper(), "".join(words[3:]).replace("-", "").upper()]
+            lines.append(" ".join(words))
+    return "\n".join(lines)
+
+
+def comes_back(setup, script):
+    """What a listing is assembled to, if the script is not rejected: the same script."""
+    ran = setup.run("report", "--listing", script=script)
+    if ran.status != 0:
+        require((ran.status, ran.out) == (1, "") and ran.err, "neither a listing nor a fault", ran)
+        return None
+    if "endarea" in script:
+        script = setup.run("assemble", script=script).out
+    back = setup.run("assemble", script=ran.out)
+    require((back.status, back.err) == (0, ""), "a listing with faults", back)
+    expect_text("another script", ran, same(script), same(back.out))
+    return back.out
+
+
+def is_sample(setup, name):
+    posts = [read(it) for it in (f"{name}.posts", f"{name}.or.posts") if os.path.exists(it)]
+    back = comes_back(setup, read(f"{name}.script"))
+    require(back is not None, "a sample is rejected")
+    expect(setup.run("run", script=back), *((0, it) for it in posts))
+
+
+def are_stored(setup, scripts, run):
+    """Those of these scripts that run are listed, and others may be rejected."""
+    for script in scripts:
+        require(comes_back(setup, script) is not None or script not in run, "a script that runs is rejected")
+
+
+def command_at_random(chance, base, size, codes):
+    """A CCW with an address in the area or near it, most on a boundary."""
+    near = base + chance.choice((chance.randrange(0, size, 8), chance.randrange(size), chance.randrange(-16, size + 16)))
+    address = (near if chance.random() < 0.9 else chance.randrange(1 << 24)) % (1 << 24)
+    if chance.random() < 0.15:
+        return bytes([8]) + address.to_bytes(3, "big") + bytes(4)
+    code = chance.choice(codes) if chance.random() < 0.9 else chance.choice((0x00, 0x08, 0x18, chance.randrange(256)))
+    count = chance.choice((1, 1, 2, 4, 5, 8, 80, 0, chance.randrange(65536)))
+    address = 0 if chance.random() < 0.05 else address
+    odd = chance.randrange(256) if chance.random() < 0.03 else 0
+    return bytes([code]) + address.to_bytes(3, "big") + bytes([chance.choice(FLAGS), odd]) + count.to_bytes(2, "big")
+
+
+def data_at_random(chance, count):
+    """Text, zeros and other bytes."""
+    parts = bytearray()
+    while len(parts) < count:
+        some = chance.randint(1, 30)
+        kind = chance.randrange(3)
+        parts += bytes(some) if kind == 0 else bytes(chance.randrange(0x40 if kind == 1 else 0, 256) for _ in range(some))
+    return parts[:count]
+
+
+def block_at_random(chance, ecb, start):
+    """An IOB with these addresses; one in six has a bit or a number that its statement cannot have."""
+    image = bytearray(40)
+    image[0], image[23] = chance.choice((0x40, 0x42)), chance.choice((1, 2, 255))
+    image[5:8], image[17:20] = ecb.to_bytes(3, "big"), start.to_bytes(3, "big")
+    image[32], image[35], image[39] = chance.choice((0, 0, 3)), chance.choice((0, 1)), chance.randrange(3)
+    if chance.random() < 0.17:
+        image[chance.randrange(40)] ^= chance.randrange(1, 256)
+    return image
+
+
+def area_at_random(chance, number):
+    """An area with a program, and the line of its request. Of one in four, IOB, ECB and CCWs are anywhere."""
+    unit = chance.randrange(len(UNITS))
+    base, size = chance.choice((0, 0x1000, 0x17C0, 0xFFFE00)), chance.randint(100, 300)
+    storage = data_at_random(chance, size)
+    on = lambda boundary: chance.randrange(0, size, boundary if chance.random() < 0.9 else 1)
+    iob, ecb, start = (0, 40, 48) if chance.random() < 0.75 else (on(4), on(4), on(8))
+    for at in range(start, size, 8):
+        storage[at : at + 8] = command_at_random(chance, base, size, UNITS[unit][1])
+        if chance.random() < 0.08:
+            break
+    storage[ecb : ecb + 4] = bytes(4) if chance.random() < 0.9 else b"\x40\0\0\0"
+    storage[iob : iob + 40] = block_at_random(chance, base + ecb, base + start)
+    words = storage[:size].hex().upper()
+    return f"area {number} {base:06X} {words}", f"excp 0 {unit} 1 {base + iob:06X} {number} {base:06X} 0"
+
+
+def programs_at_random(setup, seed):
+    chance = random.Random(f"listing {seed}")
+    areas, requests = zip(*(area_at_random(chance, number) for number in range(PROGRAMS)))
+    opened = "open 0 out 18000000000000000000000000000001", "open 1 out", "open 2 out"
+    script = "\n".join(["tasks 1", *(it[0] for it in UNITS), *opened, *areas, *requests, ""])
+    require(comes_back(setup, script) is not None, "a script at random is rejected")
+
+
+def is_listed(setup, script, listing):
+    ran = setup.run("report", "--listing", script=script)
+    expect(ran, (0, listing))
+    comes_back(setup, script)
+
+
+def cases(setup):
+    def case(name, judge, *given, origin=ORIGIN):
+        return Case(name, lambda: judge(setup, *given), origin)
+
+    for file in files("listing", ".listing"):
+        for name, script, text, place in multiple(file):
+            yield case(name, is_listed, script, text, origin=f"{place}, by docs/ASSEMBLER.md")
+    for file in sorted(os.listdir(SAMPLES)):
+        if file.endswith(".script"):
+            yield case(f"listing of {file}", is_sample, f"{SAMPLES}/{file.removesuffix('.script')}")
+    scripts = [script for _, script, _ in first_faults.stored()]
+    run = {script for _, script, _ in reports.stored()}
+    for at in range(0, len(scripts), BATCH):
+        yield case(f"listings of stored scripts, from {at}", are_stored, scripts[at : at + BATCH], run)
+    for seed in range(SCRIPTS):
+        yield case(f"{PROGRAMS} programs at random: {seed}", programs_at_random, seed)

@@ -1,0 +1,59 @@
+#!/usr/bin/env python3
+"""Prints what each public call that can return an error rejects, as a table of Markdown.
+
+    tools/refusals.py            the libraries, and the crates of a run
+    tools/refusals.py CRATE ..   these crates
+
+It reads the doc comments of the calls, from a sentence on that begins with "Error". If a comment has none, the type of the error says
+enough, or the call is a fault. The last line is `N passed, M failed`, and the exit status is 1 if a call failed.
+"""
+
+import glob
+import os
+import re
+import sys
+
+TOP = os.path.dirname(os.path.dirname(os.path.realpath(__file__)))
+LAYERS, OF_A_RUN = "bytes devices images channel unit system library".split(), "script_words job_script job_mount job_run".split()
+CALL = re.compile(r"((?:^[ \t]*(?:///|#\[).*\n)*)^([ \t]*)pub (?:const )?fn (\w+)([^;{]*?)(?=\n\s*(?:requires|ensures)\b|[;{])", re.M)
+OWNER = re.compile(r"^(?:pub )?(?:impl|trait)\b(?:<.*?>)? ?(?:.* for )?(\w+)", re.M)
+ERROR = re.compile(r"-> (?:(?P<io>io::|Io)?Result<(?P<types>.*)>)$")
+
+# What a call rejects whose comment has no such sentence, by the type of its error.
+BY_TYPE = {"AllocError": "out of memory", "AllocFailed": "out of memory: it hands back what it got", "io": "a failed write"}
+BY_TYPE |= {"Cause": "the first fault of the line", "Refusal": "the first fault of the line; out of memory"}
+
+
+def libraries():
+    """The crates of the libraries and of a run, in the order of crates.txt."""
+    with open(f"{TOP}/crates.txt", encoding="utf-8") as it:
+        parts = re.findall(r"^# (\w+)\n+((?:\w.*\n)*)", it.read(), re.M)
+    named = [(layer, name) for layer, lines in parts for name in re.findall(r"^\w+", lines, re.M)]
+    return [name for layer, name in named if (layer in LAYERS and name != "excp_c") or name in OF_A_RUN]
+
+
+def rows(crate):
+    """Each public call of a crate that can return an error: its name, and what it rejects, or nothing."""
+    for file in sorted(glob.glob(f"{TOP}/crates/{crate}/src/**/*.rt", recursive=True)):
+        with open(file, encoding="utf-8") as it:
+            text = it.read()
+        for call in CALL.finditer(text):
+            error = ERROR.search(" ".join(call[4].split()).replace("<(), ", "<_, ").replace(", >", ">"))
+            if error:
+                owner = [f"{it[1]}::" for it in OWNER.finditer(text, 0, call.start())][-1:] if call[2] else []
+                said = re.search(r"\bErrors?\b.*", " ".join(it.strip()[4:] for it in call[1].splitlines() if "///" in it))
+                kind = "io" if error["io"] or not re.search(r"\w+Err|Refusal|Cause|Alloc|, ", error["types"]) else error["types"]
+                known = next((it for name, it in BY_TYPE.items() if re.search(rf"(?:^|, )\(?{name}\b[^,]*$", kind)), "")
+                yield "".join([*owner, call[3]]), said[0] if said else known
+
+
+def main(crates):
+    found = [(crate, *row) for crate in crates or libraries() for row in rows(crate)]
+    print("| Crate | Call | Rejects |\n|---|---|---|")
+    print("".join(f"| {crate} | `{name}` | {text} |\n" for crate, name, text in found if text), end="")
+    silent = [f"{crate}: {name}: no sentence of its comment begins with Error" for crate, name, text in found if not text]
+    print("\n".join([*silent, f"{len(found) - len(silent)} passed, {len(silent)} failed"]))
+    return 1 if silent or not found else 0
+
+
+sys.exit(main(sys.argv[1:]))
