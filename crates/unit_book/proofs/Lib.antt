@@ -14,6 +14,7 @@ pub mod Seeks
 pub mod Starts
 pub mod Restarts
 pub mod Posting
+pub mod Room
 pub mod Opens
 pub mod Calls
 pub mod NameLaws

@@ -9,6 +9,7 @@ pub mod Posts
 pub mod Dooms
 pub mod Selected
 pub mod Book
+pub mod Room
 pub mod Answers
 pub mod Refusals
 pub mod Lists

@@ -11,6 +11,7 @@ ghost use Rattle.unit_book.specs.Dooms.{after_dooms};
 ghost use Rattle.unit_book.specs.Legal.{Legal, Settled};
 ghost use Rattle.unit_book.specs.Posts.{posted};
 ghost use Rattle.unit_book.specs.Refusals.{InterruptLacks, RunLacks, StartLacks};
+ghost use Rattle.unit_book.specs.Room.{KeepsRoom, OpenLacks};
 ghost use Rattle.unit_book.specs.Trace.{active, arrived_of, waiting};
 
 use crate::answer::{ArriveError, Interruption, OpenError, Running, Starting};
@@ -106,6 +107,7 @@ impl<D: Device> UnitBook<D> {
         requires { request.name.seq ≡ arrived_of request.name.task self.old.trace + 1 }
         ensures ok { OnOk result (Extends D.meaning self.old (after_dooms (Entry.Arrive request ∷ self.old.trace)) self.old.awaits self.new) }
         ensures room { OnOk result (occupancy self.old < self.old.capacity) }
+        ensures spare { OnOk result (KeepsRoom self.old self.new) }
         ensures refused { IfErr result (λ e. ArriveRefused self.old e.0) }
         ensures given_back { IfErr result (λ e. e.1 ≡ request) }
         ensures err { OnErr result (self.new ≡ self.old) }
@@ -128,6 +130,7 @@ impl<D: Device> UnitBook<D> {
         requires room { occupancy self.old < self.old.capacity }
         requires spare { 2 ≤ self.old.spare }
         ensures book { Extends D.meaning self.old (after_dooms (Entry.Arrive request ∷ self.old.trace)) self.old.awaits self.new }
+        ensures spare { KeepsRoom self.old self.new }
         ensures pending { is_pending D.meaning self.new ≡ is_pending D.meaning self.old }
     {
         self.entries.holds();
@@ -147,12 +150,14 @@ impl<D: Device> UnitBook<D> {
     ///
     /// - The unit has 65,535 DCBs.
     /// - The device does not take the extents (DFSMSdfp Advanced Services, "Data Extent Block Fields").
-    /// - Memory runs out.
+    /// - Memory runs out for the entry, for copies of the extents, or for the next 16 rows of the table of DCBs.
     pub fn open(&mut self, method: ProcessingMethod, extents: &[Extent]) -> Result<u16, OpenError>
         ensures ok { IfOk result (λ dcb. OpensBook D.meaning self.old dcb method extents.now self.new) }
+        ensures spare { OnOk result (KeepsRoom self.old self.new) }
         ensures refused { IfErr result (OpenRefused D.meaning self.old extents.now) }
         ensures err { OnErr result (self.new ≡ record self.old { spare = self.new.spare }) }
         ensures kept { OnErr result (self.old.spare ≤ self.new.spare) }
+        ensures full { IfErr result (λ e. e ≡ OpenError.NoMemory → OpenLacks self.old extents.now) }
         ensures pending { is_pending D.meaning self.new ≡ is_pending D.meaning self.old }
     {
         if self.entries.dcb_count() >= MOST_DCBS {
@@ -176,6 +181,7 @@ impl<D: Device> UnitBook<D> {
     /// Error: out of memory, only if an entry is added. Nothing changes then.
     pub fn start(&mut self) -> Result<Starting, AllocError>
         ensures ok { IfOk result (λ answer. StartsBook D.meaning self.old answer self.new) }
+        ensures spare { OnOk result (KeepsRoom self.old self.new) }
         ensures err { OnErr result (self.new ≡ self.old) }
         ensures full { OnErr result (StartLacks D.meaning self.old) }
         ensures pending { is_pending D.meaning self.new ≡ is_pending D.meaning self.old }
@@ -197,6 +203,7 @@ impl<D: Device> UnitBook<D> {
     pub fn run(&mut self, max: u32) -> Result<Running, AllocError>
         requires { 1 ≤ max }
         ensures ok { IfOk result (λ answer. RunsBook D.meaning self.old max answer self.new) }
+        ensures spare { OnOk result (KeepsRoom self.old self.new) }
         ensures err { OnErr result (self.new ≡ self.old) }
         ensures full { OnErr result (RunLacks D.meaning self.old) }
         ensures pending { IfOk result (λ answer. is_pending D.meaning self.new ≡ pending_after (is_pending D.meaning self.old) answer) }
@@ -215,6 +222,7 @@ impl<D: Device> UnitBook<D> {
     /// Error: out of memory, only if an entry is added. Nothing changes then.
     pub fn interrupt(&mut self) -> Result<Interruption, AllocError>
         ensures ok { IfOk result (λ answer. InterruptsBook D.meaning self.old answer self.new) }
+        ensures spare { OnOk result (KeepsRoom self.old self.new) }
         ensures err { OnErr result (self.new ≡ self.old) }
         ensures full { OnErr result (InterruptLacks D.meaning self.old) }
         ensures pending { OnErr result (is_pending D.meaning self.old ≡ true) }

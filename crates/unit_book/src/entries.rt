@@ -15,6 +15,7 @@ ghost use Rattle.unit_book.specs.Answers.{Adds, Extends};
 ghost use Rattle.unit_book.specs.Dcbs.{is_refused, opened_count};
 ghost use Rattle.unit_book.specs.Dooms.{after_dooms};
 ghost use Rattle.unit_book.specs.Posts.{posted};
+ghost use Rattle.unit_book.specs.Room.{KeepsRoom, OpenLacks};
 ghost use Rattle.unit_book.specs.Trace.{waiting};
 ghost use Rattle.unit_queue.specs.Queue.{queue};
 
@@ -137,6 +138,7 @@ impl<D: Device> Entries<D> {
         requires { entries ≤ 2 }
         ensures room { OnOk result (length (waiting self.old.trace) + entries ≤ self.new.spare) }
         ensures book { self.new ≡ record self.old { spare = self.new.spare } }
+        ensures spare { self.old.spare ≤ self.new.spare }
         ensures err { OnErr result (self.new ≡ self.old) }
         ensures full { OnErr result (self.old.spare < length (waiting self.old.trace) + entries) }
     {
@@ -156,6 +158,7 @@ impl<D: Device> Entries<D> {
         requires accepted { is_refused issued self.old.trace ≡ false }
         ensures book { Extends D.meaning self.old (after_dooms (Entry.Arrive issued ∷ self.old.trace)) self.old.awaits self.new }
         ensures settled { Settled D.meaning self.new.mounted self.new.trace }
+        ensures spare { KeepsRoom self.old self.new }
     {
         write(&mut self.trace, Entry::Arrive(issued));
         self.waiting.push(piece);
@@ -168,7 +171,9 @@ impl<D: Device> Entries<D> {
         requires fits { OpenFits D.meaning self.old.mounted (opened_count self.old.trace + 1) extents.now self.old.trace }
         ensures number { IfOk result (λ dcb. dcb ≡ opened_count self.old.trace + 1) }
         ensures book { OnOk result (Adds self.old (Entry.Opened (opened_count self.old.trace + 1) method extents.now) self.new) }
+        ensures spare { OnOk result (KeepsRoom self.old self.new) }
         ensures err { OnErr result (self.new ≡ self.old) }
+        ensures full { OnErr result (OpenLacks self.old extents.now) }
     {
         let alloc = *self.trace.allocator();
         let kept = Extents::new(alloc, extents)?;

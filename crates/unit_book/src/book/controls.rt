@@ -7,6 +7,7 @@ ghost use Rattle.unit_book.specs.Controls.{ClosesBook, ClosesBy, DcbRefused, Pur
 ghost use Rattle.unit_book.specs.Dcbs.{is_opened, is_open};
 ghost use Rattle.unit_book.specs.Legal.{CanPurge};
 ghost use Rattle.unit_book.specs.Refusals.{CloseLacks, PurgeLacks, ResetLacks};
+ghost use Rattle.unit_book.specs.Room.{KeepsRoom};
 ghost use Rattle.unit_book.specs.Trace.{waiting};
 
 use crate::answer::{Closing, DcbError, Purging};
@@ -42,6 +43,7 @@ impl<D: Device> UnitBook<D> {
     pub fn purge(&mut self, dcb: u16, mode: Mode) -> Result<Purging, DcbError>
         ensures opened { OnOk result (is_opened dcb self.old.trace ≡ true) }
         ensures ok { IfOk result (λ answer. PurgesBook D.meaning self.old (Scope.Dcb dcb) mode answer self.new) }
+        ensures spare { OnOk result (KeepsRoom self.old self.new) }
         ensures refused { IfErr result (DcbRefused self.old dcb) }
         ensures err { OnErr result (self.new ≡ self.old) }
         ensures full { IfErr result (λ e. e ≡ DcbError.NoMemory → PurgeLacks self.old) }
@@ -59,6 +61,7 @@ impl<D: Device> UnitBook<D> {
     /// Error: out of memory. Nothing changes then.
     pub fn purge_task(&mut self, task: u16, mode: Mode) -> Result<Purging, AllocError>
         ensures ok { IfOk result (λ answer. PurgesBook D.meaning self.old (Scope.Task task) mode answer self.new) }
+        ensures spare { OnOk result (KeepsRoom self.old self.new) }
         ensures err { OnErr result (self.new ≡ self.old) }
         ensures full { OnErr result (PurgeLacks self.old) }
         ensures pending { OnOk result (is_pending D.meaning self.new ≡ (is_pending D.meaning self.old || halts_program D.meaning self.old (Scope.Task task) mode)) }
@@ -70,6 +73,7 @@ impl<D: Device> UnitBook<D> {
     fn purge_scope(&mut self, scope: Scope, mode: Mode) -> Result<Purging, AllocError>
         requires { CanPurge D.meaning self.old.mounted scope self.old.trace }
         ensures ok { IfOk result (λ answer. PurgesBook D.meaning self.old scope mode answer self.new) }
+        ensures spare { OnOk result (KeepsRoom self.old self.new) }
         ensures err { OnErr result (self.new ≡ self.old) }
         ensures full { OnErr result (PurgeLacks self.old) }
         ensures pending { OnOk result (is_pending D.meaning self.new ≡ (is_pending D.meaning self.old || halts_program D.meaning self.old scope mode)) }
@@ -94,7 +98,8 @@ impl<D: Device> UnitBook<D> {
     fn purge_in_room(&mut self, scope: Scope, mode: Mode)
         requires spare { length (waiting self.old.trace) + 2 ≤ self.old.spare }
         requires can { CanPurge D.meaning self.old.mounted scope self.old.trace }
-        ensures { PurgesBy D.meaning (covers_awaiting self.old scope mode) self.old scope mode self.new }
+        ensures book { PurgesBy D.meaning (covers_awaiting self.old scope mode) self.old scope mode self.new }
+        ensures spare { KeepsRoom self.old self.new }
     {
         if self.entries.purge_awaiting(scope, mode) {
             return;
@@ -109,6 +114,7 @@ impl<D: Device> UnitBook<D> {
     /// Errors, in this order, which change nothing: the DCB was never opened; out of memory.
     pub fn close(&mut self, dcb: u16) -> Result<Closing, DcbError>
         ensures ok { IfOk result (λ answer. ClosesBook D.meaning self.old dcb answer self.new) }
+        ensures spare { OnOk result (KeepsRoom self.old self.new) }
         ensures refused { IfErr result (DcbRefused self.old dcb) }
         ensures full { IfErr result (λ e. e ≡ DcbError.NoMemory → CloseLacks self.old dcb) }
         ensures err { OnErr result (self.new ≡ self.old) }
@@ -128,6 +134,7 @@ impl<D: Device> UnitBook<D> {
     fn close_open(&mut self, dcb: u16) -> Result<(), AllocError>
         requires { is_open dcb self.old.trace ≡ true }
         ensures ok { OnOk result (ClosesBy D.meaning true self.old dcb self.new) }
+        ensures spare { OnOk result (KeepsRoom self.old self.new) }
         ensures err { OnErr result (self.new ≡ self.old) }
         ensures full { OnErr result (CloseLacks self.old dcb) }
         ensures pending { is_pending D.meaning self.new ≡ is_pending D.meaning self.old }
@@ -145,6 +152,7 @@ impl<D: Device> UnitBook<D> {
     /// Errors, in this order, which change nothing: the DCB is not open; out of memory.
     pub fn reset(&mut self, dcb: u16) -> Result<(), DcbError>
         ensures ok { OnOk result (Adds self.old (Entry.Reset dcb) self.new) }
+        ensures spare { OnOk result (KeepsRoom self.old self.new) }
         ensures opened { OnOk result (is_open dcb self.old.trace ≡ true) }
         ensures refused { IfErr result (ResetRefused self.old dcb) }
         ensures full { IfErr result (λ e. e ≡ DcbError.NoMemory → ResetLacks self.old) }

@@ -2,6 +2,7 @@
 
 ghost use Rattle.std.specs.Prelude.{◌≡◌, ◌<◌, ◌+◌, [], length, IfOk, OnOk, OnErr};
 ghost use Rattle.unit_book.specs.Refusals.{SettleLacks};
+ghost use Rattle.unit_book.specs.Room.{KeepsRoom};
 ghost use Rattle.unit_book.specs.Settle.{AddsService, Attempts, IsIdle, Settles};
 ghost use Rattle.unit_book.specs.Trace.{active, waiting};
 
@@ -20,6 +21,7 @@ impl<D: Device> UnitBook<D> {
         ensures mounted { self.new.mounted ≡ self.old.mounted }
         ensures isc { self.new.isc ≡ self.old.isc }
         ensures capacity { self.new.capacity ≡ self.old.capacity }
+        ensures spare { KeepsRoom self.old self.new }
         ensures waiting { OnOk result (waiting self.new.trace ≡ []) }
         ensures active { OnOk result (active self.new.trace ≡ None) }
         ensures full { OnErr result (SettleLacks D.meaning self.new) }
@@ -33,6 +35,7 @@ impl<D: Device> UnitBook<D> {
     fn attempt(&mut self) -> Result<bool, AllocError>
         ensures steps { Settles D.meaning self.old self.new }
         ensures ok { IfOk result (λ more. Attempts self.old more self.new) }
+        ensures spare { KeepsRoom self.old self.new }
         ensures full { OnErr result (SettleLacks D.meaning self.new) }
     {
         if matches!(self.start()?, Starting::Idle) {

@@ -6,6 +6,7 @@ ghost use Rattle.unit_book.specs.Answers.{Adds};
 ghost use Rattle.unit_book.specs.Controls.{active_of, after_halt, covers_awaiting, PurgeHalts, PurgesAwaiting};
 ghost use Rattle.unit_book.specs.Dcbs.{doomed, is_open};
 ghost use Rattle.unit_book.specs.Legal.{CanPurge, Settled, ToHalt, due, doomed_first};
+ghost use Rattle.unit_book.specs.Room.{KeepsRoom};
 ghost use Rattle.unit_book.specs.Selected.{DoomedBy};
 ghost use Rattle.unit_book.specs.Trace.{waiting};
 
@@ -68,6 +69,7 @@ impl<D: Device> Entries<D> {
         requires uncovered { covers_awaiting self.old scope mode ≡ false }
         ensures book { self.new ≡ record self.old { trace = after_halt D.meaning self.old.mounted (Entry.Purge scope mode ∷ self.old.trace); spare = self.new.spare } }
         ensures spare { self.old.spare ≤ self.new.spare + 2 }
+        ensures room { KeepsRoom self.old self.new }
         ensures due { due D.meaning self.new.mounted self.new.trace ≡ doomed_first (doomed self.new.trace) }
         ensures dooms { DoomedBy (Some (Selection.Scope scope)) self.new.trace }
         ensures few { length (doomed self.new.trace) ≤ length (waiting self.old.trace) }
@@ -96,6 +98,7 @@ impl<D: Device> Entries<D> {
         ensures book { result ≡ true → PurgesAwaiting D.meaning self.old scope mode self.new }
         ensures settled { Settled D.meaning self.new.mounted self.new.trace }
         ensures uncovered { result ≡ false → self.new ≡ self.old }
+        ensures spare { KeepsRoom self.old self.new }
     {
         let Some(active) = self.active.take() else {
             return false;
@@ -138,6 +141,7 @@ impl<D: Device> Entries<D> {
         requires can { is_open dcb self.old.trace ≡ true }
         ensures book { Adds self.old (Entry.Reset dcb) self.new }
         ensures settled { Settled D.meaning self.new.mounted self.new.trace }
+        ensures spare { KeepsRoom self.old self.new }
     {
         write(&mut self.trace, Entry::Reset(dcb));
         self.dcbs.reset(dcb);

@@ -1,6 +1,6 @@
 //! Posts of requests.
 
-ghost use Rattle.std.specs.Prelude.{◌≡◌, ◌≤◌, ◌<◌, ◌+◌, ◌-◌, ◌∷◌, ◌++◌, [], true, length, map, reverse, vec_len, vec_capacity, slice_get, drop, IfSome, IfOk, OnErr};
+ghost use Rattle.std.specs.Prelude.{◌≡◌, ◌≤◌, ◌<◌, ◌+◌, ◌-◌, ◌∷◌, ◌++◌, [], true, length, map, reverse, vec_len, vec_capacity, slice_get, drop, IfSome, IfOk, OnOk, OnErr};
 ghost use Rattle.circular_buffer.specs.Buffer.{buffer};
 ghost use Rattle.request_piece.specs.Places.{Placed};
 ghost use Rattle.unit_book.specs.Lists.{Each};
@@ -8,6 +8,7 @@ ghost use Rattle.io_images.specs.Images.{no_status};
 ghost use Rattle.unit_book.specs.Book.{occupancy, given, is_pending, IsLastGiven};
 ghost use Rattle.unit_book.specs.Legal.{Fits, Settled, due, doomed_first, FailsCheck};
 ghost use Rattle.unit_book.specs.Refusals.{InterruptLacks, StartLacks};
+ghost use Rattle.unit_book.specs.Room.{KeepsRoom};
 ghost use Rattle.unit_book.specs.Selected.{DoomedBy};
 ghost use Rattle.unit_book.specs.Dcbs.{doomed, is_refused};
 ghost use Rattle.unit_book.specs.Dooms.{all_posted, after_dooms, purged};
@@ -85,6 +86,7 @@ impl<D: Device> Entries<D> {
         requires due { due D.meaning self.old.mounted self.old.trace ≡ doomed_first (doomed self.old.trace) }
         ensures book { Extends D.meaning self.old (after_dooms self.old.trace) self.old.awaits self.new }
         ensures settled { Settled D.meaning self.new.mounted self.new.trace }
+        ensures spare { KeepsRoom self.old self.new }
     {
         let Some(selection) = doom else {
             return;
@@ -98,6 +100,7 @@ impl<D: Device> Entries<D> {
     pub fn take_status(&mut self) -> Result<Taken, AllocError>
         requires { Settled D.meaning self.old.mounted self.old.trace }
         ensures ok { IfOk result (λ taken. TakesStatus D.meaning self.old taken self.new) }
+        ensures spare { OnOk result (KeepsRoom self.old self.new) }
         ensures err { OnErr result (self.new ≡ self.old) }
         ensures full { OnErr result (InterruptLacks D.meaning self.old) }
         ensures pending { OnErr result (is_pending D.meaning self.old ≡ true) }
@@ -137,6 +140,7 @@ impl<D: Device> Entries<D> {
         requires first { (name : Name) × FailsCheck D.meaning self.old.mounted name self.old.trace }
         requires settled { Settled D.meaning self.old.mounted self.old.trace }
         ensures ok { IfOk result (λ begun. IsBegun D.meaning self.old begun self.new) }
+        ensures spare { OnOk result (KeepsRoom self.old self.new) }
         ensures err { OnErr result (self.new ≡ self.old) }
         ensures full { OnErr result (StartLacks D.meaning self.old) }
     {
@@ -167,6 +171,7 @@ impl<D: Device> Entries<D> {
         requires refused { is_refused issued self.old.trace ≡ true }
         ensures book { Extends D.meaning self.old (after_dooms (Entry.Arrive issued ∷ self.old.trace)) self.old.awaits self.new }
         ensures settled { Settled D.meaning self.new.mounted self.new.trace }
+        ensures spare { KeepsRoom self.old self.new }
     {
         write(&mut self.trace, Entry::Arrive(issued));
         post_purged(piece, &mut self.trace, &mut self.out);

@@ -1,10 +1,11 @@
 //! Starts of requests, and the commands of their programs.
 
-ghost use Rattle.std.specs.Prelude.{◌≡◌, ◌≤◌, true, false, not, None, IfOk, OnErr};
+ghost use Rattle.std.specs.Prelude.{◌≡◌, ◌≤◌, true, false, not, None, IfOk, OnOk, OnErr};
 ghost use Rattle.ccw_programs.specs.Step.{is_running};
 ghost use Rattle.subchannel.specs.Subchannel.{TakesSeek, after_ssch};
 ghost use Rattle.unit_book.specs.Legal.{Settled};
 ghost use Rattle.unit_book.specs.Refusals.{StartLacks};
+ghost use Rattle.unit_book.specs.Room.{KeepsRoom};
 ghost use Rattle.unit_book.specs.Answers.{IsBegun, RunsBook};
 ghost use Rattle.unit_book.specs.Trace.{active};
 
@@ -45,6 +46,7 @@ impl<D: Device> Entries<D> {
     pub fn start(&mut self) -> Result<Begun, AllocError>
         requires { Settled D.meaning self.old.mounted self.old.trace }
         ensures ok { IfOk result (λ begun. IsBegun D.meaning self.old begun self.new) }
+        ensures spare { OnOk result (KeepsRoom self.old self.new) }
         ensures err { OnErr result (self.new ≡ self.old) }
         ensures full { OnErr result (StartLacks D.meaning self.old) }
     {
@@ -76,6 +78,7 @@ impl<D: Device> Entries<D> {
         requires none { active self.old.trace ≡ None }
         requires settled { Settled D.meaning self.old.mounted self.old.trace }
         ensures ok { IfOk result (λ begun. IsBegun D.meaning self.old begun self.new) }
+        ensures spare { OnOk result (KeepsRoom self.old self.new) }
         ensures err { OnErr result (self.new ≡ self.old) }
         ensures full { OnErr result (StartLacks D.meaning self.old) }
     {
@@ -101,7 +104,8 @@ impl<D: Device> Entries<D> {
         requires some { 1 ≤ max }
         requires spare { 1 ≤ self.old.spare }
         requires settled { Settled D.meaning self.old.mounted self.old.trace }
-        ensures { RunsBook D.meaning self.old max result self.new }
+        ensures book { RunsBook D.meaning self.old max result self.new }
+        ensures spare { KeepsRoom self.old self.new }
     {
         let Some(mut active) = self.active.take() else {
             return Running::Quiet;

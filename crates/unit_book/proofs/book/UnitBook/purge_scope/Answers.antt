@@ -9,4 +9,4 @@ returns-clause-pending g c = grind (arith, common_steps, pending-purge)
 pub returns-clause-ok : goal.returns-clause-ok
 returns-clause-ok g c =
     rw (← c.self.view_is) (purge-reserved g.D.Device.meaning c.in_ok-reserve_posts.ensures.book
-    (record { purges = c.purge_in_room.ensures; answer_is = c.purging.ensures }))
+    (record { purges = c.purge_in_room.ensures.book; answer_is = c.purging.ensures }))

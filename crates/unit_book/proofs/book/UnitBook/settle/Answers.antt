@@ -5,10 +5,12 @@ use Rattle.unit_book.proofs.Names.{arith}
 use Rattle.std.proofs.lemmas.Grind.{common_steps}
 
 pub loop-init : goal.loop-init
-loop-init g c = Stays
+loop-init g c = (Stays, omega arith)
 
 pub loop-preserved : goal.loop-preserved
-loop-preserved g c = settles-more g.D.Device.meaning c.loop.invariant c.attempt.ensures.steps
+loop-preserved g c =
+    let k = c.loop.invariant in
+    (settles-more g.D.Device.meaning k.0 c.attempt.ensures.steps, omega (arith, k.1, c.attempt.ensures.spare))
 
 pub returns-in_err-attempt : goal.returns-in_err-attempt
 returns-in_err-attempt g c = grind (arith, common_steps, settles-more, settles-served)

@@ -43,6 +43,7 @@ returns-in_default g c =
     record {
       book = rw (← c.self.view_is) (rw (after, w, c.take.ensures.after, o) refl);
       spare = rw (← c.self.view_is) (omega (arith, c.write.ensures.spare));
+      room = rw (← c.self.view_is) (rw w (omega (arith, c.write.ensures.spare)));
       due = rw w d;
       dooms = rw w (dooms g (goal.at.returns-in_default g c).After-take);
       few = rw (← c.self.view_is, w) (doomed-some P);

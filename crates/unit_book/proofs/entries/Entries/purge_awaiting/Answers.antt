@@ -6,6 +6,7 @@ use Rattle.std.proofs.lemmas.List.{length-map}
 use Rattle.unit_book.proofs.Dooms.{length-filters}
 use Rattle.unit_book.proofs.Awaiting.{ties-awaiting, settled-awaiting, since-awaiting, after-is, fits-purged, FoundAwaiting}
 use Rattle.unit_book.proofs.Controls.{awaiting-is}
+use Rattle.unit_book.proofs.Room.{length-posted}
 use Rattle.unit_book.proofs.Same.{ties-found, rooms-found, swept-found}
 use Rattle.unit_book.proofs.entries.Entries.purge_awaiting.Given.{Over}
 use Rattle.unit_book.proofs.entries.Entries.purge_awaiting.Goals.{After-is_covered_awaiting}
@@ -84,6 +85,9 @@ returns-clause-settled g c =
     let trace_is = rw items_is at c.post_all.ensures.trace in
     rw (c.write_post.ensures.items, trace_is, c.write.ensures.items, c.kept_status-kept.ensures, c.name-name.ensures)
     (settled-awaiting g.D.Device.meaning c.self.inside.mounted f.1 f.2)
+
+pub returns-clause-spare : goal.returns-clause-spare
+returns-clause-spare g c = grind (arith, common_steps, length-posted)
 
 -- whether the purge covers it, as the trace says
 told : (g : Over) (c : After-is_covered_awaiting g) →

@@ -24,4 +24,8 @@ returns g c =
     let w = c.write.ensures.items in
     let p = c.post_purged.ensures.trace in
     let same = c.requires.same in
-    record { book = rw (← c.self.view_is) (rw (p, w, c.post_purged.ensures.out, same, ← after, since) refl); settled = rw (p, w, same) k }
+    record {
+      book = rw (← c.self.view_is) (rw (p, w, c.post_purged.ensures.out, same, ← after, since) refl);
+      settled = rw (p, w, same) k;
+      spare = rw (← c.self.view_is) (rw (p, w) (omega (arith, c.write.ensures.spare, c.post_purged.ensures.spare)));
+    }

@@ -64,10 +64,10 @@ invariant_of-self-2 g c =
     i.dcbs i.out.items) (Some x)) (sym s) (rw (c.write.ensures.items, n) k) in
     assumption
 
-pub returns : goal.returns
-returns g c =
-    let f = found g (goal.at.returns g c).After-run in
-    let k = told g.D.Device.meaning c.self.inside.mounted (burst g (goal.at.returns g c).In-Some-run) f.1 in
+pub returns-clause-book : goal.returns-clause-book
+returns-clause-book g c =
+    let f = found g (goal.at.returns-clause-book g c).After-run in
+    let k = told g.D.Device.meaning c.self.inside.mounted (burst g (goal.at.returns-clause-book g c).In-Some-run) f.1 in
     let e = c.write.ensures.items in
     let s = c.run.ensures.same in
     let n = c.name.ensures ∙ ap (λ (x : Active). x.piece.value.name) s in

@@ -5,6 +5,7 @@ use Rattle.unit_queue.specs.declared.selection.Selection.{Selection}
 use Rattle.unit_book.proofs.Facts.{Each-filter}
 use Rattle.unit_book.proofs.Dooms.{filter-never, length-filters, ties-dooms, since-same, dooms-none}
 use Rattle.std.proofs.lemmas.List.{length-map}
+use Rattle.unit_book.proofs.Room.{length-posted}
 use Rattle.unit_book.proofs.Same.{swept-found}
 use Rattle.unit_book.proofs.entries.Entries.sweep.Goals as goal
 use Rattle.std.proofs.lemmas.Grind.{common_steps}
@@ -62,4 +63,4 @@ returns g c =
     let k = ties-dooms m i.mounted p d u c.self.invariant.0 in
     let items_is = ap (λ (x : Queue). x.pieces) sw in
     let out_is = rw items_is at c.post_all.ensures.out in
-    grind (arith, common_steps)
+    grind (arith, common_steps, length-posted)
