@@ -1,5 +1,8 @@
 //! The posts of a run: those of one task after another, and their number.
 
+ghost use Rattle.std.specs.Prelude.{◌≡◌};
+ghost use Rattle.post_slots.specs.Slots.{shown_in};
+
 use crate::post::write_post;
 use post_slots::{Slot, Slots};
 use request_piece::Posted;
@@ -34,7 +37,9 @@ pub fn write_count<W: Write>(out: &mut W, count: u64) -> io::Result<()> {
 }
 
 /// The `len` bytes at the address `show` of the area of a posted request, or none if they do not lie in it.
-pub fn shown(posted: &Posted, show: u32, len: u64) -> &[u8] {
+pub fn shown(posted: &Posted, show: u32, len: u64) -> &[u8]
+    ensures { result.now ≡ shown_in posted.now.area show len }
+{
     let count = usize::try_from(len).unwrap_or(usize::MAX);
     posted.area().get(show, count).unwrap_or(&[])
 }
