@@ -15,7 +15,7 @@ struct Left {
     tasks: usize,
 }
 
-/// What is left of a run whose two units are swapped.
+/// What is left of a run whose two units are swapped, if each was under a lock of its own.
 fn left_of<S: Site, R: Wait>(
     rt: &R,
     alloc: Global,
@@ -28,7 +28,9 @@ fn left_of<S: Site, R: Wait>(
     requires units { S.rows.units ≡ 2 }
 {
     let (system, tasks, _) = System::<S, Disk>::new(alloc, rows, books)?;
-    swap_units(rt, &system);
+    if !swap_units(rt, &system) {
+        return Ok(None);
+    }
     let Err(unfinished) = finish(rt, alloc, system, tasks) else {
         return Ok(None);
     };
@@ -60,15 +62,19 @@ fn parts_of<S: Site>(
     })
 }
 
-/// Puts the states of the two units under each other's locks.
-fn swap_units<S: Site, R: Wait>(rt: &R, system: &System<'_, S, Disk>)
+/// Puts the states of the two units under each other's locks. Returns whether each was under a lock of its own.
+fn swap_units<S: Site, R: Wait>(rt: &R, system: &System<'_, S, Disk>) -> bool
     requires { S.rows.units ≡ 2 }
 {
     let mut first = system.lock_of(0).lock(rt);
-    let mut second = system.lock_of(1).lock(rt);
+    let Some(mut second) = system.lock_of(1).try_lock() else {
+        return false;
+    };
     swap(&mut *first, &mut *second);
+    (first.unit(), second.unit()) == (1, 0)
 }
 
+/// It rejects one lock for both units: the second one is then locked.
 #[test]
 fn swapped_units_are_mixed(rt: HostRuntime) -> Result<(), Fail> {
     let mut rows = Rows::new(rt.alloc(), 1, 2, 1, 1)?;
