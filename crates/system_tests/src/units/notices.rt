@@ -5,6 +5,7 @@ ghost use Rattle.excp_system.specs.Opening.{AreBooks, AreFresh, site_of};
 
 use super::*;
 use excp_system::{IscTaker, Stop};
+use io_images::{Address, Csw, SubStatus, UnitStatus};
 use std::thread::Threads;
 use unit_book::{Mode, Purging};
 
@@ -25,7 +26,7 @@ fn halt_first<S: Site, R: Wait + Abort + AllocGlobal>(
     Ok(())
 }
 
-/// The halted request comes back when the handlers alone are served.
+/// The halted request comes back when the handlers alone are served, with channel end and device end before its first CCW.
 fn expect_halted<'r, S: Site + Send + Sync, R: Threads + Wait + Sync + Abort>(
     rt: &R,
     system: &System<'r, S, Disk>,
@@ -33,8 +34,14 @@ fn expect_halted<'r, S: Site + Send + Sync, R: Threads + Wait + Sync + Abort>(
     task: &mut Task<'r, S>,
 ) -> Result<(), Fail> {
     let posted = halted(rt, system, handlers, task)?.ok_or("no posted value")?;
-    let place = posted.csw().address.get();
-    assert!(rt; posted.code() == Code::Purged && place == 0x1030);
+    let csw = Csw {
+        address: Address::new(0x1030),
+        unit: UnitStatus::new(0x0C),
+        sub: SubStatus::new(0),
+        residual: 0,
+    };
+    assert!(rt; posted.name() == Name { task: 0, seq: 1 } && posted.code() == Code::Purged);
+    assert!(rt; posted.csw() == csw && posted.sense() == 0);
     Ok(())
 }
 
