@@ -10,7 +10,7 @@ use io_area::Area;
 use io_images::Extent;
 use request_piece::Request;
 use std::alloc::Global;
-use unit_book::{Mode, ProcessingMethod, Purging};
+use unit_book::{ArriveError, Mode, ProcessingMethod, Purging};
 
 /// A book whose trace has room for no entry more: DCBs are opened until it is full.
 fn full_book(alloc: Global) -> Result<UnitBook<Disk>, AllocError>
@@ -28,13 +28,25 @@ fn full_book(alloc: Global) -> Result<UnitBook<Disk>, AllocError>
     Err(AllocError)
 }
 
-/// The first request of task 0, which reads by DCB 1.
-fn first_request(alloc: Global) -> Result<Request, AllocError>
-    ensures { IfOk result (λ request. request.name ≡ record { task = 0; seq = 1 }) }
+/// The request of task 0 with this number, which reads by DCB 1.
+fn nth_request(alloc: Global, seq: u32) -> Result<Request, AllocError>
+    ensures { IfOk result (λ request. request.name ≡ record { task = 0; seq = seq }) }
 {
     let area = Area::new(alloc, 0x1000, &READ_RECORD).map_err(|_| AllocError)?;
-    let name = Name { task: 0, seq: 1 };
+    let name = Name { task: 0, seq };
     Request::new(alloc, name, 0, 1, 0x1000, area).map_err(|_| AllocError)
+}
+
+/// A book for one request, at which one waits.
+fn book_of_one(alloc: Global) -> Result<UnitBook<Disk>, AllocError>
+    ensures { IfOk result (λ book. arrived_of 0 book.trace ≡ 1) }
+{
+    let mut book = disk_book(alloc, &[], 1)?;
+    let request = nth_request(alloc, 1)?;
+    match book.arrive(request) {
+        Ok(()) => Ok(book),
+        Err(_) => Err(AllocError),
+    }
 }
 
 /// The request arrives, when it is tried once more if there is no memory for it.
@@ -50,7 +62,7 @@ fn arrives(book: &mut UnitBook<Disk>, request: Request) -> Result<(), Fail>
 /// A book whose trace was full when its one request arrived, which waits.
 fn waiting_book(alloc: Global) -> Result<UnitBook<Disk>, Fail> {
     let mut book = full_book(alloc)?;
-    let request = first_request(alloc)?;
+    let request = nth_request(alloc, 1)?;
     arrives(&mut book, request)?;
     Ok(book)
 }
@@ -92,9 +104,23 @@ fn arrive_without_memory(rt: HostRuntime) -> Result<(), Fail> {
 fn reserve_without_memory(rt: HostRuntime) -> Result<(), Fail> {
     let mut book = book_with_room(rt.alloc())?;
     assert!(rt; book.spare() >= 2);
-    let request = first_request(rt.alloc())?;
+    let request = nth_request(rt.alloc(), 1)?;
     let arrived = book.arrive(request).is_ok();
     assert!(rt; arrived && book.waiting_len() == 1);
+    Ok(())
+}
+
+/// A full book hands a request back as it is, and is as before.
+#[test]
+fn full_book_hands_request_back(rt: HostRuntime) -> Result<(), Fail> {
+    let mut book = book_of_one(rt.alloc())?;
+    let entries = book.trace().len();
+    let second = nth_request(rt.alloc(), 2)?;
+    let (why, back) = book.arrive(second).err().ok_or("it arrived")?;
+    assert!(rt; why == ArriveError::Held && back.name() == Name { task: 0, seq: 2 });
+    assert!(rt; back.area().get(0x1000, 104) == Some(READ_RECORD.as_slice()));
+    assert!(rt; book.waiting_len() == 1 && book.waiting_name(0) == Some(Name { task: 0, seq: 1 }));
+    assert!(rt; book.trace().len() == entries && book.out_len() == 0);
     Ok(())
 }
 
