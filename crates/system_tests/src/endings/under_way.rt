@@ -6,19 +6,35 @@ ghost use Rattle.excp_system.specs.Opening.{AreBooks, AreFresh, site_of};
 ghost use Rattle.post_ledger.specs.Report.{IsFor};
 
 use super::*;
-use crate::fixtures::{fault, faulty_disks, is_undisturbed};
+use crate::fixtures::{READ_RECORD, fault, faulty_disks, is_undisturbed, issue_over};
 
-/// How many requests of task 0 are issued to unit 0.
-const ISSUED: u32 = 3;
+/// What the first request to each unit writes over the record of its disk. The others read it.
+const WRITTEN: [u8; 2] = [0xD0, 0xE1];
 
-/// What the report lists for the task at unit 0: a run that purged what is left would list code 48.
-const LISTED: [(u32, Code, u8); 3] = [
-    (1, Code::Ended, 0xC1),
-    (2, Code::Ended, 0xC1),
-    (3, Code::Ended, 0xC1),
+/// How many requests the task issues, by turns to units 0 and 1.
+const ISSUED: u16 = 5;
+
+/// What the report lists for the task at each unit: a run that purged what is left would list code 48.
+const LISTED: [&[(u32, Code, u8)]; 2] = [
+    &[
+        (1, Code::Ended, 0xD0),
+        (2, Code::Ended, 0xD0),
+        (3, Code::Ended, 0xD0),
+    ],
+    &[(1, Code::Ended, 0xE1), (2, Code::Ended, 0xE1)],
 ];
 
-/// The task issues its requests to unit 0.
+/// The request with this place among all, counted from 0.
+fn image_at(place: u16) -> [u8; 104] {
+    let mut image = READ_RECORD;
+    if place < 2 {
+        image[64] = 0x05;
+        image[96] = WRITTEN[usize::from(place)];
+    }
+    image
+}
+
+/// The task issues its requests.
 fn issue_all<S: Site, R: Wait>(
     rt: &R,
     alloc: Global,
@@ -26,12 +42,12 @@ fn issue_all<S: Site, R: Wait>(
 ) -> Result<(), AllocError>
     requires tasks { ArePlaced (λ task. task.number) S.rows.tasks tasks.old.items }
     requires one { S.rows.tasks ≡ 1 }
-    requires units { 0 < S.rows.units }
+    requires units { S.rows.units ≡ 2 }
     ensures { ArePlaced (λ task. task.number) S.rows.tasks tasks.new.items }
 {
-    for _ in 0..ISSUED {
+    for place in 0..ISSUED {
         let task = &mut tasks[0];
-        issue(rt, alloc, task, 0)?;
+        issue_over(rt, alloc, task, place % 2, &image_at(place))?;
     }
     Ok(())
 }
@@ -101,17 +117,26 @@ fn ended<S: Site, R: Wait + Abort>(
     resumed(rt, alloc, system, tasks)
 }
 
-/// Brings a run to its end, and answers how often it was resumed. Its report lists all requests as read, none at unit 1,
-/// and no purge, close or reset.
+/// Brings a run to its end, and returns how often it was resumed. Its report lists all requests, and no purge, close or
+/// reset. Each unit's own disk has what was written to it.
 fn expect_ended<R: Wait + Abort + AllocGlobal>(rt: &R, is_served: bool) -> Result<u32, AllocError> {
     let alloc = rt.alloc();
     let mut rows = Rows::new(alloc, 1, 2, 4, 4)?;
     let books = faulty_disks(alloc, &[fault(1, 0x1000)], 4)?;
     let (report, times) = ended::<Brand, _>(rt, alloc, &mut rows, books, is_served)?;
-    let (first, second) = (listed(alloc, &report, 0)?, listed(alloc, &report, 1)?);
-    assert!(rt; first.as_slice() == LISTED.as_slice() && second.is_empty());
+    for unit in 0..2 {
+        let found = listed(alloc, &report, unit)?;
+        assert!(rt;
+            found.as_slice() == LISTED[usize::from(unit)],
+            "unit {unit}"
+        );
+    }
     let (books, lists) = report.into_parts();
-    assert!(rt; books.iter().all(|book| is_undisturbed(book.trace())));
+    for (book, data) in books.iter().zip(WRITTEN) {
+        let record = book.device().records(0, 0).last();
+        let is_written = record.is_some_and(|it| it.content() == [data, 0, 0, 0].as_slice());
+        assert!(rt; is_written && is_undisturbed(book.trace()));
+    }
     for posts in lists {
         assert_eq!(rt; posts.into_units().len(), 2);
     }
