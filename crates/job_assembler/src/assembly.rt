@@ -15,10 +15,12 @@ use crate::line::{
 };
 use crate::numbers::{put_digits, value_of};
 use crate::statement::put_statement;
-use job_check::{AreaLayout, Source, write_findings};
+use job_check::{AreaLayout, Source, meant_in_script, write_findings};
+use job_scenario::begins_event;
 use job_script::{
     FaultName, JobError, LIMIT, Message, begins_line, first_unprintable, read_script,
 };
+use script_words::Words;
 use std::alloc::{AllocError, Global};
 use std::io::{Read, Write};
 use std::mem;
@@ -31,6 +33,12 @@ const UNENDED: &str = "the area that begins here has no end: expected a line 'en
 
 const ORDER: &str =
     "not the number of the next area: areas are 0, 1, 2 and so on, in the order of their lines";
+
+const NO_LINE: &str = "no line begins with this word";
+
+const NO_LINE_HERE: &str =
+    "outside of an area no line begins with this word: expected tasks, disk, tape, printer, rec, block, mark, fault, \
+    open, area, excp, purge, purgetask, close, reset, wait or, in a scenario, an event";
 
 const BASE: &str = "not an address of an area: expected six hexadecimal digits, a multiple of 8";
 
@@ -247,7 +255,10 @@ impl<'a> Assembly<'a> {
                 &self.units,
                 said,
             ),
-            _ => self.pass(said.bytes),
+            _ => {
+                begins_known_line(self.alloc, said)?;
+                self.pass(said.bytes)
+            }
         }
     }
 
@@ -351,6 +362,21 @@ impl<'a> Assembly<'a> {
         }
         Ok(())
     }
+}
+
+/// That a line begins with a word of a script or a scenario. Another word may mean a known one.
+fn begins_known_line(alloc: Global, said: Word<'_>) -> Result<(), Refusal<'_>> {
+    let (word, _) = first_word(said);
+    if begins_line(word.bytes) || begins_event(word.bytes) {
+        return Ok(());
+    }
+    let mut words = Words::new();
+    words.scan(said.bytes);
+    let meant = meant_in_script(alloc, &words)?;
+    let text = if meant.is_some() { NO_LINE } else { NO_LINE_HERE };
+    let mut wrong = Wrong::named(FaultName::Words, word, text);
+    wrong.meant = meant;
+    Err(Refusal::Wrong(wrong))
 }
 
 /// The address of an area.

@@ -24,5 +24,5 @@ pub use finding::{Finding, SCRIPT, write_meant};
 pub use layout::{AreaLayout, Place};
 pub use media::{mount_faults, mount_faults_but};
 pub use requests::why_rejected;
-pub use suggestion::{fault_of_scenario, nearest};
+pub use suggestion::{fault_of_scenario, meant_in_script, nearest};
 pub use telling::{FileName, Found, Source, write_findings};

@@ -113,7 +113,9 @@ fn sure_failure(
         return None;
     }
     if !passes_check(kind, device.heads(), extents, &iob.seek) {
-        return Some((excp.iob.saturating_add(35), violated(&iob.seek)));
+        let is_listed = usize::from(iob.seek.extent) < extents.len();
+        let place = if is_listed { 35 } else { 32 };
+        return Some((excp.iob.saturating_add(place), violated(&iob.seek)));
     }
     let mask = opening.method.file_mask();
     let writes = is_kept && !mask.inhibits_writes();
