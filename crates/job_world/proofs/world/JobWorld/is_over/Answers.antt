@@ -10,13 +10,16 @@ shows-more : {P Q : Type 0} (test : Bool) → (P → Q) → OnTrue test P → On
 shows-more true more h = more h
 shows-more false more h = tt
 
-pub returns : goal.returns
-returns c =
+pub returns-clause-over : goal.returns-clause-over
+returns-clause-over c =
     let s = state_of c.args.self.now in
     let over : ((unit : ℕ) → unit < length s.site.units → IsAtRest s.site unit) → IsOver s = λ rest. record {
-      commands = c.if-not-have_no_command.ensures;
+      commands = c.if-not-have_no_command.ensures.done;
       awaits = sym c.await_none.ensures ∙ c.if-not-await_none.false;
       rest = rest;
     }
     in
-    shows-more c.is_at_rest.result over (rw c.site.ensures at c.is_at_rest.ensures)
+    shows-more c.is_at_rest.result over (rw c.site.ensures at c.is_at_rest.ensures.rest)
+
+pub returns-clause-left : goal.returns-clause-left
+returns-clause-left c = λ busy few over. (rw c.site.ensures at c.is_at_rest.ensures.busy) busy few over.rest
