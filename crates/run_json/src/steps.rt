@@ -5,7 +5,7 @@ use crate::lists::Lists;
 use crate::places::write_place;
 use crate::touched::Touched;
 use any_device::AnyDevice;
-use ccw_programs::Link;
+use ccw_programs::{Link, Workspace};
 use command_table::CCW_FLAGS;
 use run_record::UnitRecord;
 use std::alloc::{AllocError, Global};
@@ -21,6 +21,8 @@ use unit_history::{
 #[derive(Drop)]
 pub(crate) struct Steps<'t> {
     commands: Commands<'t, AnyDevice>,
+    /// Where the next command is put together.
+    listed: Workspace,
     /// How many commands more are written.
     left: u64,
     /// Whether a command was left out, and with it all that follow.
@@ -40,6 +42,7 @@ impl<'t> Steps<'t> {
         };
         Ok(Steps {
             commands: Commands::of(unit.book, &list)?,
+            listed: Workspace::new(),
             left: most,
             is_cut: false,
             touched: Touched::new(alloc, unit.book.device()),
@@ -102,7 +105,10 @@ impl<'t> Steps<'t> {
 
     /// Replays the next command, and adds it to the list unless it is left out.
     fn add_next(&mut self) -> io::Result<()> {
-        let Next::Command(command) = self.commands.next_command()? else {
+        let Next::Command(replayed) = self.commands.next_command(&mut self.listed)? else {
+            return Ok(());
+        };
+        let Some(command) = self.commands.describe(replayed) else {
             return Ok(());
         };
         let place = command.place();

@@ -1,15 +1,16 @@
 //! The commands of a unit's programs, replayed from its trace one by one.
 
-ghost use Rattle.std.specs.Prelude.{◌≡◌, ◌≢◌, ◌-◌, ◌==◌, ◌||◌, not, false, true, IfOk, OnErr, OnOk};
-ghost use Rattle.trace_replay.specs.Replayed.{ListsNext};
-ghost use Rattle.unit_history.specs.Commands.{GivesNext, IsUnreplayed, PassesEntry, StartsNext};
+ghost use Rattle.std.specs.Prelude.{◌≡◌, ◌≢◌, ◌-◌, ◌==◌, ◌||◌, None, not, false, true, IfOk, MatchOption, OnErr, OnOk};
+ghost use Rattle.trace_replay.specs.Replayed.{so_far};
+ghost use Rattle.unit_book.specs.Trace.{active};
+ghost use Rattle.unit_history.specs.Commands.{Describes, GivesNext, IsUnreplayed, PassesEntry, StartsNext, place_behind};
 
 use crate::command::Command;
 use crate::done::done;
 use ccw_programs::{Listing, Workspace};
 use device_port::{Device, Fault, Kind};
 use std::alloc::AllocError;
-use step_places::{Before, Placed};
+use step_places::{Before, Place, Placed};
 use trace_replay::Replay;
 use unit_book::UnitBook;
 
@@ -25,8 +26,6 @@ pub struct CommandList<'f> {
 #[derive(Drop)]
 pub struct Commands<'t, D: Device> {
     replay: Replay<'t, D>,
-    /// Where the next command is put together.
-    listed: Workspace,
     kind: Kind,
     /// What the place of the next command depends on.
     before: Before,
@@ -41,10 +40,20 @@ pub struct Commands<'t, D: Device> {
     is_cut: bool,
 }
 
+/// A command that was replayed: its CCWs and data areas, and the fault of the unit that it met.
+#[derive(Drop)]
+pub struct Replayed<'w> {
+    listing: Listing<'w>,
+    fault: Option<usize>,
+    /// What its place depends on.
+    before: Before,
+}
+
 /// What comes next of a replay.
 #[derive(Drop)]
-pub enum Next<'c> {
-    Command(Command<'c>),
+pub enum Next<'w> {
+    /// A command, which is replayed now. [`Commands::describe`] describes it.
+    Command(Replayed<'w>),
     /// No program runs. A legal trace counts no such command.
     Idle,
     /// The most commands were described, and the others are left out.
@@ -61,7 +70,6 @@ impl<'t, D: Device> Commands<'t, D> {
     {
         Ok(Commands {
             replay: Replay::of(book)?,
-            listed: Workspace::new(),
             kind: book.mounted().kind(),
             before: Before::new(),
             faults: commands.faults,
@@ -110,55 +118,59 @@ impl<'t, D: Device> Commands<'t, D> {
 }
 
 impl<'t, D: Placed> Commands<'t, D> {
-    /// Replays the next command, and describes it: its CCWs and data areas, its program and storage after it, and where
-    /// it was on the medium.
-    pub fn next_command(&mut self) -> Result<Next<'_>, AllocError>
+    /// Replays the next command, unless it is left out. `listed` holds its CCWs and data areas.
+    pub fn next_command<'w>(&mut self, listed: &'w mut Workspace) -> Result<Next<'w>, AllocError>
         ensures ok { IfOk result (GivesNext D.meaning self.old.replay self.old.left) }
+        ensures replay { IfOk result (λ next. self.new.replay ≡ place_behind next self.old.replay) }
         ensures err { OnErr result ((self.old.left ≢ 0) × StartsNext self.old.replay) }
+        ensures stays { OnErr result (self.new.replay ≡ self.old.replay) }
+        ensures left { self.new.left ≡ self.old.left - 1 }
+        ensures cut { self.new.is_cut ≡ (self.old.is_cut || self.old.left == 0) }
     {
         if !self.count() {
             return Ok(Next::LeftOut);
         }
-        let Commands {
-            replay,
-            listed,
-            kind,
-            before,
-            faults,
-            met,
-            acted,
-            ..
-        } = self;
-        before.note(replay.device().as_any());
-        let Some(listing) = replay.next_command(listed) else {
+        self.before.note(self.replay.device().as_any());
+        let before = self.before;
+        let Some(listing) = self.replay.next_command(listed) else {
             return Ok(Next::Idle);
         };
-        let fault = met_by(&listing, faults, met, acted);
-        described(replay, *kind, listing, fault, before)
+        let fault = met_by(&listing, self.faults, &mut self.met, &mut self.acted);
+        self.replay.step()?;
+        let _place = place_of(&self.replay, &mut self.before, &listing, fault);
+        Ok(Next::Command(Replayed {
+            listing,
+            fault,
+            before,
+        }))
+    }
+
+    /// Describes the command that was replayed last: its CCWs and data areas, its program and storage after it, and where it
+    /// was on the medium. Returns `None` if no request is active after it.
+    pub fn describe<'c>(&'c self, replayed: Replayed<'c>) -> Option<Command<'c>>
+        ensures { MatchOption result (active (so_far self.now.replay) ≡ None) (λ command. Describes D.meaning self.now.replay replayed.entry command) }
+    {
+        let Replayed {
+            listing,
+            fault,
+            mut before,
+        } = replayed;
+        let context = self.replay.context()?;
+        let area = self.replay.area()?;
+        let place = place_of(&self.replay, &mut before, &listing, fault);
+        Some(Command::new(self.kind, listing, context, area, fault, place))
     }
 }
 
-/// Replays the command of this listing, and describes it.
-fn described<'c, 't, D: Placed>(
-    replay: &'c mut Replay<'t, D>,
-    kind: Kind,
-    listing: Listing<'c>,
-    fault: Option<usize>,
+/// Where on the medium the command of this listing was, which was replayed last.
+fn place_of<'c, D: Placed>(
+    replay: &'c Replay<'_, D>,
     before: &mut Before,
-) -> Result<Next<'c>, AllocError>
-    requires { ListsNext D.meaning replay.old listing.links.now listing.flow listing.parts.now listing.refusal }
-    ensures ok { IfOk result (GivesNext D.meaning replay.old 1) }
-    ensures err { OnErr result (StartsNext replay.old) }
-{
-    replay.step()?;
-    let (Some(context), Some(area)) = (replay.context(), replay.area()) else {
-        return Ok(Next::Idle);
-    };
-    let place = match done(&listing, context, fault) {
-        Some(done) => before.place(replay.device().as_any(), &done),
-        None => None,
-    };
-    Ok(Next::Command(Command::new(kind, listing, context, area, fault, place)))
+    listing: &Listing<'_>,
+    fault: Option<usize>,
+) -> Option<Place<'c>> {
+    let done = done(listing, replay.context()?, fault)?;
+    before.place(replay.device().as_any(), &done)
 }
 
 /// The number of the fault that a command met, from 1, if it met one.

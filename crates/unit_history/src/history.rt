@@ -9,6 +9,7 @@ use crate::event::{Cause, Event, Told};
 use crate::events::Events;
 use crate::steps::write_commands;
 use crate::words::{Count, Request, end_in_words};
+use ccw_programs::Workspace;
 use device_port::{Device, Kind};
 use post_slots::End;
 use request_piece::{Issued, Name, Scope};
@@ -67,10 +68,11 @@ fn write_events<W: Write, D: Placed>(
     ensures { commands.entry ≡ None → IfErr result (λ error. error ≡ HistoryError.NotWritten) }
 {
     let mut commands = commands;
+    let mut listed = Workspace::new();
     for event in Events::of(book, dcbs) {
         write_event(out, &event)?;
         if let Some(commands) = &mut commands {
-            write_commands(out, &event.told, commands)?;
+            write_commands(out, &event.told, commands, &mut listed)?;
         }
     }
     Ok(())

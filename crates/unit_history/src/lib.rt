@@ -21,7 +21,7 @@ mod words;
 
 pub use characters::Text;
 pub use command::{After, Broken, Command, Ending, Moved, Shown, Way};
-pub use commands::{CommandList, Commands, Next};
+pub use commands::{CommandList, Commands, Next, Replayed};
 pub use dcbs::Dcbs;
 pub use error::HistoryError;
 pub use event::{Cause, Event, Told};

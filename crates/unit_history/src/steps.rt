@@ -6,18 +6,19 @@ use crate::error::HistoryError;
 use crate::event::Told;
 use crate::names::{NORMAL_END, SENSE, STATUS};
 use crate::words::Count;
-use ccw_programs::Link;
+use ccw_programs::{Link, Workspace};
 use command_table::CCW_FLAGS;
 use digits::write_bytes;
 use std::io;
 use std::io::Write;
 use step_places::{Passed, Place, Placed, RecordPlace};
 
-/// Replays an event, which is the next one, and writes its commands.
+/// Replays an event, which is the next one, and writes its commands. Each is put together in `listed`.
 pub(crate) fn write_commands<W: Write, D: Placed>(
     out: &mut W,
     told: &Told<'_>,
     commands: &mut Commands<'_, D>,
+    listed: &mut Workspace,
 ) -> Result<(), HistoryError> {
     let Told::Ran {
         commands: count,
@@ -31,13 +32,25 @@ pub(crate) fn write_commands<W: Write, D: Placed>(
         if commands.is_cut() {
             break;
         }
-        match commands.next_command()? {
-            Next::Command(command) => write_command(out, &command)?,
-            Next::Idle => writeln!(out, "#         no program runs here")?,
+        match commands.next_command(listed)? {
+            Next::Command(replayed) => write_replayed(out, commands.describe(replayed))?,
+            Next::Idle => write_idle(out)?,
             Next::LeftOut => write_left_out(out)?,
         }
     }
     Ok(())
+}
+
+/// Writes a command that was replayed, if a request is active after it.
+fn write_replayed<W: Write>(out: &mut W, command: Option<Command<'_>>) -> io::Result<()> {
+    match command {
+        Some(command) => write_command(out, &command),
+        None => write_idle(out),
+    }
+}
+
+fn write_idle<W: Write>(out: &mut W) -> io::Result<()> {
+    writeln!(out, "#         no program runs here")
 }
 
 fn write_left_out<W: Write>(out: &mut W) -> io::Result<()> {
