@@ -141,9 +141,10 @@ def is_purge_test(ran, text):
 
 
 def is_mounted_test(ran, text):
-    """A test passed, or it ended in a plain error of memory before its device was mounted."""
-    way = is_test(ran, text)
-    return None if way == "out of memory" and re.search(r"^mounted$", ran.out, re.M) else way
+    """A test ended in a plain error of memory before its device was mounted: a call that fails after that would be one of the
+    device."""
+    is_early = is_test(ran, text) == "out of memory" and not re.search(r"^mounted$", ran.out, re.M)
+    return "out of memory" if is_early else None
 
 
 def is_resumed_test(ran, text):

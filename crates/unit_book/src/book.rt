@@ -11,7 +11,7 @@ ghost use Rattle.unit_book.specs.Dooms.{after_dooms};
 ghost use Rattle.unit_book.specs.Legal.{Legal, Settled};
 ghost use Rattle.unit_book.specs.Posts.{posted};
 ghost use Rattle.unit_book.specs.Refusals.{InterruptLacks, RunLacks, StartLacks};
-ghost use Rattle.unit_book.specs.Room.{KeepsRoom, OpenLacks};
+ghost use Rattle.unit_book.specs.Room.{KeepsRoom};
 ghost use Rattle.unit_book.specs.Trace.{active, arrived_of, waiting};
 
 use crate::answer::{ArriveError, Interruption, OpenError, Running, Starting};
@@ -150,14 +150,13 @@ impl<D: Device> UnitBook<D> {
     ///
     /// - The unit has 65,535 DCBs.
     /// - The device does not take the extents (DFSMSdfp Advanced Services, "Data Extent Block Fields").
-    /// - Memory runs out for the entry, for copies of the extents, or for the next 16 rows of the table of DCBs.
+    /// - Memory runs out for the entry, the row of the DCB, or copies of its extents.
     pub fn open(&mut self, method: ProcessingMethod, extents: &[Extent]) -> Result<u16, OpenError>
         ensures ok { IfOk result (λ dcb. OpensBook D.meaning self.old dcb method extents.now self.new) }
         ensures spare { OnOk result (KeepsRoom self.old self.new) }
         ensures refused { IfErr result (OpenRefused D.meaning self.old extents.now) }
         ensures err { OnErr result (self.new ≡ record self.old { spare = self.new.spare }) }
         ensures kept { OnErr result (self.old.spare ≤ self.new.spare) }
-        ensures full { IfErr result (λ e. e ≡ OpenError.NoMemory → OpenLacks self.old extents.now) }
         ensures pending { is_pending D.meaning self.new ≡ is_pending D.meaning self.old }
     {
         if self.entries.dcb_count() >= MOST_DCBS {

@@ -1,6 +1,6 @@
 //! The DCBs of a unit.
 
-ghost use Rattle.std.specs.Prelude.{◌≡◌, ◌≤◌, ◌+◌, ◌%◌, ◌==◌, ◌&&◌, ℕ, [], ◌∷◌, ◌++◌, length, vec_len, vec_capacity, IfOk, OnOk, OnErr, true, false};
+ghost use Rattle.std.specs.Prelude.{◌≡◌, ◌+◌, ◌==◌, ◌&&◌, ℕ, [], ◌∷◌, ◌++◌, length, IfOk, OnOk, OnErr, true, false};
 ghost use Rattle.std.specs.Option.{option_copied};
 ghost use Rattle.io_images.specs.Codes.{is_error};
 ghost use Rattle.unit_book.specs.Dcbs.{mask_for};
@@ -63,9 +63,6 @@ impl Dcb {
     }
 }
 
-/// The number of rows that the table makes room for at a time.
-const ROWS_AT_A_TIME: usize = 16;
-
 /// The DCBs of a unit, by their numbers from 1.
 #[derive(Drop)]
 pub(crate) struct DcbTable {
@@ -78,12 +75,7 @@ impl Model for DcbTable {
 
     ghost Value = { List Dcb };
 
-    ghost use Rattle.std.specs.Prelude.{◌≤◌, vec_capacity, vec_len};
-    ghost use Rattle.unit_book.specs.Room.{rows_made};
-
     ghost view = { λ t. t.rows.items };
-
-    ghost invariant = { λ t. rows_made (vec_len t.rows) ≤ vec_capacity t.rows };
 }
 
 impl DcbTable {
@@ -111,16 +103,12 @@ impl DcbTable {
         self.rows.len()
     }
 
-    /// Adds a DCB, which gets the next number. Fails only if memory runs out for the next 16 rows.
+    /// Adds a DCB, which gets the next number.
     pub fn push(&mut self, dcb: Dcb) -> Result<(), AllocError>
         ensures ok { OnOk result (self.new ≡ self.old ++ dcb ∷ []) }
         ensures err { OnErr result (self.new ≡ self.old) }
-        ensures full { OnErr result (length self.old % 16 ≡ 0) }
     {
-        if self.rows.len() % ROWS_AT_A_TIME == 0 {
-            self.rows.reserve(ROWS_AT_A_TIME)?;
-        }
-        self.rows.push_reserved(dcb);
+        self.rows.push(dcb)?;
         Ok(())
     }
 
@@ -184,13 +172,12 @@ impl DcbTable {
     }
 }
 
-/// Copies the rows of a table of DCBs, with room for 16 more. Fails only if memory runs out.
+/// Copies the rows of a table of DCBs. Fails only if memory runs out.
 fn copy_rows(rows: &Vec<Dcb>) -> Result<Vec<Dcb>, AllocError>
-    ensures items { IfOk result (λ copies. copies.items ≡ rows.now.items) }
-    ensures room { IfOk result (λ copies. vec_len rows.now + 16 ≤ vec_capacity copies) }
+    ensures { IfOk result (λ copies. copies.items ≡ rows.now.items) }
 {
     let alloc = *rows.allocator();
-    let mut copies = Vec::with_capacity(alloc, rows.len() + ROWS_AT_A_TIME)?;
+    let mut copies = Vec::with_capacity(alloc, rows.len())?;
     for row in rows {
         copies.push(row.copy()?)?;
     }

@@ -15,7 +15,7 @@ ghost use Rattle.unit_book.specs.Answers.{Adds, Extends};
 ghost use Rattle.unit_book.specs.Dcbs.{is_refused, opened_count};
 ghost use Rattle.unit_book.specs.Dooms.{after_dooms};
 ghost use Rattle.unit_book.specs.Posts.{posted};
-ghost use Rattle.unit_book.specs.Room.{KeepsRoom, OpenLacks};
+ghost use Rattle.unit_book.specs.Room.{KeepsRoom};
 ghost use Rattle.unit_book.specs.Trace.{waiting};
 ghost use Rattle.unit_queue.specs.Queue.{queue};
 
@@ -173,7 +173,6 @@ impl<D: Device> Entries<D> {
         ensures book { OnOk result (Adds self.old (Entry.Opened (opened_count self.old.trace + 1) method extents.now) self.new) }
         ensures spare { OnOk result (KeepsRoom self.old self.new) }
         ensures err { OnErr result (self.new ≡ self.old) }
-        ensures full { OnErr result (OpenLacks self.old extents.now) }
     {
         let alloc = *self.trace.allocator();
         let kept = Extents::new(alloc, extents)?;

@@ -2,7 +2,7 @@
 
 mod refusal;
 
-ghost use Rattle.std.specs.Prelude.{◌≡◌, ◌<◌, ◌≤◌, ◌^◌, IfOk, OnErr, length, slice_get};
+ghost use Rattle.std.specs.Prelude.{◌≡◌, ◌<◌, ◌^◌, IfOk, slice_get};
 ghost use Rattle.std.specs.List.{list_all};
 ghost use Rattle.unit_book.specs.Extents.{track, is_inside, counts_tracks, is_extent, takes_extents, lies_within, passes_check};
 
@@ -31,16 +31,9 @@ impl Model for Extents {
 }
 
 impl Extents {
-    /// Copies extents. Fails only if there are some, and memory runs out.
     pub(crate) fn new(alloc: Global, extents: &[Extent]) -> Result<Self, AllocError>
-        ensures items { IfOk result (λ e. e ≡ extents.now) }
-        ensures full { OnErr result (1 ≤ length extents.now) }
+        ensures { IfOk result (λ e. e ≡ extents.now) }
     {
-        if extents.is_empty() {
-            return Ok(Extents {
-                items: Vec::new(alloc),
-            });
-        }
         Ok(Extents {
             items: extents.to_vec(alloc)?,
         })

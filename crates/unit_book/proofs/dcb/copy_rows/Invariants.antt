@@ -1,5 +1,5 @@
-use Rattle.std.proofs.Common.{◌≡◌, ◌≤◌, ◌+◌, take, vec_len, vec_capacity}
+use Rattle.std.proofs.Common.{◌≡◌, take}
 use Rattle.unit_book.proofs.dcb.copy_rows.Given as goal
 
 abbrev pub invariant-loop-row : goal.invariant-loop-row
-invariant-loop-row l = (l.copies.items ≡ take l.row-index l.rows.items) × (vec_len l.rows + 16 ≤ vec_capacity l.copies)
+invariant-loop-row l = l.copies.items ≡ take l.row-index l.rows.items
