@@ -104,7 +104,7 @@ def lists_what_is_used():
 
 
 PAGES = ["README.md", "CONTRIBUTING.md", "CHANGELOG.md", "samples/README.md"]
-PAGES += [f"docs/{it}" for it in sorted(os.listdir(f"{TOP}/docs")) if it.endswith(".md") and it != "PROGRESS.md"]
+PAGES += [f"docs/{it}" for it in sorted(os.listdir(f"{TOP}/docs")) if it.endswith(".md")]
 
 STEP = re.compile(r"^\| (\d+) \| .+ \| (`.+`) \| (.+) \|$", re.M)
 

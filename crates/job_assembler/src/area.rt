@@ -6,7 +6,7 @@ use crate::address::{NOT_EARLIER, UNDEFINED, address};
 use crate::finding::{Finding, Refusal, Wrong, note};
 use crate::labels::Labels;
 use crate::line::Word;
-use crate::numbers::TOP;
+use crate::numbers::{TOP, put_digits, value_of};
 use job_check::{AreaLayout, Place};
 use job_script::{FaultName, Message};
 use std::alloc::{AllocError, Global};
@@ -235,4 +235,31 @@ impl<'a> Reference<'a> {
         }
         Ok(value)
     }
+}
+
+/// The address of an area: six hexadecimal digits, a multiple of 8.
+pub fn base_of(word: &[u8]) -> Option<u32> {
+    let base = value_of(word, 16)?;
+    (word.len() == 6 && base % 8 == 0).then_some(base)
+}
+
+/// Writes the line of an area, with a word for each eight bytes.
+pub fn put_area(
+    script: &mut Vec<u8>,
+    number: &[u8],
+    base: u32,
+    bytes: &[u8],
+) -> Result<(), AllocError> {
+    script.extend_from_slice(b"area ")?;
+    script.extend_from_slice(number)?;
+    script.push(b' ')?;
+    put_digits(script, &base.to_be_bytes()[1..])?;
+    if bytes.is_empty() {
+        script.extend_from_slice(b" -")?;
+    }
+    for word in bytes.chunks(8) {
+        script.push(b' ')?;
+        put_digits(script, word)?;
+    }
+    Ok(())
 }

@@ -3,7 +3,7 @@
 ghost use Rattle.std.specs.Prelude.{◌+◌};
 ghost use Rattle.job_script.specs.Reading.{ReadsAtMost};
 
-use crate::area::Area;
+use crate::area::{Area, base_of, put_area};
 use crate::excp::put_excp;
 use crate::extent::UnitTracks;
 use crate::finding::{Finding, Refusal, Wrong, note};
@@ -13,7 +13,7 @@ use crate::line::{
     Operands, Word, before_comment, first_word, is_blank, is_printable, is_readable, trimmed,
     without_return,
 };
-use crate::numbers::{put_digits, value_of};
+use crate::numbers::value_of;
 use crate::statement::put_statement;
 use job_check::{AreaLayout, Source, meant_in_script, write_findings};
 use job_scenario::begins_event;
@@ -130,6 +130,8 @@ struct Assembly<'a> {
     has_returns: bool,
     /// Whether a finding says that lines have tabs.
     has_tabs: bool,
+    /// Whether the last lines begin with no word of a script, and a finding says so of the first.
+    is_lost: bool,
 }
 
 impl<'a> Assembly<'a> {
@@ -147,6 +149,7 @@ impl<'a> Assembly<'a> {
             is_long: false,
             has_returns: false,
             has_tabs: false,
+            is_lost: false,
         }
     }
 
@@ -191,6 +194,7 @@ impl<'a> Assembly<'a> {
         let said = Word::of_line(line, self.readable(line, bytes)?);
         let (word, operands) = first_word(said);
         if begins_line(word.bytes) {
+            self.is_lost = false;
             self.leave_area(line)?;
         }
         match word.bytes {
@@ -256,10 +260,31 @@ impl<'a> Assembly<'a> {
                 said,
             ),
             _ => {
-                begins_known_line(self.alloc, said)?;
+                self.find_unknown(said)?;
                 self.pass(said.bytes)
             }
         }
+    }
+
+    /// That a line begins with a word of a script or a scenario. Of lines that do not, the first has a fault, and each whose
+    /// word may mean a known one.
+    fn find_unknown(&mut self, said: Word<'a>) -> Result<(), Refusal<'a>> {
+        let (word, _) = first_word(said);
+        if begins_line(word.bytes) || begins_event(word.bytes) {
+            return Ok(());
+        }
+        let mut words = Words::new();
+        words.scan(said.bytes);
+        let meant = meant_in_script(self.alloc, &words)?;
+        let text = match meant {
+            Some(_) => NO_LINE,
+            None if self.is_lost => return Ok(()),
+            None => NO_LINE_HERE,
+        };
+        self.is_lost = true;
+        let mut wrong = Wrong::named(FaultName::Words, word, text);
+        wrong.meant = meant;
+        Err(Refusal::Wrong(wrong))
     }
 
     /// Adds a line that says nothing in a script; a semicolon that begins it becomes the sign of a comment there.
@@ -362,46 +387,4 @@ impl<'a> Assembly<'a> {
         }
         Ok(())
     }
-}
-
-/// That a line begins with a word of a script or a scenario. Another word may mean a known one.
-fn begins_known_line(alloc: Global, said: Word<'_>) -> Result<(), Refusal<'_>> {
-    let (word, _) = first_word(said);
-    if begins_line(word.bytes) || begins_event(word.bytes) {
-        return Ok(());
-    }
-    let mut words = Words::new();
-    words.scan(said.bytes);
-    let meant = meant_in_script(alloc, &words)?;
-    let text = if meant.is_some() { NO_LINE } else { NO_LINE_HERE };
-    let mut wrong = Wrong::named(FaultName::Words, word, text);
-    wrong.meant = meant;
-    Err(Refusal::Wrong(wrong))
-}
-
-/// The address of an area.
-fn base_of(word: &[u8]) -> Option<u32> {
-    let base = value_of(word, 16)?;
-    (word.len() == 6 && base % 8 == 0).then_some(base)
-}
-
-/// Writes the line of an area, with a word for each eight bytes.
-fn put_area(
-    script: &mut Vec<u8>,
-    number: &[u8],
-    base: u32,
-    bytes: &[u8],
-) -> Result<(), AllocError> {
-    script.extend_from_slice(b"area ")?;
-    script.extend_from_slice(number)?;
-    script.push(b' ')?;
-    put_digits(script, &base.to_be_bytes()[1..])?;
-    if bytes.is_empty() {
-        script.extend_from_slice(b" -")?;
-    }
-    for word in bytes.chunks(8) {
-        script.push(b' ')?;
-        put_digits(script, word)?;
-    }
-    Ok(())
 }

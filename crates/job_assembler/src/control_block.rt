@@ -52,9 +52,6 @@ struct Block {
     image: [u8; 40],
     /// Which operands came.
     given: [bool; 6],
-    /// How many numbers of an operand are to come next, the first of them for the field at this byte.
-    left: usize,
-    at: usize,
 }
 
 /// `IOB ecb=ADDRESS start=ADDRESS dcb=NUMBER ..`: one of a request that chains commands, and is unrelated unless it
@@ -63,8 +60,6 @@ pub fn put_block<'a>(area: &mut Area<'a>, operands: Word<'a>) -> Result<(), Refu
     let mut block = Block {
         image: [0; 40],
         given: [false; 6],
-        left: 0,
-        at: 0,
     };
     block.image[0] = 0x42;
     let count = operands.bytes.len();
@@ -72,39 +67,29 @@ pub fn put_block<'a>(area: &mut Area<'a>, operands: Word<'a>) -> Result<(), Refu
     for _ in 0..count {
         let operand = operands.next_operand();
         if !operand.is_empty() {
-            block.read(area, operand)?;
+            block.read(area, operand, &mut operands)?;
         }
     }
     let [ecb, start, dcb, ..] = block.given;
     if !(ecb && start && dcb) {
         return Err(Refusal::Wrong(Wrong::line(LACKS)));
     }
-    if block.left > 0 {
-        return Err(Refusal::Wrong(Wrong::line(NO_SEEK)));
-    }
     area.put(&block.image)
 }
 
 impl Block {
-    /// Reads an operand, or one more number of a seek address.
-    fn read<'a>(&mut self, area: &mut Area<'a>, operand: Word<'a>) -> Result<(), Refusal<'a>> {
-        let end = operand.bytes.iter().position(|byte| *byte == b'=');
-        if self.left > 0 {
-            return match operand.bytes {
-                b"related" | b"unrelated" => Err(Refusal::Wrong(Wrong::line(NO_SEEK))),
-                _ if end.is_some() => Err(Refusal::Wrong(Wrong::line(NO_SEEK))),
-                _ => self.read_number(area, &SEEK, operand),
-            };
-        }
-        let (name, value) = operand.split_at(end);
+    /// Reads an operand, with the further numbers of a seek address.
+    fn read<'a>(
+        &mut self,
+        area: &mut Area<'a>,
+        operand: Word<'a>,
+        operands: &mut Operands<'a>,
+    ) -> Result<(), Refusal<'a>> {
+        let (name, value) = operand.split_at(operand.bytes.iter().position(|byte| *byte == b'='));
         let (_, value) = value.split_at(Some(1));
         match self.form_of(operand, name.bytes, value.bytes)? {
             IobOperand::Address(at) => area.refer(at, 3, value)?,
-            IobOperand::Numbers(at, fields) => {
-                self.at = at;
-                self.left = fields.len();
-                self.read_number(area, fields, value)?;
-            }
+            IobOperand::Numbers(at, fields) => put_numbers(area, at, fields, value, operands)?,
             IobOperand::Flags(flags) => self.image[0] = flags,
         }
         Ok(())
@@ -135,21 +120,36 @@ impl Block {
         }
         Err(Wrong::of(operand, NO_OPERAND))
     }
+}
 
-    /// Reads the number of the next one of these fields.
-    fn read_number<'a>(
-        &mut self,
-        area: &mut Area<'a>,
-        fields: &[Field],
-        word: Word<'a>,
-    ) -> Result<(), Refusal<'a>> {
-        if let Some(field) = fields.get(fields.len().saturating_sub(self.left)) {
-            let (width, ..) = *field;
-            number_in(*field, word)?;
-            area.refer(self.at, width, word)?;
-            self.at = self.at.saturating_add(width);
-            self.left = self.left.saturating_sub(1);
-        }
-        Ok(())
+/// Puts a number into each field, from a byte on: the first is this word, and the others are the next operands.
+fn put_numbers<'a>(
+    area: &mut Area<'a>,
+    at: usize,
+    fields: &[Field],
+    first: Word<'a>,
+    operands: &mut Operands<'a>,
+) -> Result<(), Refusal<'a>> {
+    let mut at = at;
+    for (place, field) in fields.iter().enumerate() {
+        let (width, ..) = *field;
+        let word = if place == 0 {
+            first
+        } else {
+            further_number(operands)?
+        };
+        number_in(*field, word)?;
+        area.refer(at, width, word)?;
+        at = at.saturating_add(width);
     }
+    Ok(())
+}
+
+/// The next operand, which is to be one more number of a seek address.
+fn further_number<'a>(operands: &mut Operands<'a>) -> Result<Word<'a>, Wrong<'a>> {
+    let word = operands.next_operand();
+    if matches!(word.bytes, b"" | b"related" | b"unrelated") || word.bytes.contains(&b'=') {
+        return Err(Wrong::line(NO_SEEK));
+    }
+    Ok(word)
 }
