@@ -72,8 +72,8 @@ wait 0
 # The most bytes of a page of 20,000 requests, by the kind of its requests.
 SIZES = {"small": 19_000_000, "different": 25_000_000}
 
-# The most memory that a page of 20,000 equal requests takes beside their posts alone, in MiB.
-MEMORY = 4
+# The most memory that the run and its page take, in MiB.
+MEMORY = {"small": 20, "different": 30}
 
 
 def page_of(setup, *words, script):
@@ -161,15 +161,12 @@ def memory(setup, script, *words):
 
 
 def fits(setup, kind):
-    """A page of 20,000 requests is at most this large, and takes memory only for different lists of steps."""
-    script = many(20_000, kind == "different")
-    most, size = memory(setup, script, "--html")
-    beside = most - memory(setup, script, "--posts")[0]
-    text = f"{kind}: {size / 1e6:.1f} MB, at most {SIZES[kind] / 1e6:.0f}; {beside:.1f} MiB of memory beside --posts"
-    require(size <= SIZES[kind], text)
+    """A page of 20,000 requests is at most this large, and takes at most this much memory: of equal lists of steps it keeps one."""
+    most, size = memory(setup, many(20_000, kind == "different"), "--html")
+    text = f"{kind}: {size / 1e6:.1f} MB, at most {SIZES[kind] / 1e6:.0f}; {most:.1f} MiB of memory, at most {MEMORY[kind]}"
     with open(setup.tools, "rb") as it:
         is_sanitized = b"AddressSanitizer" in it.read()
-    require(kind == "different" or beside <= MEMORY or is_sanitized, text)
+    require(size <= SIZES[kind] and (most <= MEMORY[kind] or is_sanitized), text)
     return text
 
 

@@ -1,9 +1,11 @@
-//! Requests where memory may run out, and over storage that is shared. Where control blocks may be is in
-//! tests/cases/mistakes, what a post writes in tests/cases/scripts/posted_areas.posts.
+//! Requests where memory may run out, over storage that is shared, and in storage that is used again. Where control
+//! blocks may be is in tests/cases/mistakes, what a post writes in tests/cases/scripts/posted_areas.posts.
 
 use crate::memory::TWICE;
 use io_area::Area;
-use request_piece::{Name, Request, RequestError};
+use io_images::{Code, Csw};
+use request_piece::{Name, Posted, Request, RequestError};
+use std::alloc::Global;
 use std::process::Abort;
 use std::sync::Arc;
 use std::test::Fail;
@@ -21,12 +23,7 @@ fn fixture() -> [u8; 104] {
 }
 
 /// The request at `iob` of DCB 1, or why there is none; a refusal gives the area back.
-fn issued(
-    rt: &impl Abort,
-    alloc: std::alloc::Global,
-    bytes: &[u8],
-    iob: u32,
-) -> Result<Request, RequestError> {
+fn issued(rt: &impl Abort, alloc: Global, bytes: &[u8], iob: u32) -> Result<Request, RequestError> {
     let area = Area::new(alloc, 0x1000, bytes).map_err(|_| RequestError::NoMemory)?;
     match Request::new(alloc, NAME, 7, 1, iob, area) {
         Ok(request) => Ok(request),
@@ -62,5 +59,45 @@ fn request_shares_what_it_is_made_over(rt: HostRuntime) -> Result<(), Fail> {
     let (issued, _) = request.into_parts();
     assert!(rt; Arc::strong_count(&area) == 2);
     assert!(rt; issued.area().get(0x1000, 104) == Some(fixture().as_slice()));
+    Ok(())
+}
+
+/// The post of a request.
+fn posted(request: Request) -> Posted {
+    let (_, work) = request.into_parts();
+    Posted::new(work, Code::Ended, Csw::default(), 0)
+}
+
+/// The post of a request over an area of these bytes, which works in the storage of one that has ended, over a shorter
+/// area; and the area.
+fn posted_again(alloc: Global, bytes: &[u8]) -> Result<(Posted, Arc<Area, Global>), RequestError> {
+    let no_memory = RequestError::NoMemory;
+    let shorter = Area::new(alloc, 0x1000, &fixture()).or(Err(no_memory))?;
+    let shorter = Arc::new(alloc, shorter).or(Err(no_memory))?;
+    let area = Area::new(alloc, 0x1000, bytes).or(Err(no_memory))?;
+    let area = Arc::new(alloc, area).or(Err(no_memory))?;
+    let first = Request::over(alloc, NAME, 7, 1, 0x1000, &shorter)?;
+    let second = Request::over_again(posted(first), NAME, 7, 1, 0x1000, &area)?;
+    Ok((posted(second), area))
+}
+
+/// A request in the storage of one that has ended takes no memory if the areas are of one length. It has nothing of
+/// what the post wrote. Run it with each allocation made to fail in turn.
+#[test]
+fn over_again_without_memory(rt: HostRuntime) -> Result<(), Fail> {
+    let mut bytes = [0; 112];
+    bytes[..104].copy_from_slice(&fixture());
+    let (ended, area) = match posted_again(rt.alloc(), &bytes) {
+        Err(RequestError::NoMemory) => posted_again(rt.alloc(), &bytes).or(Err(TWICE))?,
+        made => made?,
+    };
+    assert!(rt; ended.area().get(0x1000, 112) != Some(bytes.as_slice()));
+    let name = Name { task: 3, seq: 2 };
+    let again = Request::over_again(ended, name, 7, 1, 0x1000, &area).or(Err("takes memory"))?;
+    assert!(rt; Arc::strong_count(&area) == 2);
+    let (issued, work) = again.into_parts();
+    assert!(rt; issued.name() == name && work.name == name);
+    assert_eq!(rt; issued.area().get(0x1000, 112), Some(bytes.as_slice()));
+    assert_eq!(rt; work.area.get(0x1000, 112), Some(bytes.as_slice()));
     Ok(())
 }

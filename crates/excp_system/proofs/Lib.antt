@@ -4,5 +4,6 @@ pub mod Fans
 pub mod Deals
 pub mod Makes
 pub mod Balances
+pub mod Begins
 pub mod Units
 pub mod Rests

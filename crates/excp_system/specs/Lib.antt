@@ -3,6 +3,7 @@
 pub mod Sites
 pub mod Fans
 pub mod States
+pub mod Begun
 pub mod Notices
 pub mod Rests
 pub mod Calls

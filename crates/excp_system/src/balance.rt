@@ -3,14 +3,17 @@
 ghost use Rattle.std.specs.Prelude.{◌↔◌, IsTrue};
 ghost use Rattle.excp_system.specs.Drained.{Drained, IsDrained, IsTaken};
 
-use crate::site::Site;
+use crate::site::Opened;
 use crate::task::Task;
 use crate::unit::UnitState;
 use device_port::Device;
 
 /// Whether nothing is out at any unit, and each intake and post row has had as many items taken as sent. It looks at
 /// all of these units and tasks. It takes no memory.
-pub fn drained<S: Site, D: Device>(units: &[UnitState<'_, S, D>], tasks: &[Task<'_, S>]) -> bool
+pub fn drained<S: Opened<D>, D: Device>(
+    units: &[UnitState<'_, S, D>],
+    tasks: &[Task<'_, S>],
+) -> bool
     ensures { IsTrue result ↔ Drained D.meaning units.now tasks.now }
 {
     for unit in units {
@@ -22,7 +25,7 @@ pub fn drained<S: Site, D: Device>(units: &[UnitState<'_, S, D>], tasks: &[Task<
 }
 
 /// Whether nothing is out at a unit, and nothing is on its way between it and the tasks.
-fn is_drained<S: Site, D: Device>(unit: &UnitState<'_, S, D>, tasks: &[Task<'_, S>]) -> bool
+fn is_drained<S: Opened<D>, D: Device>(unit: &UnitState<'_, S, D>, tasks: &[Task<'_, S>]) -> bool
     ensures { IsTrue result ↔ IsDrained D.meaning tasks.now unit.now }
 {
     if unit.book().out_len() > 0 {
@@ -37,7 +40,7 @@ fn is_drained<S: Site, D: Device>(unit: &UnitState<'_, S, D>, tasks: &[Task<'_, 
 }
 
 /// Whether nothing is on its way between a unit and a task.
-fn is_taken<S: Site, D: Device>(unit: &UnitState<'_, S, D>, task: &Task<'_, S>) -> bool
+fn is_taken<S: Opened<D>, D: Device>(unit: &UnitState<'_, S, D>, task: &Task<'_, S>) -> bool
     ensures { IsTrue result ↔ IsTaken D.meaning unit.now task.now }
 {
     unit.took(task.number()) == task.issued(unit.unit())

@@ -14,8 +14,8 @@ pub enum Point {
 }
 
 /// A gate that a worker passes, under the unit's lock, before each call. A gate may watch the worker, or hold it up.
-/// It also hears of each call without memory, and of the posted values that were sent back; by default it then does
-/// nothing.
+/// It also hears of each call without memory, of the posted values that were sent back, and of full post rows; by
+/// default it then does nothing.
 pub trait Gate {
     /// The worker is about to make this call.
     fn pass(&self, unit: u16, point: Point);
@@ -25,6 +25,9 @@ pub trait Gate {
 
     /// What a request was posted with is in the post row of its task.
     fn delivered(&self, _request: Name) {}
+
+    /// What a request was posted with waits, because the post row of its task is full.
+    fn row_is_full(&self, _request: Name) {}
 }
 
 /// A gate that holds nobody up.

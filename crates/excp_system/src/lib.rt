@@ -28,7 +28,7 @@ pub use gate::{Gate, OpenGate, Point, Stop};
 pub use isc::IscTaker;
 pub use item::{Notice, Returned, Sent};
 pub use rows::Rows;
-pub use site::{IntakeRows, PostRows, Reach, Site};
+pub use site::{IntakeRows, Opened, PostRows, Reach, Site};
 pub use system::System;
 pub use task::Task;
 pub use unit::UnitState;

@@ -16,6 +16,21 @@ impl Site for Brand {
     ghost rows = { no_rows };
 }
 
+/// The books that the units of a site began with, in order of unit. It has no calls. A call that makes a system
+/// requires that these are its books.
+pub trait Opened<D>: Site {
+    ghost use Rattle.std.specs.Prelude.{List};
+    ghost use Rattle.unit_book.specs.Book.{Book};
+
+    ghost opened: { List (Book D) };
+}
+
+impl<D> Opened<D> for Brand {
+    ghost use Rattle.std.specs.Prelude.{[]};
+
+    ghost opened = { [] };
+}
+
 /// Which rows one sender reaches.
 pub trait Reach {
     ghost use Rattle.excp_system.specs.Sites.{ReachedRows};

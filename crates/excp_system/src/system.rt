@@ -8,7 +8,7 @@ use crate::fan::Fan;
 use crate::isc::IscTaker;
 use crate::item::{Notice, Returned, Sent};
 use crate::rows::{Ends, Rows};
-use crate::site::{IntakeRows, NoticeRows, PostRows, Site};
+use crate::site::{IntakeRows, NoticeRows, Opened, PostRows, Site};
 use crate::task::Task;
 use crate::unit::UnitState;
 use device_port::Device;
@@ -19,16 +19,17 @@ use unit_book::{Entry, Mode, Purging, UnitBook};
 
 /// The units of a site, each under its lock.
 #[derive(Drop)]
-pub struct System<'r, S: Site, D: Device> {
+pub struct System<'r, S: Opened<D>, D: Device> {
     alloc: Global,
     locks: Vec<Mutex<UnitState<'r, S, D>>>,
     ghost sized: { vec_len locks ≡ S.rows.units },
 }
 
-impl<'r, S: Site, D: Device> System<'r, S, D> {
+impl<'r, S: Opened<D>, D: Device> System<'r, S, D> {
     /// A system over the rows of its site, which gave no ends yet, with a book for each unit, in which nothing
-    /// happened but openings of DCBs. Returns it with its tasks, in order of number, and the takers of its notices,
-    /// in order of subclass. If memory runs out, it returns the books, and drops the rows.
+    /// happened but openings of DCBs. The site says that its units begin with these books, so each unit continues its
+    /// own. Returns the system with its tasks, in order of number, and the takers of its notices, in order of subclass.
+    /// If memory runs out, it returns the books, and drops the rows.
     pub fn new(
         alloc: Global,
         rows: &'r mut Rows,
@@ -40,6 +41,7 @@ impl<'r, S: Site, D: Device> System<'r, S, D> {
         requires site { S.rows ≡ site_of rows.old }
         requires fresh { AreFresh rows.old }
         requires books { AreBooks S.rows.units books.items }
+        requires opened { S.opened ≡ books.items }
         ensures tasks { IfOk result (λ made. AreTasks S.rows.tasks S.rows.units made.1.items) }
         ensures handlers { IfOk result (λ made. AreHandlers made.2.items) }
         ensures handed_back { IfErr result (λ failed. failed.value.items ≡ books.items) }
@@ -192,12 +194,13 @@ fn make_handlers<'r, S: Site>(
 }
 
 /// Puts each book with its unit's ends under a lock. There is room for all locks.
-fn lock_units<'r, S: Site, D: Device>(
+fn lock_units<'r, S: Opened<D>, D: Device>(
     books: Vec<UnitBook<D>>,
     ends: UnitEnds<'r, S>,
     mut locks: Vec<Mutex<UnitState<'r, S, D>>>,
 ) -> Vec<Mutex<UnitState<'r, S, D>>>
     requires books { AreBooks S.rows.units books.items }
+    requires opened { S.opened ≡ books.items }
     requires none { vec_len locks ≡ 0 }
     requires room { S.rows.units ≤ vec_capacity locks }
     ensures { vec_len result ≡ S.rows.units }

@@ -2,12 +2,13 @@
 
 mod book_calls;
 
-ghost use Rattle.std.specs.Prelude.{◌≡◌, ◌<◌, ◌≤◌, ◌++◌, ℕ, false, length, IfOk, OnErr};
+ghost use Rattle.std.specs.Prelude.{◌≡◌, ◌<◌, ◌≤◌, ◌++◌, ℕ, false, length, slice_get, IfOk, OnErr, Some};
 ghost use Rattle.fifo_row.specs.Lists.{of};
 ghost use Rattle.unit_book.specs.Book.{given, occupancy};
 ghost use Rattle.unit_book.specs.Legal.{Legal, Settled};
 ghost use Rattle.unit_book.specs.Posts.{posted};
 ghost use Rattle.unit_book.specs.Trace.{arrivals, arrived_of};
+ghost use Rattle.excp_system.specs.Begun.{Began};
 ghost use Rattle.excp_system.specs.RowCalls.{UnitDelivers, TakesIn};
 ghost use Rattle.excp_system.specs.Fans.{sent_to};
 ghost use Rattle.excp_system.specs.Sites.{end_of, for_task, intake_rows, notice_rows, taker_of};
@@ -15,7 +16,7 @@ ghost use Rattle.excp_system.specs.States.{AreOf, IsUnit, owing_nothing};
 
 use crate::fan::Fan;
 use crate::item::{Notice, Returned, Sent};
-use crate::site::{PostRows, Site};
+use crate::site::{Opened, PostRows};
 use device_port::Device;
 use fifo_row::{Full, Sender, Taker};
 use std::alloc::AllocError;
@@ -26,7 +27,7 @@ use unit_book::{Delivery, Intake, UnitBook};
 /// A unit's book with its ends of the rows. Contracts see the unit's number, the book, the notices that it sent, and
 /// whether it owes one.
 #[derive(Drop)]
-pub struct UnitState<'r, S: Site, D: Device> {
+pub struct UnitState<'r, S: Opened<D>, D: Device> {
     unit: u16,
     book: UnitBook<D>,
     intake: Taker<'r, Sent>,
@@ -37,18 +38,20 @@ pub struct UnitState<'r, S: Site, D: Device> {
     of: PhantomData<S>,
 }
 
-impl<'r, S: Site, D: Device> Model for UnitState<'r, S, D> {
+impl<'r, S: Opened<D>, D: Device> Model for UnitState<'r, S, D> {
+    ghost use Rattle.excp_system.specs.Begun.{Began};
     ghost use Rattle.excp_system.specs.States.{IsUnit, Locked};
 
     ghost Value = { Locked D };
 
     ghost view = { λ u. record { unit = u.unit; book = u.book; notified = u.notice.sent; owes = u.owes } };
 
-    ghost invariant = { λ u. IsUnit D.meaning S.rows (record { unit = u.unit; book = u.book; notified = u.notice.sent; owes = u.owes }) u.intake u.back u.notice };
+    ghost invariant = { λ u. IsUnit D.meaning S.rows (record { unit = u.unit; book = u.book; notified = u.notice.sent; owes = u.owes }) u.intake u.back u.notice
+        × Began S.opened u.unit u.book };
 }
 
-impl<'r, S: Site, D: Device> UnitState<'r, S, D> {
-    /// The unit with this number, book and ends, which owes no notice.
+impl<'r, S: Opened<D>, D: Device> UnitState<'r, S, D> {
+    /// The unit with this number, book and ends, which owes no notice. The book is the one that was handed in for it.
     pub(crate) fn new(
         unit: u16,
         book: UnitBook<D>,
@@ -56,7 +59,8 @@ impl<'r, S: Site, D: Device> UnitState<'r, S, D> {
         back: Fan<'r, Returned, PostRows<S>>,
         notice: Sender<'r, Notice>,
     ) -> UnitState<'r, S, D>
-        requires { IsUnit D.meaning S.rows (owing_nothing unit book notice.sent) intake back notice }
+        requires ends { IsUnit D.meaning S.rows (owing_nothing unit book notice.sent) intake back notice }
+        requires opened { slice_get S.opened unit ≡ Some book }
         ensures { result ≡ owing_nothing unit book notice.entry.sent }
     {
         UnitState {
@@ -86,7 +90,8 @@ impl<'r, S: Site, D: Device> UnitState<'r, S, D> {
     }
 
     /// What holds whenever the unit's lock is got: what a book keeps; and each of its requests is of one of the tasks
-    /// and for this unit. Of its ends `intake`, `back` and `notice` tell. It takes no memory.
+    /// and for this unit. The book continues the one that was handed in for the unit, on the same device as it was
+    /// mounted. Of its ends `intake`, `back` and `notice` tell. It takes no memory.
     pub fn holds(&self)
         ensures legal { Legal D.meaning self.now.book.mounted self.now.book.trace }
         ensures settled { Settled D.meaning self.now.book.mounted self.now.book.trace }
@@ -94,6 +99,7 @@ impl<'r, S: Site, D: Device> UnitState<'r, S, D> {
         ensures occupancy { occupancy self.now.book ≤ self.now.book.capacity }
         ensures isc { self.now.book.isc ≤ 7 }
         ensures of_unit { AreOf S.rows self.now.unit (arrivals self.now.book.trace) }
+        ensures began { Began S.opened self.now.unit self.now.book }
     {
         self.book.holds();
     }

@@ -6,7 +6,7 @@ ghost use Rattle.std.specs.List.{All};
 use crate::gate::{Gate, Point, Stop};
 use crate::isc::IscTaker;
 use crate::rota::{Rota, Turn};
-use crate::site::Site;
+use crate::site::Opened;
 use crate::system::System;
 use crate::unit::UnitState;
 use crossbeam_utils::Backoff;
@@ -25,12 +25,12 @@ const TURN: u32 = 64;
 const MOST_UNITS: usize = 64;
 
 /// Serves units and interruption subclasses in turn until it is stopped. For each unit it lets a request arrive, starts
-/// what comes next, runs it for at most 64 commands, and sends a posted value back. Between two such turns it takes the
+/// what comes next, runs it for at most 64 commands, and sends a posted value back. After each such turn it takes the
 /// notices of pending status. For each notice it takes the status and sends a posted value back.
 ///
 /// Before each call it passes the gate, under the unit's lock. The gate hears of what was sent back, and of a call
 /// without memory, which is an idle turn. Both lists may be empty.
-pub fn serve<'r, S: Site, D: Device, G: Gate, R: Wait>(
+pub fn serve<'r, S: Opened<D>, D: Device, G: Gate, R: Wait>(
     rt: &R,
     system: &System<'r, S, D>,
     units: &[u16],
@@ -44,7 +44,7 @@ pub fn serve<'r, S: Site, D: Device, G: Gate, R: Wait>(
 }
 
 /// Serves units alone, as a channel does: a turn runs at most 16 commands.
-pub fn serve_channel<S: Site, D: Device, G: Gate, R: Wait>(
+pub fn serve_channel<S: Opened<D>, D: Device, G: Gate, R: Wait>(
     rt: &R,
     system: &System<'_, S, D>,
     units: &[u16],
@@ -57,7 +57,7 @@ pub fn serve_channel<S: Site, D: Device, G: Gate, R: Wait>(
 }
 
 /// Serves interruption subclasses alone.
-pub fn serve_isc<'r, S: Site, D: Device, G: Gate, R: Wait>(
+pub fn serve_isc<'r, S: Opened<D>, D: Device, G: Gate, R: Wait>(
     rt: &R,
     system: &System<'r, S, D>,
     takers: &mut [IscTaker<'r, S>],
@@ -68,7 +68,7 @@ pub fn serve_isc<'r, S: Site, D: Device, G: Gate, R: Wait>(
 }
 
 /// Serves both, with turns of `commands` commands.
-fn work<'r, S: Site, D: Device, G: Gate, R: Wait>(
+fn work<'r, S: Opened<D>, D: Device, G: Gate, R: Wait>(
     rt: &R,
     system: &System<'r, S, D>,
     units: &[u16],
@@ -97,9 +97,9 @@ fn work<'r, S: Site, D: Device, G: Gate, R: Wait>(
     }
 }
 
-/// One pass over the units: those that are due have a turn, and before each turn and at the end all notices are
-/// taken. Returns whether anything was done.
-fn pass_over<'r, S: Site, D: Device, G: Gate, R: Wait>(
+/// One pass over the units: those that are due have a turn. After each turn, and at least once, all notices are taken.
+/// Returns whether anything was done.
+fn pass_over<'r, S: Opened<D>, D: Device, G: Gate, R: Wait>(
     rt: &R,
     system: &System<'r, S, D>,
     units: &[u16],
@@ -112,22 +112,40 @@ fn pass_over<'r, S: Site, D: Device, G: Gate, R: Wait>(
     requires commands { 1 ≤ commands }
 {
     let mut served = false;
+    let mut looked = false;
     rota.begin(units.len());
     for unit in units {
         if rota.is_due(*unit) {
-            served |= serve_notices(rt, system, takers, gate);
-            let mut state = system.lock_of(*unit).lock(rt);
-            let turn = serve_unit(rt, &mut state, *unit, gate, commands);
+            let turn = turn_of(rt, system, *unit, gate, commands);
             rota.note(*unit, turn);
             served |= turn == Turn::Served;
+            served |= serve_notices(rt, system, takers, gate);
+            looked = true;
         }
     }
-    served |= serve_notices(rt, system, takers, gate);
+    if !looked {
+        served = serve_notices(rt, system, takers, gate);
+    }
     served
 }
 
-/// One turn on a unit.
-fn serve_unit<S: Site, D: Device, G: Gate, R: Wait>(
+/// One turn on a unit, under its lock.
+fn turn_of<S: Opened<D>, D: Device, G: Gate, R: Wait>(
+    rt: &R,
+    system: &System<'_, S, D>,
+    unit: u16,
+    gate: &G,
+    commands: u32,
+) -> Turn
+    requires unit { unit < S.rows.units }
+    requires commands { 1 ≤ commands }
+{
+    let mut state = system.lock_of(unit).lock(rt);
+    serve_unit(rt, &mut state, unit, gate, commands)
+}
+
+/// One turn on a unit whose lock is held.
+fn serve_unit<S: Opened<D>, D: Device, G: Gate, R: Wait>(
     rt: &R,
     state: &mut UnitState<'_, S, D>,
     unit: u16,
@@ -156,7 +174,7 @@ fn serve_unit<S: Site, D: Device, G: Gate, R: Wait>(
 }
 
 /// Sends the first posted value that is out back to its task.
-fn send_back<S: Site, D: Device, G: Gate, R: Wait>(
+fn send_back<S: Opened<D>, D: Device, G: Gate, R: Wait>(
     rt: &R,
     state: &mut UnitState<'_, S, D>,
     unit: u16,
@@ -168,13 +186,16 @@ fn send_back<S: Site, D: Device, G: Gate, R: Wait>(
             gate.delivered(name);
             Turn::Served
         }
-        Delivery::Full(_) => Turn::Waiting,
+        Delivery::Full(name) => {
+            gate.row_is_full(name);
+            Turn::Waiting
+        }
         Delivery::Quiet => Turn::Idle,
     }
 }
 
 /// Takes the notices of all subclasses. Returns whether anything was done.
-fn serve_notices<'r, S: Site, D: Device, G: Gate, R: Wait>(
+fn serve_notices<'r, S: Opened<D>, D: Device, G: Gate, R: Wait>(
     rt: &R,
     system: &System<'r, S, D>,
     takers: &mut [IscTaker<'r, S>],
@@ -189,7 +210,7 @@ fn serve_notices<'r, S: Site, D: Device, G: Gate, R: Wait>(
 
 /// Takes the notices of one subclass until there is none, at most one for each unit that there may be. Returns
 /// whether anything was done.
-fn serve_subclass<'r, S: Site, D: Device, G: Gate, R: Wait>(
+fn serve_subclass<'r, S: Opened<D>, D: Device, G: Gate, R: Wait>(
     rt: &R,
     system: &System<'r, S, D>,
     taker: &mut IscTaker<'r, S>,
@@ -207,7 +228,7 @@ fn serve_subclass<'r, S: Site, D: Device, G: Gate, R: Wait>(
 }
 
 /// Takes the pending status of a unit. Answers whether anything was done.
-fn handle<S: Site, D: Device, G: Gate, R: Wait>(
+fn handle<S: Opened<D>, D: Device, G: Gate, R: Wait>(
     rt: &R,
     state: &mut UnitState<'_, S, D>,
     unit: u16,

@@ -13,7 +13,7 @@ use job_media::{MountedImages, mount_images};
 use job_options::{Print, RunFiles};
 use job_script::{JobError, Script};
 use medium_image::{Image, Kept};
-use recorded_run::{report_script, run_recorded, write_report};
+use recorded_run::{report_posts, run_recorded, write_report};
 use run_options::Counts;
 use run_record::write_posts;
 use std::cell::Cell;
@@ -79,14 +79,14 @@ fn report_text<R: Threads + Wait + Sync>(
     };
     let mut out = screen(rt, asked)?;
     let mut input = text;
-    report_script(
+    let mut run = report_posts(
         threads,
         rt.alloc(),
         &mut input,
         &mut out,
         workers(asked.counts),
-        steps,
     )?;
+    run.write_rest(steps, &mut out)?;
     Ok(0)
 }
 

@@ -1,6 +1,6 @@
 //! The bytes that a request brings.
 
-ghost use Rattle.std.specs.Prelude.{◌≡◌, ◌==◌, ◌+◌, ◌<◌, ◌≤◌, ◌^◌, length, true, false, IfErr, IfOk, IfSome, IsOk, IsSome, MatchOption, if◌then◌else◌};
+ghost use Rattle.std.specs.Prelude.{◌≡◌, ◌==◌, ◌+◌, ◌<◌, ◌≤◌, ◌^◌, length, true, false, IfErr, IfOk, IfSome, IsOk, IsSome, MatchOption, OnErr, OnOk, if◌then◌else◌};
 ghost use Rattle.io_area.specs.Storage.{IsOffset, SamePlace, bytes_at, lies_in, with_bytes};
 ghost use Rattle.io_area.specs.AreaFault.{AreaFault, NoAreaFault};
 
@@ -112,6 +112,20 @@ impl Area {
             base: self.base,
             bytes: self.bytes.clone()?,
         })
+    }
+
+    /// Makes the area a copy of another. It takes memory only if that has another number of bytes.
+    pub fn copy_from(&mut self, other: &Area) -> Result<(), AllocError>
+        ensures ok { OnOk result (self.new ≡ other.now) }
+        ensures err { OnErr result (self.new ≡ self.old) }
+    {
+        if self.bytes.len() != other.bytes.len() {
+            *self = other.copy()?;
+            return Ok(());
+        }
+        self.base = other.base;
+        self.bytes.as_mut_slice().copy_from_slice(&other.bytes);
+        Ok(())
     }
 
     /// The place in `bytes` of `count` bytes from `at`, if they are in the area.

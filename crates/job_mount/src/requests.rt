@@ -8,7 +8,7 @@ ghost use Rattle.job_mount.specs.Requests.{CanBeDone, CanIssue, is_doable, is_is
 ghost use Rattle.job_script.specs.Views.{action_said, excp_said};
 
 use job_script::{Action, Command, Excp};
-use request_piece::{Name, Request, RequestError};
+use request_piece::{Name, Posted, Request, RequestError};
 use std::alloc::{AllocError, Global};
 
 /// Whether a request can be made of the area of an EXCP, and the bytes that are shown lie in it.
@@ -33,14 +33,24 @@ pub(crate) fn can_be_done(command: &Command) -> bool
     }
 }
 
-/// The request of an EXCP, with this name, on a copy of its area.
-pub fn request(alloc: Global, excp: &Excp, name: Name) -> Result<Request, AllocError>
+/// The request of an EXCP, with this name, on a copy of its area. If a request that has ended is given, the copy is in its
+/// storage, as [`Request::over_again`].
+pub fn request(
+    alloc: Global,
+    excp: &Excp,
+    name: Name,
+    ended: Option<Posted>,
+) -> Result<Request, AllocError>
     requires { CanIssue excp.now }
     ensures { IfOk result (λ request. request ≡ request_of name excp.now.dcb.unit excp.now.dcb.number excp.now.iob (arc_value excp.now.area)) }
 {
     let unit = excp.dcb.unit;
     let dcb = excp.dcb.number;
-    match Request::over(alloc, name, unit, dcb, excp.iob, &excp.area) {
+    let made = match ended {
+        Some(posted) => Request::over_again(posted, name, unit, dcb, excp.iob, &excp.area),
+        None => Request::over(alloc, name, unit, dcb, excp.iob, &excp.area),
+    };
+    match made {
         Ok(request) => Ok(request),
         Err(RequestError::NoMemory) => Err(AllocError),
         Err(_) => unreachable!(),

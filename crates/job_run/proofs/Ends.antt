@@ -1,5 +1,5 @@
 -- By what a run of a script ends, from what its parts return.
-use Rattle.std.proofs.Common.{◌≡◌, ℕ, Option, Result, Ok, Err, IfErr, OnOk, List, [], subst, refl, sym, ap, ◌∙◌, inl, inr}
+use Rattle.std.proofs.Common.{◌≡◌, ℕ, Option, Result, Ok, Err, IfErr, List, [], subst, sym, ap, ◌∙◌, inl, inr}
 use Rattle.std.specs.Result.{IsErrAnd}
 use Rattle.unit_book.specs.Book.{Book}
 use Rattle.any_device.specs.declared.device.AnyDevice.{AnyDevice}
@@ -11,8 +11,6 @@ use Rattle.job_script.specs.Reading.{ReadsAll}
 use Rattle.job_script.specs.Said.{Said}
 use Rattle.job_mount.specs.Mounting.{◌>>=◌, books_of, books_with}
 use Rattle.job_run.specs.Ending.{EndsBy, EndsParsed, IsFaultless, IsFaultlessWith, IsLate}
-use Rattle.job_script.specs.Views.{said as said_of}
-use Rattle.job_script.specs.declared.script.Script.{Script}
 
 -- a script that was parsed, and then has no fault, is a script without a fault
 pub faultless : (text : List ℕ) (said : Said) → script_of text ≡ Ok said → IsFaultlessWith [] said → IsFaultless text
@@ -49,26 +47,21 @@ not_mounted view given said capacity faults.NotWritten rejected = absurd rejecte
 not_mounted view given said capacity faults.Unmatched rejected = absurd rejected
 
 -- what ends a run after its script was mounted
-pub ends_late : (given : List (Option AnyDevice)) (script : Script) (fault : JobError)
-    → IsFaultlessWith given (said_of script) → IsLate script fault → EndsParsed given (said_of script) fault
-ends_late given script (faults.Line _ _) runs late = inr (runs, (script, refl, late))
-ends_late given script faults.NoMemory runs late = tt
-ends_late given script faults.NoThread runs late = tt
-ends_late given script faults.Unmatched runs late = absurd late
-ends_late given script faults.NotWritten runs late = absurd late
-ends_late given script faults.TooLong runs late = absurd late
-ends_late given script faults.Unreadable runs late = absurd late
+pub ends_late : (given : List (Option AnyDevice)) (said : Said) (fault : JobError)
+    → IsFaultlessWith given said → IsLate said fault → EndsParsed given said fault
+ends_late given said (faults.Line _ _) runs late = inr (runs, late)
+ends_late given said faults.NoMemory runs late = tt
+ends_late given said faults.NoThread runs late = tt
+ends_late given said faults.Unmatched runs late = absurd late
+ends_late given said faults.NotWritten runs late = absurd late
+ends_late given said faults.TooLong runs late = absurd late
+ends_late given said faults.Unreadable runs late = absurd late
 
 -- what holds of each late fault holds of the fault of a late result
-pub late_result : {A : Type 0} (r : Result A JobError) (given : List (Option AnyDevice)) (script : Script)
-    → IsFaultlessWith given (said_of script) → IfErr r (IsLate script) → IfErr r (EndsParsed given (said_of script))
-late_result (Ok x) given script runs late = tt
-late_result (Err fault) given script runs late = ends_late given script fault runs late
-
--- what holds holds of a result that is no fault
-pub ran_result : {A : Type 0} (r : Result A JobError) (P : Type 0) → P → OnOk r P
-ran_result (Ok x) P holds = holds
-ran_result (Err fault) P holds = tt
+pub late_result : {A : Type 0} (r : Result A JobError) (given : List (Option AnyDevice)) (said : Said)
+    → IsFaultlessWith given said → IfErr r (IsLate said) → IfErr r (EndsParsed given said)
+late_result (Ok x) given said runs late = tt
+late_result (Err fault) given said runs late = ends_late given said fault runs late
 
 -- what holds of a fault holds of a result that is this fault
 pub ends_with : {A E : Type 0} (r : Result A E) (fault : E) (P : E → Type 0) → IsErrAnd r (λ e. e ≡ fault) → P fault → IfErr r P

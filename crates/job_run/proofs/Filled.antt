@@ -1,5 +1,5 @@
 -- What the slots of a task hold, step by step.
-use Rattle.std.proofs.Common.{◌≡◌, List, [], ◌∷◌, ◌++◌, refl, sym, ap, subst, ◌∙◌, append_assoc, append-nil}
+use Rattle.std.proofs.Common.{◌≡◌, List, [], ◌∷◌, ◌++◌, refl, sym, ap, ◌∙◌, append_assoc, append-nil}
 use Rattle.request_piece.specs.PostedState.{PostedState}
 use Rattle.post_slots.specs.Slots.{SlotState, filled, filled_by_all}
 use Rattle.job_run.specs.Filling.{FillsSlots}
@@ -18,11 +18,3 @@ fills_more old mid new a b c n m = record {
   got = m.got ∙ ap (λ (l : List PostedState). l ++ m.values) n.got ∙ append_assoc old n.values m.values;
   filled_is = m.filled_is ∙ ap (filled_by_all m.values) n.filled_is ∙ sym (by_all-append n.values m.values a);
 }
-
-pub fills_one : (old mid new : List PostedState) (a b c : List (List SlotState)) (p : PostedState) → FillsSlots old a mid b → new ≡ mid ++ p ∷ [] →
-    c ≡ filled p.unit p b → FillsSlots old a new c
-fills_one old mid new a b c p n is one = fills_more old mid new a b c n (record { values = p ∷ []; got = is; filled_is = one })
-
--- where nothing is collected
-pub fills_same : (old mid new : List PostedState) (a b : List (List SlotState)) → FillsSlots old a mid b → new ≡ mid → FillsSlots old a new b
-fills_same old mid new a b n is = subst (λ (l : List PostedState). FillsSlots old a l b) (sym is) n

@@ -6,4 +6,12 @@ pub mod Walk
 pub mod Stops
 pub mod Filled
 pub mod Requested
+pub mod Firsts
+pub mod Places
+pub mod Marks
+pub mod Held
+pub mod Expected
+pub mod Printed
+pub mod Prints
 pub mod Rans
+pub mod Beginnings

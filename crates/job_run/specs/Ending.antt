@@ -1,19 +1,20 @@
 -- HOW A RUN OF A SCRIPT ENDS, by what its reader gave (profile).
-use Rattle.std.specs.Prelude.{◌≡◌, ◌<◌, ◌⊎◌, ℕ, List, [], Option, Some, Result, Ok, Err, replicate, slice_get, vec_len}
+use Rattle.std.specs.Prelude.{◌≡◌, ◌<◌, ◌≤◌, ◌⊎◌, ◌-◌, ◌^◌, ℕ, List, [], ◌∷◌, ◌++◌, Option, Some, Result, Ok, Err, length, slice_get}
 use Rattle.unit_book.specs.Book.{Book}
 use Rattle.any_device.specs.declared.device.AnyDevice.{AnyDevice}
 use Rattle.job_script.specs.declared.fault.JobError.{JobError}
 use Rattle.job_script.specs.declared.fault.JobError.TheVariants as faults
 use Rattle.job_script.specs.Grammar.{FaultAt, script_of}
 use Rattle.job_script.specs.Reading.{ReadsAll, ReadsAtMost, ReadsMore}
-use Rattle.job_script.specs.Said.{Said}
-use Rattle.job_script.specs.Views.{said}
-use Rattle.job_script.specs.declared.script.Script.{Script}
-use Rattle.request_piece.specs.declared.piece.Piece.{Piece}
+use Rattle.job_script.specs.Said.{CommandSaid, ExcpSaid, Said, excp}
+use Rattle.job_script.specs.declared.fault.FaultName.TheVariants as names
 use Rattle.job_run.specs.declared.task_error.TaskError.{TaskError}
 use Rattle.job_run.specs.declared.task_error.TaskError.TheVariants as errors
+use Rattle.job_run.specs.Beginning.{AreBegunWith}
 use Rattle.job_run.specs.Ran.{Ran}
-use Rattle.job_run.specs.Sending.{StopsAt}
+use Rattle.job_run.specs.Printing.{posts_text}
+use Rattle.std.specs.Io.KnownBytes.{Appends}
+use Rattle.job_run.specs.Requests.{excps}
 use Rattle.job_mount.specs.Mounting.{◌>>=◌, books_of, books_with}
 
 -- the books of a text, each for this many requests at a time, or its first fault
@@ -40,38 +41,50 @@ pub record RejectsWhole (n : ℕ) (old new : Option (List ℕ)) (fault : FaultAt
   pub whole : ReadsAll n old new text
   pub rejected : HasFault text fault
 
--- a task of a script stops at one of its commands, which fails for its cause: the fault names that command
-pub record StopsTask (script : Script) (fault : TaskError) : Type 0 where
+-- a task of a script comes to an EXCP after its last number at the unit: the fault is `Request` in the line of that EXCP
+pub record StopsTask (s : Said) (fault : FaultAt) : Type 0 where
   pub task : ℕ
-  pub of_script : task < script.set_up.tasks
-  pub sent : List (List Piece)
-  pub stops : StopsAt task script.commands.items (replicate (vec_len script.set_up.units) []) sent fault
-
--- a script that says this has such a task
-abbrev pub StopsSome : Said → TaskError → Type 0
-StopsSome s fault = (script : Script) × (said script ≡ s) × StopsTask script fault
+  pub of_script : task < s.set_up.tasks
+  pub before : List CommandSaid
+  pub command : CommandSaid
+  pub others : List CommandSaid
+  pub split : s.commands ≡ before ++ command ∷ others
+  pub own : command.task ≡ task
+  pub issued : ExcpSaid
+  pub issues : command.action ≡ excp issued
+  pub last : 2 ^ 32 - 1 ≤ length (excps task issued.dcb.unit before)
+  pub named : fault ≡ record { line = command.line; name = names.Request }
 
 -- all bytes were read, at most n; they are a script without a fault, a task of which stops by this one
-pub record StopsWhole (n : ℕ) (old new : Option (List ℕ)) (fault : TaskError) : Type 0 where
+pub record StopsWhole (n : ℕ) (old new : Option (List ℕ)) (fault : FaultAt) : Type 0 where
   pub runs : RunsWhole n old new
   pub says : Said
   pub parsed : script_of runs.text ≡ Ok says
-  pub stops : StopsSome says fault
+  pub stops : StopsTask says fault
 
--- all bytes were read, at most n; they are a script without a fault, and there are books whose units have done what it asks for
-pub record RanWhole (n : ℕ) (old new : Option (List ℕ)) : Type 0 where
-  pub runs : RunsWhole n old new
-  pub script : Script
-  pub parsed : script_of runs.text ≡ Ok (said script)
+-- FROM BYTES TO BOOKS: all bytes were read, at most n; they are this script without a fault; these books began as it says, and
+-- their units have done what it asks for
+pub record IsRunOf (n : ℕ) (old new : Option (List ℕ)) (says : Said) (books : List (Book AnyDevice)) : Type 0 where
+  pub text : List ℕ
+  pub whole : ReadsAll n old new text
+  pub parsed : script_of text ≡ Ok says
+  pub began : AreBegunWith [] says books
+  pub ran : Ran says books
+
+-- FROM BYTES TO BYTES: there are a script and books that are a run of what was read, and what was written is the text of their
+-- posts
+pub record PrintsPosts (n : ℕ) (old new before after : Option (List ℕ)) : Type 0 where
+  pub says : Said
   pub books : List (Book AnyDevice)
-  pub ran : Ran script books
+  pub run : IsRunOf n old new says books
+  pub printed : Appends before after (posts_text says books)
 
 -- the fault of a line is what a task left
 abbrev pub IsOfTask : {L : Type 0} → List (Result L TaskError) → TaskError → Type 0
 IsOfTask outcomes (errors.Line line name) = (task : ℕ) × (slice_get outcomes task ≡ Some (Err (errors.Line line name)))
 IsOfTask outcomes errors.NoMemory = Unit {0}
 
--- what ends a run by what its tasks left
+-- the faults that a run may end with, by what its tasks left
 abbrev pub EndsBeside : {L : Type 0} → List (Result L TaskError) → JobError → Type 0
 EndsBeside outcomes (faults.Line line name) = IsOfTask outcomes (errors.Line line name)
 EndsBeside outcomes faults.NoMemory = Unit {0}
@@ -81,10 +94,10 @@ EndsBeside outcomes faults.NotWritten = ⊥
 EndsBeside outcomes faults.TooLong = ⊥
 EndsBeside outcomes faults.Unreadable = ⊥
 
--- why a run ends: the first fault of its script; or that of a task, of a script without a fault; or how far it was read
+-- why a run ends: the first fault of its script; or that of a task, of a script without a fault; or why it was not read whole
 abbrev pub EndsBy : ℕ → Option (List ℕ) → Option (List ℕ) → JobError → Type 0
 EndsBy n old new (faults.Line line name) = RejectsWhole n old new (record { line = line; name = name })
-    ⊎ StopsWhole n old new (errors.Line line name)
+    ⊎ StopsWhole n old new (record { line = line; name = name })
 EndsBy n old new faults.TooLong = ReadsMore n old new
 EndsBy n old new faults.Unreadable = ReadsAtMost n old new
 EndsBy n old new faults.NotWritten = RunsWhole n old new
@@ -104,7 +117,7 @@ HasFaultWith given s fault = (capacity : ℕ) × (books_with given capacity s �
 -- script without a fault
 abbrev pub EndsParsed : List (Option AnyDevice) → Said → JobError → Type 0
 EndsParsed given s (faults.Line line name) = HasFaultWith given s (record { line = line; name = name })
-    ⊎ (IsFaultlessWith given s × StopsSome s (errors.Line line name))
+    ⊎ (IsFaultlessWith given s × StopsTask s (record { line = line; name = name }))
 EndsParsed given s faults.Unmatched = ⊥
 EndsParsed given s faults.NoMemory = Unit {0}
 EndsParsed given s faults.NoThread = Unit {0}
@@ -113,11 +126,11 @@ EndsParsed given s faults.Unreadable = ⊥
 EndsParsed given s faults.NotWritten = ⊥
 
 -- what ends a run after its script was read and mounted: a task stops, or memory runs out
-abbrev pub IsLate : Script → JobError → Type 0
-IsLate script (faults.Line line name) = StopsTask script (errors.Line line name)
-IsLate script faults.NoMemory = Unit {0}
-IsLate script faults.NoThread = Unit {0}
-IsLate script faults.Unmatched = ⊥
-IsLate script faults.NotWritten = ⊥
-IsLate script faults.TooLong = ⊥
-IsLate script faults.Unreadable = ⊥
+abbrev pub IsLate : Said → JobError → Type 0
+IsLate s (faults.Line line name) = StopsTask s (record { line = line; name = name })
+IsLate s faults.NoMemory = Unit {0}
+IsLate s faults.NoThread = Unit {0}
+IsLate s faults.Unmatched = ⊥
+IsLate s faults.NotWritten = ⊥
+IsLate s faults.TooLong = ⊥
+IsLate s faults.Unreadable = ⊥

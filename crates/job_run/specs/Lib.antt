@@ -6,3 +6,5 @@ pub mod Sending
 pub mod Filling
 pub mod Requests
 pub mod Ran
+pub mod Beginning
+pub mod Printing

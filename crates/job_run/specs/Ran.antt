@@ -1,5 +1,5 @@
 -- WHAT THE UNITS OF A SCRIPT HAVE DONE after a run that was brought to its end (profile).
-use Rattle.std.specs.Prelude.{◌≡◌, ◌<◌, ℕ, List, Result, Ok, Err, Some, length, slice_get, vec_len}
+use Rattle.std.specs.Prelude.{◌≡◌, ◌<◌, ℕ, List, Result, Ok, Err, Some, length, slice_get}
 use Rattle.std.specs.List.{All}
 use Rattle.any_device.specs.Devices.{any_device}
 use Rattle.any_device.specs.declared.device.AnyDevice.{AnyDevice}
@@ -11,7 +11,7 @@ use Rattle.unit_book.specs.Trace.{arrivals}
 use Rattle.unit_book.specs.WorldLaws.{posts_of}
 use Rattle.fifo_row.specs.Lists.{of}
 use Rattle.excp_system.specs.Sites.{task_of}
-use Rattle.job_script.specs.declared.script.Script.{Script}
+use Rattle.job_script.specs.Said.{Said}
 use Rattle.job_run.specs.Requests.{excps, requests_from}
 
 -- the task has no fault: it did all its commands
@@ -19,13 +19,14 @@ abbrev pub IsDone : {L E : Type 0} → Result L E → Type 0
 IsDone (Ok x) = Unit {0}
 IsDone (Err e) = ⊥
 
--- each trace is legal and idle; what arrived of each task at each unit are the requests of its EXCPs there, in order,
--- and each of them has one post
-pub record Ran (script : Script) (books : List (Book AnyDevice)) : Type 0 where
-  pub count : length books ≡ vec_len script.set_up.units
+-- each trace is legal and idle; what arrived at each unit is of tasks of the script, of each task the requests of its EXCPs
+-- there, in order; and each of them has one post
+pub record Ran (s : Said) (books : List (Book AnyDevice)) : Type 0 where
+  pub count : length books ≡ length s.set_up.units
   pub legal : All (λ b. Legal any_device b.mounted b.trace) books
   pub idle : All (λ b. IsIdle b.trace) books
-  pub received : (t u : ℕ) (b : Book AnyDevice) → t < script.set_up.tasks → slice_get books u ≡ Some b →
-      of task_of t (arrivals b.trace) ≡ requests_from t 1 (excps t u script.commands.items)
-  pub posted_once : (t u : ℕ) (b : Book AnyDevice) → t < script.set_up.tasks → slice_get books u ≡ Some b →
-      Each (λ r. posts_of r.name b.trace ≡ 1) (requests_from t 1 (excps t u script.commands.items))
+  pub of_tasks : All (λ b. Each (λ r. task_of r < s.set_up.tasks) (arrivals b.trace)) books
+  pub received : (t u : ℕ) (b : Book AnyDevice) → t < s.set_up.tasks → slice_get books u ≡ Some b →
+      of task_of t (arrivals b.trace) ≡ requests_from t 1 (excps t u s.commands)
+  pub posted_once : (t u : ℕ) (b : Book AnyDevice) → t < s.set_up.tasks → slice_get books u ≡ Some b →
+      Each (λ r. posts_of r.name b.trace ≡ 1) (requests_from t 1 (excps t u s.commands))

@@ -1,21 +1,26 @@
--- HOW LARGE ROWS AND BOOKS ARE: there is a place for each request of a script (profile).
-use Rattle.std.specs.Prelude.{◌≡◌, ℕ, List, max, min, vec_len}
+-- HOW LARGE ROWS AND BOOKS ARE: there is a place for each request that may be under way (profile).
+use Rattle.std.specs.Prelude.{◌≡◌, ◌*◌, ℕ, List, max, min, vec_len}
 use Rattle.std.specs.List.{All}
 use Rattle.unit_book.specs.Book.{Book}
 use Rattle.excp_system.specs.Opening.{AreBooks, AreFresh, RowsState}
 use Rattle.job_script.specs.Commands.{most, request_count_of, request_count_to}
 use Rattle.job_script.specs.declared.script.Script.{Script}
 
--- the room for a number of requests: 1 at least, and 65,536 at most
-abbrev pub room_for : ℕ → ℕ
-room_for requests = min (max requests 1) 65536
+-- the most requests of a task that are under way
+abbrev pub most_under_way : ℕ
+most_under_way = 256
+
+-- the room for a number of requests, of which this many may be under way: 1 at least
+abbrev pub room_for : ℕ → ℕ → ℕ
+room_for under_way requests = min (max requests 1) under_way
 
 -- the room for the requests that the script issues to one unit, and for those of one task, where these are the most
 abbrev pub room_of_a_unit : Script → ℕ
-room_of_a_unit script = room_for (most (request_count_to script.commands.items) (vec_len script.set_up.units))
+room_of_a_unit script =
+    room_for (most_under_way * script.set_up.tasks) (most (request_count_to script.commands.items) (vec_len script.set_up.units))
 
 abbrev pub room_of_a_task : Script → ℕ
-room_of_a_task script = room_for (most (request_count_of script.commands.items) script.set_up.tasks)
+room_of_a_task script = room_for most_under_way (most (request_count_of script.commands.items) script.set_up.tasks)
 
 -- the unused rows of the tasks and units of a script: an intake row has room for the requests to a unit, a post row for
 -- those of a task

@@ -16,12 +16,15 @@ use Rattle.job_run.specs.declared.command_fault.CommandFault.{CommandFault}
 use Rattle.job_run.specs.declared.command_fault.CommandFault.TheVariants.{NoNumber, NoMemory}
 use Rattle.job_run.specs.Faults.{fault_at}
 
--- an EXCP sends its request to its unit, under the task's next number there; `sent` is what the task has sent to each unit
+-- a request is sent to its unit; `sent` is what the task has sent to each unit
+abbrev pub sends_one : Piece → List (List Piece) → List (List Piece)
+sends_one request sent = slice_set sent request.unit (slice_index_or sent request.unit [] ++ request ∷ [])
+
+-- an EXCP sends its request to its unit, under the task's next number there
 abbrev pub sends_excp : ℕ → OneExcp → List (List Piece) → List (List Piece)
 sends_excp task e sent =
-    let before = slice_index_or sent e.dcb.unit [] in
-    let name : Name = record { task = task; seq = length before + 1 } in
-    slice_set sent e.dcb.unit (before ++ request_of name e.dcb.unit e.dcb.number e.iob (arc_value e.area) ∷ [])
+    let name : Name = record { task = task; seq = length (slice_index_or sent e.dcb.unit []) + 1 } in
+    sends_one (request_of name e.dcb.unit e.dcb.number e.iob (arc_value e.area)) sent
 
 -- no other command sends a request
 abbrev pub sends : ℕ → Action → List (List Piece) → List (List Piece)

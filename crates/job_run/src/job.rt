@@ -1,12 +1,13 @@
 //! What one task does of a script.
 
-ghost use Rattle.std.specs.Prelude.{◌≡◌, ◌<◌, All, IfErr, IfOk, OnErr, OnOk, vec_len};
+ghost use Rattle.std.specs.Prelude.{◌≡◌, ◌<◌, All, IfErr, IfNone, IfOk, OnErr, OnOk, vec_len};
+ghost use Rattle.excp_system.specs.Calls.{next_name};
 ghost use Rattle.excp_system.specs.States.{awaited_count};
 ghost use Rattle.job_mount.specs.Requests.{CanBeDone, CanIssue};
 ghost use Rattle.job_script.specs.Commands.{NamesUnits};
-ghost use Rattle.post_slots.specs.Slots.{filled, slots_of};
+ghost use Rattle.post_slots.specs.Slots.{slots_of};
 ghost use Rattle.job_run.specs.Filling.{FillsSlots, slots_for};
-ghost use Rattle.job_run.specs.Sending.{EndsEarly, ExcpFails, Fails, StopsAt, sends, sends_all, sends_excp};
+ghost use Rattle.job_run.specs.Sending.{EndsEarly, ExcpFails, Fails, StopsAt, sends, sends_all, sends_excp, sends_one};
 
 use crate::command_fault::CommandFault;
 use crate::notes::Notes;
@@ -15,23 +16,26 @@ use crate::task_error::TaskError;
 use crate::unit_calls::{close, purge, purge_task, reset};
 use any_device::AnyDevice;
 use crossbeam_utils::Backoff;
-use excp_system::{Site, System};
+use excp_system::{Opened, System};
 use fifo_row::Full;
 use job_mount::request;
 use job_script::{Action, Command, Excp, Script};
 use post_slots::Slots;
-use request_piece::Posted;
+use request_piece::{Posted, Request};
 use std::alloc::{AllocError, Global};
 use std::sync::Wait;
 use system_threads::{Alarm, Client};
 
 /// The most requests that a task has under way, so that the storage of a run does not grow with all its requests
 /// (profile).
-const MOST_UNDER_WAY: usize = 256;
+pub(crate) const MOST_UNDER_WAY: usize = 256;
+
+/// How many posts a task sleeps for that has the most requests under way, so that it wakes less often (profile).
+const POSTS_TO_SLEEP_FOR: u16 = 64;
 
 /// What the tasks of a run share: the script, the system of its units, and what wakes them.
 #[derive(Drop)]
-pub struct Job<'a, 'r, S: Site> {
+pub struct Job<'a, 'r, S: Opened<AnyDevice>> {
     script: &'a Script,
     system: &'a System<'r, S, AnyDevice>,
     alarm: &'a Alarm,
@@ -39,7 +43,7 @@ pub struct Job<'a, 'r, S: Site> {
     ghost requests_can_be_made: { All CanBeDone script.now.commands.items },
 }
 
-impl<'a, 'r, S: Site> Job<'a, 'r, S> {
+impl<'a, 'r, S: Opened<AnyDevice>> Job<'a, 'r, S> {
     /// The job of a script, whose requests can be made, on the system of its units.
     pub fn new(
         script: &'a Script,
@@ -156,8 +160,8 @@ impl<'a, 'r, S: Site> Job<'a, 'r, S> {
         Ok(())
     }
 
-    /// Issues a request. If the most that may be are under way, or the row of its unit is full, it collects posts and
-    /// tries again.
+    /// Issues a request. If the most that may be are under way, it collects one post, and uses its storage again.
+    #[tactic(auto, using(crate::proofs::Filled::fills_more))]
     fn issue<R: Wait, N: Notes>(
         &self,
         rt: &R,
@@ -175,26 +179,64 @@ impl<'a, 'r, S: Site> Job<'a, 'r, S> {
         ensures unsent { OnErr result (client.new.sent ≡ client.old.sent) }
         ensures fails { IfErr result (ExcpFails excp.now client.old.sent) }
     {
+        let ended = self.make_room(rt, client, slots, notes)?;
         let Some(name) = client.name(excp.dcb.unit) else {
             return Err(CommandFault::NoNumber);
         };
-        let mut request = request(alloc, excp, name)?;
+        let request = request(alloc, excp, name, ended)?;
+        self.send(rt, client, slots, notes, request)?;
+        Ok(())
+    }
+
+    /// Collects one post if the most requests that may be are under way.
+    fn make_room<R: Wait, N: Notes>(
+        &self,
+        rt: &R,
+        client: &mut Client<'_, S>,
+        slots: &mut Slots,
+        notes: &mut N,
+    ) -> Result<Option<Posted>, AllocError>
+        ensures number { client.new.number ≡ client.old.number }
+        ensures noted { FillsSlots client.old.got (slots_of slots.old) client.new.got (slots_of slots.new) }
+        ensures sent { client.new.sent ≡ client.old.sent }
+    {
+        if client.awaited() < MOST_UNDER_WAY {
+            return Ok(None);
+        }
+        self.collect_one(rt, client, slots, notes, POSTS_TO_SLEEP_FOR)
+    }
+
+    /// Sends a request to its unit. If the unit's row is full, it collects posts and tries again.
+    #[tactic(auto, using(crate::proofs::Filled::fills_more))]
+    fn send<R: Wait, N: Notes>(
+        &self,
+        rt: &R,
+        client: &mut Client<'_, S>,
+        slots: &mut Slots,
+        notes: &mut N,
+        request: Request,
+    ) -> Result<(), AllocError>
+        requires unit { request.unit < S.rows.units }
+        requires name { request.name ≡ next_name client.old request.unit }
+        ensures number { client.new.number ≡ client.old.number }
+        ensures noted { FillsSlots client.old.got (slots_of slots.old) client.new.got (slots_of slots.new) }
+        ensures sent { OnOk result (client.new.sent ≡ sends_one request client.old.sent) }
+        ensures unsent { OnErr result (client.new.sent ≡ client.old.sent) }
+    {
+        let unit = request.unit();
+        let number = request.name().seq;
+        let mut request = request;
         let idle = Backoff::new();
         for _ in rt.forever() {
-            if client.awaited() < MOST_UNDER_WAY {
-                match client.excp(rt, request) {
-                    Ok(()) => {
-                        notes.issued(excp.dcb.unit, name.seq);
-                        return Ok(());
-                    }
-                    Err(Full(again)) => request = again,
+            match client.excp(rt, request) {
+                Ok(()) => {
+                    notes.issued(unit, number);
+                    return Ok(());
                 }
+                Err(Full(again)) => request = again,
             }
-            match client.next_post(rt, self.alarm)? {
-                Some(posted) => {
-                    note_collected(slots, notes, &posted);
-                    idle.reset();
-                }
+            match self.collect_one(rt, client, slots, notes, 1)? {
+                Some(_) => idle.reset(),
                 None => idle.snooze(),
             }
         }
@@ -202,6 +244,7 @@ impl<'a, 'r, S: Site> Job<'a, 'r, S> {
     }
 
     /// Collects posts until their count is that of the requests that the task has issued.
+    #[tactic(auto, using(crate::proofs::Filled::fills_more))]
     pub fn collect<R: Wait, N: Notes>(
         &self,
         rt: &R,
@@ -215,19 +258,32 @@ impl<'a, 'r, S: Site> Job<'a, 'r, S> {
         ensures awaits_none { OnOk result (awaited_count client.new ≡ 0) }
     {
         for _ in rt.forever() {
-            match client.next_post(rt, self.alarm)? {
-                Some(posted) => note_collected(slots, notes, &posted),
-                None => return Ok(()),
+            if self.collect_one(rt, client, slots, notes, 1)?.is_none() {
+                return Ok(());
             }
         }
         unreachable!()
     }
-}
 
-/// Notes a post that the task collected. What its slot holds then is no matter of the loops that call this.
-fn note_collected<N: Notes>(slots: &mut Slots, notes: &mut N, posted: &Posted)
-    ensures { slots_of slots.new ≡ filled posted.now.unit posted.now (slots_of slots.old) }
-{
-    slots.fill(posted.unit(), posted);
-    notes.collected(posted);
+    /// Collects the next post and notes it. If there is none, it sleeps for this many posts, as [`Client::next_of`].
+    fn collect_one<R: Wait, N: Notes>(
+        &self,
+        rt: &R,
+        client: &mut Client<'_, S>,
+        slots: &mut Slots,
+        notes: &mut N,
+        posts: u16,
+    ) -> Result<Option<Posted>, AllocError>
+        ensures number { client.new.number ≡ client.old.number }
+        ensures noted { FillsSlots client.old.got (slots_of slots.old) client.new.got (slots_of slots.new) }
+        ensures sent { client.new.sent ≡ client.old.sent }
+        ensures awaits_none { IfOk result (λ next. IfNone next (awaited_count client.new ≡ 0)) }
+    {
+        let Some(posted) = client.next_of(rt, self.alarm, posts)? else {
+            return Ok(None);
+        };
+        slots.fill(posted.unit(), &posted);
+        notes.collected(&posted);
+        Ok(Some(posted))
+    }
 }

@@ -8,6 +8,7 @@ ghost use Rattle.job_script.specs.Outcomes.{Gives};
 ghost use Rattle.job_script.specs.Views.{said};
 ghost use Rattle.job_run.specs.Rooms.{AreBooksOf, AreRowsOf, room_for, room_of_a_unit};
 
+use crate::job::MOST_UNDER_WAY;
 use any_device::AnyDevice;
 use excp_system::Rows;
 use job_mount::books;
@@ -15,18 +16,15 @@ use job_script::{JobError, Script};
 use std::alloc::Global;
 use unit_book::UnitBook;
 
-/// The most requests that a row or a book holds (profile).
-const MOST_HELD: usize = 65_536;
-
-/// The room of a row or a book that is to hold this many requests.
-fn room_for(requests: usize) -> usize
-    ensures { result ≡ room_for requests }
+/// The room of a row or a book for this many requests, of which `under_way` may be under way.
+fn room_for(under_way: usize, requests: usize) -> usize
+    ensures { result ≡ room_for under_way requests }
 {
-    requests.max(1).min(MOST_HELD)
+    requests.max(1).min(under_way)
 }
 
-/// The rows and the books that a script is run on, each with a place for all its requests. Units are given these
-/// devices, by their numbers.
+/// The rows and the books that a script is run on, each with a place for all its requests that may be under way. Units
+/// are given these devices, by their numbers.
 pub(crate) fn rows_and_books(
     alloc: Global,
     script: &Script,
@@ -39,8 +37,9 @@ pub(crate) fn rows_and_books(
     ensures books { IfOk result (λ made. AreBooksOf script.now made.1.items) }
     ensures requests { OnOk result (All CanBeDone script.now.commands.items) }
 {
-    let to_a_unit = room_for(script.most_to_a_unit());
-    let of_a_task = room_for(script.most_of_a_task());
+    let of_all_tasks = MOST_UNDER_WAY * usize::from(script.set_up.tasks);
+    let to_a_unit = room_for(of_all_tasks, script.most_to_a_unit());
+    let of_a_task = room_for(MOST_UNDER_WAY, script.most_of_a_task());
     let books = books(alloc, script, given, to_a_unit)?;
     let units = script.set_up.units.len() as u16;
     let rows = Rows::new(alloc, script.set_up.tasks, units, to_a_unit, of_a_task)?;

@@ -1,12 +1,16 @@
 //! The run of a script: its tasks on threads of their own, beside channel workers and interruption handlers.
 
-ghost use Rattle.std.specs.Prelude.{◌≡◌, ◌≤◌, ◌<◌, ◌+◌, All, IfErr, IfOk, OnOk, length, vec_len};
+ghost use Rattle.std.specs.Prelude.{◌≡◌, ◌≤◌, ◌<◌, ◌+◌, All, IfErr, IfOk, Ok, OnOk, length, map, vec_len};
 ghost use Rattle.job_mount.specs.Requests.{CanBeDone};
 ghost use Rattle.job_script.specs.Reading.{ReadsAtMost};
 ghost use Rattle.job_script.specs.Views.{said};
-ghost use Rattle.job_run.specs.Ending.{EndsBeside, EndsBy, EndsParsed, IsFaultlessWith, IsLate, IsOfTask, RanWhole};
+ghost use Rattle.job_run.specs.Beginning.{AreBegunWith};
+ghost use Rattle.job_run.specs.Ending.{EndsBeside, EndsBy, EndsParsed, IsLate, IsOfTask, IsRunOf, PrintsPosts};
+ghost use Rattle.job_run.specs.Filling.{AllListed, EndedBy, filled_at, listed_from};
+ghost use Rattle.job_run.specs.Printing.{ended_slots, script_text, tasks_text};
 ghost use Rattle.job_run.specs.Faults.{LeavesWriter};
 ghost use Rattle.job_run.specs.Ran.{IsDone, Ran};
+ghost use Rattle.excp_system.specs.Begun.{AreBegun};
 ghost use Rattle.excp_system.specs.Opening.{AreBooks, AreFresh};
 ghost use Rattle.post_ledger.specs.Report.{IsFor};
 ghost use Rattle.post_ledger.specs.Work.{lists_of};
@@ -21,6 +25,7 @@ use any_device::AnyDevice;
 use excp_system::Rows;
 use job_script::{JobError, LIMIT, Script, read_script};
 use post_ledger::Report;
+use request_piece::Posted;
 use std::alloc::Global;
 use std::io::{Read, Write};
 use std::sync::Wait;
@@ -38,8 +43,8 @@ pub struct Finished<N> {
 /// Reads a script, at most 1,048,576 bytes and one more. Runs its tasks beside these numbers of channel workers and
 /// interruption handlers, and writes the posts of its requests.
 ///
-/// Errors: the first fault of the script; no thread for a worker; out of memory; a failed write. It writes only after
-/// the run, so every error but a failed write leaves the writer as it was.
+/// Errors: the first fault of the script; out of memory, also if no thread can be made for a worker; a failed write. It
+/// writes only after the run, so every error but a failed write leaves the writer as it was.
 pub fn run_script<R: Threads + Wait + Sync, I: Read, W: Write>(
     rt: &R,
     alloc: Global,
@@ -49,11 +54,11 @@ pub fn run_script<R: Threads + Wait + Sync, I: Read, W: Write>(
 ) -> Result<(), JobError>
     ensures bounded { ReadsAtMost (LIMIT + 1) (I.remaining reader.old) (I.remaining reader.new) }
     ensures unwritten { IfErr result (λ fault. LeavesWriter fault writer.old writer.new) }
-    ensures ran { OnOk result (RanWhole LIMIT (I.remaining reader.old) (I.remaining reader.new)) }
+    ensures printed { OnOk result (PrintsPosts LIMIT (I.remaining reader.old) (I.remaining reader.new) (W.contents writer.old) (W.contents writer.new)) }
     ensures fault { IfErr result (EndsBy LIMIT (I.remaining reader.old) (I.remaining reader.new)) }
 {
     match read_and_run::<R, (), I>(rt, alloc, reader, workers) {
-        Ok((_, run)) => write(&run.tasks, writer),
+        Ok((script, run)) => write(&script.commands, &run.tasks, writer),
         // one text for both causes (profile)
         Err(JobError::NoThread) => Err(JobError::NoMemory),
         Err(fault) => Err(fault),
@@ -70,18 +75,21 @@ pub fn read_and_run<R: Threads + Wait + Sync, N: Notes + Send + Sync, I: Read>(
     workers: Workers,
 ) -> Result<(Script, Finished<N>), JobError>
     ensures bounded { ReadsAtMost (LIMIT + 1) (I.remaining reader.old) (I.remaining reader.new) }
-    ensures ran { OnOk result (RanWhole LIMIT (I.remaining reader.old) (I.remaining reader.new)) }
+    ensures run { IfOk result (λ done. IsRunOf LIMIT (I.remaining reader.old) (I.remaining reader.new) (said done.0) done.1.report.books) }
+    ensures text { IfOk result (λ done. tasks_text 0 (map ended_slots done.1.tasks.items) ≡ script_text (said done.0) done.1.report.books) }
     ensures fault { IfErr result (EndsBy LIMIT (I.remaining reader.old) (I.remaining reader.new)) }
 {
-    let text = read_script(alloc, reader)?;
-    let script = Script::parse(alloc, &text)?;
+    let script = {
+        let text = read_script(alloc, reader)?;
+        Script::parse(alloc, &text)?
+    };
     let run = run_parsed(rt, alloc, &script, Vec::new(alloc), workers)?;
     Ok((script, run))
 }
 
-/// Runs a script that was parsed, to its end. `given` has for each unit, by its number, a device, as one from an image.
-/// A unit without one is mounted as its lines say. The books of the run have for each unit the device as it was
-/// mounted, and the device as the run left it. [`write`] prints the run.
+/// Runs a script that was parsed, to its end. `given` may have for a unit, by its number, a mounted device, for instance
+/// one from an image. A unit without one is mounted as its lines say. The books of the run have for each unit the device as it was
+/// mounted, and the device as the run left it. They continue the books of the script. [`write`] prints the run.
 ///
 /// Errors: those of `books` of job_mount, and then those of `run_on`.
 pub fn run_parsed<R: Threads + Wait + Sync, N: Notes + Send + Sync>(
@@ -93,8 +101,9 @@ pub fn run_parsed<R: Threads + Wait + Sync, N: Notes + Send + Sync>(
 ) -> Result<Finished<N>, JobError>
     requires tasks { (1 ≤ script.now.set_up.tasks) × (script.now.set_up.tasks ≤ 64) }
     requires units { (1 ≤ vec_len script.now.set_up.units) × (vec_len script.now.set_up.units ≤ 64) }
-    ensures ran { OnOk result (IsFaultlessWith given.items (said script.now)) }
-    ensures units { IfOk result (λ finished. Ran script.now finished.report.books) }
+    ensures ran { IfOk result (λ finished. Ran (said script.now) finished.report.books) }
+    ensures began { IfOk result (λ finished. AreBegunWith given.items (said script.now) finished.report.books) }
+    ensures text { IfOk result (λ finished. tasks_text 0 (map ended_slots finished.tasks.items) ≡ script_text (said script.now) finished.report.books) }
     ensures fault { IfErr result (EndsParsed given.items (said script.now)) }
 {
     let (rows, books) = rows_and_books(alloc, script, given)?;
@@ -119,8 +128,10 @@ pub fn run_on<R: Threads + Wait + Sync, N: Notes + Send + Sync>(
     requires few { (rows.units ≤ 64) × (rows.tasks ≤ 64) }
     requires tasks { script.now.set_up.tasks ≡ rows.tasks }
     requires requests { All CanBeDone script.now.commands.items }
-    ensures ran { IfOk result (λ finished. Ran script.now finished.report.books) }
-    ensures fault { IfErr result (IsLate script.now) }
+    ensures ran { IfOk result (λ finished. Ran (said script.now) finished.report.books) }
+    ensures began { IfOk result (λ finished. AreBegun books.items finished.report.books) }
+    ensures text { IfOk result (λ finished. tasks_text 0 (map ended_slots finished.tasks.items) ≡ script_text (said script.now) finished.report.books) }
+    ensures fault { IfErr result (IsLate (said script.now)) }
 {
     let tasks = ScriptTasks::new(script);
     match run_program(rt, alloc, rows, books, workers, &tasks) {
@@ -142,6 +153,7 @@ pub fn ended<N: Notes>(
     requires few_units { length report.books ≤ 64 }
     requires few_tasks { length outcomes.items ≤ 64 }
     ensures report { IfOk result (λ finished. finished.report ≡ report) }
+    ensures slots { IfOk result (λ finished. EndedBy report.lists outcomes.items finished.tasks.items) }
     ensures done { OnOk result (All IsDone outcomes.items) }
     ensures fault { IfErr result (EndsBeside outcomes.items) }
 {
@@ -156,6 +168,7 @@ fn ends_of<N: Notes>(
     outcomes: Vec<Result<TaskEnd<N>, TaskError>>,
 ) -> Result<Vec<TaskEnd<N>>, TaskError>
     ensures count { IfOk result (λ tasks. length tasks.items ≡ length outcomes.items) }
+    ensures made { IfOk result (λ tasks. map Ok tasks.items ≡ outcomes.items) }
     ensures done { OnOk result (All IsDone outcomes.items) }
     ensures fault { IfErr result (IsOfTask outcomes.items) }
 {
@@ -179,6 +192,7 @@ fn add_rest<N: Notes>(tasks: &mut [TaskEnd<N>], report: &Report<AnyDevice>)
     requires lists { IsFor (length report.now.books) (length tasks.old) report.now }
     requires few_units { length report.now.books ≤ 64 }
     requires few_tasks { length tasks.old ≤ 64 }
+    ensures { AllListed report.now.lists (map ended_slots tasks.old) (map ended_slots tasks.new) }
 {
     let units = report.units().len() as u16;
     for task in 0..tasks.len() {
@@ -190,11 +204,19 @@ fn add_rest<N: Notes>(tasks: &mut [TaskEnd<N>], report: &Report<AnyDevice>)
 fn add_listed<N: Notes>(end: &mut TaskEnd<N>, report: &Report<AnyDevice>, task: u16, units: u16)
     requires task { task < length report.now.lists }
     requires units { length (lists_of report.now.lists task) ≡ units }
+    ensures { ended_slots end.new ≡ listed_from 0 (lists_of report.now.lists task) (ended_slots end.old) }
 {
     for unit in 0..units {
-        for posted in report.posts(task, unit) {
-            end.slots.fill(unit, posted);
-            end.notes.left(posted);
-        }
+        add_unit(end, unit, report.posts(task, unit));
+    }
+}
+
+/// Adds the posts of a unit to those of a task.
+fn add_unit<N: Notes>(end: &mut TaskEnd<N>, unit: u16, posts: &[Posted])
+    ensures { ended_slots end.new ≡ filled_at unit posts.now (ended_slots end.old) }
+{
+    for posted in posts {
+        end.slots.fill(unit, posted);
+        end.notes.left(posted);
     }
 }

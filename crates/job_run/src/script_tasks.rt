@@ -2,14 +2,14 @@
 
 ghost use Rattle.std.specs.Prelude.{◌≡◌, All, vec_len};
 ghost use Rattle.job_mount.specs.Requests.{CanBeDone};
-ghost use Rattle.job_run.specs.Sending.{DoesScript};
+ghost use Rattle.job_run.specs.Filling.{RunsScript};
 
 use crate::job::Job;
 use crate::notes::Notes;
 use crate::task_end::TaskEnd;
 use crate::task_error::TaskError;
 use any_device::AnyDevice;
-use excp_system::{Site, System};
+use excp_system::{Opened, System};
 use job_script::Script;
 use std::alloc::Global;
 use std::marker::PhantomData;
@@ -44,9 +44,9 @@ impl<'a, N: Notes + Send + Sync> TaskProgram<AnyDevice> for ScriptTasks<'a, N> {
 
     ghost units = { λ tasks. vec_len tasks.script.now.set_up.units };
 
-    ghost runs = { λ tasks old new outcome. DoesScript tasks.script.now.commands.items old new outcome };
+    ghost runs = { λ tasks old new outcome. RunsScript tasks.script.now old new outcome };
 
-    fn run<S: Site, R: Wait>(
+    fn run<S: Opened<AnyDevice>, R: Wait>(
         &self,
         rt: &R,
         alloc: Global,

@@ -5,14 +5,14 @@ ghost use Rattle.std.specs.Prelude.{◌<◌};
 
 use crate::notes::Notes;
 use any_device::AnyDevice;
-use excp_system::{Site, System};
+use excp_system::{Opened, System};
 use job_script::DcbName;
 use std::alloc::AllocError;
 use std::sync::Wait;
 use unit_book::{DcbError, Entry, Mode};
 
 /// Purges the requests of a DCB.
-pub(crate) fn purge<S: Site, R: Wait, N: Notes>(
+pub(crate) fn purge<S: Opened<AnyDevice>, R: Wait, N: Notes>(
     rt: &R,
     system: &System<'_, S, AnyDevice>,
     dcb: DcbName,
@@ -28,7 +28,7 @@ pub(crate) fn purge<S: Site, R: Wait, N: Notes>(
 }
 
 /// Purges the requests of a task at all units. It notes what it purged also if memory runs out at some of them.
-pub(crate) fn purge_task<S: Site, R: Wait, N: Notes>(
+pub(crate) fn purge_task<S: Opened<AnyDevice>, R: Wait, N: Notes>(
     rt: &R,
     system: &System<'_, S, AnyDevice>,
     task: u16,
@@ -48,7 +48,7 @@ pub(crate) fn purge_task<S: Site, R: Wait, N: Notes>(
 }
 
 /// Closes a DCB.
-pub(crate) fn close<S: Site, R: Wait, N: Notes>(
+pub(crate) fn close<S: Opened<AnyDevice>, R: Wait, N: Notes>(
     rt: &R,
     system: &System<'_, S, AnyDevice>,
     dcb: DcbName,
@@ -63,7 +63,7 @@ pub(crate) fn close<S: Site, R: Wait, N: Notes>(
 }
 
 /// Clears the error flag of a DCB.
-pub(crate) fn reset<S: Site, R: Wait, N: Notes>(
+pub(crate) fn reset<S: Opened<AnyDevice>, R: Wait, N: Notes>(
     rt: &R,
     system: &System<'_, S, AnyDevice>,
     dcb: DcbName,

@@ -1,2 +1,3 @@
--- Worked channel programs.
+-- Worked channel programs and runs.
 pub mod Rows
+pub mod Runs

@@ -6,7 +6,7 @@ ghost use Rattle.excp_system.specs.Drained.{ArePlaced};
 ghost use Rattle.job_mount.specs.Requests.{CanIssue};
 
 use any_device::AnyDevice;
-use excp_system::{Site, System, Task, UnitState};
+use excp_system::{Opened, System, Task, UnitState};
 use job_mount::request;
 use job_scenario::Step;
 use job_script::{Excp, Opening};
@@ -20,7 +20,7 @@ use unit_book::{DcbError, OpenError, UnitBook};
 
 /// The units of a site under their locks, and its tasks.
 #[derive(Drop)]
-pub struct Locked<'a, 'r, S: Site, R: Wait> {
+pub struct Locked<'a, 'r, S: Opened<AnyDevice>, R: Wait> {
     pub rt: &'a R,
     /// How many units there are.
     pub units: usize,
@@ -30,7 +30,7 @@ pub struct Locked<'a, 'r, S: Site, R: Wait> {
     ghost placed: { ArePlaced (λ task. task.number) S.rows.tasks tasks.items },
 }
 
-impl<'a, 'r, S: Site, R: Wait> Locked<'a, 'r, S, R> {
+impl<'a, 'r, S: Opened<AnyDevice>, R: Wait> Locked<'a, 'r, S, R> {
     /// Carries out a step, as [`job_world::JobSite::make`] does.
     pub fn make(
         &mut self,
@@ -67,7 +67,7 @@ impl<'a, 'r, S: Site, R: Wait> Locked<'a, 'r, S, R> {
         let Some(name) = task.name(excp.dcb.unit) else {
             return Ok(StepAnswer::Pushed(Issuing::NoNumber));
         };
-        let request = request(alloc, excp, name)?;
+        let request = request(alloc, excp, name, None)?;
         match task.excp(self.rt, request) {
             Ok(()) => Ok(StepAnswer::Pushed(Issuing::Accepted(name))),
             Err(_) => Ok(StepAnswer::Pushed(Issuing::Full)),
@@ -119,7 +119,7 @@ impl<'a, 'r, S: Site, R: Wait> Locked<'a, 'r, S, R> {
 }
 
 /// Carries out the step of a unit.
-fn make_at<S: Site, R: Wait>(
+fn make_at<S: Opened<AnyDevice>, R: Wait>(
     rt: &R,
     unit: &mut UnitState<'_, S, AnyDevice>,
     step: Step,

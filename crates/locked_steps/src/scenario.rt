@@ -6,7 +6,7 @@ ghost use Rattle.excp_system.specs.Opening.{AreFresh, site_of};
 
 use crate::locked::Locked;
 use any_device::AnyDevice;
-use excp_system::{Rows, Site, System};
+use excp_system::{Opened, Rows, System};
 use job_scenario::Step;
 use job_script::{JobError, LIMIT, SetUp};
 use job_step::{Dialog, LineSteps, Plan, View, Views, write_end};
@@ -49,7 +49,7 @@ pub fn with_rows<R: Wait, I: Read + Drop, W: Write, E: Write>(
 }
 
 /// Carries the events out on the units and rows of a site.
-fn on_site<S: Site, R: Wait, I: Read + Drop, W: Write, E: Write>(
+fn on_site<S: Opened<AnyDevice>, R: Wait, I: Read + Drop, W: Write, E: Write>(
     rt: &R,
     alloc: Global,
     rows: &mut Rows,
@@ -62,6 +62,7 @@ fn on_site<S: Site, R: Wait, I: Read + Drop, W: Write, E: Write>(
     requires site { S.rows ≡ site_of rows.old }
     requires fresh { AreFresh rows.old }
     requires books { All IsFresh books.items }
+    requires opened { S.opened ≡ books.items }
     requires count { vec_len books ≡ S.rows.units }
 {
     let units = books.len();
@@ -76,7 +77,7 @@ fn on_site<S: Site, R: Wait, I: Read + Drop, W: Write, E: Write>(
 }
 
 /// Carries out all events, and prints their answers.
-fn all_events<S: Site, R: Wait, I: Read + Drop, W: Write, E: Write>(
+fn all_events<S: Opened<AnyDevice>, R: Wait, I: Read + Drop, W: Write, E: Write>(
     alloc: Global,
     mut locked: Locked<'_, '_, S, R>,
     set_up: &SetUp,
@@ -103,7 +104,7 @@ fn all_events<S: Site, R: Wait, I: Read + Drop, W: Write, E: Write>(
 }
 
 /// Makes the steps of a line.
-fn make_all<S: Site, R: Wait>(
+fn make_all<S: Opened<AnyDevice>, R: Wait>(
     alloc: Global,
     locked: &mut Locked<'_, '_, S, R>,
     steps: &mut LineSteps,
@@ -123,7 +124,7 @@ fn make_all<S: Site, R: Wait>(
 }
 
 /// Puts together what is printed of all units.
-fn look<S: Site, R: Wait>(
+fn look<S: Opened<AnyDevice>, R: Wait>(
     locked: &Locked<'_, '_, S, R>,
     view: &mut View,
 ) -> Result<(), AllocError> {
@@ -135,7 +136,7 @@ fn look<S: Site, R: Wait>(
 }
 
 /// Ends every request, and prints the answer of that.
-fn end<S: Site, R: Wait, I: Read + Drop, W: Write, E: Write>(
+fn end<S: Opened<AnyDevice>, R: Wait, I: Read + Drop, W: Write, E: Write>(
     alloc: Global,
     locked: Locked<'_, '_, S, R>,
     view: &mut View,

@@ -1,5 +1,5 @@
 -- What the joined rows tell of a report.
-use Rattle.std.proofs.Common.{◌≡◌, ◌==◌, ℕ, List, [], ◌++◌, map, Some, sym, ap, ◌∙◌, subst}
+use Rattle.std.proofs.Common.{◌≡◌, ◌<◌, ◌==◌, ℕ, List, [], ◌++◌, map, Some, sym, ap, ◌∙◌, subst}
 use Rattle.std.specs.Prelude.{slice_get}
 use Rattle.std.specs.List.{All}
 use Rattle.std.proofs.lemmas.List.{append-nil}
@@ -13,13 +13,14 @@ use Rattle.unit_book.specs.Posts.{posted}
 use Rattle.unit_book.specs.Settle.{IsIdle}
 use Rattle.unit_book.specs.Trace.{arrivals}
 use Rattle.unit_book.specs.WorldLaws.{FinishedOnce, posts_of}
-use Rattle.unit_book.proofs.Facts.{Each-filter}
+use Rattle.unit_book.proofs.Facts.{Each-filter, Each-weaker}
 use Rattle.fifo_row.specs.Lists.{of}
-use Rattle.excp_system.specs.Drained.{Drained, IsDrained}
-use Rattle.excp_system.specs.Sites.{task_of, for_task}
-use Rattle.excp_system.specs.States.{Locked, TaskState}
+use Rattle.excp_system.specs.Begun.{AreBegun, Began}
+use Rattle.excp_system.specs.Drained.{ArePlaced, Drained, IsDrained}
+use Rattle.excp_system.specs.Sites.{SiteRows, task_of, for_task}
+use Rattle.excp_system.specs.States.{AreOf, Locked, TaskState}
 use Rattle.post_ledger.specs.Parting.{AreSettled, BookKeeps, book_of}
-use Rattle.post_ledger.specs.Report.{AreIdle, AreLegal, PostedOnce, Received, ReportState, ReturnedRest}
+use Rattle.post_ledger.specs.Report.{AreIdle, AreLegal, AreOfTasks, PostedOnce, Received, ReportState, ReturnedRest}
 use Rattle.post_ledger.specs.Work.{list_of, lists_of}
 use Rattle.post_ledger.proofs.Pairs.{all_get, all_map, all_weaker, get_map}
 
@@ -28,6 +29,14 @@ module _ {D : Type 0} (meaning : Meaning D) (units : List (Locked D)) (tasks : L
   -- the unit that a book of the report is of
   unit_at : (u : ℕ) (b : Book D) → slice_get report.books u ≡ Some b → (v : Locked D) × (slice_get units u ≡ Some v) × (b ≡ v.book)
   unit_at u b e = get_map book_of units u b (ap (λ l. slice_get l u) (sym are) ∙ e)
+
+  -- each book is that of the unit at its place
+  pub are_begun : {opened : List (Book D)} {count : ℕ} → ArePlaced (λ (v : Locked D). v.unit) count units →
+      All (λ (v : Locked D). Began opened v.unit v.book) units → AreBegun opened report.books
+  are_begun {opened = opened} placed began u b e =
+      let v = unit_at u b e in
+      subst (λ (q : ℕ × Book D). Began opened q.0 q.1) (λ j. (placed.each u v.0 v.1 j, sym v.2 j))
+      (all_get (λ (x : Locked D). Began opened x.unit x.book) units u v.0 began v.1)
 
   pub are_legal : All (λ (v : Locked D). BookKeeps meaning v.book) units → AreLegal meaning report
   are_legal sound =
@@ -38,6 +47,15 @@ module _ {D : Type 0} (meaning : Meaning D) (units : List (Locked D)) (tasks : L
 
   pub are_idle : All (λ (v : Locked D). IsIdle v.book.trace) units → AreIdle report
   are_idle idle = subst (All (λ (b : Book D). IsIdle b.trace)) (sym are) (all_map book_of (λ (b : Book D). IsIdle b.trace) units idle)
+
+  pub are_of_tasks : (s : SiteRows) → All (λ (v : Locked D). AreOf s v.unit (arrivals v.book.trace)) units → AreOfTasks s.tasks report
+  are_of_tasks s all =
+      let Of = λ (b : Book D). Each (λ (r : Piece). task_of r < s.tasks) (arrivals b.trace) in
+      subst (All Of) (sym are)
+      (all_map book_of Of units
+      (all_weaker (λ (v : Locked D). AreOf s v.unit (arrivals v.book.trace)) (λ (v : Locked D). Of v.book) units
+      (λ v of. Each-weaker (λ (r : Piece). (r.name.task < s.tasks) × (r.unit ≡ v.unit)) (λ (r : Piece). task_of r < s.tasks)
+      (λ r is. is.0) (arrivals v.book.trace) of) all))
 
   module _ (settled : AreSettled meaning units tasks) where
     pub received : Received report tasks

@@ -1,6 +1,6 @@
 -- WHAT A REPORT TELLS of a run that was brought to its end (profile). In what follows u is the number of a unit
 -- with the book b in the report, and t that of a task w.
-use Rattle.std.specs.Prelude.{◌≡◌, ℕ, List, length, ◌++◌, Some, slice_get}
+use Rattle.std.specs.Prelude.{◌≡◌, ◌<◌, ℕ, List, length, ◌++◌, Some, slice_get}
 use Rattle.std.specs.List.{All}
 use Rattle.device_port.specs.Meaning.{Meaning}
 use Rattle.request_piece.specs.PostedState.{PostedState}
@@ -59,6 +59,10 @@ module _ {D : Type 0} (meaning : Meaning D) where
   ReturnedRest lists report tasks =
       OfEach (λ u t b w. (before : List PostedState) → of unit_of u w.got ≡ before ++ list_of (lists_of lists t) u →
       before ++ list_at report t u ≡ of for_task t (posted meaning b.mounted b.trace)) report tasks
+
+-- what arrived at each unit is of tasks below this number
+abbrev pub AreOfTasks : {D : Type 0} → ℕ → ReportState D → Type 0
+AreOfTasks tasks report = All (λ b. Each (λ r. task_of r < tasks) (arrivals b.trace)) report.books
 
 -- nothing waits and nothing is active at any unit
 abbrev pub AreIdle : {D : Type 0} → ReportState D → Type 0

@@ -9,13 +9,13 @@ ghost use Rattle.post_ledger.specs.Work.{CollectsAll, Works};
 
 use crate::posts::Posts;
 use device_port::Device;
-use excp_system::{Site, Task, UnitState, drained};
+use excp_system::{Opened, Site, Task, UnitState, drained};
 use std::alloc::AllocError;
 use std::sync::Wait;
 use unit_book::{Delivery, Intake};
 
 /// Lets what is in flight to a unit arrive, as far as its book has room.
-fn receive<S: Site, D: Device, R: Wait>(
+fn receive<S: Opened<D>, D: Device, R: Wait>(
     rt: &R,
     unit: &mut UnitState<'_, S, D>,
 ) -> Result<(), AllocError>
@@ -31,7 +31,7 @@ fn receive<S: Site, D: Device, R: Wait>(
 }
 
 /// Sends back what a unit has posted, as far as there is room.
-fn give_back<S: Site, D: Device, R: Wait>(rt: &R, unit: &mut UnitState<'_, S, D>)
+fn give_back<S: Opened<D>, D: Device, R: Wait>(rt: &R, unit: &mut UnitState<'_, S, D>)
     ensures unit { unit.new.unit ≡ unit.old.unit }
     ensures trace { unit.new.book.trace ≡ unit.old.book.trace }
     ensures mounted { unit.new.book.mounted ≡ unit.old.book.mounted }
@@ -45,7 +45,7 @@ fn give_back<S: Site, D: Device, R: Wait>(rt: &R, unit: &mut UnitState<'_, S, D>
 }
 
 /// Does all that a unit can do.
-fn work<S: Site, D: Device, R: Wait>(
+fn work<S: Opened<D>, D: Device, R: Wait>(
     rt: &R,
     unit: &mut UnitState<'_, S, D>,
 ) -> Result<(), AllocError>
@@ -59,7 +59,7 @@ fn work<S: Site, D: Device, R: Wait>(
 }
 
 /// Does all that each unit can do.
-fn work_all<S: Site, D: Device, R: Wait>(
+fn work_all<S: Opened<D>, D: Device, R: Wait>(
     rt: &R,
     units: &mut Vec<UnitState<'_, S, D>>,
 ) -> Result<(), AllocError>
@@ -95,7 +95,7 @@ fn gather_all<S: Site, R: Wait>(
 
 /// Has units and tasks do all that they can do until nothing is on its way between them. A full book or a full row
 /// takes several rounds.
-pub(crate) fn drain<S: Site, D: Device, R: Wait>(
+pub(crate) fn drain<S: Opened<D>, D: Device, R: Wait>(
     rt: &R,
     units: &mut Vec<UnitState<'_, S, D>>,
     tasks: &mut Vec<Task<'_, S>>,

@@ -2,19 +2,22 @@
 
 ghost use Rattle.std.specs.Prelude.{◌≡◌, ◌≤◌, [], length, map, vec_capacity, vec_len, IfOk};
 ghost use Rattle.std.specs.List.{All};
+ghost use Rattle.unit_book.specs.Trace.{arrivals};
+ghost use Rattle.excp_system.specs.Begun.{Began};
 ghost use Rattle.excp_system.specs.Drained.{ArePlaced, Drained};
+ghost use Rattle.excp_system.specs.States.{AreOf};
 ghost use Rattle.post_ledger.specs.Parting.{AreSettled, IsBack, BookKeeps, Paired, book_of, intake_end, out_of, post_end};
 
 use crate::join::join_rows;
 use device_port::Device;
-use excp_system::{Fan, IntakeRows, PostRows, Returned, Sent, Site, Task, UnitState};
+use excp_system::{Fan, IntakeRows, Opened, PostRows, Returned, Sent, Site, Task, UnitState};
 use fifo_row::Taker;
 use std::alloc::{AllocError, Global};
 use unit_book::UnitBook;
 
 /// What units are taken apart into.
 #[derive(Drop)]
-struct UnitParts<'r, S: Site, D: Device> {
+struct UnitParts<'r, S: Opened<D>, D: Device> {
     books: Vec<UnitBook<D>>,
     intakes: Vec<Taker<'r, Sent>>,
     backs: Vec<Fan<'r, Returned, PostRows<S>>>,
@@ -29,7 +32,7 @@ struct TaskParts<'r, S: Site> {
 
 /// Room for what units and tasks are taken apart into.
 #[derive(Drop)]
-pub(crate) struct Room<'r, S: Site, D: Device> {
+pub(crate) struct Room<'r, S: Opened<D>, D: Device> {
     books: Vec<UnitBook<D>>,
     intakes: Vec<Taker<'r, Sent>>,
     backs: Vec<Fan<'r, Returned, PostRows<S>>>,
@@ -42,7 +45,7 @@ pub(crate) struct Room<'r, S: Site, D: Device> {
     ghost no_collected: { (collected.items ≡ []) × (S.rows.tasks ≤ vec_capacity collected) },
 }
 
-impl<'r, S: Site, D: Device> Room<'r, S, D> {
+impl<'r, S: Opened<D>, D: Device> Room<'r, S, D> {
     /// Room for all units and tasks of a site.
     pub(crate) fn new(
         alloc: Global,
@@ -63,7 +66,7 @@ impl<'r, S: Site, D: Device> Room<'r, S, D> {
 }
 
 /// Takes units apart. There is room for their parts.
-fn split_units<'r, S: Site, D: Device>(
+fn split_units<'r, S: Opened<D>, D: Device>(
     units: Vec<UnitState<'r, S, D>>,
     parts: UnitParts<'r, S, D>,
 ) -> UnitParts<'r, S, D>
@@ -74,6 +77,8 @@ fn split_units<'r, S: Site, D: Device>(
     ensures intakes { result.intakes.items ≡ map (intake_end S.rows) units.entry.items }
     ensures backs { Paired (IsBack D.meaning S.rows) units.entry.items result.backs.items }
     ensures sound { All (λ unit. BookKeeps D.meaning unit.book) units.entry.items }
+    ensures began { All (λ unit. Began S.opened unit.unit unit.book) units.entry.items }
+    ensures of_unit { All (λ unit. AreOf S.rows unit.unit (arrivals unit.book.trace)) units.entry.items }
 {
     let UnitParts {
         mut books,
@@ -115,7 +120,7 @@ fn split_tasks<'r, S: Site>(tasks: Vec<Task<'r, S>>, parts: TaskParts<'r, S>) ->
 }
 
 /// Joins all rows of a system from which all was taken, and gives the books. It takes no memory, and cannot be refused.
-pub(crate) fn join_all<'r, S: Site, D: Device>(
+pub(crate) fn join_all<'r, S: Opened<D>, D: Device>(
     units: Vec<UnitState<'r, S, D>>,
     tasks: Vec<Task<'r, S>>,
     room: Room<'r, S, D>,
@@ -125,6 +130,8 @@ pub(crate) fn join_all<'r, S: Site, D: Device>(
     requires drained { Drained D.meaning units.items tasks.items }
     ensures books { result.items ≡ map book_of units.entry.items }
     ensures sound { All (λ unit. BookKeeps D.meaning unit.book) units.entry.items }
+    ensures began { All (λ unit. Began S.opened unit.unit unit.book) units.entry.items }
+    ensures of_unit { All (λ unit. AreOf S.rows unit.unit (arrivals unit.book.trace)) units.entry.items }
     ensures settled { AreSettled D.meaning units.entry.items tasks.entry.items }
 {
     let Room {

@@ -3,10 +3,11 @@
 ghost use Rattle.std.specs.Prelude.{◌≡◌, ◌≤◌, [], Some, length, map, IfErr, IfOk, IfSome, OnOk};
 ghost use Rattle.std.specs.List.{All};
 ghost use Rattle.unit_book.specs.Settle.{IsIdle};
+ghost use Rattle.excp_system.specs.Begun.{AreBegun};
 ghost use Rattle.excp_system.specs.Drained.{ArePlaced, Drained};
 ghost use Rattle.post_ledger.specs.Left.{AreLists, GrewInto, IsCause, WorkOn, free_states};
 ghost use Rattle.post_ledger.specs.Parting.{Paired, book_of};
-ghost use Rattle.post_ledger.specs.Report.{AreIdle, AreLegal, IsFor, PostedOnce, Received, Returned, ReturnedRest};
+ghost use Rattle.post_ledger.specs.Report.{AreIdle, AreLegal, AreOfTasks, IsFor, PostedOnce, Received, Returned, ReturnedRest};
 ghost use Rattle.post_ledger.specs.Work.{CollectsAll, Works};
 
 use crate::cause::Cause;
@@ -16,7 +17,7 @@ use crate::places::are_placed;
 use crate::posts::{Posts, make_lists};
 use crate::report::Report;
 use device_port::Device;
-use excp_system::{Site, System, Task, UnitState};
+use excp_system::{Opened, System, Task, UnitState};
 use std::alloc::{AllocError, AllocFailed, Global};
 use std::marker::Model;
 use std::sync::Wait;
@@ -38,7 +39,7 @@ pub type UnitsLeft<'r, S, D> = Units<System<'r, S, D>, Vec<UnitState<'r, S, D>>>
 /// each task for the report. What has changed in it is a list of lawful steps, and no row is joined. Contracts see
 /// the cause, the states of the units once they are free, the tasks, and for each task a list for each unit.
 #[derive(Drop)]
-pub struct Unfinished<'r, S: Site, D: Device> {
+pub struct Unfinished<'r, S: Opened<D>, D: Device> {
     alloc: Global,
     cause: Cause,
     units: UnitsLeft<'r, S, D>,
@@ -46,7 +47,7 @@ pub struct Unfinished<'r, S: Site, D: Device> {
     posts: Vec<Posts>,
 }
 
-impl<'r, S: Site, D: Device> Model for Unfinished<'r, S, D> {
+impl<'r, S: Opened<D>, D: Device> Model for Unfinished<'r, S, D> {
     ghost use Rattle.std.specs.Prelude.{◌≤◌, ◌≡◌, length, IfSome};
     ghost use Rattle.std.specs.List.{All};
     ghost use Rattle.excp_system.specs.Drained.{ArePlaced};
@@ -61,7 +62,7 @@ impl<'r, S: Site, D: Device> Model for Unfinished<'r, S, D> {
         × IfSome (free_states u.units) (λ units. length units ≡ S.rows.units) };
 }
 
-impl<'r, S: Site, D: Device> Unfinished<'r, S, D> {
+impl<'r, S: Opened<D>, D: Device> Unfinished<'r, S, D> {
     /// Why the run was not brought to its end.
     pub fn cause(&self) -> Cause
         ensures { result ≡ self.now.cause }
@@ -117,8 +118,10 @@ impl<'r, S: Site, D: Device> Unfinished<'r, S, D> {
     /// Errors: those of `finish`. Nothing is lost then.
     pub fn resume<R: Wait>(self, rt: &R) -> Result<Report<D>, Unfinished<'r, S, D>>
         ensures complete { IfOk result (λ report. IsFor S.rows.units S.rows.tasks report) }
+        ensures began { IfOk result (λ report. AreBegun S.opened report.books) }
         ensures legal { IfOk result (λ report. AreLegal D.meaning report) }
         ensures idle { IfOk result (λ report. AreIdle report) }
+        ensures of_tasks { IfOk result (λ report. AreOfTasks S.rows.tasks report) }
         ensures received { IfOk result (λ report. Received report self.entry.tasks) }
         ensures posted_once { IfOk result (λ report. PostedOnce report self.entry.tasks) }
         ensures returned { IfOk result (λ report. ReturnedRest D.meaning self.entry.lists report self.entry.tasks) }
@@ -156,8 +159,10 @@ impl<'r, S: Site, D: Device> Unfinished<'r, S, D> {
 ///
 /// Whatever the threads of the run did, this holds of each unit of the report, with the trace of its book:
 ///
+/// - The book continues the one that was handed in for the unit when the system was made. Its device as mounted is the
+///   same, and its trace has only grown.
 /// - The trace is legal, nothing waits and nothing is active.
-/// - What arrived of each task is what `excp` accepted of it there, in order.
+/// - What arrived of each task is what `excp` accepted of it there, in order. No other request arrived.
 /// - Each of these requests has just one post.
 /// - What the task had collected of the unit, and then its list in the report, is what the unit posted for it, in
 ///   order, each value as its trace gives it.
@@ -165,7 +170,7 @@ impl<'r, S: Site, D: Device> Unfinished<'r, S, D> {
 ///
 /// Errors, in this order: out of memory for the list of states; a unit's state that is not under its own lock; out of
 /// memory. Nothing is lost then: see [`Unfinished`].
-pub fn finish<'r, S: Site, D: Device, R: Wait>(
+pub fn finish<'r, S: Opened<D>, D: Device, R: Wait>(
     rt: &R,
     alloc: Global,
     system: System<'r, S, D>,
@@ -173,8 +178,10 @@ pub fn finish<'r, S: Site, D: Device, R: Wait>(
 ) -> Result<Report<D>, Unfinished<'r, S, D>>
     requires { ArePlaced (λ task. task.number) S.rows.tasks tasks.items }
     ensures complete { IfOk result (λ report. IsFor S.rows.units S.rows.tasks report) }
+    ensures began { IfOk result (λ report. AreBegun S.opened report.books) }
     ensures legal { IfOk result (λ report. AreLegal D.meaning report) }
     ensures idle { IfOk result (λ report. AreIdle report) }
+    ensures of_tasks { IfOk result (λ report. AreOfTasks S.rows.tasks report) }
     ensures received { IfOk result (λ report. Received report tasks.entry.items) }
     ensures posted_once { IfOk result (λ report. PostedOnce report tasks.entry.items) }
     ensures returned { IfOk result (λ report. Returned D.meaning report tasks.entry.items) }
@@ -192,7 +199,7 @@ pub fn finish<'r, S: Site, D: Device, R: Wait>(
 }
 
 /// Brings a run whose units are free to its end, if each unit's state is at the place of its number.
-fn go_on<'r, S: Site, D: Device, R: Wait>(
+fn go_on<'r, S: Opened<D>, D: Device, R: Wait>(
     rt: &R,
     alloc: Global,
     mut units: Vec<UnitState<'r, S, D>>,
@@ -203,8 +210,10 @@ fn go_on<'r, S: Site, D: Device, R: Wait>(
     requires tasks { ArePlaced (λ task. task.number) S.rows.tasks tasks.items }
     requires lists { AreLists S.rows.units S.rows.tasks posts.items }
     ensures complete { IfOk result (λ report. IsFor S.rows.units S.rows.tasks report) }
+    ensures began { IfOk result (λ report. AreBegun S.opened report.books) }
     ensures legal { IfOk result (λ report. AreLegal D.meaning report) }
     ensures idle { IfOk result (λ report. AreIdle report) }
+    ensures of_tasks { IfOk result (λ report. AreOfTasks S.rows.tasks report) }
     ensures received { IfOk result (λ report. Received report tasks.entry.items) }
     ensures posted_once { IfOk result (λ report. PostedOnce report tasks.entry.items) }
     ensures returned { IfOk result (λ report. ReturnedRest D.meaning posts.items report tasks.entry.items) }
@@ -236,7 +245,7 @@ fn go_on<'r, S: Site, D: Device, R: Wait>(
 
 /// Lets units and tasks do all that is left to do, and makes room for all that the report needs, so that nothing is
 /// refused any more.
-fn make_ready<'r, S: Site, D: Device, R: Wait>(
+fn make_ready<'r, S: Opened<D>, D: Device, R: Wait>(
     rt: &R,
     alloc: Global,
     units: &mut Vec<UnitState<'r, S, D>>,
@@ -260,7 +269,7 @@ fn make_ready<'r, S: Site, D: Device, R: Wait>(
 
 /// Joins the rows of a run in which nothing is left to do, and gives its report. It takes no memory, and cannot be
 /// refused.
-fn close<'r, S: Site, D: Device>(
+fn close<'r, S: Opened<D>, D: Device>(
     units: Vec<UnitState<'r, S, D>>,
     tasks: Vec<Task<'r, S>>,
     posts: Vec<Posts>,
@@ -272,8 +281,10 @@ fn close<'r, S: Site, D: Device>(
     requires drained { Drained D.meaning units.items tasks.items }
     ensures books { result.books ≡ map book_of units.entry.items }
     ensures lists { result.lists ≡ posts.items }
+    ensures began { AreBegun S.opened result.books }
     ensures legal { AreLegal D.meaning result }
     ensures idle { AreIdle result }
+    ensures of_tasks { AreOfTasks S.rows.tasks result }
     ensures received { Received result tasks.entry.items }
     ensures posted_once { PostedOnce result tasks.entry.items }
     ensures returned { ReturnedRest D.meaning posts.items result tasks.entry.items }

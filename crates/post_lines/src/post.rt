@@ -1,6 +1,10 @@
 //! The line of a post.
 
-ghost use Rattle.std.specs.Prelude.{◌≤◌, length};
+ghost use Rattle.std.specs.Prelude.{◌≡◌, ◌++◌, OnOk, replicate};
+ghost use Rattle.std.specs.Io.KnownBytes.{Appends};
+ghost use Rattle.post_slots.specs.Slots.{posted_end};
+ghost use Rattle.post_lines.specs.Lines.{end_text, head_text, post_text};
+ghost use Rattle.digits.specs.Digits.{shown_text};
 
 use digits::{put_decimal, put_digits, write_bytes};
 use post_slots::End;
@@ -12,7 +16,9 @@ use std::io::Write;
 const END_LEN: usize = 25;
 
 /// Writes the line of a post that was collected, without a line feed, with these bytes of its area.
-pub fn write_posted<W: Write>(out: &mut W, posted: &Posted, shown: &[u8]) -> io::Result<()> {
+pub fn write_posted<W: Write>(out: &mut W, posted: &Posted, shown: &[u8]) -> io::Result<()>
+    ensures { OnOk result (Appends (W.contents out.old) (W.contents out.new) (post_text posted.now.name.task posted.now.unit posted.now.name.seq (posted_end posted.now) shown.now)) }
+{
     let Name { task, seq } = posted.name();
     let unit = usize::from(posted.unit());
     write_post(
@@ -26,7 +32,9 @@ pub fn write_posted<W: Write>(out: &mut W, posted: &Posted, shown: &[u8]) -> io:
 }
 
 /// Writes the outcome of a request: its post without the numbers of task, unit and request.
-pub fn write_outcome<W: Write>(out: &mut W, posted: &Posted, shown: &[u8]) -> io::Result<()> {
+pub fn write_outcome<W: Write>(out: &mut W, posted: &Posted, shown: &[u8]) -> io::Result<()>
+    ensures { OnOk result (Appends (W.contents out.old) (W.contents out.new) (end_text (posted_end posted.now) ++ shown_text shown.now)) }
+{
     let mut text = [b' '; END_LEN];
     put_end(&mut text, &End::of(posted));
     out.write_all(&text)?;
@@ -42,7 +50,9 @@ pub fn write_post<W: Write>(
     number: usize,
     end: &End,
     shown: &[u8],
-) -> io::Result<()> {
+) -> io::Result<()>
+    ensures { OnOk result (Appends (W.contents out.old) (W.contents out.new) (post_text task unit number end.now shown.now)) }
+{
     write_head(out, task, unit, number, end)?;
     write_bytes(out, shown)
 }
@@ -55,7 +65,9 @@ fn write_head<W: Write>(
     unit: usize,
     number: usize,
     end: &End,
-) -> io::Result<()> {
+) -> io::Result<()>
+    ensures { OnOk result (Appends (W.contents out.old) (W.contents out.new) (head_text task unit number end.now)) }
+{
     let mut text = [b' '; 96];
     put_end(&mut text[71..], end);
     let number = put_decimal(&mut text, 70, number);
@@ -69,13 +81,13 @@ fn write_head<W: Write>(
 /// Puts the completion code, the CSW (the address, both status bytes, the residual count) and the sense bytes into a
 /// text of blanks.
 fn put_end(text: &mut [u8], end: &End)
-    requires { END_LEN ≤ length text.old }
+    requires { text.old ≡ replicate END_LEN 32 }
+    ensures { text.new ≡ end_text end.now }
 {
-    let mut csw = [0; 8];
-    end.csw.write(&mut csw);
+    let [_, top, middle, low] = end.csw.address.get().to_be_bytes();
     put_digits(text, 0, &[end.code.byte()]);
-    put_digits(text, 3, &csw[1..4]);
-    put_digits(text, 10, &csw[4..6]);
-    put_digits(text, 15, &csw[6..]);
+    put_digits(text, 3, &[top, middle, low]);
+    put_digits(text, 10, &[end.csw.unit.bits(), end.csw.sub.bits()]);
+    put_digits(text, 15, &end.csw.residual.to_be_bytes());
     put_digits(text, 20, &end.sense.to_be_bytes());
 }

@@ -1,7 +1,9 @@
 //! The posts of a run: those of one task after another, and their number.
 
-ghost use Rattle.std.specs.Prelude.{◌≡◌};
-ghost use Rattle.post_slots.specs.Slots.{shown_in};
+ghost use Rattle.std.specs.Prelude.{◌≡◌, OnOk, map};
+ghost use Rattle.std.specs.Io.KnownBytes.{Appends};
+ghost use Rattle.post_slots.specs.Slots.{shown_in, slot_of, slots_of};
+ghost use Rattle.post_lines.specs.Lines.{count_text, slot_line, task_text, unit_text};
 
 use crate::post::write_post;
 use post_slots::{Slot, Slots};
@@ -9,30 +11,47 @@ use request_piece::Posted;
 use std::io;
 use std::io::Write;
 
-/// Writes the lines of the posts of a task, in order of units and numbers. Returns how many there are.
-pub fn write_task<W: Write>(out: &mut W, task: usize, slots: &Slots) -> io::Result<u64> {
-    let mut count: u64 = 0;
-    for (unit, slots) in slots.units.iter().enumerate() {
-        count = count.saturating_add(write_unit(out, task, unit, slots)?);
+/// Writes the lines of the posts of a task, in order of units and numbers.
+pub fn write_task<W: Write>(out: &mut W, task: usize, slots: &Slots) -> io::Result<()>
+    ensures { OnOk result (Appends (W.contents out.old) (W.contents out.new) (task_text task (slots_of slots.now))) }
+{
+    for unit in 0..slots.units.len() {
+        write_unit(out, task, unit, &slots.units[unit])?;
     }
-    Ok(count)
+    Ok(())
 }
 
-/// Writes the lines of the posts of a task's requests to a unit. Returns how many there are.
-fn write_unit<W: Write>(out: &mut W, task: usize, unit: usize, slots: &[Slot]) -> io::Result<u64> {
-    let mut count: u64 = 0;
-    for (place, slot) in slots.iter().enumerate() {
-        if let Some(end) = slot.end() {
-            write_post(out, task, unit, place.saturating_add(1), &end, slot.shown())?;
-            out.write_all(b"\n")?;
-            count = count.saturating_add(1);
-        }
+/// Writes the lines of the posts of a task's requests to a unit.
+fn write_unit<W: Write>(out: &mut W, task: usize, unit: usize, slots: &[Slot]) -> io::Result<()>
+    ensures { OnOk result (Appends (W.contents out.old) (W.contents out.new) (unit_text task unit 1 (map slot_of slots.now))) }
+{
+    for place in 0..slots.len() {
+        write_slot(out, task, unit, place + 1, &slots[place])?;
     }
-    Ok(count)
+    Ok(())
+}
+
+/// Writes the line of a request, if it was posted.
+fn write_slot<W: Write>(
+    out: &mut W,
+    task: usize,
+    unit: usize,
+    number: usize,
+    slot: &Slot,
+) -> io::Result<()>
+    ensures { OnOk result (Appends (W.contents out.old) (W.contents out.new) (slot_line task unit number (slot_of slot.now))) }
+{
+    let Some(end) = slot.end() else {
+        return Ok(());
+    };
+    write_post(out, task, unit, number, &end, slot.shown())?;
+    out.write_all(b"\n")
 }
 
 /// Writes the last line: how many posts there are.
-pub fn write_count<W: Write>(out: &mut W, count: u64) -> io::Result<()> {
+pub fn write_count<W: Write>(out: &mut W, count: usize) -> io::Result<()>
+    ensures { OnOk result (Appends (W.contents out.old) (W.contents out.new) (count_text count)) }
+{
     writeln!(out, "end {count}")
 }
 

@@ -1,11 +1,15 @@
 //! The slot of a request.
 
-ghost use Rattle.std.specs.Prelude.{◌≡◌, IfOk};
+ghost use Rattle.std.specs.Prelude.{◌≡◌, IfOk, replicate};
 ghost use Rattle.post_slots.specs.Slots.{waiting_slot, filled_slot, is_filled, slot_of};
 
 use crate::end::End;
 use request_piece::Posted;
+use smallvec::SmallVec;
 use std::alloc::{AllocError, Global};
+
+/// How many bytes that are shown a slot holds without memory of their own.
+const FEW: usize = 16;
 
 /// What is kept of a request: the bytes of its area that are shown, and how it ended, once it was posted.
 #[derive(Drop)]
@@ -13,8 +17,20 @@ pub struct Slot {
     /// The address of the bytes that are shown.
     show: u32,
     /// Room for them, and then the bytes.
-    shown: Vec<u8>,
+    shown: SmallVec<u8, FEW>,
     end: Option<End>,
+}
+
+/// Room for this many bytes.
+fn room_for(alloc: Global, len: usize) -> Result<SmallVec<u8, FEW>, AllocError>
+    ensures { IfOk result (λ room. room.items ≡ replicate len 0) }
+{
+    if len <= FEW {
+        return Ok(SmallVec::from_buf_and_len(alloc, [0; FEW], len));
+    }
+    let mut bytes = Vec::new(alloc);
+    bytes.resize(len, 0)?;
+    Ok(SmallVec::from_vec(bytes))
 }
 
 impl Slot {
@@ -22,11 +38,9 @@ impl Slot {
     pub fn new(alloc: Global, show: u32, len: usize) -> Result<Slot, AllocError>
         ensures { IfOk result (λ slot. slot_of slot ≡ waiting_slot show len) }
     {
-        let mut shown = Vec::new(alloc);
-        shown.resize(len, 0)?;
         Ok(Slot {
             show,
-            shown,
+            shown: room_for(alloc, len)?,
             end: None,
         })
     }
@@ -70,6 +84,6 @@ impl Slot {
     pub fn shown(&self) -> &[u8]
         ensures { result.now ≡ (slot_of self.now).shown }
     {
-        &self.shown
+        self.shown.as_slice()
     }
 }

@@ -4,7 +4,7 @@ ghost use Rattle.std.specs.Prelude.{◌≡◌, ◌<◌, ◌≤◌, ⊤};
 
 use any_device::AnyDevice;
 use anyhow::{Result, bail, ensure};
-use excp_system::{Site, System};
+use excp_system::{Opened, Site, System};
 use io_area::Area;
 use io_images::{Address, Ccw, CcwFlags, Code, Iob, UnitStatus};
 use std::alloc::Global;
@@ -29,7 +29,7 @@ impl TaskProgram<AnyDevice> for CopyTape {
 
     ghost runs = { λ _ old new outcome. ⊤ };
 
-    fn run<S: Site, R: Wait>(
+    fn run<S: Opened<AnyDevice>, R: Wait>(
         &self,
         rt: &R,
         alloc: Global,

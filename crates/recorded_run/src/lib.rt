@@ -11,4 +11,4 @@ mod run;
 
 pub use noted::Noted;
 pub use output::write_report;
-pub use run::{RecordedRun, report_script, run_recorded};
+pub use run::{PrintedRun, RecordedRun, report_posts, run_recorded};

@@ -28,7 +28,21 @@ pub fn write_report<W: Write>(
 {
     let mut open = Dcbs::of_units(alloc, books)?;
     write_posts(writer, tasks).or(Err(JobError::NotWritten))?;
-    match write_units(writer, set_up, books, steps, &mut open) {
+    write_rest(set_up, books, steps, &mut open, writer)
+}
+
+/// Writes what a report has after the posts. The table has room for the DCBs of each unit.
+pub(crate) fn write_rest<W: Write>(
+    set_up: &SetUp,
+    books: &[UnitBook<AnyDevice>],
+    steps: Option<u64>,
+    open: &mut Dcbs,
+    writer: &mut W,
+) -> Result<(), JobError>
+    ensures memory { steps ≡ None → IfErr result (λ fault. fault ≡ JobError.NotWritten) }
+    ensures fault { IfErr result IsWriteFault }
+{
+    match write_units(writer, set_up, books, steps, open) {
         Ok(()) => writer.flush().or(Err(JobError::NotWritten)),
         Err(HistoryError::NotWritten) => Err(JobError::NotWritten),
         Err(HistoryError::NoMemory) => Err(JobError::NoMemory),

@@ -3,14 +3,16 @@
 ghost use Rattle.std.specs.Prelude.{◌≡◌, ◌≤◌, ◌+◌, IfErr, IfOk, None, OnOk, vec_len};
 ghost use Rattle.job_script.specs.Reading.{ReadsAtMost};
 ghost use Rattle.job_script.specs.Views.{said};
-ghost use Rattle.job_run.specs.Ending.{EndsBy, EndsParsed, IsFaultlessWith, RanWhole};
+ghost use Rattle.job_run.specs.Beginning.{AreBegunWith};
+ghost use Rattle.job_run.specs.Ending.{EndsBy, EndsParsed, PrintsPosts};
 ghost use Rattle.job_run.specs.Faults.{LeavesWriter};
 ghost use Rattle.job_run.specs.Ran.{Ran};
+ghost use Rattle.recorded_run.specs.Writing.{IsWriteFault};
 
 use crate::noted::Noted;
-use crate::output::write_report;
+use crate::output::write_rest;
 use any_device::AnyDevice;
-use job_run::{Finished, TaskEnd, Workers, read_and_run, run_parsed};
+use job_run::{Finished, TaskEnd, Workers, read_and_run, run_parsed, write};
 use job_script::{JobError, LIMIT, Script};
 use post_ledger::Report;
 use run_record::TaskRecord;
@@ -18,6 +20,7 @@ use std::alloc::{AllocError, Global};
 use std::io::{Read, Write};
 use std::sync::Wait;
 use std::thread::Threads;
+use unit_history::Dcbs;
 
 /// A run that was brought to its end: the record of each task, and the account of its units.
 #[derive(Drop)]
@@ -26,32 +29,58 @@ pub struct RecordedRun {
     pub report: Report<AnyDevice>,
 }
 
-/// Runs a script as `job_run::run_script` does. Writes its posts, and then of each unit its history, with `steps` that many of
-/// its commands too, and its medium. All of that is again text of a script: comments and set-up lines. With `steps`,
-/// memory may run out after a part was written.
-pub fn report_script<R: Threads + Wait + Sync, I: Read, W: Write>(
+/// A run whose posts are printed, and what else its report tells.
+#[derive(Drop)]
+pub struct PrintedRun {
+    script: Script,
+    report: Report<AnyDevice>,
+    open: Dcbs,
+}
+
+/// Runs a script and writes its posts, as `job_run::run_script` does. What it returns writes the rest of the report.
+pub fn report_posts<R: Threads + Wait + Sync, I: Read, W: Write>(
     rt: &R,
     alloc: Global,
     reader: &mut I,
     writer: &mut W,
     workers: Workers,
-    steps: Option<u64>,
-) -> Result<(), JobError>
+) -> Result<PrintedRun, JobError>
     ensures bounded { ReadsAtMost (LIMIT + 1) (I.remaining reader.old) (I.remaining reader.new) }
-    ensures unwritten { steps ≡ None → IfErr result (λ fault. LeavesWriter fault writer.old writer.new) }
-    ensures ran { OnOk result (RanWhole LIMIT (I.remaining reader.old) (I.remaining reader.new)) }
+    ensures unwritten { IfErr result (λ fault. LeavesWriter fault writer.old writer.new) }
+    ensures printed { OnOk result (PrintsPosts LIMIT (I.remaining reader.old) (I.remaining reader.new) (W.contents writer.old) (W.contents writer.new)) }
     ensures fault { IfErr result (EndsBy LIMIT (I.remaining reader.old) (I.remaining reader.new)) }
 {
-    let (script, run) = read_and_run::<R, Noted, I>(rt, alloc, reader, workers)?;
-    let run = recorded(alloc, run)?;
-    write_report(
-        alloc,
-        &run.tasks,
-        &script.set_up,
-        run.report.units(),
-        steps,
-        writer,
-    )
+    let (script, run) = read_and_run::<R, (), I>(rt, alloc, reader, workers)?;
+    let open = Dcbs::of_units(alloc, run.report.units())?;
+    write(&script.commands, &run.tasks, writer)?;
+    Ok(PrintedRun {
+        script,
+        report: run.report,
+        open,
+    })
+}
+
+impl PrintedRun {
+    /// Writes of each unit its history, with `steps` that many of its commands too, and its medium. With the posts before
+    /// it, all is again text of a script: comments and set-up lines. Only the commands take memory. If it runs out, a part
+    /// was written.
+    pub fn write_rest<W: Write>(
+        &mut self,
+        steps: Option<u64>,
+        writer: &mut W,
+    ) -> Result<(), JobError>
+        ensures memory { steps ≡ None → IfErr result (λ fault. fault ≡ JobError.NotWritten) }
+        ensures fault { IfErr result IsWriteFault }
+    {
+        let script = &self.script;
+        write_rest(
+            &script.set_up,
+            self.report.units(),
+            steps,
+            &mut self.open,
+            writer,
+        )
+    }
 }
 
 /// Runs a script that was parsed, to its end, as `job_run::run_parsed` does, and records what its tasks do.
@@ -64,8 +93,8 @@ pub fn run_recorded<R: Threads + Wait + Sync>(
 ) -> Result<RecordedRun, JobError>
     requires tasks { (1 ≤ script.now.set_up.tasks) × (script.now.set_up.tasks ≤ 64) }
     requires units { (1 ≤ vec_len script.now.set_up.units) × (vec_len script.now.set_up.units ≤ 64) }
-    ensures ran { OnOk result (IsFaultlessWith given.items (said script.now)) }
-    ensures units { IfOk result (λ run. Ran script.now run.report.books) }
+    ensures ran { IfOk result (λ run. Ran (said script.now) run.report.books) }
+    ensures began { IfOk result (λ run. AreBegunWith given.items (said script.now) run.report.books) }
     ensures fault { IfErr result (EndsParsed given.items (said script.now)) }
 {
     let run: Finished<Noted> = run_parsed(rt, alloc, script, given, workers)?;

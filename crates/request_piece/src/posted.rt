@@ -110,6 +110,12 @@ impl Posted {
         &self.piece.area
     }
 
+    /// The piece that was worked on.
+    pub(crate) fn into_piece(self) -> Box<Piece> {
+        let Posted { piece, .. } = self;
+        piece
+    }
+
     /// Its storage, to be used anew.
     pub fn into_area(self) -> Area
         ensures { result ≡ self.area }

@@ -12,6 +12,7 @@ ghost use Rattle.request_piece.specs.Requests.{IsImageAt, NoFault, RequestFault,
 use crate::error::RequestError;
 use crate::issued::Issued;
 use crate::piece::{Name, Piece};
+use crate::posted::Posted;
 use io_area::Area;
 use io_images::{Address, Iob, Seek};
 pub use refusal::{Misplaced, RequestRefusal};
@@ -106,6 +107,36 @@ impl Request {
             Ok(request) => Ok(request),
             Err((error, _)) => Err(error),
         }
+    }
+
+    /// The request that the IOB at `iob` describes, over storage that is shared, as of `over`. It works in the storage of
+    /// a request that has ended, and takes memory only if its area has another number of bytes.
+    ///
+    /// Errors: as of `over`. What has ended is dropped.
+    pub fn over_again(
+        ended: Posted,
+        name: Name,
+        unit: u16,
+        dcb: u16,
+        iob: u32,
+        area: &Arc<Area, Global>,
+    ) -> Result<Request, RequestError>
+        ensures request { IfOk result (λ r. r ≡ request_of name unit dcb iob (arc_value area.now)) }
+        ensures ok { IfOk result (λ r. NoFault dcb iob (arc_value area.now)) }
+        ensures refused { IfErr result (RequestFault dcb iob (arc_value area.now)) }
+    {
+        let shared: &Area = area;
+        let image = read_iob(dcb, iob, shared)?;
+        let Ok(kept) = Arc::try_clone(area) else {
+            return Err(RequestError::NoMemory);
+        };
+        let mut work = ended.into_piece();
+        if work.area.copy_from(shared).is_err() {
+            return Err(RequestError::NoMemory);
+        }
+        set_fields(&mut work, name, unit, dcb, iob, &image);
+        let issued = Issued::of(&work, kept);
+        Ok(Request { issued, work })
     }
 
     /// The request with this piece to be worked on, over this storage as issued.
@@ -207,6 +238,20 @@ fn piece_of(name: Name, unit: u16, dcb: u16, iob: u32, image: &Iob, area: Area) 
         ecb: image.ecb.get(),
         area,
     }
+}
+
+/// Gives a piece these fields of its IOB, and leaves its area.
+fn set_fields(piece: &mut Piece, name: Name, unit: u16, dcb: u16, iob: u32, image: &Iob)
+    ensures { piece.new ≡ piece_of name unit dcb iob piece.old.area image.now }
+{
+    piece.name = name;
+    piece.unit = unit;
+    piece.dcb = dcb;
+    piece.related = !image.unrelated;
+    piece.start = image.start;
+    piece.seek = image.seek;
+    piece.iob = iob;
+    piece.ecb = image.ecb.get();
 }
 
 /// The IOB at a place of the area, if it, its ECB and its channel program have their places and it names the DCB.

@@ -7,9 +7,13 @@ use std::io::Write;
 
 /// Writes the lines, in order of tasks, units and numbers, and then how many there are.
 pub fn write_posts<W: Write>(out: &mut W, tasks: &[TaskRecord]) -> io::Result<()> {
-    let mut count: u64 = 0;
+    let mut count: usize = 0;
     for (number, task) in tasks.iter().enumerate() {
-        count = count.saturating_add(write_task(out, number, &task.slots)?);
+        write_task(out, number, &task.slots)?;
+        for slots in &task.slots.units {
+            let posted = slots.iter().filter(|slot| slot.end().is_some());
+            count = count.saturating_add(posted.count());
+        }
     }
     write_count(out, count)
 }

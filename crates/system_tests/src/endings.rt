@@ -6,7 +6,7 @@ ghost use Rattle.post_ledger.specs.Report.{IsFor};
 use crate::fixtures::{disks, issue};
 use ckd_disk::Disk;
 use device_port::Device;
-use excp_system::{Rows, Site, System, Task};
+use excp_system::{Opened, Rows, Site, System, Task};
 use io_images::Code;
 use post_ledger::{Cause, Report, Unfinished, Units, finish};
 use std::alloc::{AllocError, Global};

@@ -5,7 +5,7 @@ ghost use Rattle.std.specs.Prelude.{◌≡◌};
 use crate::fixtures::{disks, issue};
 use ckd_disk::Disk;
 use device_port::Device;
-use excp_system::{IscTaker, OpenGate, Rows, Site, Stop, System, Task, serve_isc};
+use excp_system::{IscTaker, OpenGate, Opened, Rows, Site, Stop, System, Task, serve_isc};
 use io_images::Code;
 use request_piece::{Name, Posted};
 use std::alloc::AllocError;
@@ -41,7 +41,7 @@ fn awaited<S: Site, R: Wait>(rt: &R, task: &mut Task<'_, S>) -> Option<Posted>
 }
 
 /// Serves all notices.
-fn serve_handlers<'r, S: Site, D: Device, R: Wait>(
+fn serve_handlers<'r, S: Opened<D>, D: Device, R: Wait>(
     rt: &R,
     system: &System<'r, S, D>,
     mut handlers: Vec<IscTaker<'r, S>>,

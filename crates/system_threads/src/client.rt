@@ -200,8 +200,29 @@ impl<'r, S: Site> Client<'r, S> {
         ensures unchanged { OnErr result (self.new ≡ self.old) }
         ensures looked { OnErr result (PostRowWasEmpty S.rows self.old) }
     {
-        let awaits_none = self.awaited() == 0;
+        self.next_of(rt, alarm, 1)
+    }
+
+    /// Collects the next post, as `next_post`. But if there is none, and `posts` is more than 1, it sleeps at once, until
+    /// `posts` were sent back, or all that it awaits, or its row is full.
+    pub fn next_of<R: Wait>(
+        &mut self,
+        rt: &R,
+        alarm: &Alarm,
+        posts: u16,
+    ) -> Result<Option<Posted>, AllocError>
+        ensures collected { IfOk result (λ next. IfSome next (λ posted. TaskCollects self.old posted self.new)) }
+        ensures of_unit { IfOk result (λ next. IfSome next (λ posted. posted.unit < S.rows.units)) }
+        ensures none { IfOk result (λ next. IfNone next (self.new ≡ self.old)) }
+        ensures awaits_none { IfOk result (λ next. IfNone next (awaited_count self.old ≡ 0)) }
+        ensures was_empty { IfOk result (λ next. IfNone next (PostRowWasEmpty S.rows self.old)) }
+        ensures unchanged { OnErr result (self.new ≡ self.old) }
+        ensures looked { OnErr result (PostRowWasEmpty S.rows self.old) }
+    {
+        let number = self.number();
+        let awaited = self.awaited();
         let idle = Backoff::new();
+        let mut is_wanted = false;
         for _ in rt.forever() {
             if let Some(posted) = self.task.take_post(rt) {
                 self.collected = self.collected.saturating_add(1);
@@ -210,11 +231,16 @@ impl<'r, S: Site> Client<'r, S> {
             if alarm.raised() {
                 return Err(AllocError);
             }
-            if awaits_none {
+            if awaited == 0 {
                 break;
             }
-            if idle.is_completed() {
+            if is_wanted {
                 self.parker.park(rt);
+                is_wanted = false;
+            } else if posts > 1 || idle.is_completed() {
+                let wanted = u16::try_from(awaited).unwrap_or(u16::MAX).min(posts);
+                alarm.want(number, wanted);
+                is_wanted = true;
             } else {
                 idle.snooze();
             }

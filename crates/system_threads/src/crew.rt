@@ -6,7 +6,7 @@ ghost use Rattle.system_threads.specs.Shares.{AreShared, below, share_of};
 
 use crate::run_error::RunError;
 use device_port::Device;
-use excp_system::{Gate, IscTaker, Site, Stop, System, serve};
+use excp_system::{Gate, IscTaker, Opened, Site, Stop, System, serve};
 use std::alloc::{AllocError, Global};
 use std::marker::PhantomData;
 use std::sync::Wait;
@@ -119,7 +119,7 @@ fn handlers_of<'r, S: Site>(
 }
 
 /// Serves these units and subclasses until it is stopped, and passes this gate.
-fn work<'r, S: Site, D: Device, G: Gate, R: Wait>(
+fn work<'r, S: Opened<D>, D: Device, G: Gate, R: Wait>(
     rt: &R,
     system: &System<'r, S, D>,
     gate: &G,
@@ -138,7 +138,7 @@ fn work<'r, S: Site, D: Device, G: Gate, R: Wait>(
 pub(crate) fn start<
     's,
     'r,
-    S: Site + Send + Sync,
+    S: Opened<D> + Send + Sync,
     D: Device + Send + Sync,
     G: Gate + Sync,
     R: Threads + Wait + Sync,
@@ -168,7 +168,7 @@ pub(crate) fn start<
 fn start_one<
     's,
     'r,
-    S: Site + Send + Sync,
+    S: Opened<D> + Send + Sync,
     D: Device + Send + Sync,
     G: Gate + Sync,
     R: Threads + Wait + Sync,

@@ -102,10 +102,9 @@ impl Refusals {
         let Some(tries) = self.calls.get(place_of(unit, point)) else {
             return;
         };
-        let count = tries.load();
         // a call that has memory each time writes nothing
-        if count.turns > 0 {
-            tries.store(count.begun());
+        if tries.turns.load(Ordering::SeqCst) > 0 {
+            tries.store(tries.load().begun());
         }
     }
 

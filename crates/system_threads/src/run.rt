@@ -1,10 +1,11 @@
 //! A run: the tasks of a system, each on a thread of its own, beside its workers.
 
 ghost use Rattle.std.specs.Prelude.{◌≡◌, ◌<◌, All, IfErr, IfOk, is_some, length, map, true};
+ghost use Rattle.excp_system.specs.Begun.{AreBegun};
 ghost use Rattle.excp_system.specs.Drained.{ArePlaced};
 ghost use Rattle.excp_system.specs.Opening.{AreBooks, AreFresh, AreTasks, site_of};
 ghost use Rattle.post_ledger.specs.Parting.{Paired};
-ghost use Rattle.post_ledger.specs.Report.{AreIdle, AreLegal, IsFor, PostedOnce, Received, Returned};
+ghost use Rattle.post_ledger.specs.Report.{AreIdle, AreLegal, AreOfTasks, IsFor, PostedOnce, Received, Returned};
 ghost use Rattle.system_threads.specs.Running.{Accounts, AreRun, HasRun};
 
 use crate::alarm::Alarm;
@@ -13,7 +14,7 @@ use crate::run_error::RunError;
 use crate::runner::{NoThread, PartsRoom, Runner, parted, runners};
 use crate::task_program::TaskProgram;
 use device_port::Device;
-use excp_system::{Gate, IscTaker, Rows, Site, Stop, System, Task};
+use excp_system::{Gate, IscTaker, Opened, Rows, Site, Stop, System, Task};
 use post_ledger::{Report, finish};
 use std::alloc::{AllocError, Global};
 use std::marker::Brand;
@@ -27,7 +28,8 @@ const MOST_TASKS: usize = 64;
 
 /// Runs the tasks of a system of these rows and books by a program, beside these workers, and brings the run to its
 /// end. Returns the report of the run, which holds all posts that the tasks have not collected. With it, in order of
-/// tasks, it returns what each has left behind. The report accounts for what these tasks did.
+/// tasks, it returns what each has left behind. The report accounts for what these tasks did. Each of its books
+/// continues the one that was handed in for its unit, on the same device as it was mounted.
 ///
 /// A worker that runs out of memory tries the call again at its next turn, and nothing is lost. If the same call on a
 /// unit runs out of memory in [`LASTING_TURNS`](crate::LASTING_TURNS) turns in a row, the tasks are woken, and their
@@ -53,8 +55,10 @@ pub fn run_program<D: Device + Send + Sync, P: TaskProgram<D>, R: Threads + Wait
     requires books { AreBooks rows.units books.items }
     requires units { rows.units ≡ P.units program.now }
     ensures report { IfOk result (λ done. IsFor rows.units rows.tasks done.0) }
+    ensures began { IfOk result (λ done. AreBegun books.items done.0.books) }
     ensures legal { IfOk result (λ done. AreLegal D.meaning done.0) }
     ensures idle { IfOk result (λ done. AreIdle done.0) }
+    ensures of_tasks { IfOk result (λ done. AreOfTasks rows.tasks done.0) }
     ensures outcomes { IfOk result (λ done. length done.1.items ≡ rows.tasks) }
     ensures accounts { IfOk result (λ done. Accounts D.meaning (P.runs program.now) rows.units rows.tasks done.0 done.1.items) }
 {
@@ -63,7 +67,7 @@ pub fn run_program<D: Device + Send + Sync, P: TaskProgram<D>, R: Threads + Wait
 
 /// Runs a program of tasks on the system of a site, as `run_program` does.
 fn run_at<
-    S: Site + Send + Sync,
+    S: Opened<D> + Send + Sync,
     D: Device + Send + Sync,
     P: TaskProgram<D>,
     R: Threads + Wait + Sync,
@@ -78,10 +82,13 @@ fn run_at<
     requires site { S.rows ≡ site_of rows.old }
     requires fresh { AreFresh rows.old }
     requires books { AreBooks S.rows.units books.items }
+    requires opened { S.opened ≡ books.items }
     requires units { S.rows.units ≡ P.units program.now }
     ensures report { IfOk result (λ done. IsFor S.rows.units S.rows.tasks done.0) }
+    ensures began { IfOk result (λ done. AreBegun S.opened done.0.books) }
     ensures legal { IfOk result (λ done. AreLegal D.meaning done.0) }
     ensures idle { IfOk result (λ done. AreIdle done.0) }
+    ensures of_tasks { IfOk result (λ done. AreOfTasks S.rows.tasks done.0) }
     ensures outcomes { IfOk result (λ done. length done.1.items ≡ S.rows.tasks) }
     ensures accounts { IfOk result (λ done. Accounts D.meaning (P.runs program.now) S.rows.units S.rows.tasks done.0 done.1.items) }
 {
@@ -111,7 +118,7 @@ fn crew_of<'r, S: Site>(
 /// Runs all tasks by the program beside the workers, which end with them. Returns the tasks, and what each has left behind.
 fn run_tasks<
     'r,
-    S: Site + Send + Sync,
+    S: Opened<D> + Send + Sync,
     D: Device + Send + Sync,
     P: TaskProgram<D>,
     R: Threads + Wait + Sync,
@@ -151,7 +158,7 @@ fn is_used<S: Site>(used: &[bool; 8], taker: &IscTaker<'_, S>) -> bool {
 }
 
 /// Ends a run whose workers have ended. If that fails, tries once more from where it stopped.
-fn brought_to_end<'r, S: Site, D: Device, R: Wait>(
+fn brought_to_end<'r, S: Opened<D>, D: Device, R: Wait>(
     rt: &R,
     alloc: Global,
     system: System<'r, S, D>,
@@ -159,8 +166,10 @@ fn brought_to_end<'r, S: Site, D: Device, R: Wait>(
 ) -> Result<Report<D>, RunError>
     requires { ArePlaced (λ task. task.number) S.rows.tasks tasks.items }
     ensures complete { IfOk result (λ report. IsFor S.rows.units S.rows.tasks report) }
+    ensures began { IfOk result (λ report. AreBegun S.opened report.books) }
     ensures legal { IfOk result (λ report. AreLegal D.meaning report) }
     ensures idle { IfOk result (λ report. AreIdle report) }
+    ensures of_tasks { IfOk result (λ report. AreOfTasks S.rows.tasks report) }
     ensures received { IfOk result (λ report. Received report tasks.entry.items) }
     ensures posted_once { IfOk result (λ report. PostedOnce report tasks.entry.items) }
     ensures returned { IfOk result (λ report. Returned D.meaning report tasks.entry.items) }
@@ -183,7 +192,7 @@ fn brought_to_end<'r, S: Site, D: Device, R: Wait>(
 /// that were started have its takers until they end.
 pub fn run_beside<
     'r,
-    S: Site + Send + Sync,
+    S: Opened<D> + Send + Sync,
     D: Device + Send + Sync,
     G: Gate + Sync,
     P: TaskProgram<D>,
@@ -234,7 +243,7 @@ pub fn run_beside<
 /// Runs all tasks by the program.
 fn run_all<
     'r,
-    S: Site + Send + Sync,
+    S: Opened<D> + Send + Sync,
     D: Device + Send + Sync,
     P: TaskProgram<D>,
     R: Threads + Wait + Sync,
@@ -267,7 +276,7 @@ fn run_all<
 /// Runs all tasks by the program in at most `threads` threads.
 fn run_each<
     'r,
-    S: Site + Send + Sync,
+    S: Opened<D> + Send + Sync,
     D: Device + Send + Sync,
     P: TaskProgram<D>,
     R: Threads + Wait + Sync,
@@ -301,7 +310,7 @@ fn run_each<
 }
 
 /// Runs one task by the program.
-fn run_one<'r, S: Site, D: Device, P: TaskProgram<D>, R: Wait>(
+fn run_one<'r, S: Opened<D>, D: Device, P: TaskProgram<D>, R: Wait>(
     rt: &R,
     alloc: Global,
     system: &System<'_, S, D>,

@@ -5,7 +5,7 @@ ghost use Rattle.std.specs.Prelude.{◌≡◌, ℕ};
 use crate::alarm::Alarm;
 use crate::client::Client;
 use device_port::Device;
-use excp_system::{Site, System};
+use excp_system::{Opened, System};
 use std::alloc::Global;
 use std::sync::Wait;
 
@@ -30,7 +30,7 @@ pub trait TaskProgram<D: Device>: Sync {
     /// Runs a task to its end. By the client it issues requests and collects their posts. By the system it may purge,
     /// close and reset. If it delivers a post there, it has to tell the alarm, or the post's task sleeps on. The number
     /// of the client says which task it is.
-    fn run<S: Site, R: Wait>(
+    fn run<S: Opened<D>, R: Wait>(
         &self,
         rt: &R,
         alloc: Global,

@@ -11,7 +11,7 @@ ghost use Rattle.unit_book.specs.Trace.{active, waiting};
 ghost use Rattle.excp_system.specs.Notices.{InBook, Notifies, OwesIf, became_pending, leaves_pending};
 
 use crate::item::Notice;
-use crate::site::Site;
+use crate::site::Opened;
 use crate::unit::UnitState;
 use device_port::Device;
 use io_images::Extent;
@@ -33,7 +33,7 @@ fn leaves_pending(answer: Running) -> bool
     }
 }
 
-impl<'r, S: Site, D: Device> UnitState<'r, S, D> {
+impl<'r, S: Opened<D>, D: Device> UnitState<'r, S, D> {
     /// Opens a DCB, as [`unit_book::UnitBook::open`].
     ///
     /// Errors: those of the book. Only the room for entries may have grown then.

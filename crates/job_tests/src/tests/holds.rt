@@ -10,7 +10,7 @@ use Step::{
     Settle, Start, Take,
 };
 use any_device::AnyDevice;
-use excp_system::{Rows, Site, System, Task, UnitState};
+use excp_system::{Opened, Rows, Site, System, Task, UnitState};
 use io_area::Area;
 use io_images::{Code, Extent};
 use job_mount::books;
@@ -189,7 +189,7 @@ fn issue<S: Site, R: Wait>(
 }
 
 /// Resets DCB 2 until the trace has room for `room` entries.
-fn fill<S: Site>(unit: &mut UnitState<'_, S, AnyDevice>, room: usize) -> Option<()> {
+fn fill<S: Opened<AnyDevice>>(unit: &mut UnitState<'_, S, AnyDevice>, room: usize) -> Option<()> {
     for _ in room..unit.book().spare() {
         unit.reset(2).ok()?;
     }
@@ -197,7 +197,7 @@ fn fill<S: Site>(unit: &mut UnitState<'_, S, AnyDevice>, room: usize) -> Option<
 }
 
 /// Does a step of the unit: nothing if there is no memory for it.
-fn tried<S: Site, R: Wait>(
+fn tried<S: Opened<AnyDevice>, R: Wait>(
     rt: &R,
     unit: &mut UnitState<'_, S, AnyDevice>,
     step: Step,
@@ -222,7 +222,7 @@ fn tried<S: Site, R: Wait>(
 }
 
 /// Does a step, and once more if there is no memory for it. Gives a post that the task collects.
-fn done<'r, S: Site, R: Wait + AllocGlobal>(
+fn done<'r, S: Opened<AnyDevice>, R: Wait + AllocGlobal>(
     rt: &R,
     system: &System<'r, S, AnyDevice>,
     task: &mut Task<'r, S>,
@@ -251,7 +251,7 @@ fn done<'r, S: Site, R: Wait + AllocGlobal>(
 }
 
 /// Does steps on a system of one task and one unit, and gives the posts that the task collects.
-fn posts<S: Site, R: Wait + AllocGlobal>(
+fn posts<S: Opened<AnyDevice>, R: Wait + AllocGlobal>(
     rt: &R,
     rows: &mut Rows,
     books: Vec<UnitBook<AnyDevice>>,
@@ -260,6 +260,7 @@ fn posts<S: Site, R: Wait + AllocGlobal>(
     requires site { S.rows ≡ site_of rows.old }
     requires fresh { AreFresh rows.old }
     requires books { AreBooks S.rows.units books.items }
+    requires opened { S.opened ≡ books.items }
     requires one { S.rows.units ≡ 1 }
 {
     let (system, mut tasks, _) = System::<S, AnyDevice>::new(rt.alloc(), rows, books)?;

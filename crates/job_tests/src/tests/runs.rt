@@ -8,7 +8,7 @@ ghost use Rattle.job_mount.specs.Requests.{CanBeDone};
 mod not_awaited;
 
 use any_device::AnyDevice;
-use excp_system::{Gate, IscTaker, Point, Rows, Site, System};
+use excp_system::{Gate, IscTaker, Opened, Point, Rows, Site, System};
 use job_mount::books;
 use job_run::{Finished, ScriptTasks, TaskEnd, TaskError, ended, run_on, write};
 use job_script::{FaultName, JobError, Script};
@@ -190,6 +190,10 @@ impl<'a> Gate for Drill<'a> {
     fn delivered(&self, request: Name) {
         self.alarm.delivered(request);
     }
+
+    fn row_is_full(&self, request: Name) {
+        self.alarm.row_is_full(request);
+    }
 }
 
 /// What came of a run that could be set up.
@@ -220,11 +224,11 @@ fn unawaited<R: Threads + Wait + Sync + AllocGlobal>(
         return Err(JobError::NoMemory);
     };
     let run = ended(alloc, report, outcomes)?;
-    printed(alloc, &run.tasks)
+    printed(alloc, script, &run.tasks)
 }
 
 /// What comes of the tasks of a script on these rows and books.
-fn tasks_alone<S: Site + Send + Sync, R: Threads + Wait + Sync + AllocGlobal>(
+fn tasks_alone<S: Opened<AnyDevice> + Send + Sync, R: Threads + Wait + Sync + AllocGlobal>(
     rt: &R,
     rows: &mut Rows,
     books: Vec<UnitBook<AnyDevice>>,
@@ -234,6 +238,7 @@ fn tasks_alone<S: Site + Send + Sync, R: Threads + Wait + Sync + AllocGlobal>(
     requires site { S.rows ≡ site_of rows.old }
     requires fresh { AreFresh rows.old }
     requires books { AreBooks S.rows.units books.items }
+    requires opened { S.opened ≡ books.items }
     requires units { vec_len script.now.set_up.units ≡ S.rows.units }
     requires requests { All CanBeDone script.now.commands.items }
 {
@@ -306,16 +311,16 @@ fn how_many_short(outcomes: Vec<Result<TaskEnd<()>, TaskError>>) -> Result<usize
     Ok(short)
 }
 
-/// What is printed of the requests of each task.
-fn printed(alloc: Global, tasks: &[TaskEnd<()>]) -> Result<Outcome, JobError> {
+/// What is printed of the requests of each task of a script.
+fn printed(alloc: Global, script: &Script, tasks: &[TaskEnd<()>]) -> Result<Outcome, JobError> {
     let mut text = Vec::new(alloc);
-    write(tasks, &mut text)?;
+    write(&script.commands, tasks, &mut text)?;
     Ok(Outcome::Printed(text))
 }
 
 /// How many requests and controls of tasks the traces of the units tell of. Their books have room for the requests in
 /// the intake rows, which arrive first.
-fn told<S: Site, R: Wait>(
+fn told<S: Opened<AnyDevice>, R: Wait>(
     rt: &R,
     system: &System<'_, S, AnyDevice>,
     units: u16,
@@ -389,7 +394,7 @@ fn run<R: Threads + Wait + Sync + AllocGlobal>(
     match way {
         Way::Whole => {
             let run: Finished<()> = run_on(rt, alloc, rows, books, &script, two_of_each())?;
-            printed(alloc, &run.tasks)
+            printed(alloc, &script, &run.tasks)
         }
         Way::Unawaited => unawaited(rt, rows, books, &script),
         _ => tasks_alone::<Brand, R>(rt, &mut rows, books, &script, way),

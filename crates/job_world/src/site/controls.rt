@@ -36,7 +36,7 @@ impl JobSite {
         let Some(name) = self.site.next_name(task, unit) else {
             return Ok(StepAnswer::Pushed(Issuing::NoNumber));
         };
-        let request = request(self.alloc, excp, name)?;
+        let request = request(self.alloc, excp, name, None)?;
         match self.site.accept(request) {
             Ok(()) => Ok(StepAnswer::Pushed(Issuing::Accepted(name))),
             Err(_) => Ok(StepAnswer::Pushed(Issuing::Full)),

@@ -16,7 +16,7 @@ struct Left {
 }
 
 /// What is left of a run whose two units are swapped, if each was under a lock of its own.
-fn left_of<S: Site, R: Wait>(
+fn left_of<S: Opened<Disk>, R: Wait>(
     rt: &R,
     alloc: Global,
     rows: &mut Rows,
@@ -25,6 +25,7 @@ fn left_of<S: Site, R: Wait>(
     requires site { S.rows ≡ site_of rows.old }
     requires fresh { AreFresh rows.old }
     requires books { AreBooks S.rows.units books.items }
+    requires opened { S.opened ≡ books.items }
     requires units { S.rows.units ≡ 2 }
 {
     let (system, tasks, _) = System::<S, Disk>::new(alloc, rows, books)?;
@@ -42,7 +43,7 @@ fn left_of<S: Site, R: Wait>(
 }
 
 /// The parts of what is left of a run.
-fn parts_of<S: Site>(
+fn parts_of<S: Opened<Disk>>(
     alloc: Global,
     first: Cause,
     unfinished: Unfinished<'_, S, Disk>,
@@ -63,7 +64,7 @@ fn parts_of<S: Site>(
 }
 
 /// Puts the states of the two units under each other's locks. Returns whether each was under a lock of its own.
-fn swap_units<S: Site, R: Wait>(rt: &R, system: &System<'_, S, Disk>) -> bool
+fn swap_units<S: Opened<Disk>, R: Wait>(rt: &R, system: &System<'_, S, Disk>) -> bool
     requires { S.rows.units ≡ 2 }
 {
     let mut first = system.lock_of(0).lock(rt);

@@ -53,7 +53,7 @@ fn issue_all<S: Site, R: Wait>(
 }
 
 /// Two requests arrive at unit 0, and the first one, which meets a fault, comes to await its restart.
-fn serve<S: Site, R: Wait>(rt: &R, system: &System<'_, S, Disk>) -> Result<(), AllocError>
+fn serve<S: Opened<Disk>, R: Wait>(rt: &R, system: &System<'_, S, Disk>) -> Result<(), AllocError>
     requires { 0 < S.rows.units }
 {
     let mut unit = system.lock_of(0).lock(rt);
@@ -66,7 +66,7 @@ fn serve<S: Site, R: Wait>(rt: &R, system: &System<'_, S, Disk>) -> Result<(), A
 }
 
 /// The report of a run, resumed where there is no memory for its end, at most three times; and how often it was.
-fn resumed<'r, S: Site, R: Wait + Abort>(
+fn resumed<'r, S: Opened<Disk>, R: Wait + Abort>(
     rt: &R,
     alloc: Global,
     system: System<'r, S, Disk>,
@@ -95,7 +95,7 @@ fn resumed<'r, S: Site, R: Wait + Abort>(
 
 /// The report of a run that ends behind the calls of its task, or after its unit has begun to serve them; and how often
 /// it was resumed.
-fn ended<S: Site, R: Wait + Abort>(
+fn ended<S: Opened<Disk>, R: Wait + Abort>(
     rt: &R,
     alloc: Global,
     rows: &mut Rows,
@@ -105,6 +105,7 @@ fn ended<S: Site, R: Wait + Abort>(
     requires site { S.rows ≡ site_of rows.old }
     requires fresh { AreFresh rows.old }
     requires books { AreBooks S.rows.units books.items }
+    requires opened { S.opened ≡ books.items }
     requires tasks { S.rows.tasks ≡ 1 }
     requires units { S.rows.units ≡ 2 }
     ensures { IfOk result (λ ended. IsFor 2 1 ended.0) }

@@ -13,7 +13,7 @@ use std::alloc::Global;
 use unit_book::ProcessingMethod;
 
 /// A request of task 0 to each unit: that of unit 0 comes to its end, that of unit 1 arrives.
-fn serve_both<S: Site, R: Wait + Abort + AllocGlobal>(
+fn serve_both<S: Opened<Disk>, R: Wait + Abort + AllocGlobal>(
     rt: &R,
     system: &System<'_, S, Disk>,
     task: &mut Task<'_, S>,
@@ -72,7 +72,7 @@ fn books_again(alloc: Global) -> Result<Vec<UnitBook<Disk>>, Fail>
 
 /// Asserts that a system gives the list of its units, once more if memory runs out for it, and what their traces
 /// have. Unit 0 has an opening, an arrival, a start, a run and a post; unit 1 an opening and an arrival.
-fn expect_units<S: Site>(rt: &impl Abort, system: System<'_, S, Disk>) -> Result<(), Fail> {
+fn expect_units<S: Opened<Disk>>(rt: &impl Abort, system: System<'_, S, Disk>) -> Result<(), Fail> {
     let units = match system.into_units() {
         Ok(units) => units,
         Err(failed) => failed.value.into_units().map_err(|_| TWICE)?,
@@ -86,7 +86,7 @@ fn expect_units<S: Site>(rt: &impl Abort, system: System<'_, S, Disk>) -> Result
 
 /// Runs a system of these rows and books to its end, from what is handed back where there is no memory for the list of
 /// its units. Hands the books back where there is none for the system.
-fn run_on<S: Site, R: Wait + Abort + AllocGlobal>(
+fn run_on<S: Opened<Disk>, R: Wait + Abort + AllocGlobal>(
     rt: &R,
     rows: &mut Rows,
     books: Vec<UnitBook<Disk>>,
@@ -94,6 +94,7 @@ fn run_on<S: Site, R: Wait + Abort + AllocGlobal>(
     requires site { S.rows ≡ site_of rows.old }
     requires fresh { AreFresh rows.old }
     requires books { AreBooks S.rows.units books.items }
+    requires opened { S.opened ≡ books.items }
     requires two { S.rows.units ≡ 2 }
     ensures { IfOk result (λ left. IfSome left (λ books. AreBooks 2 books.items)) }
 {

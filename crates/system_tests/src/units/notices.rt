@@ -10,7 +10,7 @@ use std::thread::Threads;
 use unit_book::{Mode, Purging};
 
 /// The task issues a request to unit 0, which starts it, and halts it before its first command.
-fn halt_first<S: Site, R: Wait + Abort + AllocGlobal>(
+fn halt_first<S: Opened<Disk>, R: Wait + Abort + AllocGlobal>(
     rt: &R,
     system: &System<'_, S, Disk>,
     task: &mut Task<'_, S>,
@@ -27,7 +27,7 @@ fn halt_first<S: Site, R: Wait + Abort + AllocGlobal>(
 }
 
 /// The halted request comes back when the handlers alone are served, with channel end and device end before its first CCW.
-fn expect_halted<'r, S: Site + Send + Sync, R: Threads + Wait + Sync + Abort>(
+fn expect_halted<'r, S: Opened<Disk> + Send + Sync, R: Threads + Wait + Sync + Abort>(
     rt: &R,
     system: &System<'r, S, Disk>,
     handlers: Vec<IscTaker<'r, S>>,
@@ -46,7 +46,7 @@ fn expect_halted<'r, S: Site + Send + Sync, R: Threads + Wait + Sync + Abort>(
 }
 
 /// Halts a request, and serves the handlers.
-fn steps<S: Site + Send + Sync, R: Threads + Wait + Sync + Abort + AllocGlobal>(
+fn steps<S: Opened<Disk> + Send + Sync, R: Threads + Wait + Sync + Abort + AllocGlobal>(
     rt: &R,
     rows: &mut Rows,
     books: Vec<UnitBook<Disk>>,
@@ -54,6 +54,7 @@ fn steps<S: Site + Send + Sync, R: Threads + Wait + Sync + Abort + AllocGlobal>(
     requires site { S.rows ≡ site_of rows.old }
     requires fresh { AreFresh rows.old }
     requires books { AreBooks S.rows.units books.items }
+    requires opened { S.opened ≡ books.items }
     requires two { S.rows.units ≡ 2 }
 {
     let (system, mut tasks, handlers) = System::<S, Disk>::new(rt.alloc(), rows, books)?;
@@ -63,7 +64,7 @@ fn steps<S: Site + Send + Sync, R: Threads + Wait + Sync + Abort + AllocGlobal>(
 }
 
 /// Serves the handlers in a thread of their own until the task has collected.
-fn halted<'r, S: Site + Send + Sync, R: Threads + Wait + Sync>(
+fn halted<'r, S: Opened<Disk> + Send + Sync, R: Threads + Wait + Sync>(
     rt: &R,
     system: &System<'r, S, Disk>,
     handlers: Vec<IscTaker<'r, S>>,

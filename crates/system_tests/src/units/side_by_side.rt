@@ -81,7 +81,7 @@ fn collected<S: Site, R: Wait>(rt: &R, task: &mut Task<'_, S>) -> Collected
 /// What the task does: with unit 0 held up it issues two requests to it and one to unit 1, and collects of unit 1.
 /// Then it lets unit 0 go, and collects the first post of it. It does nothing unless unit 0 is locked while its gate is
 /// passed.
-fn exchange<S: Site, R: Wait>(
+fn exchange<S: Opened<Disk>, R: Wait>(
     rt: &R,
     alloc: Global,
     system: &System<'_, S, Disk>,
@@ -104,7 +104,7 @@ fn exchange<S: Site, R: Wait>(
 }
 
 /// Starts a channel worker for each unit, and a handler, each on a thread of its own.
-fn start<'s, 'r, S: Site + Send + Sync, R: Threads + Wait + Sync, E>(
+fn start<'s, 'r, S: Opened<Disk> + Send + Sync, R: Threads + Wait + Sync, E>(
     rt: &'s R,
     scope: &Scope<'s, E>,
     system: &'s System<'r, S, Disk>,
@@ -128,7 +128,7 @@ fn start<'s, 'r, S: Site + Send + Sync, R: Threads + Wait + Sync, E>(
 }
 
 /// Starts the workers and runs the task beside them. Where a worker cannot be started the task does not run.
-fn serve<'s, 'r, S: Site + Send + Sync, R: Threads + Wait + Sync, E>(
+fn serve<'s, 'r, S: Opened<Disk> + Send + Sync, R: Threads + Wait + Sync, E>(
     rt: &'s R,
     alloc: Global,
     scope: &Scope<'s, E>,
@@ -149,7 +149,7 @@ fn serve<'s, 'r, S: Site + Send + Sync, R: Threads + Wait + Sync, E>(
 }
 
 /// Runs the task beside the workers, and stops and joins these.
-fn served<'r, S: Site + Send + Sync, R: Threads + Wait + Sync>(
+fn served<'r, S: Opened<Disk> + Send + Sync, R: Threads + Wait + Sync>(
     rt: &R,
     alloc: Global,
     system: &System<'r, S, Disk>,
@@ -188,7 +188,7 @@ fn expect_collected(rt: &impl Abort, barrier: &Barrier, got: [Collected; 2]) {
 }
 
 /// The report of the run.
-fn ended<S: Site + Send + Sync, R: Threads + Wait + Sync + Abort + AllocGlobal>(
+fn ended<S: Opened<Disk> + Send + Sync, R: Threads + Wait + Sync + Abort + AllocGlobal>(
     rt: &R,
     rows: &mut Rows,
     books: Vec<UnitBook<Disk>>,
@@ -196,6 +196,7 @@ fn ended<S: Site + Send + Sync, R: Threads + Wait + Sync + Abort + AllocGlobal>(
     requires site { S.rows ≡ site_of rows.old }
     requires fresh { AreFresh rows.old }
     requires books { AreBooks S.rows.units books.items }
+    requires opened { S.opened ≡ books.items }
     requires one { S.rows.tasks ≡ 1 }
     requires two { S.rows.units ≡ 2 }
     ensures { IfOk result (λ report. IsFor 2 1 report) }

@@ -22,7 +22,7 @@ fn is_told(trace: &[Entry], mode: Mode) -> bool {
 }
 
 /// The task issues a request to each unit. The one of unit 0 is started, the one of unit 1 waits.
-fn issue_both<S: Site, R: Wait + AllocGlobal>(
+fn issue_both<S: Opened<Disk>, R: Wait + AllocGlobal>(
     rt: &R,
     system: &System<'_, S, Disk>,
     task: &mut Task<'_, S>,
@@ -40,7 +40,7 @@ fn issue_both<S: Site, R: Wait + AllocGlobal>(
 
 /// Asserts that a unit answered as its trace tells, with this answer where it was purged. Its request is posted 48 if
 /// it was purged, but for one that was active and is let end. Answers whether it was purged.
-fn expect_at<S: Site, R: Wait + Abort>(
+fn expect_at<S: Opened<Disk>, R: Wait + Abort>(
     rt: &R,
     system: &System<'_, S, Disk>,
     task: &mut Task<'_, S>,
@@ -64,7 +64,7 @@ fn expect_at<S: Site, R: Wait + Abort>(
 }
 
 /// Purges task 0, which has a request on each unit. Answers which units were purged.
-fn steps<S: Site, R: Wait + Abort + AllocGlobal>(
+fn steps<S: Opened<Disk>, R: Wait + Abort + AllocGlobal>(
     rt: &R,
     rows: &mut Rows,
     books: Vec<UnitBook<Disk>>,
@@ -73,6 +73,7 @@ fn steps<S: Site, R: Wait + Abort + AllocGlobal>(
     requires site { S.rows ≡ site_of rows.old }
     requires fresh { AreFresh rows.old }
     requires books { AreBooks S.rows.units books.items }
+    requires opened { S.opened ≡ books.items }
     requires two { S.rows.units ≡ 2 }
 {
     let (system, mut tasks, _) = System::<S, Disk>::new(rt.alloc(), rows, books)?;

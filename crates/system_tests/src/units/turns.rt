@@ -33,7 +33,7 @@ fn endless() -> [u8; 104] {
 }
 
 /// How many commands the newest entry of unit 0 says were run.
-fn commands_run<S: Site, R: Wait>(rt: &R, system: &System<'_, S, Disk>) -> Option<u32>
+fn commands_run<S: Opened<Disk>, R: Wait>(rt: &R, system: &System<'_, S, Disk>) -> Option<u32>
     requires { 0 < S.rows.units }
 {
     let state = system.lock_of(0).lock(rt);
@@ -45,7 +45,7 @@ fn commands_run<S: Site, R: Wait>(rt: &R, system: &System<'_, S, Disk>) -> Optio
 
 /// How many commands of a program without end a turn of each worker runs: of a channel alone, and of one that may have
 /// handlers too.
-fn turns_of<'r, S: Site, R: Wait>(
+fn turns_of<'r, S: Opened<Disk>, R: Wait>(
     rt: &R,
     alloc: Global,
     system: &System<'r, S, Disk>,
@@ -64,7 +64,7 @@ fn turns_of<'r, S: Site, R: Wait>(
 }
 
 /// The turns of a system over these rows and books.
-fn turns<S: Site, R: Wait>(
+fn turns<S: Opened<Disk>, R: Wait>(
     rt: &R,
     alloc: Global,
     rows: &mut Rows,
@@ -73,6 +73,7 @@ fn turns<S: Site, R: Wait>(
     requires site { S.rows ≡ site_of rows.old }
     requires fresh { AreFresh rows.old }
     requires books { AreBooks S.rows.units books.items }
+    requires opened { S.opened ≡ books.items }
     requires two { S.rows.units ≡ 2 }
 {
     let (system, mut tasks, _) = System::<S, Disk>::new(alloc, rows, books)?;

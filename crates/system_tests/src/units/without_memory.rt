@@ -48,7 +48,7 @@ impl Gate for OneTurn {
 
 /// A turn of a channel worker on unit 0, and one of a handler if a status is pending then. Returns the number of
 /// calls without memory that the gate heard of.
-fn serve_once<'r, S: Site, R: Wait>(
+fn serve_once<'r, S: Opened<Disk>, R: Wait>(
     rt: &R,
     system: &System<'r, S, Disk>,
     handlers: &mut [IscTaker<'r, S>],
@@ -69,7 +69,7 @@ fn serve_once<'r, S: Site, R: Wait>(
 
 /// Serves unit 0 until the task collects. Returns how that request ended, the turn, and the number of calls without
 /// memory by then.
-fn served<'r, S: Site, R: Wait>(
+fn served<'r, S: Opened<Disk>, R: Wait>(
     rt: &R,
     system: &System<'r, S, Disk>,
     handlers: &mut [IscTaker<'r, S>],
@@ -88,7 +88,7 @@ fn served<'r, S: Site, R: Wait>(
 }
 
 /// Opens `count` more DCBs on unit 0.
-fn open_more<S: Site, R: Wait>(
+fn open_more<S: Opened<Disk>, R: Wait>(
     rt: &R,
     system: &System<'_, S, Disk>,
     more: u16,
@@ -145,7 +145,7 @@ fn issue_one<S: Site, R: Wait + AllocGlobal>(
 
 /// Issues the request of a case to unit 0, and serves it. It is posted in its turn, and a turn later for each call
 /// without memory, of which the gate hears.
-fn expect_served<'r, S: Site, R: Wait + Abort + AllocGlobal>(
+fn expect_served<'r, S: Opened<Disk>, R: Wait + Abort + AllocGlobal>(
     rt: &R,
     system: &System<'r, S, Disk>,
     handlers: &mut [IscTaker<'r, S>],
@@ -164,7 +164,7 @@ fn expect_served<'r, S: Site, R: Wait + Abort + AllocGlobal>(
 }
 
 /// Serves the request of a case on a system over these rows and books.
-fn steps<S: Site, R: Wait + Abort + AllocGlobal>(
+fn steps<S: Opened<Disk>, R: Wait + Abort + AllocGlobal>(
     rt: &R,
     rows: &mut Rows,
     books: Vec<UnitBook<Disk>>,
@@ -173,6 +173,7 @@ fn steps<S: Site, R: Wait + Abort + AllocGlobal>(
     requires site { S.rows ≡ site_of rows.old }
     requires fresh { AreFresh rows.old }
     requires books { AreBooks S.rows.units books.items }
+    requires opened { S.opened ≡ books.items }
     requires two { S.rows.units ≡ 2 }
 {
     let (system, mut tasks, mut handlers) = System::<S, Disk>::new(rt.alloc(), rows, books)?;

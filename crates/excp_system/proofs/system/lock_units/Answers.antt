@@ -1,4 +1,5 @@
 use Rattle.std.proofs.Common.{◌≡◌, ◌+◌, [], ◌∷◌, ◌++◌, length, sym, ap, ◌∙◌, arith, length-append, drop, inl, inr}
+use Rattle.std.specs.Prelude.{slice_get}
 use Rattle.std.specs.Iterator.Adapters.{zip_first, zip_second}
 use Rattle.std.specs.Vec.Iter.{into_iter_items}
 use Rattle.std.proofs.lemmas.List.{length-drop}
@@ -19,8 +20,8 @@ into_end-notice-requires g c =
     let eight : length fan.sent ≡ 8 = ap (λ (f : FanState _). length f.sent) (c.args.ends.notice_are.each u fan at) in
     omega (arith, c.from.ensures, c.isc.ensures.is, c.isc.ensures.few, eight)
 
-pub new-unit-requires : goal.new-unit-requires
-new-unit-requires g c =
+pub new-unit-requires-clause-ends : goal.new-unit-requires-clause-ends
+new-unit-requires-clause-ends g c =
     let i = c.loop-book.invariant in
     let s = g.S.Site.rows in
     let u = length c.loop-book.yielded in
@@ -43,6 +44,19 @@ new-unit-requires g c =
     (c.args.ends.back_are.each u back back_at)
     (c.args.ends.notice_are.each u fan notice_at)
     (c.into_end-notice.ensures ∙ ap (λ k. end_of (notice_rows s) fan.number k (sent_to fan k)) (c.from.ensures ∙ c.isc.ensures.is))
+
+pub new-unit-requires-clause-opened : goal.new-unit-requires-clause-opened
+new-unit-requires-clause-opened g c =
+    let i = c.loop-book.invariant in
+    let u = length c.loop-book.yielded in
+    let rest = c.next.new.self in
+    let steps = c.in-Some.ensures.steps in
+    let rows = zip_first (zip_second rest) in
+    let book_at = drop_get u c.args.books.items (into_iter_items (zip_first rest)) c.in-Some.book (sym i.books ∙ steps.0.0) in
+    let back_at = drop_get u c.args.ends.back.items (into_iter_items (zip_second rows)) c.in-Some.back (sym i.backs ∙ steps.1.0.1.0) in
+    let number : c.number.result ≡ u =
+    c.number.ensures ∙ ap (λ (f : FanState _). f.number) (c.args.ends.back_are.each u c.in-Some.back back_at) in
+    (λ j. slice_get (c.requires.opened j) (number j)) ∙ book_at
 
 pub push_reserved-requires : goal.push_reserved-requires
 push_reserved-requires g c =

@@ -2,6 +2,7 @@ use Rattle.std.proofs.Common.{◌≡◌, ◌+◌, ◌∷◌, [], ◌++◌, Resul
 use Rattle.std.proofs.lemmas.List.{drop-drop, length-append, map-append}
 use Rattle.std.specs.Vec.Iter.{into_iter_items}
 use Rattle.job_run.specs.declared.task_error.TaskError.{TaskError}
+use Rattle.job_run.proofs.Printed.{all_made}
 use Rattle.job_run.proofs.Rans.{all_done}
 use Rattle.job_run.proofs.run.ends_of.Goals as goal
 
@@ -35,3 +36,10 @@ returns-clause-done g c =
     let steps = c.in-None.ensures.steps in
     let none : length rest ≡ 0 = first_of (search (rules, steps), grind (arith, steps)) in
     all_done c.loop-outcome.tasks.items rest c.args.outcomes.items c.loop-outcome.invariant.made none
+
+pub returns-clause-made : goal.returns-clause-made
+returns-clause-made g c =
+    let rest = into_iter_items c.loop-outcome.outcome-iterator in
+    let steps = c.in-None.ensures.steps in
+    let none : length rest ≡ 0 = first_of (search (rules, steps), grind (arith, steps)) in
+    all_made c.loop-outcome.tasks.items rest c.args.outcomes.items c.loop-outcome.invariant.made none

@@ -7,7 +7,8 @@ use Rattle.job_mount.specs.Outcomes.{all_without_spare}
 use Rattle.job_script.specs.Views.{said}
 use Rattle.job_run.specs.Ending.{EndsParsed, IsFaultlessWith}
 use Rattle.job_run.specs.Rooms.{room_of_a_unit}
-use Rattle.job_run.proofs.Ends.{ends_with, late_result, not_mounted, ran_result}
+use Rattle.job_run.proofs.Beginnings.{begun_with}
+use Rattle.job_run.proofs.Ends.{ends_with, late_result, not_mounted}
 use Rattle.job_run.proofs.run.run_parsed.Goals as goal
 
 pub returns-in_err-rows-clause-fault : goal.returns-in_err-rows-clause-fault
@@ -19,15 +20,13 @@ returns-in_err-rows-clause-fault g c =
     (not_mounted (λ (made : RowsState × Vec (Book AnyDevice) Global). all_without_spare made.1) given script
     (room_of_a_unit c.args.script.now) fault c.in_err-rows.ensures.exact)
 
-pub returns-clause-ran : goal.returns-clause-ran
-returns-clause-ran g c =
-    let given = c.args.given.items in
-    let script = said c.args.script.now in
-    ran_result c.run_on.result (IsFaultlessWith given script)
-    (room_of_a_unit c.args.script.now, all_without_spare c.in_ok-rows.books, c.in_ok-rows.ensures.exact)
+pub returns-clause-began : goal.returns-clause-began
+returns-clause-began g c =
+    begun_with c.run_on.result c.args.given.items (said c.args.script.now) (room_of_a_unit c.args.script.now) c.in_ok-rows.books
+    c.in_ok-rows.ensures.exact c.run_on.ensures.began
 
 pub returns-clause-fault : goal.returns-clause-fault
 returns-clause-fault g c =
     let runs : IsFaultlessWith c.args.given.items (said c.args.script.now) =
     (room_of_a_unit c.args.script.now, all_without_spare c.in_ok-rows.books, c.in_ok-rows.ensures.exact) in
-    late_result c.run_on.result c.args.given.items c.args.script.now runs c.run_on.ensures.fault
+    late_result c.run_on.result c.args.given.items (said c.args.script.now) runs c.run_on.ensures.fault

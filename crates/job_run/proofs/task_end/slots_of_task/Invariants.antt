@@ -1,4 +1,4 @@
-use Rattle.std.proofs.Common.{◌≡◌, [], drop, replicate}
+use Rattle.std.proofs.Common.{[], drop, replicate}
 use Rattle.std.specs.Prelude.{vec_len}
 use Rattle.job_script.specs.Tasks.{places_of}
 use Rattle.post_slots.specs.Slots.{slots_of}

@@ -4,7 +4,7 @@ ghost use Rattle.std.specs.Prelude.{◌≡◌, ℕ, ⊤, All, vec_len};
 ghost use Rattle.job_mount.specs.Requests.{CanBeDone};
 
 use any_device::AnyDevice;
-use excp_system::{Site, System};
+use excp_system::{Opened, System};
 use job_run::{Job, TaskEnd, TaskError};
 use job_script::Script;
 use std::alloc::Global;
@@ -34,7 +34,7 @@ impl<'a> TaskProgram<AnyDevice> for NotAwaited<'a> {
 
     ghost runs = { λ tasks old new outcome. ⊤ };
 
-    fn run<S: Site, R: Wait>(
+    fn run<S: Opened<AnyDevice>, R: Wait>(
         &self,
         rt: &R,
         alloc: Global,

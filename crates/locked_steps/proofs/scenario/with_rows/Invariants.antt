@@ -1,5 +1,9 @@
 use Rattle.excp_system.specs.Opening.{site_of}
 use Rattle.locked_steps.proofs.scenario.with_rows.Given as goal
 
-abbrev pub ghosts-on_site : goal.ghosts-on_site
-ghosts-on_site g a = record { rows = site_of a.rows.now }
+-- the site of these rows, whose units begin with these books
+abbrev pub ghosts-on_site-S-Site : goal.ghosts-on_site-S-Site
+ghosts-on_site-S-Site g a = record { rows = site_of a.rows.now }
+
+abbrev pub ghosts-on_site-S-Opened : goal.ghosts-on_site-S-Opened
+ghosts-on_site-S-Opened g a = record { opened = a.books.items }

@@ -3,7 +3,9 @@ use Rattle.std.proofs.lemmas.List.{append-nil, length-map}
 use Rattle.excp_system.proofs.Balances.{none_left}
 use Rattle.std.specs.Vec.Iter.{into_iter_items}
 use Rattle.std.proofs.lemmas.List.Elements.{All-push}
-use Rattle.excp_system.specs.States.{Locked}
+use Rattle.unit_book.specs.Trace.{arrivals}
+use Rattle.excp_system.specs.Begun.{Began}
+use Rattle.excp_system.specs.States.{AreOf, Locked}
 use Rattle.std.specs.List.{All}
 use Rattle.std.proofs.lemmas.Grind.{common_steps}
 use Rattle.post_ledger.specs.Parting.{IsBack, BookKeeps, Paired, book_of, intake_end}
@@ -30,6 +32,8 @@ loop-unit-preserved g c =
           (record { number_is = e.ends.back_is; count = e.ends.count; sent = e.ends.sent }));
       sound = All-push (λ (u : Locked _). BookKeeps g.D.Device.meaning u.book) c.loop-unit.yielded v i.sound
           (record { legal = c.holds.ensures.legal; given = c.holds.ensures.given });
+      began = All-push (λ (u : Locked _). Began g.S.Opened.opened u.unit u.book) c.loop-unit.yielded v i.began c.holds.ensures.began;
+      of_unit = All-push (λ (u : Locked _). AreOf s u.unit (arrivals u.book.trace)) c.loop-unit.yielded v i.of_unit c.holds.ensures.of_unit;
       room = (
         omega (arith, i.room.0, c.push_reserved.ensures.capacity),
         omega (arith, i.room.1, c.push_reserved-in-loop-unit.ensures.capacity),
@@ -45,6 +49,8 @@ loop-unit-init g c = record {
   backs = paired_none (IsBack g.D.Device.meaning g.S.Site.rows) c.args.parts.backs.items c.requires.backs.0;
   room = (c.requires.books.1, c.requires.intakes.1, c.requires.backs.1);
   sound = λ k d lt. absurd (omega (arith, lt));
+  began = λ k d lt. absurd (omega (arith, lt));
+  of_unit = λ k d lt. absurd (omega (arith, lt));
 }
 
 pub push_reserved-requires : goal.push_reserved-requires
@@ -95,3 +101,19 @@ returns-clause-sound g c =
     let all : c.args.units.items ≡ c.loop-unit.yielded = c.loop-unit.invariant.all
     ∙ (ap (λ r. c.loop-unit.yielded ++ r) none ∙ append-nil c.loop-unit.yielded) in
     subst (All (λ (u : Locked _). BookKeeps g.D.Device.meaning u.book)) (sym all) c.loop-unit.invariant.sound
+
+pub returns-clause-began : goal.returns-clause-began
+returns-clause-began g c =
+    let none : into_iter_items c.loop-unit.unit-iterator ≡ [] = none_left (into_iter_items c.loop-unit.unit-iterator)
+    (omega (arith, c.loop-unit.unit-iterator.rest.ok, c.in-None.ensures.steps.0)) in
+    let all : c.args.units.items ≡ c.loop-unit.yielded = c.loop-unit.invariant.all
+    ∙ (ap (λ r. c.loop-unit.yielded ++ r) none ∙ append-nil c.loop-unit.yielded) in
+    subst (All (λ (u : Locked _). Began g.S.Opened.opened u.unit u.book)) (sym all) c.loop-unit.invariant.began
+
+pub returns-clause-of_unit : goal.returns-clause-of_unit
+returns-clause-of_unit g c =
+    let none : into_iter_items c.loop-unit.unit-iterator ≡ [] = none_left (into_iter_items c.loop-unit.unit-iterator)
+    (omega (arith, c.loop-unit.unit-iterator.rest.ok, c.in-None.ensures.steps.0)) in
+    let all : c.args.units.items ≡ c.loop-unit.yielded = c.loop-unit.invariant.all
+    ∙ (ap (λ r. c.loop-unit.yielded ++ r) none ∙ append-nil c.loop-unit.yielded) in
+    subst (All (λ (u : Locked _). AreOf g.S.Site.rows u.unit (arrivals u.book.trace))) (sym all) c.loop-unit.invariant.of_unit

@@ -1,5 +1,9 @@
 use Rattle.excp_system.specs.Opening.{site_of}
 use Rattle.system_threads.proofs.run.run_program.Given as goal
 
-abbrev pub ghosts-run_at : goal.ghosts-run_at
-ghosts-run_at g a = record { rows = site_of a.rows.now }
+-- the site of these rows, whose units begin with these books
+abbrev pub ghosts-run_at-S-Site : goal.ghosts-run_at-S-Site
+ghosts-run_at-S-Site g a = record { rows = site_of a.rows.now }
+
+abbrev pub ghosts-run_at-S-Opened : goal.ghosts-run_at-S-Opened
+ghosts-run_at-S-Opened g a = record { opened = a.books.items }

@@ -1,5 +1,6 @@
 use Rattle.std.proofs.Common.{◌≡◌, ℕ, List, [], ◌∷◌, ◌++◌, drop, sym, ap, ◌∙◌, subst, arith, rules}
 use Rattle.std.specs.Prelude.{slice_set}
+use Rattle.std.proofs.lemmas.Grind.{common_steps}
 use Rattle.request_piece.specs.PostedState.{PostedState}
 use Rattle.request_piece.specs.declared.piece.Name.{Name}
 use Rattle.unit_book.specs.Book.{given}
@@ -9,27 +10,28 @@ use Rattle.excp_system.specs.Sites.{NoFact, post_rows, unit_of, for_task, end_of
 use Rattle.excp_system.specs.Fans.{sent_to}
 use Rattle.excp_system.specs.RowCalls.{IsFirst}
 use Rattle.excp_system.specs.States.{Locked}
+use Rattle.excp_system.proofs.Begins.{began_then, continues_out}
 use Rattle.excp_system.proofs.Units.{first-is, unit-delivers}
 use Rattle.excp_system.proofs.unit.UnitState.deliver.Goals as goal
 
 pub send-requires-clause-row : goal.send-requires-clause-row
 send-requires-clause-row g c =
     let f = first-is g.D.Device.meaning g.S.Site.rows c.self.inside.unit c.self.inside.book c.self.inside.intake c.self.inside.back
-    c.self.inside.notice c.self.inside.owes c.self.invariant c.holds.ensures.given
+    c.self.inside.notice c.self.inside.owes c.self.invariant.0 c.holds.ensures.given
     c.in-Some.value c.holds.ensures.legal c.in-Some.ensures.first in
-    omega (arith, f.0, c.self.invariant.count, ap (λ (n : Name). n.task) c.name-name.ensures)
+    omega (arith, f.0, c.self.invariant.0.count, ap (λ (n : Name). n.task) c.name-name.ensures)
 
 pub send-requires-clause-number : goal.send-requires-clause-number
 send-requires-clause-number g c =
     let f = first-is g.D.Device.meaning g.S.Site.rows c.self.inside.unit c.self.inside.book c.self.inside.intake c.self.inside.back
-    c.self.inside.notice c.self.inside.owes c.self.invariant c.holds.ensures.given
+    c.self.inside.notice c.self.inside.owes c.self.invariant.0 c.holds.ensures.given
     c.in-Some.value c.holds.ensures.legal c.in-Some.ensures.first in
-    ap (λ (v : PostedState). v.unit) c.new.ensures ∙ f.1 ∙ sym c.self.invariant.back_is
+    ap (λ (v : PostedState). v.unit) c.new.ensures ∙ f.1 ∙ sym c.self.invariant.0.back_is
 
 pub invariant_of-self-in-Ok : goal.invariant_of-self-in-Ok
 invariant_of-self-in-Ok g c =
     let f = first-is g.D.Device.meaning g.S.Site.rows c.self.inside.unit c.self.inside.book c.self.inside.intake c.self.inside.back
-    c.self.inside.notice c.self.inside.owes c.self.invariant c.holds.ensures.given
+    c.self.inside.notice c.self.inside.owes c.self.invariant.0 c.holds.ensures.given
     c.in-Some.value c.holds.ensures.legal c.in-Some.ensures.first in
     let back = c.self.inside.back in
     let sends : c.send.new.self ≡ record {
@@ -42,10 +44,12 @@ invariant_of-self-in-Ok g c =
     ∙ ap (λ (v : PostedState). record {
       number = back.number;
       sent = slice_set back.sent c.in-Some.value.name.task (sent_to back c.in-Some.value.name.task ++ v ∷ []);
-    }) c.new.ensures in
-    unit-delivers g.D.Device.meaning g.S.Site.rows c.self.inside.unit c.self.inside.book c.self.inside.intake c.self.inside.back
-    c.self.inside.notice c.self.inside.owes c.self.invariant c.holds.ensures.given
-    c.take_out.new.self c.in-Some.value c.send.new.self c.in-Some.ensures.book c.in-Some.ensures.given f.0 sends
+    }) c.new.ensures in (
+      unit-delivers g.D.Device.meaning g.S.Site.rows c.self.inside.unit c.self.inside.book c.self.inside.intake c.self.inside.back
+          c.self.inside.notice c.self.inside.owes c.self.invariant.0 c.holds.ensures.given
+          c.take_out.new.self c.in-Some.value c.send.new.self c.in-Some.ensures.book c.in-Some.ensures.given f.0 sends,
+      began_then c.self.invariant.1 (continues_out _ c.in-Some.ensures.book),
+    )
 
 pub returns-in-Ok : goal.returns-in-Ok
 returns-in-Ok g c =
@@ -54,7 +58,7 @@ returns-in-Ok g c =
     let value = c.in-Some.value in
     let is = c.self.view_is in
     let f = first-is meaning s c.self.inside.unit c.self.inside.book c.self.inside.intake c.self.inside.back c.self.inside.notice
-    c.self.inside.owes c.self.invariant c.holds.ensures.given
+    c.self.inside.owes c.self.invariant.0 c.holds.ensures.given
     value c.holds.ensures.legal c.in-Some.ensures.first in
     let first : IsFirst meaning s c.self.inside.book c.name-name.result value =
     record { first = sym c.in-Some.ensures.first; named = sym c.name-name.ensures; of_task = f.0 } in (
@@ -75,7 +79,7 @@ returns-in-Err g c =
     let s = g.S.Site.rows in
     let value = c.in-Some.value in
     let is = c.self.view_is in
-    let inv = c.self.invariant in
+    let inv = c.self.invariant.0 in
     let f = first-is meaning s c.self.inside.unit c.self.inside.book c.self.inside.intake c.self.inside.back c.self.inside.notice
     c.self.inside.owes inv c.holds.ensures.given
     value c.holds.ensures.legal c.in-Some.ensures.first in
@@ -94,3 +98,15 @@ returns-in-Err g c =
       subst (λ (v : Locked _). WasFull unit_of NoFact
           (end_of (post_rows s) v.unit value.name.task (of for_task value.name.task (given meaning v.book)))) is full,
     )
+
+pub invariant_of-self : goal.invariant_of-self
+invariant_of-self g c = (
+  first_of (search rules, grind (arith, common_steps)),
+  began_then c.self.invariant.1 (continues_out _ c.take_out.ensures.book),
+)
+
+pub invariant_of-self-in-Err : goal.invariant_of-self-in-Err
+invariant_of-self-in-Err g c = (
+  first_of (search rules, grind (arith, common_steps)),
+  began_then (began_then c.self.invariant.1 (continues_out _ c.take_out.ensures.book)) (continues_out _ c.return_out.ensures),
+)

@@ -1,14 +1,18 @@
 use Rattle.unit_book.proofs.WorldBooks.{keeps-purge}
 use Rattle.request_piece.specs.declared.scope.Scope.TheVariants.{Task}
+use Rattle.excp_system.proofs.Begins.{began_call, continues_purges}
 use Rattle.excp_system.proofs.Units.{unit-call}
 use Rattle.excp_system.proofs.unit.UnitState.purge_task.Goals as goal
 
 pub invariant_of-self : goal.invariant_of-self
 invariant_of-self g c =
     let old = c.self.inside.book in
-    let new = c.purge_task-answer.new.self in
-    unit-call g.D.Device.meaning g.S.Site.rows c.self.inside.unit old c.self.inside.intake c.self.inside.back c.self.inside.notice
-    c.self.inside.owes c.self.invariant c.holds.ensures.given
-    c.purge_task-answer.result new c.self.inside.owes c.holds.ensures.legal c.holds.ensures.settled c.purge_task-answer.ensures.ok
-    c.purge_task-answer.ensures.err
-    (λ sound answer h. keeps-purge g.D.Device.meaning {scope = Task c.args.task} sound tt h)
+    let new = c.purge_task-answer.new.self in (
+      unit-call g.D.Device.meaning g.S.Site.rows c.self.inside.unit old c.self.inside.intake c.self.inside.back c.self.inside.notice
+          c.self.inside.owes c.self.invariant.0 c.holds.ensures.given
+          c.purge_task-answer.result new c.self.inside.owes c.holds.ensures.legal c.holds.ensures.settled c.purge_task-answer.ensures.ok
+          c.purge_task-answer.ensures.err
+          (λ sound answer h. keeps-purge g.D.Device.meaning {scope = Task c.args.task} sound tt h),
+      began_call c.purge_task-answer.result new c.self.invariant.1 c.purge_task-answer.ensures.ok c.purge_task-answer.ensures.err
+          (λ answer h. continues_purges g.D.Device.meaning h),
+    )

@@ -1,4 +1,5 @@
-use Rattle.std.proofs.Common.{◌≡◌, ◌<◌, ◌++◌, ◌+◌, [], ◌∷◌, length, sym, ap, ◌∙◌, subst, arith}
+use Rattle.std.proofs.Common.{◌≡◌, ◌<◌, ◌++◌, ◌+◌, [], ◌∷◌, length, sym, ap, ◌∙◌, subst, arith, rules}
+use Rattle.std.proofs.lemmas.Grind.{common_steps}
 use Rattle.request_piece.specs.declared.piece.Piece.{Piece}
 use Rattle.unit_book.specs.Book.{Book}
 use Rattle.unit_book.specs.Trace.{arrived_of}
@@ -7,6 +8,8 @@ use Rattle.unit_book.proofs.WorldBooks.{Keeps, Sound, keeps-arrive, keeps-again}
 use Rattle.fifo_row.specs.Ends.{IsNextItem, Taking}
 use Rattle.fifo_row.specs.Lists.{of}
 use Rattle.excp_system.specs.Sites.{RequestFact, task_of}
+use Rattle.unit_book.specs.declared.entry.Entry.TheVariants.{Arrive}
+use Rattle.excp_system.proofs.Begins.{began_then, continues_again, continues_dooms, continues_then}
 use Rattle.excp_system.proofs.Units.{unit-takes}
 use Rattle.excp_system.proofs.unit.UnitState.take.Goals as goal
 
@@ -18,7 +21,7 @@ invariant_of-self-in-Some g c =
     let mid = c.reserve.new.self in
     let new = c.arrive_reserved.new.self in
     let taker = c.self.inside.intake in
-    let is = c.self.invariant.intake_is in
+    let is = c.self.invariant.0.intake_is in
     let r = c.into_request-request.result in
     let same : r ≡ c.in-Some.sent = c.into_request-request.ensures in
     let next : IsNextItem task_of RequestFact taker r = subst (IsNextItem task_of RequestFact taker) (sym same) c.in-Some.ensures.next in
@@ -29,9 +32,18 @@ invariant_of-self-in-Some g c =
     ∙ ap (λ (b : Book _). arrived_of r.name.task b.trace) (sym c.in_ok-reserve.ensures.book) in
     let number : r.name.seq ≡ arrived_of r.name.task mid.trace + 1 = omega (arith, next.lawful.0, counted) in
     let kept : Keeps meaning old (r ∷ []) new = keeps-then meaning reserved
-    (keeps-arrive meaning (sound-kept meaning reserved) number c.arrive_reserved.ensures.book) in
-    unit-takes meaning s c.self.inside.unit old taker c.self.inside.back c.self.inside.notice c.self.inside.owes c.self.invariant
-    c.holds.ensures.given new r c.take.new.self kept
-    (subst (λ n. r.name.task < n) (ap (λ (t : Taking Piece). t.senders) is) next.of_row)
-    (next.lawful.1 ∙ ap (λ (t : Taking Piece). t.tag) is)
-    (c.in-Some.ensures.taken ∙ ap (λ (x : Piece). record taker { taken = taker.taken ++ x ∷ [] }) (sym same))
+    (keeps-arrive meaning (sound-kept meaning reserved) number c.arrive_reserved.ensures.book) in (
+      unit-takes meaning s c.self.inside.unit old taker c.self.inside.back c.self.inside.notice c.self.inside.owes c.self.invariant.0
+          c.holds.ensures.given new r c.take.new.self kept
+          (subst (λ n. r.name.task < n) (ap (λ (t : Taking Piece). t.senders) is) next.of_row)
+          (next.lawful.1 ∙ ap (λ (t : Taking Piece). t.tag) is)
+          (c.in-Some.ensures.taken ∙ ap (λ (x : Piece). record taker { taken = taker.taken ++ x ∷ [] }) (sym same)),
+      began_then c.self.invariant.1 (continues_then (continues_again old.awaits c.in_ok-reserve.ensures.book)
+          (continues_dooms meaning (Arrive r) c.arrive_reserved.ensures.book)),
+    )
+
+pub invariant_of-self-in-None : goal.invariant_of-self-in-None
+invariant_of-self-in-None g c = (
+  first_of (search rules, grind (arith, common_steps)),
+  began_then c.self.invariant.1 (continues_again c.self.inside.book.awaits c.reserve.ensures.book),
+)

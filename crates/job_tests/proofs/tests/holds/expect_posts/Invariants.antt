@@ -1,5 +1,9 @@
 use Rattle.excp_system.specs.Opening.{site_of}
 use Rattle.job_tests.proofs.tests.holds.expect_posts.Given as goal
 
-abbrev pub ghosts-posts : goal.ghosts-posts
-ghosts-posts g a = record { rows = site_of a.rows.now }
+-- the site of these rows, whose units begin with these books
+abbrev pub ghosts-posts-S-Site : goal.ghosts-posts-S-Site
+ghosts-posts-S-Site g a = record { rows = site_of a.rows.now }
+
+abbrev pub ghosts-posts-S-Opened : goal.ghosts-posts-S-Opened
+ghosts-posts-S-Opened g a = record { opened = a.books.items }

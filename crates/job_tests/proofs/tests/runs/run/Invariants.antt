@@ -1,5 +1,9 @@
 use Rattle.excp_system.specs.Opening.{site_of}
 use Rattle.job_tests.proofs.tests.runs.run.Given as goal
 
-abbrev pub ghosts-tasks_alone : goal.ghosts-tasks_alone
-ghosts-tasks_alone g a = record { rows = site_of a.rows.now }
+-- the site of these rows, whose units begin with these books
+abbrev pub ghosts-tasks_alone-S-Site : goal.ghosts-tasks_alone-S-Site
+ghosts-tasks_alone-S-Site g a = record { rows = site_of a.rows.now }
+
+abbrev pub ghosts-tasks_alone-S-Opened : goal.ghosts-tasks_alone-S-Opened
+ghosts-tasks_alone-S-Opened g a = record { opened = a.books.items }

@@ -1,6 +1,9 @@
 use Rattle.excp_system.specs.Opening.{site_of}
 use Rattle.system_tests.proofs.units.new_system.system_without_memory.Given as goal
 
--- the site of these rows
-abbrev pub ghosts-run_on : goal.ghosts-run_on
-ghosts-run_on g a = record { rows = site_of a.rows.now }
+-- the site of these rows, whose units begin with these books
+abbrev pub ghosts-run_on-S-Site : goal.ghosts-run_on-S-Site
+ghosts-run_on-S-Site g a = record { rows = site_of a.rows.now }
+
+abbrev pub ghosts-run_on-S-Opened : goal.ghosts-run_on-S-Opened
+ghosts-run_on-S-Opened g a = record { opened = a.books.items }

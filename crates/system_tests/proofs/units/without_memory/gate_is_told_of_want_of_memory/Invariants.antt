@@ -1,6 +1,9 @@
 use Rattle.excp_system.specs.Opening.{site_of}
 use Rattle.system_tests.proofs.units.without_memory.gate_is_told_of_want_of_memory.Given as goal
 
--- the site of these rows
-abbrev pub ghosts-steps : goal.ghosts-steps
-ghosts-steps g a = record { rows = site_of a.rows.now }
+-- the site of these rows, whose units begin with these books
+abbrev pub ghosts-steps-S-Site : goal.ghosts-steps-S-Site
+ghosts-steps-S-Site g a = record { rows = site_of a.rows.now }
+
+abbrev pub ghosts-steps-S-Opened : goal.ghosts-steps-S-Opened
+ghosts-steps-S-Opened g a = record { opened = a.books.items }

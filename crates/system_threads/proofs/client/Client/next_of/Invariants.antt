@@ -1,6 +1,6 @@
 use Rattle.std.proofs.Common.{◌≡◌}
 use Rattle.system_threads.specs.Counting.{HasCounted}
-use Rattle.system_threads.proofs.client.Client.next_post.Given as goal
+use Rattle.system_threads.proofs.client.Client.next_of.Given as goal
 
 abbrev pub invariant-loop : goal.invariant-loop
 invariant-loop g l = record {

@@ -1,0 +1,63 @@
+-- What is written of a run is the text of its posts.
+use Rattle.std.proofs.Common.{◌≡◌, Bool, true, false, ℕ, suc, List, [], ◌∷◌, Option, ◌++◌, cond, length, map, refl, ap, subst, ◌∙◌}
+use Rattle.std.specs.Io.KnownBytes.{Appends}
+use Rattle.std.specs.List.{filter}
+use Rattle.any_device.specs.declared.device.AnyDevice.{AnyDevice}
+use Rattle.unit_book.specs.Book.{Book}
+use Rattle.job_script.specs.Commands.{is_excp}
+use Rattle.job_script.specs.Said.{Said}
+use Rattle.job_script.specs.Views.{action_said, command_said, said}
+use Rattle.job_script.specs.declared.command.Action.{Action}
+use Rattle.job_script.specs.declared.command.Action.TheVariants.{Excp, Purge, PurgeTask, Close, Reset, Wait}
+use Rattle.job_script.specs.declared.command.Command.{Command}
+use Rattle.job_script.specs.declared.script.Script.{Script}
+use Rattle.post_lines.specs.Lines.{count_text}
+use Rattle.job_run.specs.Ending.{IsRunOf, PrintsPosts, RunsWhole}
+use Rattle.job_run.specs.Printing.{excp_count, issues, script_text}
+use Rattle.job_run.proofs.Ends.{faultless}
+
+issues_said : (a : Action) → is_excp a ≡ issues (action_said a)
+issues_said (Excp e) = refl
+issues_said (Purge dcb mode) = refl
+issues_said (PurgeTask other mode) = refl
+issues_said (Close dcb) = refl
+issues_said (Reset dcb) = refl
+issues_said Wait = refl
+
+one_more : {X Y : Type 0} (p q : Bool) (x : X) (y : Y) (xs : List X) (ys : List Y) → p ≡ q → length xs ≡ length ys →
+    length (cond p (x ∷ xs) xs) ≡ length (cond q (y ∷ ys) ys)
+one_more true true x y xs ys is same = ap suc same
+one_more true false x y xs ys is same = absurd (cc is)
+one_more false true x y xs ys is same = absurd (cc is)
+one_more false false x y xs ys is same = same
+
+-- the EXCPs are those of what the commands say
+count_said : (commands : List Command) → length (filter (λ c. is_excp c.action) commands) ≡ excp_count (map command_said commands)
+count_said [] = refl
+count_said (c ∷ others) =
+    one_more (is_excp c.action) (issues (action_said c.action)) c (command_said c) (filter (λ x. is_excp x.action) others)
+    (filter (λ x. issues x.action) (map command_said others)) (issues_said c.action) (count_said others)
+
+-- THE TEXT that is written
+pub prints : (n : ℕ) (old new before after : Option (List ℕ)) (script : Script) (books : List (Book AnyDevice)) (text : List ℕ)
+    (commands : List Command) → IsRunOf n old new (said script) books → text ≡ script_text (said script) books →
+    commands ≡ script.commands.items →
+    Appends before after (text ++ count_text (length (filter (λ c. is_excp c.action) commands))) → PrintsPosts n old new before after
+prints n old new before after script books text commands run lines all written = record {
+  says = said script;
+  books = books;
+  run = run;
+  printed = subst (λ (l : List ℕ). Appends before after l)
+      (ap (λ (l : List ℕ). l ++ count_text (length (filter (λ c. is_excp c.action) commands))) lines
+      ∙ ap (λ (k : ℕ). script_text (said script) books ++ count_text k)
+      (ap (λ (l : List Command). length (filter (λ c. is_excp c.action) l)) all ∙ count_said script.commands.items)) written;
+}
+
+-- what was run has no fault
+pub reads_whole : (n : ℕ) (old new : Option (List ℕ)) (says : Said) (books : List (Book AnyDevice)) → IsRunOf n old new says books →
+    RunsWhole n old new
+reads_whole n old new says books run = record {
+  text = run.text;
+  whole = run.whole;
+  faultless = faultless run.text says run.parsed (run.began.capacity, run.began.first, run.began.mounted);
+}

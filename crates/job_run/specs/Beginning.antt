@@ -1,0 +1,14 @@
+-- WHAT THE UNITS OF A SCRIPT BEGAN WITH (profile).
+use Rattle.std.specs.Prelude.{◌≡◌, ℕ, List, Option, Ok}
+use Rattle.any_device.specs.declared.device.AnyDevice.{AnyDevice}
+use Rattle.unit_book.specs.Book.{Book}
+use Rattle.excp_system.specs.Begun.{AreBegun}
+use Rattle.job_mount.specs.Mounting.{books_with}
+use Rattle.job_script.specs.Said.{Said}
+
+-- each of these books continues that of the script for its unit, if the units are given these devices
+pub record AreBegunWith (given : List (Option AnyDevice)) (s : Said) (books : List (Book AnyDevice)) : Type 0 where
+  pub capacity : ℕ
+  pub first : List (Book AnyDevice)
+  pub mounted : books_with given capacity s ≡ Ok first
+  pub began : AreBegun first books

@@ -1,0 +1,2 @@
+-- The text of posts.
+pub mod Lines
