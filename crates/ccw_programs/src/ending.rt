@@ -19,14 +19,19 @@ pub(crate) fn ending_of(links: &[Link], n: u32) -> Ending
     requires { 1 ≤ length links.now }
     ensures { result ≡ ending links.now n }
 {
-    let first = links[0];
-    let rest = &links[1..];
-    let count = u32::from(first.ccw.count);
-    if rest.is_empty() || n < count {
-        ended_in(first, n)
-    } else {
-        ending_of(rest, n - count)
+    let mut first = &links[0];
+    let mut rest = &links[1..];
+    let mut left = n;
+    while let [next, others @ ..] = rest {
+        let count = u32::from(first.ccw.count);
+        if left < count {
+            break;
+        }
+        left -= count;
+        first = next;
+        rest = others;
     }
+    ended_in(*first, left)
 }
 
 /// A command that used up `n` bytes of this CCW ended there.

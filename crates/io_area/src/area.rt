@@ -134,7 +134,7 @@ impl Area {
         ensures { MatchOption result (lies_in self.now at count ≡ false) (IsOffset self.now at count) }
     {
         let from = at.checked_sub(self.base)? as usize;
-        let room = self.bytes.len().checked_sub(from)?;
-        (count <= room).then_some(from)
+        let last = self.bytes.len().checked_sub(count)?;
+        (from <= last).then_some(from)
     }
 }

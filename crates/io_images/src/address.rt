@@ -1,6 +1,7 @@
 //! Addresses below 2^24.
 
 ghost use Rattle.std.specs.Prelude.{◌≡◌, ◌<◌, ◌^◌, ◌%◌, ◌+◌};
+ghost use Rattle.byteorder.specs.Endian.{big_from};
 ghost use Rattle.io_images.specs.Images.{address_of};
 ghost use Rattle.io_images.specs.Written.{address_image};
 
@@ -59,6 +60,16 @@ impl Address {
     {
         Address {
             value: u32::from(image[0]) * 65536 + u32::from(image[1]) * 256 + u32::from(image[2]),
+        }
+    }
+
+    /// The address in the last three of four bytes. One load of four bytes costs less than three of one.
+    #[inline(always)]
+    pub(crate) fn of_word(image: &[u8; 4]) -> Address
+        ensures { result ≡ big_from 1 3 image.now }
+    {
+        Address {
+            value: BigEndian::read_u32(image) % 0x100_0000,
         }
     }
 

@@ -136,7 +136,7 @@ impl Ccw {
     {
         Ccw {
             command: image[0],
-            address: Address::read(&[image[1], image[2], image[3]]),
+            address: Address::of_word(&[image[0], image[1], image[2], image[3]]),
             flags: CcwFlags::new(image[4]),
             count: BigEndian::read_u16(&image[6..]),
         }

@@ -52,7 +52,7 @@ impl Csw {
         ensures { result ≡ csw_of image.now }
     {
         Csw {
-            address: Address::read(&[image[1], image[2], image[3]]),
+            address: Address::of_word(&[image[0], image[1], image[2], image[3]]),
             unit: UnitStatus::new(image[4]),
             sub: SubStatus::new(image[5]),
             residual: BigEndian::read_u16(&image[6..]),

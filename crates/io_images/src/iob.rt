@@ -87,10 +87,10 @@ impl Iob {
             unrelated: flags.contains(IobFlags::UNRELATED),
             sense: BigEndian::read_u16(&image[2..]),
             completion: image[4],
-            ecb: Address::read(&[image[5], image[6], image[7]]),
+            ecb: Address::of_word(&[image[4], image[5], image[6], image[7]]),
             csw: Csw::take(&image[8..]),
-            start: Address::read(&[image[17], image[18], image[19]]),
-            dcb: Address::read(&[image[21], image[22], image[23]]),
+            start: Address::of_word(&[image[16], image[17], image[18], image[19]]),
+            dcb: Address::of_word(&[image[20], image[21], image[22], image[23]]),
             seek: Seek::take(&image[32..]),
         }
     }
