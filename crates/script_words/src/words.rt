@@ -10,8 +10,9 @@ pub struct Words<'a> {
     /// The bytes of the line, without its line feed.
     pub line: &'a [u8],
     places: Places,
+    count: usize,
     printable: bool,
-    ghost closed: { Closed line.now places.starts places.ends places.count (length line.now) },
+    ghost closed: { Closed line.now places.starts places.ends count (length line.now) },
     ghost bytes: { printable ≡ is_printable line.now },
 }
 
@@ -23,12 +24,11 @@ impl<'a> Words<'a> {
         let places = Places {
             starts: [0; 8],
             ends: [0; 8],
-            count: 0,
-            start: 0,
         };
         Words {
             line: &[],
             places,
+            count: 0,
             printable: true,
         }
     }
@@ -40,8 +40,9 @@ impl<'a> Words<'a> {
         ensures shorter { bytes_left (option_copied result) ≤ length text.now }
     {
         let places = &mut self.places;
-        places.count = 0;
-        places.start = 0;
+        // These are variables, since a field would be loaded and stored at each word.
+        let mut count: usize = 0;
+        let mut start: usize = 0;
         let mut printable = true;
         for (place, byte) in text.iter().enumerate() {
             // The test for the bytes of words comes first, since most bytes are such.
@@ -50,13 +51,13 @@ impl<'a> Words<'a> {
             }
             match *byte {
                 b' ' => {
-                    places.close(text, place);
-                    places.start = place + 1;
+                    count = places.close(text, count, start, place);
+                    start = place + 1;
                 }
                 b'\n' => {
-                    places.close(text, place);
                     let (line, _) = text.split_at(place);
                     let (_, after) = text.split_at(place + 1);
+                    self.count = places.close(text, count, start, place);
                     self.line = line;
                     self.printable = printable;
                     return Some(after);
@@ -64,7 +65,7 @@ impl<'a> Words<'a> {
                 _ => printable = false,
             }
         }
-        places.close(text, text.len());
+        self.count = places.close(text, count, start, text.len());
         self.line = text;
         self.printable = printable;
         None
@@ -76,7 +77,7 @@ impl<'a> Words<'a> {
         requires { number < 8 }
         ensures { result.now ≡ get_or (words self.now.line.now) number [] }
     {
-        if number < self.places.count {
+        if number < self.count {
             &self.line[self.places.starts[number]..self.places.ends[number]]
         } else {
             &[]
@@ -88,7 +89,7 @@ impl<'a> Words<'a> {
     pub fn count(&self) -> usize
         ensures { result ≡ length (words self.now.line.now) }
     {
-        self.places.count
+        self.count
     }
 
     /// Whether each byte is a printable ASCII character or a space.
@@ -100,34 +101,30 @@ impl<'a> Words<'a> {
     }
 }
 
-/// The places of the words so far.
+/// The places of the first eight words.
 #[derive(Clone, Copy)]
 struct Places {
     starts: [usize; 8],
     ends: [usize; 8],
-    count: usize,
-    /// Where the current word begins, or the next one.
-    start: usize,
 }
 
 impl Places {
-    /// Ends the current word before this place, if it has a byte.
+    /// Ends the word that begins at `start` before this place, if it has a byte. Returns how many words there are then.
     #[inline(always)]
-    fn close(&mut self, text: &[u8], place: usize)
-        requires scanned { Scanned text.now self.old.starts self.old.ends self.old.count self.old.start place }
+    fn close(&mut self, text: &[u8], count: usize, start: usize, place: usize) -> usize
+        requires scanned { Scanned text.now self.old.starts self.old.ends count start place }
         requires inside { place ≤ length text.now }
-        requires few { self.old.count ≤ place }
-        ensures closed { Closed text.now self.new.starts self.new.ends self.new.count place }
-        ensures few { self.new.count ≤ place + 1 }
+        requires few { count ≤ place }
+        ensures closed { Closed text.now self.new.starts self.new.ends result place }
+        ensures few { result ≤ place + 1 }
     {
-        let start = self.start;
-        if start < place {
-            let count = self.count;
-            if count < 8 {
-                self.starts[count] = start;
-                self.ends[count] = place;
-            }
-            self.count = count + 1;
+        if start >= place {
+            return count;
         }
+        if count < 8 {
+            self.starts[count] = start;
+            self.ends[count] = place;
+        }
+        count + 1
     }
 }

@@ -10,8 +10,8 @@ pub invariant_of-self : goal.invariant_of-self
 invariant_of-self c =
     let within : c.loop-place.place ≤ length c.args.text.now = omega (arith, c.loop-place-test.true) in
     record {
-      closed = closed_line c.args.text.now c.split_at.result.0.now c.close-in-10.new.self.starts c.close-in-10.new.self.ends
-          c.close-in-10.new.self.count c.loop-place.place c.split_at.ensures.front within c.close-in-10.ensures.closed;
+      closed = closed_line c.args.text.now c.split_at.result.0.now c.close-self.new.self.starts c.close-self.new.self.ends
+          c.close-self.result c.loop-place.place c.split_at.ensures.front within c.close-self.ensures.closed;
       bytes = rw c.split_at.ensures.front c.loop-place.invariant.printable;
     }
 
@@ -35,7 +35,7 @@ loop-place-preserved-then-byte-le126 c =
     let low : 33 ≤ b = omega arith in
     let high : b ≤ 126 = omega arith in
     record {
-      scanned = after_byte text old.starts old.ends old.count old.start at c.loop-place-test.true (ne_eqb b 32 (λ e. omega (arith, e, low)))
+      scanned = after_byte text old.starts old.ends c.loop-place.count c.loop-place.start at c.loop-place-test.true (ne_eqb b 32 (λ e. omega (arith, e, low)))
           i.scanned;
       few = omega (arith, i.few);
       printable = plain_more text at c.loop-place.printable c.loop-place-test.true (plain_byte b (omega arith) high) i.printable;
@@ -50,10 +50,10 @@ loop-place-preserved c =
     let old = c.loop-place.places in
     let i = c.loop-place.invariant in
     elim c.match-byte.branch [
-      | in-32 w ↦ (let is : b ≡ 32 = w.in-32.is in rw (w.places-is, w.printable-is) (record {
-        scanned = after_space text w.close.new.self.starts w.close.new.self.ends w.close.new.self.count at c.loop-place-test.true is
-            w.close.ensures.closed;
-        few = w.close.ensures.few;
+      | in-32 w ↦ (let is : b ≡ 32 = w.in-32.is in rw (w.places-is, w.count-is, w.start-is, w.printable-is) (record {
+        scanned = after_space text w.close-count.new.self.starts w.close-count.new.self.ends w.close-count.result at c.loop-place-test.true is
+            w.close-count.ensures.closed;
+        few = w.close-count.ensures.few;
         printable = plain_more text at c.loop-place.printable c.loop-place-test.true (plain_byte b (omega (arith, is)) (omega (arith, is)))
             i.printable;
         line = line_goes_on text at (ne_eqb b 10 (λ e. omega (arith, e, is))) i.line;
@@ -65,8 +65,8 @@ loop-place-preserved c =
           λ h. elim c.else-byte-ge33.branch
           [ else-byte-ge33-via-else-byte-ge33 v ↦ absurd (omega arith) | else-byte-ge33-via-then-byte-ge33+else-byte-le126 v ↦ omega arith ]
           in
-          rw (w.places-is, w.printable-is) (record {
-            scanned = after_byte text old.starts old.ends old.count old.start at c.loop-place-test.true (ne_eqb b 32 blank) i.scanned;
+          rw (w.places-is, w.count-is, w.start-is, w.printable-is) (record {
+            scanned = after_byte text old.starts old.ends c.loop-place.count c.loop-place.start at c.loop-place-test.true (ne_eqb b 32 blank) i.scanned;
             few = omega (arith, i.few);
             printable = plain_less text at c.loop-place-test.true (other_byte b blank far);
             line = line_goes_on text at (ne_eqb b 10 feed) i.line;

@@ -5,8 +5,8 @@ use Rattle.script_words.proofs.words.Words.scan.Given as goal
 
 abbrev pub invariant-loop-place : goal.invariant-loop-place
 invariant-loop-place l = record {
-  scanned : Scanned l.text l.places.starts l.places.ends l.places.count l.places.start l.place;
-  few : l.places.count ≤ l.place;
+  scanned : Scanned l.text l.places.starts l.places.ends l.count l.start l.place;
+  few : l.count ≤ l.place;
   printable : l.printable ≡ is_printable (take l.place l.text);
   line : (k : ℕ) → k < l.place → is_line_feed (get_or l.text k 0) ≡ false;
 }
