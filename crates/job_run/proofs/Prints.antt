@@ -5,16 +5,14 @@ use Rattle.std.specs.List.{filter}
 use Rattle.any_device.specs.declared.device.AnyDevice.{AnyDevice}
 use Rattle.unit_book.specs.Book.{Book}
 use Rattle.job_script.specs.Commands.{is_excp}
-use Rattle.job_script.specs.Said.{Said}
 use Rattle.job_script.specs.Views.{action_said, command_said, said}
 use Rattle.job_script.specs.declared.command.Action.{Action}
 use Rattle.job_script.specs.declared.command.Action.TheVariants.{Excp, Purge, PurgeTask, Close, Reset, Wait}
 use Rattle.job_script.specs.declared.command.Command.{Command}
 use Rattle.job_script.specs.declared.script.Script.{Script}
 use Rattle.post_lines.specs.Lines.{count_text}
-use Rattle.job_run.specs.Ending.{IsRunOf, PrintsPosts, RunsWhole}
+use Rattle.job_run.specs.Ending.{IsRunOf, PrintsPosts}
 use Rattle.job_run.specs.Printing.{excp_count, issues, script_text}
-use Rattle.job_run.proofs.Ends.{faultless}
 
 issues_said : (a : Action) → is_excp a ≡ issues (action_said a)
 issues_said (Excp e) = refl
@@ -51,13 +49,4 @@ prints n old new before after script books text commands run lines all written =
       (ap (λ (l : List ℕ). l ++ count_text (length (filter (λ c. is_excp c.action) commands))) lines
       ∙ ap (λ (k : ℕ). script_text (said script) books ++ count_text k)
       (ap (λ (l : List Command). length (filter (λ c. is_excp c.action) l)) all ∙ count_said script.commands.items)) written;
-}
-
--- what was run has no fault
-pub reads_whole : (n : ℕ) (old new : Option (List ℕ)) (says : Said) (books : List (Book AnyDevice)) → IsRunOf n old new says books →
-    RunsWhole n old new
-reads_whole n old new says books run = record {
-  text = run.text;
-  whole = run.whole;
-  faultless = faultless run.text says run.parsed (run.began.capacity, run.began.first, run.began.mounted);
 }
