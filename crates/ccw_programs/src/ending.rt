@@ -19,19 +19,19 @@ pub(crate) fn ending_of(links: &[Link], n: u32) -> Ending
     requires { 1 ≤ length links.now }
     ensures { result ≡ ending links.now n }
 {
-    let mut first = &links[0];
+    let mut link = &links[0];
     let mut rest = &links[1..];
     let mut left = n;
     while let [next, others @ ..] = rest {
-        let count = u32::from(first.ccw.count);
+        let count = u32::from(link.ccw.count);
         if left < count {
             break;
         }
         left -= count;
-        first = next;
+        link = next;
         rest = others;
     }
-    ended_in(*first, left)
+    ended_in(*link, left)
 }
 
 /// A command that used up `n` bytes of this CCW ended there.

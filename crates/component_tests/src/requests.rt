@@ -77,7 +77,8 @@ fn posted_again(alloc: Global, bytes: &[u8]) -> Result<(Posted, Arc<Area, Global
     let area = Area::new(alloc, 0x1000, bytes).or(Err(no_memory))?;
     let area = Arc::new(alloc, area).or(Err(no_memory))?;
     let first = Request::over(alloc, NAME, 7, 1, 0x1000, &shorter)?;
-    let second = Request::over_again(posted(first), NAME, 7, 1, 0x1000, &area)?;
+    let again = Request::over_again(posted(first), NAME, 7, 1, 0x1000, &area);
+    let second = again.map_err(|refused| refused.0)?;
     Ok((posted(second), area))
 }
 

@@ -1,6 +1,6 @@
 //! The bytes that a request brings.
 
-ghost use Rattle.std.specs.Prelude.{◌≡◌, ◌==◌, ◌+◌, ◌<◌, ◌≤◌, ◌^◌, length, true, false, IfErr, IfOk, IfSome, IsOk, IsSome, MatchOption, OnErr, OnOk, if◌then◌else◌};
+ghost use Rattle.std.specs.Prelude.{◌≡◌, ◌≢◌, ◌==◌, ◌+◌, ◌<◌, ◌≤◌, ◌^◌, length, true, false, IfErr, IfOk, IfSome, IsOk, IsSome, MatchOption, OnErr, OnOk, if◌then◌else◌};
 ghost use Rattle.io_area.specs.Storage.{IsOffset, SamePlace, bytes_at, lies_in, with_bytes};
 ghost use Rattle.io_area.specs.AreaFault.{AreaFault, NoAreaFault};
 
@@ -115,9 +115,12 @@ impl Area {
     }
 
     /// Makes the area a copy of another. It takes memory only if that has another number of bytes.
+    ///
+    /// Error: out of memory. Nothing changes then.
     pub fn copy_from(&mut self, other: &Area) -> Result<(), AllocError>
         ensures ok { OnOk result (self.new ≡ other.now) }
         ensures err { OnErr result (self.new ≡ self.old) }
+        ensures resized { OnErr result (length self.old.bytes ≢ length other.now.bytes) }
     {
         if self.bytes.len() != other.bytes.len() {
             *self = other.copy()?;

@@ -63,7 +63,7 @@ impl Address {
         }
     }
 
-    /// The address in the last three of four bytes. One load of four bytes costs less than three of one.
+    /// The address in the last three of four bytes. One load of four bytes costs less than three loads of one.
     #[inline(always)]
     pub(crate) fn of_word(image: &[u8; 4]) -> Address
         ensures { result ≡ big_from 1 3 image.now }

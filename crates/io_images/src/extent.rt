@@ -32,7 +32,7 @@ impl Extent {
     {
         Extent {
             file_mask: image[0],
-            unit_block: Address::read(&[image[1], image[2], image[3]]),
+            unit_block: Address::of_word(&[image[0], image[1], image[2], image[3]]),
             bin: BigEndian::read_u16(&image[4..]),
             start_cylinder: BigEndian::read_u16(&image[6..]),
             start_head: BigEndian::read_u16(&image[8..]),

@@ -35,6 +35,8 @@ pub(crate) fn can_be_done(command: &Command) -> bool
 
 /// The request of an EXCP, with this name, on a copy of its area. If a request that has ended is given, the copy is in its
 /// storage, as [`Request::over_again`].
+///
+/// Error: out of memory. What has ended is dropped then.
 pub fn request(
     alloc: Global,
     excp: &Excp,
@@ -47,7 +49,9 @@ pub fn request(
     let unit = excp.dcb.unit;
     let dcb = excp.dcb.number;
     let made = match ended {
-        Some(posted) => Request::over_again(posted, name, unit, dcb, excp.iob, &excp.area),
+        Some(posted) => {
+            Request::over_again(posted, name, unit, dcb, excp.iob, &excp.area).map_err(|e| e.0)
+        }
         None => Request::over(alloc, name, unit, dcb, excp.iob, &excp.area),
     };
     match made {

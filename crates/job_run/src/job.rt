@@ -1,6 +1,6 @@
 //! What one task does of a script.
 
-ghost use Rattle.std.specs.Prelude.{◌≡◌, ◌<◌, All, IfErr, IfNone, IfOk, OnErr, OnOk, vec_len};
+ghost use Rattle.std.specs.Prelude.{◌≡◌, ◌<◌, ◌≤◌, All, IfErr, IfNone, IfOk, OnErr, OnOk, vec_len};
 ghost use Rattle.excp_system.specs.Calls.{next_name};
 ghost use Rattle.excp_system.specs.States.{awaited_count};
 ghost use Rattle.job_mount.specs.Requests.{CanBeDone, CanIssue};
@@ -160,7 +160,7 @@ impl<'a, 'r, S: Opened<AnyDevice>> Job<'a, 'r, S> {
         Ok(())
     }
 
-    /// Issues a request. If the most that may be are under way, it collects one post, and uses its storage again.
+    /// Issues a request. If 256 are under way, it collects one post, and uses its storage again.
     #[tactic(auto, using(crate::proofs::Filled::fills_more))]
     fn issue<R: Wait, N: Notes>(
         &self,
@@ -188,7 +188,7 @@ impl<'a, 'r, S: Opened<AnyDevice>> Job<'a, 'r, S> {
         Ok(())
     }
 
-    /// Collects one post if the most requests that may be are under way.
+    /// Collects one post if 256 requests are under way.
     fn make_room<R: Wait, N: Notes>(
         &self,
         rt: &R,
@@ -274,6 +274,7 @@ impl<'a, 'r, S: Opened<AnyDevice>> Job<'a, 'r, S> {
         notes: &mut N,
         posts: u16,
     ) -> Result<Option<Posted>, AllocError>
+        requires some { 1 ≤ posts }
         ensures number { client.new.number ≡ client.old.number }
         ensures noted { FillsSlots client.old.got (slots_of slots.old) client.new.got (slots_of slots.new) }
         ensures sent { client.new.sent ≡ client.old.sent }

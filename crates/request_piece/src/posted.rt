@@ -1,6 +1,6 @@
 //! A request that has ended, and how a post writes its control blocks.
 
-ghost use Rattle.std.specs.Prelude.{◌≡◌, true, IfOk};
+ghost use Rattle.std.specs.Prelude.{◌≡◌, true, IfOk, OnErr, OnOk};
 ghost use Rattle.io_images.specs.Written.{ecb_image};
 ghost use Rattle.io_area.specs.Storage.{SamePlace, bytes_at, lies_in, with_bytes};
 ghost use Rattle.io_images.specs.Codes.{posted_ecb};
@@ -110,8 +110,18 @@ impl Posted {
         &self.piece.area
     }
 
+    /// Makes its storage a copy of an area, as `Area::copy_from`.
+    pub(crate) fn store(&mut self, area: &Area) -> Result<(), AllocError>
+        ensures ok { OnOk result (self.new ≡ record self.old { area = area.now }) }
+        ensures err { OnErr result (self.new ≡ self.old) }
+    {
+        self.piece.area.copy_from(area)
+    }
+
     /// The piece that was worked on.
-    pub(crate) fn into_piece(self) -> Box<Piece> {
+    pub(crate) fn into_piece(self) -> Box<Piece>
+        ensures { result.value.area ≡ self.area }
+    {
         let Posted { piece, .. } = self;
         piece
     }
@@ -120,8 +130,7 @@ impl Posted {
     pub fn into_area(self) -> Area
         ensures { result ≡ self.area }
     {
-        let Posted { piece, .. } = self;
-        Box::into_inner(piece).area
+        Box::into_inner(self.into_piece()).area
     }
 }
 

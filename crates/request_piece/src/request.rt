@@ -112,7 +112,7 @@ impl Request {
     /// The request that the IOB at `iob` describes, over storage that is shared, as of `over`. It works in the storage of
     /// a request that has ended, and takes memory only if its area has another number of bytes.
     ///
-    /// Errors: as of `over`. What has ended is dropped.
+    /// Errors, which give back what has ended: as of `over`.
     pub fn over_again(
         ended: Posted,
         name: Name,
@@ -120,20 +120,25 @@ impl Request {
         dcb: u16,
         iob: u32,
         area: &Arc<Area, Global>,
-    ) -> Result<Request, RequestError>
+    ) -> Result<Request, (RequestError, Posted)>
         ensures request { IfOk result (λ r. r ≡ request_of name unit dcb iob (arc_value area.now)) }
         ensures ok { IfOk result (λ r. NoFault dcb iob (arc_value area.now)) }
-        ensures refused { IfErr result (RequestFault dcb iob (arc_value area.now)) }
+        ensures refused { IfErr result (λ e. RequestFault dcb iob (arc_value area.now) e.0) }
+        ensures given_back { IfErr result (λ e. e.1 ≡ ended) }
     {
         let shared: &Area = area;
-        let image = read_iob(dcb, iob, shared)?;
-        let Ok(kept) = Arc::try_clone(area) else {
-            return Err(RequestError::NoMemory);
+        let image = match read_iob(dcb, iob, shared) {
+            Ok(image) => image,
+            Err(error) => return Err((error, ended)),
         };
-        let mut work = ended.into_piece();
-        if work.area.copy_from(shared).is_err() {
-            return Err(RequestError::NoMemory);
+        let Ok(kept) = Arc::try_clone(area) else {
+            return Err((RequestError::NoMemory, ended));
+        };
+        let mut ended = ended;
+        if ended.store(shared).is_err() {
+            return Err((RequestError::NoMemory, ended));
         }
+        let mut work = ended.into_piece();
         set_fields(&mut work, name, unit, dcb, iob, &image);
         let issued = Issued::of(&work, kept);
         Ok(Request { issued, work })

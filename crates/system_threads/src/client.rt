@@ -203,14 +203,15 @@ impl<'r, S: Site> Client<'r, S> {
         self.next_of(rt, alarm, 1)
     }
 
-    /// Collects the next post, as `next_post`. But if there is none, and `posts` is more than 1, it sleeps at once, until
-    /// `posts` were sent back, or all that it awaits, or its row is full.
+    /// Collects the next post, as `next_post`. If there is none yet, and `posts` is more than 1, it sleeps at once. It then
+    /// sleeps until `posts` were sent back, or all that it awaits, or its post row is full.
     pub fn next_of<R: Wait>(
         &mut self,
         rt: &R,
         alarm: &Alarm,
         posts: u16,
     ) -> Result<Option<Posted>, AllocError>
+        requires some { 1 ≤ posts }
         ensures collected { IfOk result (λ next. IfSome next (λ posted. TaskCollects self.old posted self.new)) }
         ensures of_unit { IfOk result (λ next. IfSome next (λ posted. posted.unit < S.rows.units)) }
         ensures none { IfOk result (λ next. IfNone next (self.new ≡ self.old)) }

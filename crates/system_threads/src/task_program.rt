@@ -28,8 +28,8 @@ pub trait TaskProgram<D: Device>: Sync {
     ghost runs: { Self → TaskState → TaskState → Self.Outcome → Type 0 };
 
     /// Runs a task to its end. By the client it issues requests and collects their posts. By the system it may purge,
-    /// close and reset. If it delivers a post there, it has to tell the alarm, or the post's task sleeps on. The number
-    /// of the client says which task it is.
+    /// close and reset. If it delivers a post there, or finds a post row full, it has to tell the alarm, or the post's task
+    /// sleeps on. The number of the client says which task it is.
     fn run<S: Opened<D>, R: Wait>(
         &self,
         rt: &R,
