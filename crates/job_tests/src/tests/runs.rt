@@ -5,14 +5,14 @@ ghost use Rattle.std.specs.Prelude.{◌≡◌, ◌<◌, ◌≤◌, All, IfOk, ve
 ghost use Rattle.excp_system.specs.Opening.{AreBooks, AreFresh, site_of};
 ghost use Rattle.job_mount.specs.Requests.{CanBeDone};
 
-mod not_awaited;
+mod late_posts;
 
 use any_device::AnyDevice;
 use excp_system::{Gate, IscTaker, Opened, Point, Rows, Site, System};
 use job_mount::books;
 use job_run::{Finished, ScriptTasks, TaskEnd, TaskError, ended, run_on, write};
 use job_script::{FaultName, JobError, Script};
-use not_awaited::NotAwaited;
+use late_posts::LatePosts;
 use request_piece::Name;
 use std::alloc::{AllocError, Global};
 use std::marker::Brand;
@@ -110,6 +110,8 @@ enum Way {
     Whole,
     /// To its end, and its tasks do not wait for their posts.
     Unawaited,
+    /// To its end, and its tasks sleep for 64 posts once they have issued their requests.
+    Asleep,
     /// Until its tasks have ended.
     Tasks,
     /// Until its tasks have ended. A worker runs out of memory in turns on unit 0, but in too few of them in a row to end
@@ -204,12 +206,13 @@ enum Outcome {
     Ended(usize, usize),
 }
 
-/// What comes of a script on these rows and books whose tasks do not wait for their posts.
-fn unawaited<R: Threads + Wait + Sync + AllocGlobal>(
+/// What comes of a script on these rows and books whose tasks sleep for this many posts at their end, or do not wait if it is 0.
+fn late<R: Threads + Wait + Sync + AllocGlobal>(
     rt: &R,
     rows: Rows,
     books: Vec<UnitBook<AnyDevice>>,
     script: &Script,
+    posts: u16,
 ) -> Result<Outcome, JobError>
     requires fresh { AreFresh rows }
     requires books { AreBooks rows.units books.items }
@@ -218,7 +221,7 @@ fn unawaited<R: Threads + Wait + Sync + AllocGlobal>(
     requires requests { All CanBeDone script.now.commands.items }
 {
     let alloc = rt.alloc();
-    let program = NotAwaited::new(script);
+    let program = LatePosts::new(script, posts);
     let done = run_program(rt, alloc, rows, books, two_of_each(), &program);
     let Ok((report, outcomes)) = done else {
         return Err(JobError::NoMemory);
@@ -396,7 +399,8 @@ fn run<R: Threads + Wait + Sync + AllocGlobal>(
             let run: Finished<()> = run_on(rt, alloc, rows, books, &script, two_of_each())?;
             printed(alloc, &script, &run.tasks)
         }
-        Way::Unawaited => unawaited(rt, rows, books, &script),
+        Way::Unawaited => late(rt, rows, books, &script, 0),
+        Way::Asleep => late(rt, rows, books, &script, 64),
         _ => tasks_alone::<Brand, R>(rt, &mut rows, books, &script, way),
     }
 }
@@ -418,6 +422,18 @@ fn tasks_wait_for_their_posts(rt: HostRuntime) -> Result<(), Fail> {
     let outcome = run(&rt, set_up, &[AREAS, EXCPS], 8, Way::Unawaited)?;
     let posts = Vec::from_slice(rt.alloc(), POSTS.as_bytes())?;
     assert_eq!(rt; outcome, Outcome::Printed(posts));
+    Ok(())
+}
+
+/// A task that sleeps for 64 posts wakes with the last that it awaits, and if its post row is full.
+#[test]
+fn tasks_sleep_for_several_posts(rt: HostRuntime) -> Result<(), Fail> {
+    let posts = Vec::from_slice(rt.alloc(), POSTS.as_bytes())?;
+    let printed = Outcome::Printed(posts);
+    for room in [1, 8] {
+        let outcome = run(&rt, [TWO_TASKS, UNITS], &[AREAS, EXCPS], room, Way::Asleep)?;
+        assert!(rt; outcome == printed);
+    }
     Ok(())
 }
 

@@ -1,4 +1,4 @@
-//! Tasks that do their commands of a script and do not wait for their posts.
+//! Tasks that do their commands of a script. Then they do not wait for their posts, or sleep for several at a time.
 
 ghost use Rattle.std.specs.Prelude.{◌≡◌, ℕ, ⊤, All, vec_len};
 ghost use Rattle.job_mount.specs.Requests.{CanBeDone};
@@ -7,27 +7,52 @@ use any_device::AnyDevice;
 use excp_system::{Opened, System};
 use job_run::{Job, TaskEnd, TaskError};
 use job_script::Script;
-use std::alloc::Global;
+use post_slots::Slots;
+use std::alloc::{AllocError, Global};
 use std::sync::Wait;
 use system_threads::{Alarm, Client, TaskProgram};
 
 /// Each task leaves the posts that it collected.
 #[derive(Drop)]
-pub struct NotAwaited<'a> {
+pub struct LatePosts<'a> {
     script: &'a Script,
+    /// How many posts a task sleeps for at its end, or 0 if it does not wait.
+    posts: u16,
     ghost requests_can_be_made: { All CanBeDone script.now.commands.items },
 }
 
-impl<'a> NotAwaited<'a> {
-    pub fn new(script: &'a Script) -> NotAwaited<'a>
+impl<'a> LatePosts<'a> {
+    pub fn new(script: &'a Script, posts: u16) -> LatePosts<'a>
         requires { All CanBeDone script.now.commands.items }
         ensures { result.script.now ≡ script.now }
     {
-        NotAwaited { script }
+        LatePosts { script, posts }
+    }
+
+    /// Collects all that a task awaits, if it is to wait.
+    fn collect<S: Opened<AnyDevice>, R: Wait>(
+        &self,
+        rt: &R,
+        alarm: &Alarm,
+        client: &mut Client<'_, S>,
+        slots: &mut Slots,
+    ) -> Result<(), AllocError>
+        ensures number { client.new.number ≡ client.old.number }
+    {
+        if self.posts == 0 {
+            return Ok(());
+        }
+        for _ in rt.forever() {
+            let Some(posted) = client.next_of(rt, alarm, self.posts)? else {
+                break;
+            };
+            slots.fill(posted.unit(), &posted);
+        }
+        Ok(())
     }
 }
 
-impl<'a> TaskProgram<AnyDevice> for NotAwaited<'a> {
+impl<'a> TaskProgram<AnyDevice> for LatePosts<'a> {
     type Outcome = Result<TaskEnd<()>, TaskError>;
 
     ghost units = { λ tasks. vec_len tasks.script.now.set_up.units };
@@ -50,6 +75,7 @@ impl<'a> TaskProgram<AnyDevice> for NotAwaited<'a> {
             &mut end.slots,
             &mut end.notes,
         )?;
+        self.collect(rt, alarm, client, &mut end.slots)?;
         Ok(end)
     }
 }
