@@ -30,7 +30,7 @@ use system_threads::{Alarm, Client};
 /// (profile).
 pub(crate) const MOST_UNDER_WAY: usize = 256;
 
-/// How many posts a task sleeps for that has the most requests under way, so that it wakes less often (profile).
+/// How many posts a task sleeps for that has the most requests under way, so that it wakes less often.
 const POSTS_TO_SLEEP_FOR: u16 = 64;
 
 /// What the tasks of a run share: the script, the system of its units, and what wakes them.
