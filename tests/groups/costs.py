@@ -50,8 +50,9 @@ TIMES = [("small", 4_000, 9, 20), ("waits", 3_300, 9, 20), ("loops", 4_000, 9, 2
 UNITS = [("spread", 20_000, "small", 1.9), ("lone", 2_000, "loops", 1.5)]
 
 # The same with 16 channel workers and one handler. On four processors most of the 16 look for work at any moment, so the run
-# takes up to four processors for as long as the handler needs, where one worker and one handler take two.
-CHANNELS = [("spread", 20_000, "small", 6, "--channels", "16", "--handlers", "1")]
+# takes up to four processors for as long as the handler needs. One worker takes little more than one for `small`, since the
+# task sleeps: four times as much, and 1.9 times for the units.
+CHANNELS = [("spread", 20_000, "small", 8, "--channels", "16", "--handlers", "1")]
 
 # The kind, a number of requests, and the most processor time for each second that passes: one worker is busy, and the two
 # tasks that wait for it sleep. Each thread that did not would take one more, where there is a processor for it.
