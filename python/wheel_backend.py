@@ -57,7 +57,12 @@ def read(file):
 def package():
     """The files of the package, by name."""
     folder = f"{HERE}/{PACKAGE}"
-    files = {f"{PACKAGE}/{it}": read(f"{folder}/{it}") for it in sorted(os.listdir(folder)) if it.endswith((".py", ".typed"))}
+    files = {}
+    for place, folders, names in os.walk(folder):
+        folders.sort()
+        for it in sorted(names):
+            if it.endswith((".py", ".typed")):
+                files[os.path.relpath(f"{place}/{it}", HERE)] = read(f"{place}/{it}")
     library = built_library()
     return {**files, f"{PACKAGE}/{LIBRARY}": read(library)} if library else files
 

@@ -5,19 +5,54 @@
         dcb = tape.open(Method.INPUT)
         ...
 
-docs/CLIENT.md, "From Python", is a tutorial.
+docs/CLIENT.md, "From Python", is a tutorial. `python3 -m excp` is the command: it needs no library,
+so a name of the library loads its module when it is first used.
 """
 
-from .blocks import Area, Ccw, Code, Csw, Extent, Flag, Iob, Op, Seek
-from .errors import (BadImage, BadMedium, BadNumber, BadRequest, ExcpError, Full, InError, LibraryNotFound, NoDcb, NoImage, NoMemory,
-                     NoNumber, NoSite, NotIdle, Status)
-from .library import message, version
-from .site import (TAPE_MARK, Active, Answer, Dcb, DcbPhase, DcbState, Device, Fault, Kind, Line, Method, Mode, Name, Post, Record, Served,
-                   ServedEnd, Site, Unit, UnitState)
+from importlib import import_module
+from typing import TYPE_CHECKING
+
+if TYPE_CHECKING:
+    from .blocks import Area, Ccw, Code, Csw, Extent, Flag, Iob, Op, Seek
+    from .errors import (
+        BadImage, BadMedium, BadNumber, BadRequest, ExcpError, Full, InError, LibraryNotFound,
+        NoDcb, NoImage, NoMemory, NoNumber, NoSite, NotIdle, Status,
+    )
+    from .library import message, version
+    from .site import (
+        TAPE_MARK, Active, Answer, Dcb, DcbPhase, DcbState, Device, Fault, Kind, Line, Method,
+        Mode, Name, Post, Record, Served, ServedEnd, Site, Unit, UnitState,
+    )
+
+# The public names of each module.
+_NAMES = {
+    "blocks": "Area Ccw Code Csw Extent Flag Iob Op Seek",
+    "errors": "BadImage BadMedium BadNumber BadRequest ExcpError Full InError LibraryNotFound "
+    "NoDcb NoImage NoMemory NoNumber NoSite NotIdle Status",
+    "library": "message version",
+    "site": "TAPE_MARK Active Answer Dcb DcbPhase DcbState Device Fault Kind Line Method Mode Name "
+    "Post Record Served ServedEnd Site Unit UnitState",
+}
+
+_MODULES = {name: module for module, names in _NAMES.items() for name in names.split()}
 
 __all__ = [
-    "TAPE_MARK", "Active", "Answer", "Area", "BadImage", "BadMedium", "BadNumber", "BadRequest", "Ccw", "Code", "Csw", "Dcb", "DcbPhase",
-    "DcbState", "Device", "ExcpError", "Extent", "Fault", "Flag", "Full", "InError", "Iob", "Kind", "LibraryNotFound", "Line", "Method",
-    "Mode", "Name", "NoDcb", "NoImage", "NoMemory", "NoNumber", "NoSite", "NotIdle", "Op", "Post", "Record", "Seek", "Served", "ServedEnd",
-    "Site", "Status", "Unit", "UnitState", "message", "version",
+    "TAPE_MARK", "Active", "Answer", "Area", "BadImage", "BadMedium", "BadNumber", "BadRequest",
+    "Ccw", "Code", "Csw", "Dcb", "DcbPhase", "DcbState", "Device", "ExcpError", "Extent", "Fault",
+    "Flag", "Full", "InError", "Iob", "Kind", "LibraryNotFound", "Line", "Method", "Mode", "Name",
+    "NoDcb", "NoImage", "NoMemory", "NoNumber", "NoSite", "NotIdle", "Op", "Post", "Record", "Seek",
+    "Served", "ServedEnd", "Site", "Status", "Unit", "UnitState", "message", "version",
 ]
+
+
+def __getattr__(name: str) -> object:
+    """A public name, from its module, which is imported now."""
+    if name not in _MODULES:
+        raise AttributeError(f"module {__name__!r} has no attribute {name!r}")
+    value: object = getattr(import_module(f".{_MODULES[name]}", __name__), name)
+    globals()[name] = value
+    return value
+
+
+def __dir__() -> "list[str]":
+    return sorted({*globals(), *__all__})

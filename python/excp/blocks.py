@@ -10,22 +10,10 @@ import struct
 from dataclasses import dataclass, field, replace
 from typing import Dict, List, SupportsIndex, Tuple, Union
 
+from .device_commands import Op as Op
+
 # An address, or the label of an area that stands for one.
 Address = Union[int, str]
-
-
-class Op(enum.IntEnum):
-    """Commands by their mnemonics (docs/ASSEMBLER.md). Some codes have several names, one for each kind of device."""
-
-    NOP, SNS, TIC = 0x03, 0x04, 0x08
-    SIDE, SKE = 0x31, 0x29
-    RD, RKD, RCKD, RC = 0x06, 0x0E, 0x1E, 0x12
-    WD, WKD, WCKD = 0x05, 0x0D, 0x1D
-    SEEK, SFM = 0x07, 0x1F
-    WRT, RDF, RDB, WTM = 0x01, 0x02, 0x0C, 0x1F
-    REW, BSB, BSF, FSB, FSF = 0x07, 0x27, 0x2F, 0x37, 0x3F
-    PR0, PR1, PR2, PR3, PRC1 = 0x01, 0x09, 0x11, 0x19, 0x89
-    SP1, SP2, SP3, SKC1 = 0x0B, 0x13, 0x1B, 0x8B
 
 
 class Flag(enum.IntFlag):
@@ -149,7 +137,7 @@ class Extent:
     def between(start: Tuple[int, int], end: Tuple[int, int], heads: int) -> Extent:
         """The tracks from one to another, each a cylinder and a head, of a disk with `heads` heads a cylinder."""
         tracks = (end[0] - start[0]) * heads + end[1] - start[1] + 1
-        return Extent(*start, *end, tracks)
+        return Extent(start[0], start[1], end[0], end[1], tracks)
 
     def to_bytes(self) -> bytes:
         ends = self.start_cylinder, self.start_head, self.end_cylinder, self.end_head
@@ -157,8 +145,9 @@ class Extent:
 
     @staticmethod
     def from_bytes(image: bytes) -> Extent:
-        word, bin_, *ends = struct.unpack(">IHHHHHH", image)
-        return Extent(*ends, word >> 24, word & 0xFFFFFF, bin_)
+        word, bin_, start_cylinder, start_head, *end, tracks = struct.unpack(">IHHHHHH", image)
+        block = word & 0xFFFFFF
+        return Extent(start_cylinder, start_head, end[0], end[1], tracks, word >> 24, block, bin_)
 
 
 class Area:

@@ -7,7 +7,7 @@ import functools
 import operator
 import os
 from ctypes import POINTER, Structure, byref, c_char_p, c_int, c_size_t, c_uint8, c_uint16, c_uint32, c_uint64, c_void_p
-from typing import Any, Iterator, List, Tuple
+from typing import Any, Dict, Iterator, List, Tuple
 
 from .errors import BadNumber, LibraryNotFound, Status, error_of
 
@@ -142,7 +142,8 @@ def declare(found: Any) -> None:
     """Declares the types of all calls."""
     found.excp_message.argtypes, found.excp_message.restype = [c_int], c_char_p
     found.excp_version.argtypes, found.excp_version.restype = [], c_char_p
-    kinds = {**{it: [NUMBERS[it][0]] for it in NUMBERS}, "bytes": [c_char_p, c_size_t], "buffer": [c_char_p, c_size_t], "ref": [c_void_p]}
+    kinds: Dict[str, List[Any]] = {it: [NUMBERS[it][0]] for it in NUMBERS}
+    kinds.update({"bytes": [c_char_p, c_size_t], "buffer": [c_char_p, c_size_t], "ref": [c_void_p]})
     for name, words in CALLS.items():
         call = getattr(found, f"excp_{name}")
         call.argtypes = [POINTER(Handle), *(it for word in words.split() for it in kinds[word])]
@@ -151,12 +152,12 @@ def declare(found: Any) -> None:
 
 def message(status: int) -> str:
     """A status in words."""
-    return library().excp_message(status).decode("ascii")
+    return str(library().excp_message(status), "ascii")
 
 
 def version() -> str:
     """The version of the library."""
-    return library().excp_version().decode("ascii")
+    return str(library().excp_version(), "ascii")
 
 
 @functools.lru_cache(maxsize=None)

@@ -1,0 +1,47 @@
+"""The command `excp`: reads its first word, and carries that out."""
+
+from __future__ import annotations
+
+from typing import Sequence
+
+from .parser import WordParser
+from .streams import OUT_OF_MEMORY, USAGE, Ended, ReaderGone, is_utf8, say
+from .words import WORDS
+
+# The exit status after Ctrl-C, as shells have it: 128 and the number of SIGINT.
+INTERRUPTED = 130
+
+
+def main(argv: Sequence[str]) -> int:
+    """Carries out the words of a command line, the program's name left out. Returns the exit
+    status. Prints why it fails, and never raises."""
+    try:
+        return _carried_out(argv)
+    except Ended as ended:
+        say(ended.text)
+        return ended.status
+    except SystemExit:
+        # after the page of help
+        return 0
+    except ReaderGone:
+        return 0
+    except KeyboardInterrupt:
+        return INTERRUPTED
+    except MemoryError:
+        say("out of memory")
+        return OUT_OF_MEMORY
+
+
+def _carried_out(argv: Sequence[str]) -> int:
+    if not argv or argv[0] not in WORDS:
+        parser = WordParser("excp")
+        parser.add_argument("word", choices=list(WORDS))
+        parser.parse_args(argv[:1])
+        raise Ended("no word is given", USAGE)
+    parser = WordParser(argv[0])
+    word = WORDS[argv[0]].load()
+    word.add_arguments(parser)
+    given = parser.parse_args(argv[1:])
+    if not all(is_utf8(it) for it in argv if it != getattr(given, "script", None)):
+        raise Ended("a word of the command line is not UTF-8", USAGE)
+    return word.run(given)

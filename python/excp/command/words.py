@@ -1,0 +1,33 @@
+"""The table of the words of the command, each with its module and one line on it.
+
+A module is imported when its word is typed: no word costs the time of another one.
+"""
+
+from __future__ import annotations
+
+import argparse
+from importlib import import_module
+from typing import Mapping, NamedTuple, Protocol, cast
+
+
+class WordModule(Protocol):
+    """What the module of a word has."""
+
+    def add_arguments(self, parser: argparse.ArgumentParser) -> None:
+        """Adds the options and arguments of the word."""
+
+    def run(self, given: argparse.Namespace) -> int:
+        """Carries out the word, and returns the exit status."""
+
+
+class Word(NamedTuple):
+    """A word: the name of its module, and what it does, in one line."""
+
+    module: str
+    says: str
+
+    def load(self) -> WordModule:
+        return cast(WordModule, import_module(f"{__package__}.{self.module}"))
+
+
+WORDS: Mapping[str, Word] = {}

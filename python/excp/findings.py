@@ -1,0 +1,67 @@
+"""What is found in a text, and how it is printed: `FILE:LINE:COLUMN: NAME: SENTENCE`."""
+
+from __future__ import annotations
+
+import unicodedata
+from dataclasses import dataclass
+from enum import Enum
+from typing import Iterable, Iterator, Optional
+
+# Bold red and bold yellow, and the end of either, as terminals take them (ECMA-48, "SGR").
+_RED, _YELLOW, _PLAIN = "\x1b[1;31m", "\x1b[1;33m", "\x1b[0m"
+
+# What a note has in place of the name of a fault.
+_NOTE = "note"
+
+
+class FaultName(Enum):
+    """The name of a fault, as `excp_job run` reports it. A run looks for the last three when all
+    lines are right."""
+
+    WORDS = "Words"
+    NUMBER = "Number"
+    ORDER = "Order"
+    NAME = "Name"
+    KIND = "Kind"
+    AREA = "Area"
+    MEDIUM = "Medium"
+    EXTENT = "Extent"
+    REQUEST = "Request"
+
+
+@dataclass(frozen=True)
+class Finding:
+    """A fault, which has a name, or a note, which has none.
+
+    Lines and columns count from 1. A finding of a line as a whole has no column, one of a text as
+    a whole has no line, and one of the text that is read has no file.
+    """
+
+    line: Optional[int]
+    sentence: str
+    name: Optional[FaultName] = None
+    column: Optional[int] = None
+    file: Optional[str] = None
+
+    @property
+    def is_fault(self) -> bool:
+        return self.name is not None
+
+
+def printable_name(name: str) -> str:
+    """The name of a file, each control character as hexadecimal digits."""
+    return "".join(
+        f"\\x{ord(it):02x}" if unicodedata.category(it) == "Cc" else it for it in name
+    )
+
+
+def printed(findings: Iterable[Finding], file: str, is_coloured: bool = False) -> Iterator[str]:
+    """A line for each finding. `file` is the file of those that have none of their own."""
+    own = printable_name(file)
+    for it in findings:
+        numbers = (number for number in (it.line, it.column) if number is not None)
+        named = own if it.file is None else printable_name(it.file)
+        place = "".join(f"{part}:" for part in (named, *numbers))
+        if is_coloured:
+            place = f"{_RED if it.is_fault else _YELLOW}{place}{_PLAIN}"
+        yield f"{place} {_NOTE if it.name is None else it.name.value}: {it.sentence}\n"

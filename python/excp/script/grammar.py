@@ -1,0 +1,279 @@
+"""The grammar of plain scripts and scenarios: the one table of the kinds of lines.
+
+Each kind of line is a dataclass, whose fields say of which forms the words after the first one
+are. `SCRIPT_LINES` and `EVENT_LINES` say what first word it has. Lines are read by them, and every
+message on words, forms and numbers, and every suggestion of a first word, comes from them.
+"""
+
+from __future__ import annotations
+
+import struct
+from dataclasses import dataclass, fields
+from typing import Any, Mapping, NamedTuple, Optional, Union, get_type_hints
+
+from .forms import (
+    Address, Byte, Count, Each, Extents, Form, Halfword, Hex, Index, Method, Mode, Number, Octet,
+    Row, Sense, Size, Storage, Subclass, Words,
+)
+
+
+@dataclass(frozen=True)
+class Line:
+    """What a line says, which has this number from 1. A field for each word follows, in order."""
+
+    line: int
+
+
+@dataclass(frozen=True)
+class Tasks(Line):
+    count: Count
+
+
+@dataclass(frozen=True)
+class LineOfUnit(Line):
+    unit: Index
+
+
+@dataclass(frozen=True)
+class Disk(LineOfUnit):
+    subclass: Subclass
+    cylinders: Number
+    heads: Number
+    track_bytes: Number
+
+
+@dataclass(frozen=True)
+class Tape(LineOfUnit):
+    subclass: Subclass
+    size: Number
+
+
+@dataclass(frozen=True)
+class Printer(LineOfUnit):
+    subclass: Subclass
+    lines: Number
+    pages: Number
+
+
+@dataclass(frozen=True)
+class Record(LineOfUnit):
+    cylinder: Halfword
+    head: Halfword
+    number: Octet
+    key: Hex
+    data: Hex
+
+    @property
+    def identifier(self) -> bytes:
+        """CCHHR."""
+        return struct.pack(">HHB", self.cylinder, self.head, self.number)
+
+
+@dataclass(frozen=True)
+class Block(LineOfUnit):
+    data: Hex
+
+
+@dataclass(frozen=True)
+class Mark(LineOfUnit):
+    pass
+
+
+@dataclass(frozen=True)
+class DeviceFault(LineOfUnit):
+    ordinal: Number
+    unit_status: Byte
+    subchannel_status: Byte
+    sense: Sense
+
+
+@dataclass(frozen=True)
+class Open(LineOfUnit):
+    method: Method
+    extents: Extents
+
+
+@dataclass(frozen=True)
+class Area(Line):
+    number: Number
+    base: Address
+    data: Storage
+
+    def get(self, at: int, count: int) -> Optional[bytes]:
+        """The `count` bytes from an address, if the area has them. Every area has no bytes."""
+        start = at - self.base
+        if count == 0:
+            return b""
+        return self.data[start : start + count] if 0 <= start <= len(self.data) - count else None
+
+
+@dataclass(frozen=True)
+class Command(Line):
+    """A command of a task."""
+
+    task: Index
+
+
+@dataclass(frozen=True)
+class Wait(Command):
+    pass
+
+
+@dataclass(frozen=True)
+class CommandOfDcb(Command):
+    unit: Index
+    dcb: Size
+
+
+@dataclass(frozen=True)
+class Excp(CommandOfDcb):
+    iob: Address
+    area: Number
+    show: Address
+    length: Number
+
+
+@dataclass(frozen=True)
+class Purge(CommandOfDcb):
+    mode: Mode
+
+
+@dataclass(frozen=True)
+class Close(CommandOfDcb):
+    pass
+
+
+@dataclass(frozen=True)
+class Reset(CommandOfDcb):
+    pass
+
+
+@dataclass(frozen=True)
+class PurgeTask(Command):
+    other: Index
+    mode: Mode
+
+
+@dataclass(frozen=True)
+class Room(Line):
+    """A size: of all intake rows, of all post rows, or of a book. `SIZES_BY_ROW` has its words."""
+
+    row: Row
+    rest: Words
+
+
+@dataclass(frozen=True)
+class RowSize(Line):
+    row: Row
+    size: Size
+
+
+@dataclass(frozen=True)
+class BookSize(Line):
+    row: Row
+    unit: Index
+    size: Size
+
+
+@dataclass(frozen=True)
+class StepOfUnit(LineOfUnit):
+    """`take`, `start`, `interrupt`, `deliver`, `settle` or `serve`."""
+
+
+@dataclass(frozen=True)
+class Run(StepOfUnit):
+    most: Size
+
+
+@dataclass(frozen=True)
+class Collect(Command):
+    pass
+
+
+@dataclass(frozen=True)
+class PurgeTaskAt(PurgeTask):
+    unit: Index
+
+
+@dataclass(frozen=True)
+class Finish(Line):
+    pass
+
+
+@dataclass(frozen=True)
+class Expect(Line):
+    words: Words
+
+
+# What is on a medium.
+Content = Union[Record, Block, Mark]
+
+# The lines that declare a unit.
+UnitLine = Union[Disk, Tape, Printer]
+
+
+SCRIPT_LINES: Mapping[str, type[Line]] = {
+    "tasks": Tasks,
+    "disk": Disk,
+    "tape": Tape,
+    "printer": Printer,
+    "rec": Record,
+    "block": Block,
+    "mark": Mark,
+    "fault": DeviceFault,
+    "open": Open,
+    "area": Area,
+    "excp": Excp,
+    "purge": Purge,
+    "purgetask": PurgeTask,
+    "close": Close,
+    "reset": Reset,
+    "wait": Wait,
+}
+
+# The lines that only a scenario has.
+EVENT_LINES: Mapping[str, type[Line]] = {
+    "room": Room,
+    "take": StepOfUnit,
+    "start": StepOfUnit,
+    "run": Run,
+    "interrupt": StepOfUnit,
+    "deliver": StepOfUnit,
+    "collect": Collect,
+    "purgetaskat": PurgeTaskAt,
+    "settle": StepOfUnit,
+    "serve": StepOfUnit,
+    "finish": Finish,
+    "expect": Expect,
+}
+
+SIZES_BY_ROW: Mapping[str, type[Line]] = {"intake": RowSize, "post": RowSize, "book": BookSize}
+
+# The first words of commands, and of all lines. A scenario has no `wait`.
+COMMAND_WORDS = tuple(word for word, kind in SCRIPT_LINES.items() if issubclass(kind, Command))
+SCRIPT_WORDS = tuple(SCRIPT_LINES)
+EVENT_WORDS = tuple(EVENT_LINES)
+SCENARIO_WORDS = tuple(word for word in (*SCRIPT_WORDS, *EVENT_WORDS) if word != "wait")
+
+
+class WordForms(NamedTuple):
+    """The forms of the words of a line after the first one, and that of all further words, if a
+    line may have more."""
+
+    forms: tuple[Form[Any], ...]
+    each: Optional[Each]
+
+
+def _word_forms(kind: type[Line]) -> WordForms:
+    hints = get_type_hints(kind, include_extras=True)
+    said = [hints[field.name].__metadata__[0] for field in fields(kind)[1:]]
+    each = said.pop() if said and isinstance(said[-1], Each) else None
+    return WordForms(tuple(said), each)
+
+
+# The forms of the words of each kind of line.
+WORD_FORMS: Mapping[type[Line], WordForms] = {
+    kind: _word_forms(kind)
+    for kinds in (SCRIPT_LINES, EVENT_LINES, SIZES_BY_ROW)
+    for kind in kinds.values()
+}
