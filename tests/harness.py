@@ -10,8 +10,12 @@ import multiprocessing
 import os
 import re
 import shlex
+import signal
 import subprocess
+import sys
+import tempfile
 import time
+import traceback
 from dataclasses import dataclass, field
 
 TOP = os.path.dirname(os.path.dirname(os.path.realpath(__file__)))
@@ -20,6 +24,9 @@ SAMPLES = f"{TOP}/samples"
 
 # The most seconds that one run of a program may take.
 SECONDS = 60
+
+# The words of the package python/excp. `report` is its word for a listing; images of media are those of excp_tools.
+PACKAGE_WORDS = "check", "assemble", "report"
 
 # The most lines of a diff that a failure shows, and of a text that is not compared.
 LINES = 60
@@ -87,6 +94,8 @@ class Setup:
 
     def command(self, *words):
         """These words, after the program that has the first."""
+        if is_of_package(words):
+            return [sys.executable, f"{TOP}/tests/package.py", *words]
         return [self.program if words[:1] == ("run",) else self.tools, *words]
 
     def skip_unproved(self):
@@ -99,7 +108,10 @@ class Setup:
         """Runs the program that has the first word on a script, or on the script in a file."""
         if file:
             script = read(file)
-        return run(self.command(*words), script or "", os.path.relpath(file, TOP) if file else "")
+        name = os.path.relpath(file, TOP) if file else ""
+        if is_of_package(words):
+            return run_package(self.command(*words), words, script or "", name)
+        return run(self.command(*words), script or "", name)
 
 
 def run(words, script="", file="", **how):
@@ -115,6 +127,39 @@ def run(words, script="", file="", **how):
     except OSError as error:
         return Ran(words, f"none: {error}", "", "", script, file)
     return Ran(words, ran.returncode, decoded(ran.stdout), decoded(ran.stderr), script, file)
+
+
+def is_of_package(words):
+    """Whether the package has the first of these words, with these options."""
+    return words[:1] != () and words[0] in PACKAGE_WORDS and "--load" not in words and (words[0] != "report" or "--listing" in words)
+
+
+def run_package(command, words, script="", file=""):
+    """Runs a word of the package as `run` does, but in a child of this process: Python need not start for each of many."""
+    if f"{TOP}/python" not in sys.path:
+        sys.path.insert(0, f"{TOP}/python")
+    from excp.command.main import main
+
+    with tempfile.TemporaryFile() as given, tempfile.TemporaryFile() as out, tempfile.TemporaryFile() as err:
+        given.write(encoded(script))
+        given.seek(0)
+        child = os.fork()
+        if child == 0:
+            for number, stream in enumerate((given, out, err)):
+                os.dup2(stream.fileno(), number)
+            signal.alarm(SECONDS)
+            status = 1
+            try:
+                status = main(words)
+            except BaseException:
+                traceback.print_exc(file=open(2, "w", closefd=False))
+            finally:
+                os._exit(status)
+        status = os.waitstatus_to_exitcode(os.waitpid(child, 0)[1])
+        if status == -signal.SIGALRM:
+            status = f"none: it ran for more than {SECONDS} seconds"
+        texts = [os.pread(it.fileno(), os.fstat(it.fileno()).st_size, 0) for it in (out, err)]
+    return Ran(command, status, decoded(texts[0]), decoded(texts[1]), script, file)
 
 
 def encoded(text):

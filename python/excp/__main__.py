@@ -5,13 +5,15 @@ from __future__ import annotations
 import sys
 
 
-def _main() -> int:
+def started() -> int:
+    """Carries out the words that this process has, and returns the exit status."""
     try:
         from excp.command.main import main
     except KeyboardInterrupt:
+        # while modules are loaded
         return 130
     return main(sys.argv[1:])
 
 
 if __name__ == "__main__":
-    sys.exit(_main())
+    sys.exit(started())

@@ -10,21 +10,10 @@ import struct
 from dataclasses import dataclass, field, replace
 from typing import Dict, List, SupportsIndex, Tuple, Union
 
-from .device_commands import Op as Op
+from .device_commands import Flag as Flag, Op as Op
 
 # An address, or the label of an area that stands for one.
 Address = Union[int, str]
-
-
-class Flag(enum.IntFlag):
-    """Flags of a CCW."""
-
-    CD = 0x80  # chain data
-    CC = 0x40  # chain command
-    SLI = 0x20  # suppress length indication
-    SKIP = 0x10
-    PCI = 0x08
-    IDA = 0x04  # indirect data address
 
 
 class Code(enum.IntEnum):

@@ -31,6 +31,22 @@ class Op(enum.IntEnum):
     SP1, SP2, SP3, SKC1 = 0x0B, 0x13, 0x1B, 0x8B
 
 
+class Flag(enum.IntFlag):
+    """Flags of a CCW, in the order in which a listing has them (Principles of Operation, chapter
+    15, "Channel-Command Word")."""
+
+    CD = 0x80  # chain data
+    CC = 0x40  # chain command
+    SLI = 0x20  # suppress length indication
+    SKIP = 0x10
+    PCI = 0x08
+    IDA = 0x04  # indirect data address
+
+
+# The flags by their names.
+FLAGS: Mapping[str, Flag] = dict(Flag.__members__)
+
+
 class Flow(enum.Enum):
     """The way of a command's data: none, from the program, or to it, upwards or downwards."""
 
@@ -41,7 +57,7 @@ class Flow(enum.Enum):
 
 
 class DeviceCommand(NamedTuple):
-    """A command: its mnemonic, the device that has it, the way of its data, and its name in words."""
+    """A command: its mnemonic, the device that has it, the way of its data, its name in words."""
 
     mnemonic: str
     device: str
@@ -90,17 +106,6 @@ DEVICE_COMMANDS: Sequence[DeviceCommand] = (
     DeviceCommand("FSB", TAPE, Flow.NONE, "forward space block", True),
     DeviceCommand("FSF", TAPE, Flow.NONE, "forward space file", True),
 )
-
-# The bits of the flags of a CCW, in the order in which a listing has them (Principles of
-# Operation, chapter 15, "Channel-Command Word").
-CCW_FLAGS: Mapping[str, int] = {
-    "CD": 0x80,
-    "CC": 0x40,
-    "SLI": 0x20,
-    "SKIP": 0x10,
-    "PCI": 0x08,
-    "IDA": 0x04,
-}
 
 _BY_DEVICE_AND_CODE: Mapping[tuple[str, int], DeviceCommand] = {
     (device, command.code): command

@@ -1,9 +1,12 @@
-"""The argument that most words have: the file of a script."""
+"""The script that most words take: its argument, and the plain script that it comes to."""
 
 from __future__ import annotations
 
 import argparse
 from typing import Optional
+
+from ..symbols import Assembled, assemble, has_symbols
+from .streams import print_findings, read_script
 
 
 def add_script(parser: argparse.ArgumentParser) -> None:
@@ -13,3 +16,14 @@ def add_script(parser: argparse.ArgumentParser) -> None:
 
 def _file(word: str) -> Optional[str]:
     return None if word == "-" else word
+
+
+def read_plain(file: Optional[str], stream: int) -> Optional[Assembled]:
+    """The plain script of a file, assembled if it has symbols. If it has mistakes, prints them on
+    a stream, and returns None. Raises Ended."""
+    text = read_script(file)
+    script = assemble(text) if has_symbols(text) else Assembled(text)
+    if script.findings:
+        print_findings(script.findings, file, stream)
+        return None
+    return script

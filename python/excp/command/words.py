@@ -30,4 +30,8 @@ class Word(NamedTuple):
         return cast(WordModule, import_module(f"{__package__}.{self.module}"))
 
 
-WORDS: Mapping[str, Word] = {}
+WORDS: Mapping[str, Word] = {
+    "assemble": Word("assemble", "Prints the plain script of one with symbolic areas"),
+    "check": Word("check", "Prints every fault of a script, and warnings; runs nothing"),
+    "report": Word("report", "With --listing: the script with each area in symbols"),
+}

@@ -249,11 +249,15 @@ EVENT_LINES: Mapping[str, type[Line]] = {
 
 SIZES_BY_ROW: Mapping[str, type[Line]] = {"intake": RowSize, "post": RowSize, "book": BookSize}
 
-# The first words of commands, and of all lines. A scenario has no `wait`.
+# The first words of commands, of the lines of scripts, and of the lines that only scenarios have.
 COMMAND_WORDS = tuple(word for word, kind in SCRIPT_LINES.items() if issubclass(kind, Command))
 SCRIPT_WORDS = tuple(SCRIPT_LINES)
 EVENT_WORDS = tuple(EVENT_LINES)
-SCENARIO_WORDS = tuple(word for word in (*SCRIPT_WORDS, *EVENT_WORDS) if word != "wait")
+
+# The first words that a mistake in one may mean. Of equally near ones it is the first. A scenario
+# has no `wait`.
+SUGGESTED_SCRIPT_WORDS = ("wait", *(word for word in SCRIPT_WORDS if word != "wait"))
+SUGGESTED_SCENARIO_WORDS = (*SUGGESTED_SCRIPT_WORDS[1:], *EVENT_WORDS)
 
 
 class WordForms(NamedTuple):

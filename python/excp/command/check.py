@@ -1,0 +1,31 @@
+"""`check`: prints every fault of a script, and warnings. Runs nothing."""
+
+from __future__ import annotations
+
+import argparse
+
+from ..checking import check_scenario, check_script
+from .script_file import add_script, read_plain
+from .streams import OUTPUT, REJECTED, ReaderGone, print_findings
+
+
+def add_arguments(parser: argparse.ArgumentParser) -> None:
+    parser.add_argument("--scenario", action="store_true", help="reads a scenario, as step does")
+    add_script(parser)
+
+
+def run(given: argparse.Namespace) -> int:
+    try:
+        return _checked(given)
+    except ReaderGone:
+        # something was found, which nobody reads
+        return REJECTED
+
+
+def _checked(given: argparse.Namespace) -> int:
+    script = read_plain(given.script, OUTPUT)
+    if script is None:
+        return REJECTED
+    findings = check_scenario(script.script) if given.scenario else check_script(script)
+    print_findings(findings, given.script, OUTPUT)
+    return REJECTED if any(finding.is_fault for finding in findings) else 0

@@ -1,0 +1,29 @@
+"""`report --listing`: prints a script with each area in symbols. Runs nothing."""
+
+from __future__ import annotations
+
+import argparse
+
+from ..checking import check_script, has_rejected_line
+from ..symbols import listing
+from .script_file import add_script, read_plain
+from .streams import ERRORS, REJECTED, USAGE, Ended, print_findings, write_output
+
+
+def add_arguments(parser: argparse.ArgumentParser) -> None:
+    parser.add_argument("--listing", action="store_true", help="each area in symbols")
+    add_script(parser)
+
+
+def run(given: argparse.Namespace) -> int:
+    if not given.listing:
+        raise Ended("report: only its listings are Python: type report --listing", USAGE)
+    script = read_plain(given.script, ERRORS)
+    if script is None:
+        return REJECTED
+    findings = check_script(script)
+    if has_rejected_line(findings):
+        print_findings(findings, given.script, ERRORS)
+        return REJECTED
+    write_output([listing(script.script)])
+    return 0

@@ -1,0 +1,45 @@
+"""What a job in symbols comes to, and where its words are in the plain script."""
+
+from __future__ import annotations
+
+from dataclasses import dataclass, field
+from typing import NamedTuple, Optional, Sequence
+
+from ..findings import Finding
+from .words import Word
+
+
+class AreaLayout(NamedTuple):
+    """Where a job has an area: the line that opens it, its first address, and the word that has
+    set each byte, if one has."""
+
+    line: int
+    base: int
+    setters: Sequence[Optional[Word]] = ()
+
+
+@dataclass(frozen=True)
+class Assembled:
+    """What a job in symbols comes to: a plain script, or findings.
+
+    Line N of the script is line N of the job. The line of a symbolic area is that of its
+    `endarea`: `place` and `opening_line` lead from what is found in an area to the words of the
+    job.
+    """
+
+    script: bytes
+    findings: list[Finding] = field(default_factory=list)
+    areas: Sequence[AreaLayout] = ()
+
+    def place(self, area: int, address: int) -> Optional[Word]:
+        """The word of the job that has set a byte of an area, with its line and column; None if no
+        word has."""
+        if area >= len(self.areas):
+            return None
+        layout = self.areas[area]
+        offset = address - layout.base
+        return layout.setters[offset] if 0 <= offset < len(layout.setters) else None
+
+    def opening_line(self, area: int, line: int) -> int:
+        """The line that opens an area, whose plain line is `line`."""
+        return self.areas[area].line if area < len(self.areas) else line

@@ -1,0 +1,86 @@
+"""Constants: hexadecimal digits, or text in EBCDIC or ASCII, with repeats and `fill`."""
+
+from __future__ import annotations
+
+import re
+from typing import Iterable, NamedTuple, Optional
+
+from ..findings import FaultName
+from .mistakes import Mistake
+from .numbers import number, value_of
+from .words import Word
+
+# EBCDIC, code page 037, in constants and in listings.
+EBCDIC = "cp037"
+
+# The most bytes of a value outside of areas, and the most repeats of a constant.
+_MOST_BYTES = 65_535
+
+_CONSTANT = re.compile(r"([0-9]*)(X|CA|C)'(.*)'")
+
+_NO_FILL = (
+    "not a number of bytes: expected at most 65535, and in an area at most 8192, as fill 80"
+)
+_NO_CONSTANT = (
+    "not a constant: expected X'DIGITS', C'TEXT' or CA'TEXT', with a number of repeats before it "
+    "or none, and each apostrophe of a text twice"
+)
+_NO_BYTES = "not bytes: expected an even number of hexadecimal digits, at least 2"
+_TOO_LONG = "too long: a value has at most 65535 bytes, and in an area 8192"
+_NOTHING_TO_FILL = "nothing comes before this that could be filled: expected a constant"
+
+
+class _Constant(NamedTuple):
+    """How often bytes come, the bytes, and the byte that fills up after them."""
+
+    times: int
+    image: bytes
+    pad: bytes
+
+
+def value(words: Iterable[Word], most: int = _MOST_BYTES) -> bytes:
+    """The bytes of constants and `fill N`, at most so many."""
+    image = bytearray()
+    pad: Optional[bytes] = None
+    words = iter(words)
+    for word in words:
+        if word.text == "fill":
+            _fill(image, pad, next(words, None), most)
+            continue
+        constant = _constant(word)
+        if len(image) + len(constant.image) * constant.times > most:
+            raise Mistake(FaultName.NUMBER, _TOO_LONG, word)
+        image += constant.image * constant.times
+        pad = constant.pad
+    if pad is None:
+        raise Mistake(FaultName.WORDS, _NO_CONSTANT)
+    return bytes(image)
+
+
+def _fill(image: bytearray, pad: Optional[bytes], word: Optional[Word], most: int) -> None:
+    """Fills up to the number of bytes that a word says."""
+    if word is None:
+        raise Mistake(FaultName.WORDS, _NO_FILL)
+    if pad is None:
+        raise Mistake(FaultName.NUMBER, _NOTHING_TO_FILL, word)
+    wanted, count = number(word, most, _NO_FILL), len(image)
+    if count > wanted:
+        before = f"{count} byte{'' if count == 1 else 's'} come before this"
+        raise Mistake(FaultName.NUMBER, f"{before}: expected fill {count} or more", word)
+    image += pad * (wanted - count)
+
+
+def _constant(word: Word) -> _Constant:
+    found = _CONSTANT.fullmatch(word.text)
+    times = value_of(found[1] or "1", 10) if found else None
+    if found is None or times is None or not 1 <= times <= _MOST_BYTES:
+        raise Mistake(FaultName.NUMBER, _NO_CONSTANT, word)
+    kind, text = found[2], found[3]
+    if kind == "X":
+        if not re.fullmatch("([0-9A-Fa-f]{2})+", text):
+            raise Mistake(FaultName.NUMBER, _NO_BYTES, word)
+        return _Constant(times, bytes.fromhex(text), b"\0")
+    if not text or "'" in text.replace("''", ""):
+        raise Mistake(FaultName.NUMBER, _NO_CONSTANT, word)
+    code = EBCDIC if kind == "C" else "ascii"
+    return _Constant(times, text.replace("''", "'").encode(code), " ".encode(code))
