@@ -1,0 +1,34 @@
+"""Signals that end a program, held back while a file is half written.
+
+They stay pending: after the block each has the effect that it always has. So no handler is needed.
+"""
+
+from __future__ import annotations
+
+import contextlib
+import signal
+from typing import Iterator
+
+# Ctrl-C, the end of a terminal, and the usual request to end.
+ENDING = frozenset({signal.SIGINT, signal.SIGHUP, signal.SIGTERM})
+
+
+class EndAsked(BaseException):
+    """A signal that ends the program is held back."""
+
+
+@contextlib.contextmanager
+def held_back() -> Iterator[None]:
+    """Holds back the signals that end a program until the block ends."""
+    before = signal.pthread_sigmask(signal.SIG_BLOCK, ENDING)
+    try:
+        yield
+    finally:
+        # a signal that was held back comes now: Ctrl-C as KeyboardInterrupt
+        signal.pthread_sigmask(signal.SIG_SETMASK, before)
+
+
+def end_if_asked() -> None:
+    """Raises EndAsked if a signal is held back: the block is to clean up and end."""
+    if signal.sigpending() & ENDING:
+        raise EndAsked
