@@ -5,6 +5,7 @@ from __future__ import annotations
 import argparse
 from typing import Optional
 
+from ..checking.loaded import Images, with_sizes
 from ..symbols import Assembled, assemble, has_symbols
 from .streams import print_findings, read_script
 
@@ -18,11 +19,12 @@ def _file(word: str) -> Optional[str]:
     return None if word == "-" else word
 
 
-def read_plain(file: Optional[str], stream: int) -> Optional[Assembled]:
-    """The plain script of a file, assembled if it has symbols. If it has mistakes, prints them on
-    a stream, and returns None. Raises Ended."""
+def read_plain(file: Optional[str], images: Images, stream: int) -> Optional[Assembled]:
+    """The plain script of a file, some of whose media are images, assembled if it has symbols. If
+    it has mistakes, prints them on a stream, and returns None. Raises Ended."""
     text = read_script(file)
-    script = assemble(text) if has_symbols(text) else Assembled(text)
+    is_plain = not has_symbols(text)
+    script = Assembled(text) if is_plain else assemble(with_sizes(text, images))
     if script.findings:
         print_findings(script.findings, file, stream)
         return None
