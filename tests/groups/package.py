@@ -37,6 +37,7 @@ def loaded():
         sys.path.insert(0, f"{TOP}/python")
     from excp import checking, findings, symbols
     from excp.script import grammar
+    from excp.symbols import listing as _
 
     return checking, findings, symbols, grammar
 
@@ -49,7 +50,7 @@ def judge_text(text):
     if symbols.has_symbols(text) and not assembled.findings:
         plain = assembled
     found = [*assembled.findings, *checking.check_script(plain), *checking.check_scenario(plain.script)]
-    symbols.listing(plain.script)
+    symbols.listing.listing(plain.script)
     return list(findings.printed(found, "job"))
 
 

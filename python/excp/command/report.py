@@ -6,7 +6,7 @@ import argparse
 
 from ..checking import check_script, has_rejected_line
 from ..checking.loaded import with_sizes
-from ..symbols import listing
+from ..symbols.listing import listing
 from .script_file import add_script, read_plain
 from .streams import (
     ERRORS, REJECTED, USAGE, Ended, name_of, print_findings, write_output,

@@ -4,13 +4,9 @@ from __future__ import annotations
 
 import argparse
 import re
-from typing import Sequence
+from typing import Mapping, Sequence, Tuple
 
-from ..checking.loaded import Images
-from ..files.refusals import Unwritten
-from ..files.targets import Targets, UnitFile
-from ..findings import printable_name
-from ..images.reading import Unreadable, read_image
+from ..checking.loaded import NO_IMAGES, Images
 from .streams import USAGE, Ended
 
 _FORM = "--load takes U=FILE: a unit from 0 to 63, and the name of a file"
@@ -27,19 +23,29 @@ def add_load(parser: argparse.ArgumentParser) -> None:
 
 def load_images(script: str, words: Sequence[str]) -> Images:
     """The images that words of the form `U=FILE` name, for a script of this name. Raises Ended."""
-    files = [_unit_file(word) for word in words]
-    if len({file.unit for file in files}) < len(files):
+    files = dict(_unit_and_name(word) for word in words)
+    if len(files) < len(words):
         raise Ended(_TWICE, USAGE)
-    try:
-        # no two units have one image
-        Targets(script, loads=files)
-        return {file.unit: read_image(file.name) for file in files}
-    except (Unreadable, Unwritten) as error:
-        raise Ended(f"{printable_name(error.name)}: {error.sentence}") from None
+    return _read(script, files) if files else NO_IMAGES
 
 
-def _unit_file(word: str) -> UnitFile:
+def _unit_and_name(word: str) -> Tuple[int, str]:
     found = _UNIT_FILE.fullmatch(word)
     if found is None:
         raise Ended(_FORM, USAGE)
-    return UnitFile(int(found[1]), found[2])
+    return int(found[1]), found[2]
+
+
+def _read(script: str, files: Mapping[int, str]) -> Images:
+    # most scripts name no image, and need not wait for the modules that read one
+    from ..files.refusals import Unwritten
+    from ..files.targets import Targets, UnitFile
+    from ..findings import printable_name
+    from ..images.reading import Unreadable, read_image
+
+    try:
+        # no two units have one image
+        Targets(script, loads=[UnitFile(unit, name) for unit, name in files.items()])
+        return {unit: read_image(name) for unit, name in files.items()}
+    except (Unreadable, Unwritten) as error:
+        raise Ended(f"{printable_name(error.name)}: {error.sentence}") from None
