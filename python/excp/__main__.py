@@ -8,11 +8,11 @@ import sys
 def started() -> int:
     """Carries out the words that this process has, and returns the exit status."""
     try:
-        from excp.command.main import main
+        from excp.command.front import front
     except KeyboardInterrupt:
         # while modules are loaded
         return 130
-    return main(sys.argv[1:])
+    return front(sys.argv[1:])
 
 
 if __name__ == "__main__":

@@ -2,9 +2,8 @@
 
 from __future__ import annotations
 
-from typing import Sequence
+from typing import Callable, Sequence
 
-from .parser import WordParser
 from .streams import OUT_OF_MEMORY, USAGE, Ended, ReaderGone, is_utf8, say
 from .words import WORDS
 
@@ -13,10 +12,15 @@ INTERRUPTED = 130
 
 
 def main(argv: Sequence[str]) -> int:
-    """Carries out the words of a command line, the program's name left out. Returns the exit
-    status. Prints why it fails, and never raises."""
+    """Carries out a word that is Python, with its options. Returns the exit status. Prints why it
+    fails, and never raises."""
+    return end_of(lambda: _carried_out(argv))
+
+
+def end_of(work: Callable[[], int]) -> int:
+    """The exit status of some work. Prints why it ends early, if it does."""
     try:
-        return _carried_out(argv)
+        return work()
     except Ended as ended:
         say(ended.text)
         return ended.status
@@ -33,6 +37,9 @@ def main(argv: Sequence[str]) -> int:
 
 
 def _carried_out(argv: Sequence[str]) -> int:
+    # a run of a script has no use for it
+    from .parser import WordParser
+
     if not argv or argv[0] not in WORDS:
         parser = WordParser("excp")
         parser.add_argument("word", choices=list(WORDS))

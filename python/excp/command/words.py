@@ -7,7 +7,7 @@ from __future__ import annotations
 
 import argparse
 from importlib import import_module
-from typing import Mapping, NamedTuple, Protocol, cast
+from typing import Mapping, NamedTuple, Protocol, Sequence, cast
 
 
 class WordModule(Protocol):
@@ -28,6 +28,15 @@ class Word(NamedTuple):
 
     def load(self) -> WordModule:
         return cast(WordModule, import_module(f"{__package__}.{self.module}"))
+
+
+# The words that the program excp_tools has: of `report` all but listings.
+TOOLS = ("report", "step", "outcomes", "describe", "convert")
+
+
+def is_of_package(words: Sequence[str]) -> bool:
+    """Whether the first of these words is carried out here, with these options."""
+    return words[0] in WORDS and (words[0] != "report" or "--listing" in words)
 
 
 WORDS: Mapping[str, Word] = {

@@ -1,0 +1,52 @@
+"""What is said, or done, after a run that has rejected its script."""
+
+from __future__ import annotations
+
+import os
+from typing import BinaryIO, Sequence
+
+from ..checking import check_script
+from ..checking.loaded import NO_IMAGES
+from ..findings import printable_name
+from ..programs.children import ended
+from ..programs.telling import note
+from ..script.limits import MOST_SCRIPT_BYTES
+from ..symbols import Assembled, assemble, has_symbols
+from .run import copy_errors, in_memory
+from .streams import ERRORS, REJECTED, print_findings
+
+
+def after_fault(
+    command: Sequence[str], script: str, given: BinaryIO, errors: BinaryIO
+) -> int:
+    """Says why a program has rejected a script; or runs it once more if it has symbols. Returns the
+    exit status."""
+    text = given.read(MOST_SCRIPT_BYTES + 1)
+    if len(text) <= MOST_SCRIPT_BYTES and has_symbols(text):
+        return _run_assembled(command, script, assemble(text))
+    copy_errors(errors)
+    _prints_fault(Assembled(text), script)
+    return REJECTED
+
+
+def _run_assembled(command: Sequence[str], name: str, script: Assembled) -> int:
+    """Runs a job in symbols. Prints its faults as `check` does, and not as the program."""
+    if script.findings:
+        print_findings(script.findings, name, ERRORS)
+        return REJECTED
+    if os.isatty(ERRORS):
+        note(f"{printable_name(name)} has symbols: runs what assemble makes of it")
+    with in_memory() as plain, in_memory() as errors:
+        plain.write(script.script)
+        plain.seek(0)
+        status = ended(command, plain, errors)
+        if status != REJECTED or not _prints_fault(script, name):
+            copy_errors(errors)
+    return status
+
+
+def _prints_fault(script: Assembled, name: str) -> bool:
+    """Prints what is wrong with a script, on standard error. Returns whether a fault is."""
+    findings = check_script(script, NO_IMAGES)
+    print_findings(findings, name, ERRORS)
+    return any(finding.is_fault for finding in findings)

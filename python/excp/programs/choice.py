@@ -1,0 +1,73 @@
+"""Which build of a program runs: the proved one if there is one, else one with nothing proved,
+which is built if need be."""
+
+from __future__ import annotations
+
+import enum
+import os
+from pathlib import Path
+from typing import Optional
+
+from .building import NotBuilt, build
+from .home import Home
+from .proof import newer_source, record_of, why_not
+from .telling import note
+
+NEWER = (
+    "{} is newer than the proved program, which runs: ./excp --build proves it anew, "
+    "./excp --try runs the sources as they are"
+)
+UNPROVED = "{}: builds it unproved; ./excp --build proves it, in half an hour to an hour"
+
+
+class Mode(enum.Enum):
+    """What the first word asks for: the best build there is, the proved one alone, or the sources as
+    they are."""
+
+    ANY = ""
+    PROVED = "--proved"
+    TRIED = "--try"
+
+
+def choose(home: Home, program: str, mode: Mode) -> Path:
+    """The file of the build of a program that runs. Raises NotBuilt."""
+    if mode is Mode.TRIED:
+        note("runs the unproved build")
+        return _unproved(home, program, "try", None)
+    why = why_not(home, program, by_sums=mode is Mode.PROVED)
+    if why is None:
+        if mode is Mode.ANY:
+            _note_newer(home, program)
+        return home.proved / program
+    if mode is Mode.PROVED:
+        raise NotBuilt(f"{why}: ./excp --build proves it")
+    return _unproved(home, program, "quick", UNPROVED.format(why))
+
+
+def _note_newer(home: Home, program: str) -> None:
+    record = record_of(home, program)
+    source = newer_source(home, home.proved / f"{program}.proof", record.get("crates", ""))
+    if source is not None:
+        note(NEWER.format(source))
+
+
+def _unproved(home: Home, program: str, way: str, why: Optional[str]) -> Path:
+    """A build with nothing proved, which is made if there is none of the sources as they are. The
+    first one is announced."""
+    if home.top is None:
+        if why is not None:
+            note(why)
+        raise NotBuilt("an installed excp has no sources to build")
+    file = home.top / "out" / {"quick": "quick", "try": "tried"}[way] / program
+    is_built = os.access(file, os.X_OK)
+    if not is_built or not _is_current(home, file):
+        if why is not None and not is_built:
+            note(why)
+        build(home, way, program)
+    return file
+
+
+def _is_current(home: Home, file: Path) -> bool:
+    """Whether no source is newer than this build with nothing proved."""
+    crates = file.with_name(f"{file.name}.crates")
+    return crates.is_file() and newer_source(home, crates, crates.read_text("utf-8")) is None
