@@ -1,5 +1,5 @@
-"""Programs that end with this process: it hands on a signal that ends it, and the system kills them
-if it is killed."""
+"""Programs that end with this process: it hands on a signal that ends it, and they get SIGTERM if it
+is killed."""
 
 from __future__ import annotations
 
@@ -51,8 +51,8 @@ def _end_of(child: subprocess.Popen[bytes], awaited: AbstractSet[int]) -> Option
 
 
 def _begin(parent: int, mask: AbstractSet[int]) -> None:
-    """In the new process: it is to be killed when its parent is, and takes signals again."""
-    ctypes.CDLL(None).prctl(_PR_SET_PDEATHSIG, signal.SIGKILL)
+    """In the new process: it gets a signal when its parent ends, and takes signals again."""
+    ctypes.CDLL(None).prctl(_PR_SET_PDEATHSIG, signal.SIGTERM)
     if os.getppid() != parent:
-        os.kill(os.getpid(), signal.SIGKILL)
+        os.kill(os.getpid(), signal.SIGTERM)
     signal.pthread_sigmask(signal.SIG_SETMASK, mask)
