@@ -8,11 +8,11 @@ message on words, forms and numbers, and every suggestion of a first word, comes
 from __future__ import annotations
 
 import struct
-from dataclasses import dataclass, fields
-from typing import Any, ClassVar, Mapping, NamedTuple, Optional, Union, get_type_hints
+from dataclasses import dataclass
+from typing import ClassVar, Mapping, Optional, Union
 
 from .forms import (
-    Address, Byte, Count, Each, Extents, Form, Halfword, Hex, Index, Method, Mode, Number, Octet,
+    Address, Byte, Count, Extents, Halfword, Hex, Index, Method, Mode, Number, Octet,
     Row, Sense, Size, Storage, Subclass, Words,
 )
 
@@ -280,26 +280,3 @@ EVENT_WORDS = tuple(EVENT_LINES)
 # has no `wait`.
 SUGGESTED_SCRIPT_WORDS = ("wait", *(word for word in SCRIPT_WORDS if word != "wait"))
 SUGGESTED_SCENARIO_WORDS = (*SUGGESTED_SCRIPT_WORDS[1:], *EVENT_WORDS)
-
-
-class WordForms(NamedTuple):
-    """The forms of the words of a line after the first one, and that of all further words, if a
-    line may have more."""
-
-    forms: tuple[Form[Any], ...]
-    each: Optional[Each]
-
-
-def _word_forms(kind: type[Line]) -> WordForms:
-    hints = get_type_hints(kind, include_extras=True)
-    said = [hints[field.name].__metadata__[0] for field in fields(kind)[1:]]
-    each = said.pop() if said and isinstance(said[-1], Each) else None
-    return WordForms(tuple(said), each)
-
-
-# The forms of the words of each kind of line.
-WORD_FORMS: Mapping[type[Line], WordForms] = {
-    kind: _word_forms(kind)
-    for kinds in (SCRIPT_LINES, EVENT_LINES, SIZES_BY_ROW)
-    for kind in kinds.values()
-}

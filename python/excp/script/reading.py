@@ -8,10 +8,11 @@ from typing import Any, Callable, Iterable, Optional
 from ..findings import FaultName
 from .forms import Form, listed
 from .grammar import (
-    COMMAND_WORDS, EVENT_LINES, EVENT_WORDS, SCRIPT_LINES, SCRIPT_WORDS, SIZES_BY_ROW,
-    WORD_FORMS, Line, Room, Wait,
+    COMMAND_WORDS, EVENT_LINES, EVENT_WORDS, SCRIPT_LINES, SCRIPT_WORDS, SIZES_BY_ROW, Line,
+    Room, Wait,
 )
 from .suggestions import nearest
+from .word_forms import WORD_FORMS
 
 # The most characters of a word that a message shows.
 _MOST_SHOWN = 64
