@@ -1,9 +1,12 @@
-"""AWSTAPE and CKD_P370 images, read byte by byte as their formats say: what lies on the medium, or the first fault.
+"""Images of tapes (AWSTAPE, HET) and disks (CKD_P370, CKD_C370), read byte by byte as their formats say: what lies on the medium,
+or the first fault.
 
 This is no part of the program. It is what the program is held to: docs/FORMATS.md has the rules.
 """
 
+import bz2
 import struct
+import zlib
 from dataclasses import dataclass, field
 
 # The bytes of the header of a chunk, of that of a disk image, of a home address, and of a count area.
@@ -15,7 +18,7 @@ END = b"\xff" * 8
 # The most tracks of a disk, and the most bytes of a block.
 TRACKS, BLOCK = 65_535, 65_535
 
-# What a fault says, by its name. `{n}` is how many bytes are left, and `{s}` an s unless that is 1.
+# What `--load` and the library say of a fault, by its name. `{n}` is how many bytes are left, and `{s}` an s unless that is 1.
 TEXTS = {
     "after chunks": "{n} trailing byte{s} after the last chunk",
     "after cylinders": "{n} trailing byte{s} after the last cylinder",
@@ -45,6 +48,34 @@ TEXTS = {
     "no record": "a track has at least one record, R0",
     "no end mark": "the records of a track end in eight bytes FF",
     "past track": "a record goes past the end of its track",
+}
+
+# What `describe` and `convert` say in its place, if that is something else: what was found, shown as `@`, and then the rule.
+FOUND = {
+    "header cut": "the header of a chunk is cut short: @ of 6 bytes",
+    "data cut": "the data of a chunk is cut short: @ of @ bytes",
+    "flags": "byte 4 of a header is @, must be 40, A0, 80, 00 or 20; of compressed data A1, 81, 01, 21, A2, 82, 02 or 22",
+    "spare": "byte 5 of a header is @, must be 00",
+    "previous": "bytes 2 and 3 of a header are @, must be @: the bytes of the chunk before it",
+    "mark with data": "a tape mark has data: @ bytes, must have none",
+    "two methods": "the chunks of a block are compressed in different ways",
+    "packed data": "the compressed data of a block is damaged: ",
+    "empty": "a block is empty, must have 1 to 65,535 bytes",
+    "long": "a block is too long: more than 65,535 bytes, must have 1 to 65,535",
+    "disk header cut": "the header of the image is cut short: @ of @ bytes",
+    "eye catcher": "the file is no image of a disk: it begins with `@`, must begin with `CKD_P370` or `CKD_C370`",
+    "split": "the image is a part of a split volume, file @; copy the whole volume to one file",
+    "heads": "a disk has 1 to 65,535 heads, and this one @",
+    "track bytes": "a track has 30 to 65,549 bytes in an image, and this one @",
+    "cut": "the image is cut short: @ cylinders and @ tracks of @, must be at least one whole cylinder",
+    "home address": "the home address names another track: cylinder @, head @, must be cylinder @, head @",
+    "no record": "a track has no record, must have at least one: R0",
+    "no end mark": "the records of a track have no end, must end in eight bytes FF",
+    "past track": "a record goes past the end of its track: @ bytes, @ are left",
+    "packed header": "the header of the compressed image is damaged: ",
+    "packed table": "a table of the compressed image is damaged: ",
+    "packed track": "a compressed track is damaged: ",
+    "shadow": "the image is a shadow file: ",
 }
 
 
@@ -83,22 +114,30 @@ class Volume:
     tracks: list
 
 
-def tape_of(image):
-    """The tape of an AWSTAPE image."""
+def tape_of(image, unpacks=False):
+    """The tape of an AWSTAPE image, or of a HET image if compressed blocks are to be unpacked."""
     if len(image) >= 12 and all(it in b"0123456789ABCDEF" for it in image[:12]):
         raise Fault(0, "fake")
-    tape, block, lengths, previous, at = Tape(), None, [], 0, 0
+    tape, block, lengths, previous, at, first, method = Tape(), None, [], 0, 0, 0, 0
     while at < len(image):
         if at + CHUNK > len(image):
             raise Fault(at, "after chunks" if at else "header cut")
         length, before, flags, spare = struct.unpack_from("<HHBB", image, at)
-        faults = chunk_faults(length, before, flags, spare, previous, block is not None)
+        if unpacks and flags & 3 in (1, 2) and not flags & 0x40:
+            packed, flags = flags & 3, flags & ~3
+        else:
+            packed = 0
+        faults = chunk_faults(length, before, flags, spare, previous, block is not None, unpacks)
+        if block is not None and not flags & 0xC0 and packed != method:
+            faults.append("two methods")
+        if block is None:
+            first, method = at, packed
         if at + CHUNK + length > len(image):
             faults.append("data cut")
         data = image[at + CHUNK : at + CHUNK + length]
         if not faults and flags != 0x40:
             whole = len(block or b"") + length
-            faults += ["long"] if whole > BLOCK else ["empty"] if whole == 0 and flags & 0x20 else []
+            faults += ["long"] if whole > BLOCK else ["empty"] if whole == 0 and flags & 0x20 and not packed else []
         if faults:
             raise Fault(at, *faults)
         if flags == 0x40:
@@ -107,6 +146,8 @@ def tape_of(image):
         else:
             block, lengths = (block or b"") + data, [*lengths, length]
             if flags & 0x20:
+                if packed:
+                    block = unpacked(block, packed, BLOCK, first, at)
                 tape.items.append(block)
                 tape.chunks.append(lengths)
                 block, lengths = None, []
@@ -117,10 +158,26 @@ def tape_of(image):
     return tape
 
 
-def chunk_faults(length, before, flags, spare, previous, is_open):
+def unpacked(data, method, most, offset, end):
+    """What data is unpacked to: a block from one offset to another."""
+    unpacker = zlib.decompressobj() if method == 1 else bz2.BZ2Decompressor()
+    try:
+        found = unpacker.decompress(data, most + 1)
+    except (zlib.error, OSError, ValueError):
+        raise Fault(offset, "packed data") from None
+    if len(found) > most:
+        raise Fault(offset, "long")
+    if not unpacker.eof or unpacker.unused_data:
+        raise Fault(offset, "packed data")
+    if not found:
+        raise Fault(end, "empty")
+    return found
+
+
+def chunk_faults(length, before, flags, spare, previous, is_open, unpacks):
     """The rules that the header of a chunk breaks."""
     faults = []
-    if flags & 3:
+    if flags & 3 and not unpacks:
         faults.append("compressed chunk")
     if flags not in (0x40, 0xA0, 0x80, 0x00, 0x20):
         faults.append("flags")
@@ -151,12 +208,13 @@ def image_of(tape):
     return image
 
 
-def volume_of(image):
-    """The volume of a CKD_P370 image."""
+def volume_of(image, unpacks=False):
+    """The volume of a CKD_P370 image, or of a CKD_C370 image if compressed tracks are to be unpacked."""
     if len(image) < DISK:
         raise Fault(len(image), "disk header cut")
-    if image[:8] != b"CKD_P370":
-        raise Fault(0, "compressed disk" if image[:8] == b"CKD_C370" else "eye catcher")
+    is_packed = image[:8] == b"CKD_C370"
+    if image[:8] != b"CKD_P370" and not (is_packed and unpacks):
+        raise Fault(0, "compressed disk" if is_packed else "eye catcher")
     heads, size = struct.unpack_from("<II", image, 8)
     if not 1 <= heads <= 65_535:
         raise Fault(8, "heads")
@@ -165,6 +223,9 @@ def volume_of(image):
     if image[17]:
         raise Fault(17, "split")
     volume = Volume(image[:DISK], heads, size, [])
+    if is_packed:
+        volume.tracks += packed_tracks(image, heads, size)
+        return volume
     at = DISK
     while at < len(image) or not volume.tracks or len(volume.tracks) % heads:
         if at + size > len(image):
@@ -202,3 +263,117 @@ def bytes_of(track, size, cylinder, head):
     for name, key, data in track.records:
         whole += name + struct.pack(">BH", len(key), len(data)) + key + data
     return (whole + END + track.tail).ljust(size, b"\0")
+
+
+# --- compressed disks: cckd.h of Hercules 3
+
+# The place of the first table, and what says that a track is in the file below this one.
+TABLE, BELOW = 1024, 0xFFFFFFFF
+
+
+def packed_tracks(image, heads, size):
+    """The tracks of a CKD_C370 image."""
+    if len(image) < TABLE:
+        raise Fault(len(image), "disk header cut")
+    order = ">" if image[DISK + 3] & 2 else "<"
+    (cylinders,) = struct.unpack_from("<I", image, DISK + 40)
+    form = image[DISK + 44]
+    count = cylinders * heads
+    if not 1 <= count <= TRACKS:
+        raise Fault(DISK + 40, "packed header")
+    if form > 2:
+        raise Fault(DISK + 44, "packed header")
+    wanted = (count + 255) // 256
+    first, second = struct.unpack_from(f"{order}II", image, DISK + 4)
+    if first < wanted:
+        raise Fault(DISK + 4, "packed table")
+    if second != 256:
+        raise Fault(DISK + 8, "packed table")
+    if TABLE + 4 * wanted > len(image):
+        raise Fault(TABLE, "packed table")
+    return [packed_track(image, order, number, heads, size, form) for number in range(count)]
+
+
+def packed_track(image, order, number, heads, size, form):
+    """A track of a CKD_C370 image."""
+    entry = TABLE + 4 * (number // 256)
+    (table,) = struct.unpack_from(f"{order}I", image, entry)
+    if table == BELOW:
+        raise Fault(entry, "shadow")
+    place = length = 0
+    if table:
+        if table + 2048 > len(image):
+            raise Fault(table, "packed table")
+        entry = table + 8 * (number % 256)
+        place, length, _ = struct.unpack_from(f"{order}IHH", image, entry)
+        if place == BELOW:
+            raise Fault(entry, "shadow")
+        if not place and (length == 1 or length == 2 or (length == 0 and form != 2)):
+            form = length
+    whole = unpacked_track(image, place, length, entry, number, heads, size) if place else null_track(number, heads, form)
+    try:
+        return track_of(whole.ljust(size, b"\0"), 0, size, *divmod(number, heads))
+    except Fault:
+        raise Fault(place or entry, "packed track") from None
+
+
+def unpacked_track(image, place, length, entry, number, heads, size):
+    """The bytes of a track that is in the file."""
+    if not HOME <= length <= size:
+        raise Fault(entry, "packed table")
+    data = image[place : place + length]
+    if len(data) < length:
+        raise Fault(place, "packed track")
+    if data[1:HOME] != struct.pack(">HH", *divmod(number, heads)):
+        raise Fault(place, "home address")
+    if data[0] > 2:
+        raise Fault(place, "packed track")
+    rest = data[HOME:]
+    if data[0]:
+        try:
+            rest = unpacked(rest, data[0], size - HOME, 0, 0)
+        except Fault as fault:
+            if "empty" not in fault.names:
+                raise Fault(place, "packed track") from None
+            rest = b""
+    return b"\0" + data[1:HOME] + rest
+
+
+def null_track(number, heads, form):
+    """The bytes of a track that is not in the file, by the number of its form."""
+    cchh = struct.pack(">HH", *divmod(number, heads))
+    records = {0: [(1, 0)], 1: [], 2: [(at, 4096) for at in range(1, 13)]}[form]
+    counts = [(0, 8), *records]
+    return b"\0" + cchh + b"".join(cchh + struct.pack(">BBH", at, 0, size) + bytes(size) for at, size in counts) + END
+
+
+def packed_image_of(volume, methods):
+    """The CKD_C370 image of a volume of at most 256 tracks, each compressed by its method: 0 for none, 1 for zlib, 2 for bzip2,
+    and nothing for a null track with an end of file after R0."""
+    tracks, entries = b"", b""
+    begin = TABLE + 4 + 2048
+    for number, (track, method) in enumerate(zip(volume.tracks, methods)):
+        if method is None:
+            entries += bytes(8)
+            continue
+        whole = bytes_of(track, 0, *divmod(number, volume.heads))
+        rest = {0: bytes, 1: zlib.compress, 2: bz2.compress}[method](whole[HOME:])
+        entries += struct.pack("<IHH", begin + len(tracks), HOME + len(rest), HOME + len(rest))
+        tracks += bytes([method]) + whole[1:HOME] + rest
+    cylinders = len(volume.tracks) // volume.heads
+    header = struct.pack("<4BII", 0, 3, 1, 0, 1, 256).ljust(40, b"\0") + struct.pack("<IBB", cylinders, 0, 1)
+    table = struct.pack("<I", TABLE + 4) + entries.ljust(2048, b"\0")
+    return b"CKD_C370" + volume.header[8:] + header.ljust(DISK, b"\0") + table + tracks
+
+
+def packed_tape_of(items, method, length=65_535):
+    """The HET image of a tape, each block compressed by a method, in chunks of at most so many bytes."""
+    image, previous = b"", 0
+    for block in items:
+        data = b"" if block is None else {1: zlib.compress, 2: bz2.compress}[method](block)
+        parts = [data[at : at + length] for at in range(0, len(data), length)] or [b""]
+        for number, part in enumerate(parts):
+            ends = (0x80 if number == 0 else 0) | (0x20 if number == len(parts) - 1 else 0) | method
+            image += struct.pack("<HHBB", len(part), previous, 0x40 if block is None else ends, 0) + part
+            previous = len(part)
+    return image

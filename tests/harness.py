@@ -26,7 +26,7 @@ SAMPLES = f"{TOP}/samples"
 SECONDS = 60
 
 # The words of the package python/excp. `report` is its word for a listing alone.
-PACKAGE_WORDS = "check", "assemble", "report"
+PACKAGE_WORDS = "check", "assemble", "report", "describe", "convert"
 
 # The most lines of a diff that a failure shows, and of a text that is not compared.
 LINES = 60

@@ -4,17 +4,22 @@ What an image holds, and its first fault, is by `tests/formats.py`. Volumes and 
 (Debian's package `hercules`); without them these cases are skipped.
 """
 
+import bz2
 import os
 import pty
 import random
 import re
+import shlex
 import shutil
 import struct
 import subprocess
 import tempfile
 import threading
+import zlib
 
 import formats
+from excp.images.media import Disk
+from excp.images.reading import Unreadable, image_size, read_image
 from harness import CASES, SAMPLES, SECONDS, Case, Failed, Skipped, expect, expect_text, read, require, run
 
 STORED = f"{CASES}/images"
@@ -210,13 +215,78 @@ def hetupd_reads(setup):
     """Hercules' hetupd makes a plain tape of a compressed one, and it is loaded; it reads what is saved."""
     with tempfile.TemporaryDirectory(prefix="images-") as folder:
         shutil.copy(f"{STORED}/w.het", f"{folder}/packed")
-        ran = program(setup, folder, "describe", "packed")
+        ran = program(setup, folder, "report", "--load", "0=packed", script=TAPE)
         require(ran.status == 1 and "hetupd -d IN OUT" in ran.err and ": byte 0: " in ran.err, "no cure", ran)
         made("hetupd", "-d", "packed", "plain", cwd=folder)
         keeps(setup, folder, "tape", "plain")
         made("hetupd", "-d", "saved", "again", cwd=folder)
         one, other = (formats.tape_of(bytes_of(f"{folder}/{it}")) for it in ("plain", "again"))
         require(one.items == other.items, "hetupd reads another tape")
+
+
+def lines_of(setup, folder, name):
+    """The lines of a script that an image is converted to."""
+    ran = program(setup, folder, "convert", name)
+    require(ran.status == 0, f"{name} is not converted", ran)
+    return ran.out
+
+
+def tapes_of_hercules(setup):
+    """A tape that Hercules compresses by zlib or bzip2, in chunks of any size, is described and converted as the plain one."""
+    with tempfile.TemporaryDirectory(prefix="images-") as folder:
+        shutil.copy(f"{STORED}/w.aws", f"{folder}/plain")
+        lines = lines_of(setup, folder, "plain")
+        for options in ["-z"], ["-z", "-1"], ["-z", "-9", "-c", "4096"], ["-b", "-9"], ["-b", "-c", "4096"]:
+            made("hetupd", *options, "plain", "packed", cwd=folder)
+            require(bytes_of(f"{folder}/packed") != bytes_of(f"{folder}/plain"), f"not compressed by {options}")
+            require(lines_of(setup, folder, "packed") == lines, f"another tape by {options}")
+            described = program(setup, folder, "describe", "packed").out
+            said = "packed: tape image, HET\n  4 blocks, the longest of 65535 bytes; 3 tape marks\n  3 blocks compressed\n"
+            require(described.startswith(said), f"described as {described}")
+
+
+def het_is_read_by_hercules(setup):
+    """A compressed tape that `convert` makes is that of Hercules, byte for byte, and Hercules' tools read it."""
+    with tempfile.TemporaryDirectory(prefix="images-") as folder:
+        write(f"{folder}/lines", lines_of(setup, STORED, "w.het").encode())
+        expect(program(setup, folder, "convert", "--to", "het", "--output", "new", "lines"), (0, ""))
+        require(bytes_of(f"{folder}/new") == bytes_of(f"{STORED}/w.het"), "another image than that of hetupd")
+        shown = made("hetmap", "new", cwd=folder).decode("utf-8", "replace")
+        require(re.search(r"Blocks +: 4\b", shown) and re.search(r"Uncompressed bytes +: 75616\b", shown), f"hetmap: {shown}")
+        made("hetupd", "-d", "new", "plain", cwd=folder)
+        one, other = (formats.tape_of(bytes_of(f"{folder}/{it}"), True).items for it in ("new", "plain"))
+        require(one == other, "hetupd reads another tape")
+        items = [it for it in one if it is not None]
+        made("hetget", "-n", "new", "file", "1", "U", "65535", "65535", cwd=folder)
+        require(bytes_of(f"{folder}/file") == b"".join(items[:2]), "hetget reads another file")
+
+
+# How dasdinit makes a compressed volume: its options, the model, and cylinders. The last one has null tracks with records.
+PACKED = [(["-z"], "3390", "40"), (["-bz2"], "3390", "3"), (["-0"], "3380", "3"), (["-z"], "2311", "200"), (["-z", "-linux"], "3390", "40")]
+
+
+def disks_of_hercules(setup):
+    """Compressed disks of Hercules have the tracks that its tools unpack, and dasdls finds the data sets that `describe` prints."""
+    for options, model, cylinders in PACKED:
+        with tempfile.TemporaryDirectory(prefix="images-") as folder:
+            made("dasdinit", *options, "packed", model, "VOL001", cylinders, cwd=folder)
+            is_unpacked(setup, folder)
+    for option in "-z", "-bz2", "-0":
+        with tempfile.TemporaryDirectory(prefix="images-") as folder:
+            loaded_volume(folder)
+            made("dasdcopy", option, "old", "packed", cwd=folder)
+            names = made("dasdls", "packed", cwd=folder).decode()
+            ran = program(setup, folder, "describe", "packed")
+            require("SYS1.TEXT" in names and "  data set SYS1.TEXT: PS FB, " in ran.out, f"dasdls: {names}", ran)
+            is_unpacked(setup, folder)
+
+
+def is_unpacked(setup, folder):
+    """`describe` and the readers of the package find on a compressed disk what `dasdcopy` unpacks."""
+    made("dasdcopy", "-o", "ckd", "packed", "plain", cwd=folder)
+    plain, packed = (program(setup, folder, "describe", it).out.partition("\n") for it in ("plain", "packed"))
+    require(packed[0] == "packed: disk image, CKD_C370, compressed" and plain[2] == packed[2], f"{packed} is not {plain}")
+    require(read_image(f"{folder}/plain") == read_image(f"{folder}/packed"), "another disk than that of dasdcopy")
 
 
 # --- the stored samples
@@ -228,6 +298,13 @@ def sample_is_kept(setup, name, kind):
         keeps(setup, folder, kind, "image")
 
 
+# Images, the kinds of their media, and the formats that their lines are converted to.
+CONVERTED = [
+    *((name, "tape", to) for name in ("w.aws", "wnc.het", "w.het") for to in ("aws", "het")),
+    ("load2311.img", "disk", "ckd"),
+]
+
+
 def is_converted(setup, name, to, kind):
     """An image becomes the lines of a script, and these become an image of the same medium."""
     with tempfile.TemporaryDirectory(prefix="images-") as folder:
@@ -237,7 +314,7 @@ def is_converted(setup, name, to, kind):
         write(f"{folder}/lines", ran.out.encode())
         expect(program(setup, folder, "convert", "--to", to, "--output", "again", "lines"), (0, ""))
         if kind == "tape":
-            one, other = (formats.tape_of(bytes_of(f"{folder}/{it}")).items for it in ("image", "again"))
+            one, other = (formats.tape_of(bytes_of(f"{folder}/{it}"), True).items for it in ("image", "again"))
         else:
             one, other = (formats.volume_of(bytes_of(f"{folder}/{it}")) for it in ("image", "again"))
             one, other = ([it.records for it in volume.tracks] for volume in (one, other))
@@ -247,10 +324,10 @@ def is_converted(setup, name, to, kind):
 # --- images at fault
 
 
-def fault_of(image, is_disk):
-    """The first fault of an image, or nothing."""
+def fault_of(image, is_disk, unpacks):
+    """The first fault of an image, or nothing. What is compressed is a fault unless it is to be unpacked."""
     try:
-        (formats.volume_of if is_disk else formats.tape_of)(image)
+        (formats.volume_of if is_disk else formats.tape_of)(image, unpacks)
     except formats.Fault as fault:
         return fault
     return None
@@ -284,7 +361,7 @@ def is_right(name, image, said, is_taken, of_library=False):
     if image.startswith(b"CKD_S") and not of_library:
         require(said and said.startswith("this is a shadow file") and not is_taken, f"image {name}: {said}")
         return
-    fault = fault_of(image, image[:4] == b"CKD_")
+    fault = fault_of(image, image[:4] == b"CKD_", not of_library)
     if of_library:
         fault = as_loaded(fault, image)
     if fault is None:
@@ -292,10 +369,15 @@ def is_right(name, image, said, is_taken, of_library=False):
         return
     require(said and not is_taken, f"image {name} has a fault at {fault.offset}: {fault.names}")
     found = re.match(r"byte (\d+): (.*)", said)
-    left = len(image) - fault.offset
-    texts = [formats.TEXTS[it].format(n=left, s="" if left == 1 else "s") for it in fault.names]
-    is_named = found and found[2].startswith(tuple(texts))
+    is_named = found and any(re.match(text_of(it, len(image) - fault.offset, of_library), found[2]) for it in fault.names)
     require(is_named and int(found[1]) == fault.offset, f"image {name}: {said}; expected {fault.names} at {fault.offset}")
+
+
+def text_of(name, left, of_library):
+    """What is said of a fault, as a regular expression."""
+    if name in formats.FOUND and not of_library:
+        return re.escape(formats.FOUND[name]).replace("@", ".+?")
+    return re.escape(formats.TEXTS[name].format(n=left, s="" if left == 1 else "s"))
 
 
 def cuts(image, heads):
@@ -370,27 +452,199 @@ TAPE, DISK = idle("tape"), idle("disk")
 # The first blocks of an FBA disk of Hercules: the second one has the label.
 FBA = bytes(512) + "VOL1FBA001".encode("cp037").ljust(512, b"\0")
 
-# Files that are no image, and what is said of each.
+# Files that are no image, and what is said of each: by `describe` and `convert` where `--load` says something else.
 NO_IMAGES = [
     (TAPE.encode(), "this is a text, not an image; `convert --to` makes an image of a script"),
     ("é\r\n\tno script\n".encode(), "this is a text, not an image; `convert --to` makes an image of a script"),
-    (b"\1\2\3\4\5\6\n", "byte 0: the chunk is compressed; make a plain file by `hetupd -d IN OUT`, or the file is no image of a tape"),
+    (
+        b"\1\2\3\4\5\6\n",
+        "byte 0: the chunk is compressed; make a plain file by `hetupd -d IN OUT`, or the file is no image of a tape",
+        "byte 0: byte 5 of a header is 06, must be 00, or the file is no image of a tape",
+    ),
     (FBA, "this is an image of an FBA disk, which has blocks without count areas; CKD disks alone are supported"),
     (b"FBA_C370" + bytes(504), "this is an image of an FBA disk, which has blocks without count areas; CKD disks alone are supported"),
-    (b"CKD_C370" + bytes(504), "byte 0: the image is compressed; make a plain file by `dasdcopy -o ckd IN OUT`"),
+    (
+        b"CKD_C370" + bytes(504),
+        "byte 0: the image is compressed; make a plain file by `dasdcopy -o ckd IN OUT`",
+        "byte 8: a disk has 1 to 65,535 heads, and this one 0",
+    ),
     (b"CKD_C064" + bytes(504), "this is a compressed image of a disk (CCKD64); make a plain one, which begins with CKD_P370"),
     (b"CKD_S370" + bytes(504), "this is a shadow file of a compressed image of a disk (CCKD); make a plain image of both"),
     (b"CKD_P064" + bytes(504), "this is an image of a disk in the format CKD64; make one that begins with CKD_P370"),
-    (b"CKD_P371" + bytes(504), "byte 0: the file is no image of a disk: an image begins with `CKD_P370`"),
+    (
+        b"CKD_P371" + bytes(504),
+        "byte 0: the file is no image of a disk: an image begins with `CKD_P370`",
+        "byte 0: the file is no image of a disk: it begins with `CKD_P371`, must begin with `CKD_P370` or `CKD_C370`",
+    ),
 ]
 
 
-def is_no_image(setup, data, said):
+def is_no_image(setup, data, loaded, *others):
     """`describe`, `convert` and `--load` say what a file is that is no image."""
+    said, *_ = *others, loaded
     with tempfile.TemporaryDirectory(prefix="images-") as folder:
         write(f"{folder}/it", data)
-        for words in ["describe", "it"], ["convert", "it"], ["report", "--load", "0=it"]:
-            expect(program(setup, folder, *words, script=TAPE), (1, "", f"excp_job: it: {said}\n"))
+        for words, text in (["describe", "it"], said), (["convert", "it"], said), (["report", "--load", "0=it"], loaded):
+            expect(program(setup, folder, *words, script=TAPE), (1, "", f"excp_job: it: {text}\n"))
+
+
+# Images that break a rule, and what is said of each: the finding, and then the rule.
+FINDINGS = [
+    (small_tape()[:3], "byte 0: the header of a chunk is cut short: 3 of 6 bytes, or the file is no image of a tape"),
+    (small_tape()[:8], "byte 0: the data of a chunk is cut short: 2 of 5 bytes, or the file is no image of a tape"),
+    (b"\5\0\0\0\xa0\1FIRST", "byte 0: byte 5 of a header is 01, must be 00, or the file is no image of a tape"),
+    (b"\5\0\1\0\xa0\0FIRST", "byte 0: bytes 2 and 3 of a header are 1, must be 0: the bytes of the chunk before it, or the file"),
+    (b"\5\0\0\0\xb0\0FIRST", "byte 0: byte 4 of a header is B0, must be 40, A0, 80, 00 or 20; of compressed data A1, 81, 01, 21, "),
+    (b"\5\0\0\0\x40\0FIRST", "byte 0: a tape mark has data: 5 bytes, must have none"),
+    (b"\0\0\0\0\xa0\0", "byte 0: a block is empty, must have 1 to 65,535 bytes"),
+    (formats.packed_tape_of([b"A" * 65_536], 1), "byte 0: a block is too long: more than 65,535 bytes, must have 1 to 65,535"),
+    (b"\5\0\0\0\xa1\0FIRST", "byte 0: the compressed data of a block is damaged: it is no data of zlib"),
+    (b"\5\0\0\0\xa2\0FIRST", "byte 0: the compressed data of a block is damaged: it is no data of bzip2"),
+    (small_volume()[:100], "byte 100: the header of the image is cut short: 100 of 512 bytes"),
+    (small_volume()[:-1], "byte 751: the image is cut short: 0 cylinders and 1 tracks of 2, must be at least one whole cylinder"),
+    (small_volume()[:17] + b"\1" + bytes(734), "byte 17: the image is a part of a split volume, file 1; copy the whole volume to one file"),
+    (small_volume()[:513] + b"\0\1" + bytes(237), "byte 512: the home address names another track: cylinder 1, head 0, must be cylinder 0, head 0"),
+    (small_volume()[:517] + b"\xff" * 8 + bytes(227), "byte 517: a track has no record, must have at least one: R0"),
+    (small_volume()[:523] + b"\1\0" + bytes(227), "byte 517: a record goes past the end of its track: 264 bytes, 106 are left"),
+]
+
+
+def is_found(setup, data, said):
+    """`describe` says what it found, and then the rule."""
+    with tempfile.TemporaryDirectory(prefix="images-") as folder:
+        write(f"{folder}/it", data)
+        ran = program(setup, folder, "describe", "it")
+        require((ran.status, ran.out) == (1, "") and ran.err.startswith(f"excp_job: it: {said}"), f"expected {said!r}", ran)
+
+
+# --- images changed at random, read in this process
+
+
+def packed_volume():
+    """A compressed volume of four tracks: by zlib, by bzip2, as it is, and a null track."""
+    zero = (bytes(5), b"", bytes(8))
+    tracks = [formats.Track(0, [zero, (struct.pack(">HHB", *divmod(at, 2), 1), b"KEY", b"DATA" * 8)], b"") for at in range(4)]
+    header = b"CKD_P370" + struct.pack("<IIB", 2, 120, 0x90).ljust(504, b"\0")
+    return formats.packed_image_of(formats.Volume(header, 2, 120, tracks), [1, 2, 0, None])
+
+
+def originals():
+    """Images of each format, by name."""
+    items = [b"FIRST" * 9, None, b"IN SEVERAL CHUNKS" * 9, None, None]
+    return {
+        "AWSTAPE": small_tape(),
+        "HET by zlib": formats.packed_tape_of(items, 1, 16),
+        "HET by bzip2": formats.packed_tape_of(items, 2, 30),
+        "CKD_P370": small_volume(),
+        "CKD_C370": packed_volume(),
+    }
+
+
+def parts_of(image):
+    """The places that matter in an image: of a compressed disk no place in headers and tables that is not read."""
+    if not image.startswith(b"CKD_C370"):
+        return range(len(image))
+    return [*range(18), *range(512, 524), *range(552, 557), *range(1024, 1028 + 40), *range(1028 + 2048, len(image))]
+
+
+def changes(image, is_long):
+    """An image cut at each length, each byte changed in turn, and further changes at random: all, or some hundreds."""
+    places = parts_of(image)
+    chance = random.Random(len(image))
+    values = range(256) if is_long else (0, 0xFF)
+    single = [image[:at] for at in places]
+    single += [image[:at] + bytes([value]) + image[at + 1 :] for at in places for value in values]
+    yield from single if is_long else chance.sample(single, min(len(single), 200))
+    for _ in range(20_000 if is_long else 200):
+        changed = bytearray(image)
+        for _ in range(chance.randrange(1, 6)):
+            changed[chance.choice(places)] = chance.randrange(256)
+        yield bytes(changed)
+
+
+def are_read(setup, image):
+    """The readers of the package find in changed images what tests/formats.py finds, in the same process."""
+    with tempfile.TemporaryDirectory(prefix="images-") as folder:
+        file, count = f"{folder}/it", 0
+        for count, changed in enumerate(changes(image, setup.is_long), 1):
+            write(file, changed)
+            is_read(file, changed)
+        return f"{count} changed images" if setup.is_long else None
+
+
+def is_read(file, image):
+    """The package reads a file as tests/formats.py does, or rejects it for the same byte."""
+    if image.startswith(b"CKD_S"):
+        return
+    is_disk = image.startswith(b"CKD_")
+    try:
+        found = read_image(file)
+    except Unreadable as error:
+        is_right("it", image, error.sentence, False) if error.sentence.startswith("byte ") else require_fault(image, is_disk)
+        return
+    fault = fault_of(image, is_disk, True)
+    require(fault is None, f"{image.hex()} has a fault: {fault}")
+    if isinstance(found, Disk):
+        tracks = [it.records for it in formats.volume_of(image, True).tracks]
+        require([[tuple(it) for it in track] for track in found.tracks] == tracks, f"{image.hex()}: another disk")
+    else:
+        require(found.items == formats.tape_of(image, True).items, f"{image.hex()}: another tape")
+    require(image_size(file) == found.size, "another size")
+
+
+def require_fault(image, is_disk):
+    """An image of which the package says what it is has a fault at its first byte."""
+    fault = fault_of(image, is_disk, True)
+    require(fault and fault.offset == 0, f"{image.hex()}: {fault}")
+
+
+def bombs(setup):
+    """What is unpacked takes no more than its bound of memory: blocks and tracks of a mebibyte that are unpacked to a gibibyte."""
+    zeros = zlib.compress(bytes(1 << 20), 9)
+    many = bz2.compress(bytes(1 << 28))
+    header = b"CKD_P370" + struct.pack("<IIB", 1, 65_549, 0x90).ljust(504, b"\0")
+    disk = formats.packed_image_of(formats.Volume(header, 1, 65_549, []), [])
+    entry = struct.pack("<IHH", 3076, 5 + len(zeros), 0)
+    disk = disk[:552] + b"\1" + disk[553:1028] + entry + disk[1036:3076] + b"\1" + bytes(4) + zeros
+    long = "a block is too long: more than 65,535 bytes, must have 1 to 65,535"
+    for image, said in [
+        (struct.pack("<HHBB", len(zeros), 0, 0xA1, 0) + zeros, f"byte 0: {long}, or the file is no image of a tape"),
+        (struct.pack("<HHBB", len(many), 0, 0xA2, 0) + many, f"byte 0: {long}, or the file is no image of a tape"),
+        (disk, "byte 3076: a compressed track is damaged: more than 65,544 bytes when it is unpacked"),
+    ]:
+        with tempfile.TemporaryDirectory(prefix="images-") as folder:
+            write(f"{folder}/it", image)
+            words = ["bash", "-c", f"ulimit -v 200000; exec {shlex.join(setup.command('describe', 'it'))}"]
+            expect(run(words, cwd=folder), (1, "", f"excp_job: it: {said}\n"))
+
+
+def large_media_are_not_kept(setup):
+    """`convert` rejects a small file that is unpacked to a large medium, without memory for it."""
+    block = zlib.compress(bytes(65_535), 9)
+    chunk = struct.pack("<HHBB", len(block), len(block), 0xA1, 0) + block
+    tape = struct.pack("<HHBB", len(block), 0, 0xA1, 0) + block + chunk * 8_000
+    with tempfile.TemporaryDirectory(prefix="images-") as folder:
+        write(f"{folder}/it", tape)
+        words = ["bash", "-c", f"ulimit -v 200000; exec {shlex.join(setup.command('convert', 'it'))}"]
+        said = "a line of a script declares at most 16,777,216 bytes: use the image with --load"
+        expect(run(words, cwd=folder), (1, "", f"excp_job: it: {said}\n"))
+
+
+def output_may_be_standard_output(setup):
+    """`--output -` sends the image to standard output, unless that is a terminal; a script may be standard input."""
+    script = "tasks 1\ntape 0 0 100\nblock 0 C1C2\nmark 0\n"
+    image = formats.image_of(formats.Tape([b"\xc1\xc2", None], [[2], [0]])).decode("latin-1")
+    with tempfile.TemporaryDirectory(prefix="images-") as folder:
+        words = setup.command("convert", "--to", "aws", "-o", "-", "-")
+        ran = run(words, script, cwd=folder)
+        require((ran.status, ran.err, os.listdir(folder)) == (0, "", []), "an error, or a file", ran)
+        expect_text("another image", ran, image, ran.out.encode("utf-8", "surrogateescape").decode("latin-1"))
+        parent, child = pty.openpty()
+        ran = run(words, script, cwd=folder, stdout=child)
+        os.close(child)
+        os.close(parent)
+        said = "excp_job: standard output is a terminal: send the image to a file, by > or --output\n"
+        require((ran.status, ran.err, os.listdir(folder)) == (1, said, []), "no error, or a file", ran)
 
 
 def has_trailing_bytes(setup):
@@ -692,20 +946,28 @@ def cases(setup):
         "a block of a data set is rewritten": rewrites_a_block,
         "a data set is appended to a tape": appends_a_file,
         "a compressed tape": hetupd_reads,
+        "compressed tapes of Hercules": tapes_of_hercules,
+        "compressed disks of Hercules": disks_of_hercules,
+        "a compressed tape for Hercules": het_is_read_by_hercules,
     }.items():
         yield Case(name, lambda j=judge: j(setup), BY_HERCULES)
-    for name, kind, to in ("w.aws", "tape", "aws"), ("wnc.het", "tape", "aws"), ("load2311.img", "disk", "ckd"):
+    for name, kind in ("w.aws", "tape"), ("wnc.het", "tape"), ("load2311.img", "disk"):
         yield Case(f"{name} is kept", lambda n=name, k=kind: sample_is_kept(setup, n, k), ORIGIN)
-        yield Case(f"{name} is converted", lambda n=name, t=to, k=kind: is_converted(setup, n, t, k), ORIGIN)
+    for name, kind, to in CONVERTED:
+        yield Case(f"{name} is converted to {to}", lambda n=name, t=to, k=kind: is_converted(setup, n, t, k), ORIGIN)
     for name in "w.het", "w.fkt":
-        yield Case(f"{name} is rejected", lambda n=name: are_judged(setup, [bytes_of(f"{STORED}/{n}")]), ORIGIN)
+        yield Case(f"{name} is judged", lambda n=name: are_judged(setup, [bytes_of(f"{STORED}/{n}")]), ORIGIN)
+    for name, image in originals().items():
+        yield Case(f"{name}, changed and read", lambda it=image: are_read(setup, it), ORIGIN)
     for name, images in hostile():
         for number, part in enumerate(parted(images), 1):
             yield Case(f"hostile: {name}, {number}", lambda p=part: are_judged(setup, p), ORIGIN)
     for seed in range(20):
         yield Case(f"tape at random {seed}", lambda s=seed: at_random(setup, s), ORIGIN)
-    for number, (data, said) in enumerate(NO_IMAGES, 1):
-        yield Case(f"no image {number}: {said[:40]}", lambda d=data, s=said: is_no_image(setup, d, s), "docs/FORMATS.md")
+    for number, (data, *said) in enumerate(NO_IMAGES, 1):
+        yield Case(f"no image {number}: {said[0][:40]}", lambda d=data, s=said: is_no_image(setup, d, *s), "docs/FORMATS.md")
+    for number, (data, said) in enumerate(FINDINGS, 1):
+        yield Case(f"finding {number}: {said[:40]}", lambda d=data, s=said: is_found(setup, d, s), "docs/FORMATS.md")
     for words, script, said in REJECTED:
         name = f"rejected: {' '.join(words)} {script.splitlines()[1:2]}"
         yield Case(name, lambda w=words, s=script, t=said: is_rejected(setup, w, s, t), "docs/MANUAL.md, Images")
@@ -724,6 +986,9 @@ def cases(setup):
         other_files_are_no_images,
         one_is_no_several,
         large_file_is_not_read,
+        bombs,
+        large_media_are_not_kept,
+        output_may_be_standard_output,
         check_wants_a_unit_for_each_image,
         progress_is_shown_on_a_terminal,
         prints_paper,

@@ -127,6 +127,14 @@ def needs_no_reader(*words):
     require(ran.stderr == b"", f"another text: {ran.stderr!r}")
 
 
+def is_one_line(setup, *words):
+    """Of a program in place of a script one fault is printed, in one line."""
+    with open(setup.program, "rb") as it:
+        ran = setup.run(*words, script=it.read(300_000))
+    text = ran.out + ran.err
+    require(ran.status == 1 and text.count("\n") == 1 and "the file has zero bytes" in text, "another text", ran)
+
+
 def needs_no_library():
     """A word loads neither the library nor what needs it."""
     text = "import sys; sys.path.insert(0, sys.argv[1]); from excp.command.main import main; main(['check', sys.argv[2]]); "
@@ -164,6 +172,8 @@ def cases(setup):
         yield Case(f"inputs at random: {number}", lambda n=number: ends_quietly(n, scripts), ORIGIN)
     for words in (["check", "--help"], ["assemble", f"{TOP}/samples/read.symbolic"], ["check", f"{TOP}/tests/run"]):
         yield Case(f"{words[0]} {os.path.basename(words[1])} to a reader that is gone", lambda w=words: needs_no_reader(*w), ORIGIN)
+    for words in (["check"], ["check", "--scenario"], ["assemble"], ["report", "--listing"]):
+        yield Case(f"{' '.join(words)} of a program", lambda w=words: is_one_line(setup, *w), ORIGIN)
     yield Case("a word needs no library", needs_no_library, "python/excp/__init__.py")
     for file in modules():
         yield Case(f"the form of {os.path.relpath(file, f'{TOP}/python')}", lambda f=file: has_form(f), FORM)

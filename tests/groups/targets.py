@@ -4,6 +4,7 @@ Each word writes to each target; first plainly, then with --force. Then each wri
 or kills it, on a file system that is full or read-only too. What a target holds is by `tests/formats.py`, or is not an image.
 """
 
+import fcntl
 import os
 import shlex
 import signal
@@ -12,6 +13,10 @@ import subprocess
 import tempfile
 
 import formats
+from each_line import lack_memory, ran_at
+from excp.files.refusals import Unwritten
+from excp.files.targets import CHANGED, MOVED, OF_TWO_UNITS, TAPE, Output, Targets, UnitFile
+from excp.files.targets import TAKEN as TAKEN_BY_PACKAGE
 from groups.images import small_tape, small_volume, write_mark
 from groups.refusals import Plan, compiled, lacked
 from harness import SECONDS, Case, Skipped, expect, require, run
@@ -38,17 +43,22 @@ WORDS = {
     "step": ("step --load 1=other.aws --save 0=FILE", f"tasks 1\n{OWN_DISK}{OTHER}finish\n", "disk"),
     "outcomes": ("outcomes --load 1=other.aws --scenarios DIR", f"tasks 1\n{MARK}", "scenario"),
     "convert to aws": ("convert --to aws --output FILE", "tasks 1\ntape 0 0 100\nmark 0\nwait 0\n", "tape"),
+    "convert to het": ("convert --to het --output FILE", "tasks 1\ntape 0 0 100\nmark 0\nwait 0\n", "packed tape"),
     "convert to ckd": ("convert --to ckd --output FILE", f"tasks 1\n{OWN_DISK}wait 0\n", "disk"),
 }
 
-CONTENTS = {"tape": "a tape image", "disk": "a disk image", "paper": "new text", "scenario": "new text"}
+CONTENTS = {"tape": "a tape image", "packed tape": "a compressed tape image", "disk": "a disk image", "paper": "new text", "scenario": "new text"}
 
 # A disk whose second track has the home address of another one.
 MISPLACED = small_volume()[:636] + b"\2" + small_volume()[637:]
 
+# What a word that writes this replaces.
+BEFORE = {"tape": small_tape(), "packed tape": small_tape(), "disk": small_volume()}
+
 # What a file may hold, and as an error has it.
 HELD = {
     "a tape image": (small_tape(), "a tape image"),
+    "a compressed tape": (formats.packed_tape_of([b"A" * 99], 1), "a compressed tape image"),
     "a disk image": (small_volume(), "a disk image"),
     "a script": (b"tasks 1\nwait 0\n", "text"),
     "text of many bytes": ("\u00e9".encode() * 5000, "text"),
@@ -83,7 +93,7 @@ def contents(folder):
 
 def is_written(kind, data):
     """Whether a target has what a word writes."""
-    if kind == "tape":
+    if "tape" in kind:
         return formats.tape_of(data).items == [None]
     if kind == "disk":
         return len(formats.volume_of(data).tracks) == 10
@@ -147,9 +157,12 @@ def is_empty(target):
 
 
 def over(text, target):
-    """Why a target that holds this is not replaced, if it is not."""
+    """Why a target that holds this is not replaced, if it is not. The words that run know no compressed tape."""
     content = CONTENTS[target.kind]
-    return None if text == content else f"it holds {text}, which {content} replaces only with --force"
+    if text == "a compressed tape image" and not target.is_converted():
+        text = "other data or a damaged image"
+    replaced = (content, "a tape image") if target.kind == "packed tape" else (content,)
+    return None if text in replaced else f"it holds {text}, which {content} replaces only with --force"
 
 
 def over_tape(target):
@@ -255,11 +268,6 @@ def is_dead_link(target):
     return "it is a link to a file that is not there", False
 
 
-def has_file_beside(target):
-    write(f"{target.path()}.excp-new", b"left")
-    return "another run is writing it, or one that was killed left a file with .excp-new after its name", False
-
-
 MADE = {
     **{made.__name__.replace("_", " "): made for made in (is_absent, is_empty, is_write_protected, is_link_to_image)},
     **{f"holds {name}": holds(name) for name in HELD},
@@ -280,7 +288,6 @@ MADE = {
             is_pipe,
             is_device,
             is_dead_link,
-            has_file_beside,
         )
     },
 }
@@ -298,6 +305,61 @@ def is_judged(setup, name, made):
                 target.is_replaced(*more)
             for file in target.how.values():
                 os.close(file)
+
+
+# --- a new file that is beside the target already
+
+
+def has_file_left(setup, name):
+    """A new file that a killed run left: the package removes it, and says so; the other words reject it."""
+    for target in targets_with(setup, name, left):
+        if target.is_converted():
+            ran = target.run()
+            said = f"excp_job: {target.file}: {target.file}.excp-new, which a run that was killed left, was removed\n"
+            expect(ran, (0, "", said))
+            require(os.listdir(target.path("out")) == [os.path.basename(target.file)], "a file is left", ran)
+        else:
+            target.is_refused("another run is writing it, or one that was killed left a file with .excp-new after its name")
+
+
+def targets_with(setup, name, made):
+    """A target that something was made for; with each of two options."""
+    with tempfile.TemporaryDirectory(prefix="targets-") as folder:
+        target = Target(setup, name, folder)
+        made(f"{target.path()}.excp-new")
+        yield target
+
+
+def left(file):
+    write(file, b"left")
+
+
+def is_linked(file):
+    write(f"{file}.precious", b"precious")
+    os.symlink(f"{file}.precious", file)
+
+
+def has_two_names(file):
+    write(f"{file}.precious", b"precious")
+    os.link(f"{file}.precious", file)
+
+
+def has_file_in_the_way(setup, name):
+    """What has the name of the new file, and is none that a run left, is not removed."""
+    for made in is_linked, has_two_names, os.mkdir, os.mkfifo:
+        for target in targets_with(setup, name, made):
+            target.is_refused(f"{target.file}.excp-new is in its way: remove it")
+
+
+def is_being_written(setup, name):
+    """A new file of a run that lives is not removed: one that locks it, or, as excp_tools does, has it open alone."""
+    why = f"another run is writing it: {TARGET}.excp-new is its new file"
+    for target in targets_with(setup, name, left):
+        with open(f"{target.path()}.excp-new", "rb") as it:
+            target.is_refused(why)
+            fcntl.flock(it, fcntl.LOCK_EX)
+            target.is_refused(why)
+            target.is_refused(why, "--force")
 
 
 # --- directories
@@ -346,7 +408,7 @@ def full_or_read_only(setup, name):
     ):
         with tempfile.TemporaryDirectory(prefix="targets-") as folder:
             target = Target(setup, name, folder)
-            old = {"tape": small_tape(), "disk": small_volume()}.get(target.kind, b"")
+            old = BEFORE.get(target.kind, b"")
             write(target.path("old"), old)
             ran = in_small_file_system(target, prepare)
             require((ran.status, ran.err) == (0, f"excp_job: {TARGET}: {why}\n1\n"), "another error", ran)
@@ -453,7 +515,7 @@ def fails_in_turn(setup, name, kind):
     words, script, content = WORDS[name]
     target = os.path.basename(TARGET)
     named = words.replace("FILE", target).replace("DIR", ".")
-    old = {"tape": small_tape(), "disk": small_volume()}.get(content, b"old text")
+    old = BEFORE.get(content, b"old text")
     files = {"in": script.encode(), "other.aws": small_tape(), target: old}
     plan = Plan(setup.command(*named.split(), "--force", "in"), None, kind=kind, files=files)
     whole, _ = plan.run(0)
@@ -462,15 +524,98 @@ def fails_in_turn(setup, name, kind):
     return plan.judged(f"{name}, {kind}", 1)
 
 
+# What a word of the package meets at a line, and how it may end then.
+MET = {
+    "out of memory": (lack_memory, 3, "excp_job: out of memory\n"),
+    "Ctrl-C": (lambda: signal.raise_signal(signal.SIGINT), 130, ""),
+    "SIGTERM": (lambda: signal.raise_signal(signal.SIGTERM), -signal.SIGTERM, ""),
+    "SIGHUP": (lambda: signal.raise_signal(signal.SIGHUP), -signal.SIGHUP, ""),
+}
+
+# The default form tries one of so many lines of the part of the package that writes files, the long form each line of all.
+STEP, WRITES = 7, "files/"
+
+
+def is_met_at_each_line(setup, name, met):
+    """Out of memory, or a signal, at each line of a word in turn: its target is old or new, and no other file is left, but if
+    memory runs out while the new one is removed."""
+    act, status, said = MET[met]
+    words, script, content = WORDS[name]
+    target = os.path.basename(TARGET)
+    named = [*words.replace("FILE", target).split(), "in"]
+    files = {"in": script.encode(), target: BEFORE[content]}
+    number = 1
+    while True:
+        with tempfile.TemporaryDirectory(prefix="targets-") as folder:
+            for file, data in files.items():
+                write(f"{folder}/{file}", data)
+            ran, count = ran_at(number, act, "" if setup.is_long else WRITES, named, folder)
+            after = {file: data for file, (_, data) in contents(folder).items()}
+            if act is lack_memory:
+                after.pop(f"{target}.excp-new", None)
+        if status >= 0 and count < number:
+            require(ran.status == 0, "ended badly", ran)
+            return None
+        is_new = after.keys() == files.keys() and after["in"] == files["in"] and is_written(content, after[target])
+        require(after == files or is_new, f"files after line {number}: {list(after)}", ran)
+        if (ran.status, ran.err) == (0, "") and status < 0:
+            return None
+        require((ran.status, ran.err) == (status, said), f"another end at line {number}", ran)
+        number += 1 if setup.is_long else STEP
+
+
+# --- the rules of the package for media that are loaded and saved
+
+
+def unwritten(call):
+    """Why a call did not write, if it did not."""
+    try:
+        call()
+    except Unwritten as error:
+        return error.sentence
+    return None
+
+
+def image_of_a_unit_is_kept(_setup):
+    """The image that a unit was loaded from is replaced by the medium of that unit alone, and only as it was read."""
+    with tempfile.TemporaryDirectory(prefix="targets-") as folder:
+        image, other, link = f"{folder}/image", f"{folder}/other", f"{folder}/link"
+        write(image, small_tape())
+        write(other, small_tape())
+        os.symlink(image, link)
+        unit = UnitFile(0, image)
+        require(unwritten(lambda: Targets(None, False, [unit], [UnitFile(1, link)])) == OF_TWO_UNITS, "named for two units")
+        require(unwritten(lambda: Targets(None, False, [], [unit, UnitFile(1, f"{image}.excp-new")])) == OF_TWO_UNITS, "the new file")
+        targets = Targets(None, False, [unit], [UnitFile(0, link)])
+        for number, why in (0, None), (1, TAKEN_BY_PACKAGE), (None, TAKEN_BY_PACKAGE):
+            require(unwritten(lambda n=number: targets.check(Output(image, TAPE, n))) == why, f"unit {number}")
+        saved = Output(link, TAPE, 0)
+        require(unwritten(lambda: targets.write(saved, [b"\0\0\0\0\x40\0"])) is None, "not written")
+        with open(image, "rb") as it:
+            require(it.read() == b"\0\0\0\0\x40\0" and os.path.islink(link), "another image")
+        targets = Targets(None, False, [unit], [UnitFile(0, link)])
+        write(image, b"notes")
+        require(unwritten(lambda: targets.write(saved, [b""])) == CHANGED, "it was written since")
+        os.remove(link)
+        os.symlink(other, link)
+        require(unwritten(lambda: targets.write(saved, [b""])) == MOVED, "its name leads elsewhere")
+        require(sorted(os.listdir(folder)) == ["image", "link", "other"], "files are left")
+
+
 def cases(setup):
     yield Case("is decided after the run", lambda: is_decided_after_the_run(setup), ORIGIN)
     yield Case("is as it was read", lambda: is_as_it_was_read(setup), ORIGIN)
+    yield Case("image of a unit is kept", lambda: image_of_a_unit_is_kept(setup), ORIGIN)
     for name in WORDS:
         for made in MADE:
             yield Case(f"{name}: {made}", lambda n=name, m=made: is_judged(setup, n, m), ORIGIN)
-        for judge in directory_is_missing, directory_is_not_writable, full_or_read_only:
+        is_of_package = name.startswith("convert")
+        beside = [has_file_left, *([has_file_in_the_way, is_being_written] if is_of_package else [])]
+        for judge in *beside, directory_is_missing, directory_is_not_writable, full_or_read_only:
             yield Case(f"{name}: {judge.__name__.replace('_', ' ')}", lambda n=name, j=judge: j(setup, n), ORIGIN)
         # `refusals` has the growths of a save
-        growth = ["growth"] if name in ("report, a scenario", "convert to aws") else []
+        growth = ["growth"] if name == "report, a scenario" else []
+        for met in MET if name in ("convert to aws", "convert to ckd") else ():
+            yield Case(f"{name}: {met} at each line", lambda n=name, m=met: is_met_at_each_line(setup, n, m), ORIGIN)
         for kind in ["file", "kill", *growth]:
             yield Case(f"{name}: each {kind}", lambda n=name, k=kind: fails_in_turn(setup, n, k), ORIGIN)

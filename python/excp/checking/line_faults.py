@@ -11,9 +11,8 @@ from ..script.grammar import SCRIPT_LINES
 from ..script.reading import Refused, Text, meant
 from .loaded import Images, on_missing_size
 
-_SEMICOLON = (
-    "no words come after ';' in a plain script: a comment is a line of its own, which begins with #"
-)
+_COMMENT = "a comment is a line of its own, which begins with #"
+_SIGNS = ";", "#"
 
 
 def refused_line(
@@ -32,8 +31,9 @@ def _explanation(text: Text, images: Images) -> Optional[str]:
     a hyphen for a size that no image gives."""
     if text.first not in SCRIPT_LINES or text.unprintable:
         return None
-    if ";" in text.line:
-        return _SEMICOLON
+    for sign in _SIGNS:
+        if sign in text.line:
+            return f"no words come after '{sign}' in a plain script: {_COMMENT}"
     unit = INDEX.read(text.word(1))
     if text.first in (DISK, TAPE) and text.word(3) == "-" and unit is not None:
         return on_missing_size(unit, images)

@@ -8,14 +8,15 @@ from typing import AbstractSet, Iterator, Optional, Sequence
 
 from ..device_commands import DISK
 from ..findings import FaultName, Finding
-from ..images.media import Disk, Medium
+from ..images.media import Medium
 from ..script.grammar import Area, Excp
 from ..script.media import extent_faults, has_sizes, medium_faults
 from ..script.set_up import Unit
 from ..symbols import Assembled
 from .loaded import Images, loading_faults
-from .programs import Failure, may_format, sure_failure
+from .programs import keeps_lengths, sure_failure
 from .records import Records, records_of
+from .walk import Failure
 
 
 def unit_faults(
@@ -51,9 +52,7 @@ class UnitCheck:
     ) -> None:
         self._script, self._areas, self._images = script, areas, images
         self._requests, self._assumed = requests, assumed
-        # Whether no request changes the length of a record.
-        used = {excp.area for excp in requests}
-        self._is_kept = not any(may_format(areas[number]) for number in used)
+        self._used = {excp.area for excp in requests}
 
     def findings(self, units: Sequence[Unit]) -> Iterator[Finding]:
         """What is wrong with each unit that is not only assumed."""
@@ -65,12 +64,15 @@ class UnitCheck:
             yield from faults
             if not any(fault.name is FaultName.MEDIUM for fault in faults):
                 yield from _doubles(unit)
-                records = records_of(unit, medium if isinstance(medium, Disk) else None)
+                records = records_of(unit, medium)
                 yield from self._sure_failures(number, unit, records)
 
     def _sure_failures(self, number: int, unit: Unit, records: Records) -> Iterator[Finding]:
         """Why requests to a unit are sure to fail, but for those of a DCB that is only assumed.
         Equal requests fail alike."""
+        areas, device = self._areas, unit.device
+        # whether no request changes the length of a record
+        is_kept = all(keeps_lengths(device, areas[area]) for area in self._used)
         failures: dict[tuple[int, int, int], Optional[Failure]] = {}
         for excp in self._requests:
             if excp.unit != number:
@@ -80,7 +82,7 @@ class UnitCheck:
                 continue
             request = excp.dcb, excp.area, excp.iob
             if request not in failures:
-                area, is_kept = self._areas[excp.area], self._is_kept
+                area = areas[excp.area]
                 failures[request] = sure_failure(unit, records, opening, excp, area, is_kept)
             failure = failures[request]
             if failure is not None:

@@ -5,7 +5,7 @@ from __future__ import annotations
 import argparse
 
 from ..checking import check_scenario, check_script
-from .script_file import add_script, read_plain
+from .script_file import add_script, read_plain, worth_printing
 from .streams import OUTPUT, REJECTED, ReaderGone, name_of, print_findings
 from .unit_files import add_load, load_images
 
@@ -33,5 +33,5 @@ def _checked(given: argparse.Namespace) -> int:
         findings = check_scenario(script.script, images)
     else:
         findings = check_script(script, images)
-    print_findings(findings, given.script, OUTPUT)
+    print_findings(worth_printing(findings, script.script), given.script, OUTPUT)
     return REJECTED if any(finding.is_fault for finding in findings) else 0

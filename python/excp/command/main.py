@@ -4,7 +4,7 @@ from __future__ import annotations
 
 from typing import Callable, Sequence
 
-from .streams import OUT_OF_MEMORY, USAGE, Ended, ReaderGone, is_utf8, say
+from .streams import OUT_OF_MEMORY, REJECTED, USAGE, Ended, ReaderGone, Rejected, is_utf8, say
 from .words import WORDS
 
 # The exit status after Ctrl-C, as shells have it: 128 and the number of SIGINT.
@@ -24,6 +24,8 @@ def end_of(work: Callable[[], int]) -> int:
     except Ended as ended:
         say(ended.text)
         return ended.status
+    except Rejected:
+        return REJECTED
     except SystemExit:
         # after the page of help
         return 0
@@ -49,6 +51,7 @@ def _carried_out(argv: Sequence[str]) -> int:
     word = WORDS[argv[0]].load()
     word.add_arguments(parser)
     given = parser.parse_args(argv[1:])
-    if not all(is_utf8(it) for it in argv if it != getattr(given, "script", None)):
+    files = getattr(given, "files", [getattr(given, "script", None)])
+    if not all(is_utf8(it) for it in argv if it not in files):
         raise Ended("a word of the command line is not UTF-8", USAGE)
     return word.run(given)

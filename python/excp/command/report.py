@@ -7,7 +7,7 @@ import argparse
 from ..checking import check_script, has_rejected_line
 from ..checking.loaded import with_sizes
 from ..symbols.listing import listing
-from .script_file import add_script, read_plain
+from .script_file import add_script, read_plain, worth_printing
 from .streams import (
     ERRORS, REJECTED, USAGE, Ended, name_of, print_findings, write_output,
 )
@@ -29,7 +29,7 @@ def run(given: argparse.Namespace) -> int:
         return REJECTED
     findings = check_script(script, images)
     if has_rejected_line(findings):
-        print_findings(findings, given.script, ERRORS)
+        print_findings(worth_printing(findings, script.script), given.script, ERRORS)
         return REJECTED
     write_output([listing(with_sizes(script.script, images))])
     return 0

@@ -36,6 +36,10 @@ class Ended(Exception):
         self.status = status
 
 
+class Rejected(Exception):
+    """What was read is rejected, and the findings in it are printed."""
+
+
 class ReaderGone(Exception):
     """Nothing reads the output any more. No text is printed."""
 

@@ -42,5 +42,7 @@ def is_of_package(words: Sequence[str]) -> bool:
 WORDS: Mapping[str, Word] = {
     "assemble": Word("assemble", "Prints the plain script of one with symbolic areas"),
     "check": Word("check", "Prints every fault of a script, and warnings; runs nothing"),
+    "convert": Word("convert", "Prints an image as the lines of a script, or makes an image of such"),
+    "describe": Word("describe", "Prints what images of tapes and disks hold"),
     "report": Word("report", "With --listing: the script with each area in symbols"),
 }

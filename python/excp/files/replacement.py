@@ -80,7 +80,7 @@ class Replacement:
 
     def _begin(self, descriptor: int, shown: str) -> None:
         """Locks the new file, and gives it the mode of the old one, if there is an old one."""
-        if not _is_locked_here(descriptor) or self._is_gone():
+        if not _is_locked_here(descriptor) or not _is_at(self._beside, descriptor):
             raise Refused(_is_written(shown))
         with contextlib.suppress(FileNotFoundError):
             os.fchmod(descriptor, stat.S_IMODE(os.stat(self.target).st_mode))
@@ -96,16 +96,15 @@ class Replacement:
 
     def finish(self) -> None:
         """Puts the new file in the place of the old one."""
-        if self._is_gone():
+        if not _is_at(self._beside, self._file.fileno()):
             raise Refused("another run has replaced the new file beside it")
         os.rename(self._beside, self.target)
         self._close()
 
     def abandon(self) -> None:
         """Removes the new file, if it is there. The old one stays as it was."""
-        if not self._is_gone():
-            with contextlib.suppress(OSError):
-                os.unlink(self._beside)
+        if not self._file.closed:
+            _remove(self._beside, self._file.fileno())
         self._close()
 
     def _close(self) -> None:
@@ -113,12 +112,20 @@ class Replacement:
         with contextlib.suppress(OSError, ValueError):
             self._file.close()
 
-    def _is_gone(self) -> bool:
-        """Whether no file has the name of the new one, or another one has."""
-        try:
-            return identity_of(os.fstat(self._file.fileno())) != identity_of(os.lstat(self._beside))
-        except (OSError, ValueError):
-            return True
+
+def _is_at(beside: str, descriptor: int) -> bool:
+    """Whether an open file still has this name."""
+    try:
+        return identity_of(os.fstat(descriptor)) == identity_of(os.lstat(beside))
+    except OSError:
+        return False
+
+
+def _remove(beside: str, descriptor: int) -> None:
+    """Removes an open file, if it still has this name."""
+    if _is_at(beside, descriptor):
+        with contextlib.suppress(OSError):
+            os.unlink(beside)
 
 
 def _is_written(shown: str) -> str:
@@ -155,8 +162,7 @@ def _remove_left(beside: str, shown: str) -> None:
         if not _is_locked_here(descriptor) or _is_open_elsewhere(identity_of(found)):
             raise Refused(_is_written(shown))
         # the lock is held until the file is gone, so no other run removes the one that is made next
-        if identity_of(os.lstat(beside)) == identity_of(found):
-            os.unlink(beside)
+        _remove(beside, descriptor)
     finally:
         os.close(descriptor)
 

@@ -8,8 +8,7 @@ from ..script import grammar
 from ..script.limits import MOST_MEDIUM_BYTES, MOST_SCRIPT_BYTES, R0_BYTES
 from ..script.set_up import Unit
 from .ckd import BESIDE_RECORDS, HEADER
-from .media import Disk, Geometry, Medium, Record, Tape, TapeItem, TapeSize, Track
-from .media import mounted_r0, track_id
+from .media import Disk, Geometry, Medium, Record, Tape, TapeItem, mounted_r0, track_id
 from .reading import Unreadable, read_image, size_of_file
 
 # The most bytes of a plain image with a medium that lines declare: one whose tracks are the
@@ -86,27 +85,21 @@ def is_declarable(disk: Disk) -> bool:
     return True
 
 
-# Media of lines.
+# Media that lines declare.
 
 
-def medium_of(unit: Unit) -> Medium:
-    """The medium that the lines of a unit declare, which has no fault. Raises TypeError for a
-    printer, which has none."""
+def tape_items(unit: Unit) -> Iterator[TapeItem]:
+    """The items that the lines of a tape declare."""
+    return (it.data if isinstance(it, grammar.Block) else None for it in unit.content)
+
+
+def disk_of(unit: Unit) -> Disk:
+    """The disk that the lines of a unit declare, which is one, and has no fault."""
     says = unit.says
-    if isinstance(says, grammar.Disk):
-        size = Geometry(says.cylinders, says.heads, says.track_bytes)
-        return Disk(size, _tracks(size, unit.records))
-    if isinstance(says, grammar.Tape):
-        items: List[TapeItem] = [
-            it.data if isinstance(it, grammar.Block) else None for it in unit.content
-        ]
-        return Tape(TapeSize(says.size), items)
-    raise TypeError("a printer has no medium")
-
-
-def _tracks(size: Geometry, records: List[grammar.Record]) -> List[Track]:
+    assert isinstance(says, grammar.Disk)
+    size = Geometry(says.cylinders, says.heads, says.track_bytes)
     tracks = [[mounted_r0(track_id(number, size.heads))] for number in range(size.tracks)]
-    for it in records:
+    for it in unit.records:
         track = tracks[it.cylinder * size.heads + it.head]
         track.append(Record(it.identifier, it.key, it.data))
-    return tracks
+    return Disk(size, tracks)

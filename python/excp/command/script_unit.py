@@ -1,0 +1,51 @@
+"""The one unit of a script, of which an image is made."""
+
+from __future__ import annotations
+
+from typing import Callable, NoReturn, Optional, Sequence
+
+from ..checking import check_script, has_rejected_line
+from ..checking.loaded import NO_IMAGES
+from ..findings import FaultName, Finding, printable_name
+from ..script.grammar import Command
+from ..script.reading import Text, lines_of, read_script_line
+from ..script.set_up import SetUp, Unit
+from .script_file import read_plain, worth_printing
+from .streams import ERRORS, Ended, Rejected, name_of, print_findings
+
+
+def unit_of_script(file: Optional[str], why_not: Callable[[Unit], Optional[str]]) -> Unit:
+    """The one unit of a script, of which no line is at fault, and which can be mounted.
+
+    `why_not` says why it is not the right one. Raises Rejected after it has printed what is found
+    in the script, and Ended.
+    """
+    script = read_plain(file, NO_IMAGES, ERRORS)
+    if script is None:
+        raise Rejected
+    findings = check_script(script)
+    if has_rejected_line(findings):
+        _reject(findings, script.script, file)
+    units = _units_of(script.script)
+    why = why_not(units[0]) if len(units) == 1 else "a script with one unit makes an image"
+    if why is not None:
+        raise Ended(f"{printable_name(name_of(file))}: {why}")
+    if any(it.name is FaultName.MEDIUM for it in findings):
+        _reject(findings, script.script, file)
+    return units[0]
+
+
+def _reject(findings: Sequence[Finding], text: bytes, file: Optional[str]) -> NoReturn:
+    print_findings(worth_printing(findings, text), file, ERRORS)
+    raise Rejected
+
+
+def _units_of(script: bytes) -> Sequence[Unit]:
+    """The units that the lines of a plain script declare, none of which is at fault."""
+    set_up = SetUp()
+    for number, line in enumerate(lines_of(script), 1):
+        text = Text(line)
+        says = read_script_line(number, text)
+        if says is not None and not isinstance(says, Command):
+            set_up.add(says, text)
+    return set_up.units
