@@ -49,7 +49,7 @@ def run_script(run: Run, script: str) -> int:
         return _run_file(run.command(), script, given)
 
 
-def replaced_by(command: Sequence[str]) -> NoReturn:
+def replaced_by(command: List[str]) -> NoReturn:
     """Becomes a program: its signals, files and exit status are those of this command."""
     os.execv(command[0], command)
 

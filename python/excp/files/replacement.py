@@ -1,15 +1,14 @@
 """A file that is replaced whole: what is written goes to a new file beside it, which takes its
 place at the end.
 
-The new file is locked while its run lives. One that is not locked and that no program has open was
-left by a run that was killed. It is removed, and the caller is given its name.
+The new file is locked while its run lives. One that is not locked was left by a run that was killed.
+It is removed, and the caller is given its name.
 """
 
 from __future__ import annotations
 
 import contextlib
 import fcntl
-import glob
 import os
 import stat
 from typing import Iterable, Optional, Tuple
@@ -159,21 +158,9 @@ def _remove_left(beside: str, shown: str) -> None:
         found = os.fstat(descriptor)
         if not stat.S_ISREG(found.st_mode) or found.st_nlink > 1:
             raise Refused(in_the_way)
-        if not _is_locked_here(descriptor) or _is_open_elsewhere(identity_of(found)):
+        if not _is_locked_here(descriptor):
             raise Refused(_is_written(shown))
         # the lock is held until the file is gone, so no other run removes the one that is made next
         _remove(beside, descriptor)
     finally:
         os.close(descriptor)
-
-
-def _is_open_elsewhere(file: Identity) -> bool:
-    """Whether another process has a file open, as far as Linux tells: one that locks nothing may
-    write it."""
-    own = f"/proc/{os.getpid()}/"
-    for link in glob.iglob("/proc/[0-9]*/fd/*"):
-        if not link.startswith(own):
-            with contextlib.suppress(OSError):
-                if identity_of(os.stat(link)) == file:
-                    return True
-    return False
