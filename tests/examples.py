@@ -4,6 +4,7 @@ import os
 import re
 import shlex
 import shutil
+import sys
 import tempfile
 from dataclasses import dataclass
 
@@ -15,17 +16,21 @@ JOBS = ["docs/MANUAL.md"]
 # A line that is a command.
 COMMAND = re.compile(r"(?:\$ )?(?:\./|tests/|tools/|cd |rt |job=)")
 
-# ./excp of a folder in which commands run: it runs the programs that are tested, on a file or with a subcommand. The job whose outcomes
-# the pages show has several, of which the status tells.
+# ./excp of a folder in which commands run: it runs the programs that are tested, on a file or with a subcommand, and the package. The
+# job whose outcomes the pages show has several, of which the status tells.
 EXCP = """#!/usr/bin/env bash
+set -o pipefail
+case "$1 $2" in
+    check\\ * | assemble\\ * | describe\\ * | convert\\ * | "report --listing") exec {package} "$@" ;;
+esac
 case "$1" in
-    report | check | assemble | step | describe | convert) exec {tools} "$@" ;;
+    report | step) exec {tools} "$@" ;;
     outcomes)
         {tools} "$@"
         [ $? = 5 ]
         ;;
     -) exec {program} run ;;
-    *) exec {program} run < "$1" ;;
+    *) {package} assemble "$1" | {program} run ;;
 esac
 """
 
@@ -107,10 +112,10 @@ RUN = {
     ("samples/README.md", "./excp step samples/scenarios/halt-an-active-request.scenario"): (ANYTHING, {}),
     ("samples/README.md", "./excp report samples/update-in-place.symbolic"): (ANYTHING, {}),
     ("samples/README.md", "./excp assemble samples/read.symbolic > /tmp/read.script"): (ANYTHING, {}),
-    ("docs/MANUAL.md", "./excp assemble job | ./excp -"): (ANYTHING, {"job": "LINE: DC  C'HELLO'"}),
     ("docs/MANUAL.md", "./excp step halt"): (NEXT, {"halt": "purge 0 0 1 halt"}),
     ("docs/MANUAL.md", "job=samples/outcomes/a-halt.symbolic"): (NEXT, {}),
     ("docs/MANUAL.md", "./excp job.script | awk"): (NOTHING, {"job.script": "samples/read.script"}),
+    ("docs/MANUAL.md", "./excp job"): (ANYTHING, {"job": "LINE: DC  C'HELLO'"}),
     ("docs/MANUAL.md", "./excp report first | awk"): (NOTHING, {"first": "samples/read.symbolic", "rest": "samples/read.script"}),
     ("docs/MANUAL.md", "./excp report --json first"): (ANYTHING, {"first": "samples/read.symbolic"}),
     ("docs/MANUAL.md", "./excp report --html first"): (NOTHING, {"first": "samples/read.symbolic"}),
@@ -173,7 +178,8 @@ def prints_page(setup, block, following):
         for name in "samples", "tests":
             os.symlink(f"{TOP}/{name}", f"{folder}/{name}")
         files = {name: content(block.page, source) for name, source in sources.items()}
-        files["excp"] = EXCP.format(program=shlex.quote(setup.program), tools=shlex.quote(setup.tools)).encode()
+        programs = {"program": [setup.program], "tools": [setup.tools], "package": [sys.executable, f"{TOP}/tests/package.py"]}
+        files["excp"] = EXCP.format(**{name: shlex.join(it) for name, it in programs.items()}).encode()
         for name, held in files.items():
             with open(f"{folder}/{name}", "wb") as file:
                 file.write(held)
