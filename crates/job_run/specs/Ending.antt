@@ -14,6 +14,7 @@ use Rattle.job_run.specs.Beginning.{AreBegunWith}
 use Rattle.job_run.specs.Ran.{Ran}
 use Rattle.job_run.specs.Printing.{posts_text}
 use Rattle.std.specs.Io.KnownBytes.{Appends}
+use Rattle.digits.specs.Writing.{AppendsPart}
 use Rattle.job_run.specs.Requests.{excps}
 use Rattle.job_mount.specs.Mounting.{◌>>=◌, books_of, books_with}
 
@@ -79,6 +80,13 @@ pub record PrintsPosts (n : ℕ) (old new before after : Option (List ℕ)) : Ty
   pub run : IsRunOf n old new says books
   pub printed : Appends before after (posts_text says books)
 
+-- there are a script and books that are a run of what was read, and a first part of the text of their posts was written
+pub record WritesPart (n : ℕ) (old new before after : Option (List ℕ)) : Type 0 where
+  pub says : Said
+  pub books : List (Book AnyDevice)
+  pub run : IsRunOf n old new says books
+  pub part : AppendsPart before after (posts_text says books)
+
 -- the fault of a line is what a task left
 abbrev pub IsOfTask : {L : Type 0} → List (Result L TaskError) → TaskError → Type 0
 IsOfTask outcomes (errors.Line line name) = (task : ℕ) × (slice_get outcomes task ≡ Some (Err (errors.Line line name)))
@@ -100,10 +108,15 @@ EndsBy n old new (faults.Line line name) = RejectsWhole n old new (record { line
     ⊎ StopsWhole n old new (record { line = line; name = name })
 EndsBy n old new faults.TooLong = ReadsMore n old new
 EndsBy n old new faults.Unreadable = ReadsAtMost n old new
-EndsBy n old new faults.NotWritten = RunsWhole n old new
+EndsBy n old new faults.NotWritten = ⊥
 EndsBy n old new faults.Unmatched = ⊥
 EndsBy n old new faults.NoMemory = Unit {0}
 EndsBy n old new faults.NoThread = Unit {0}
+
+-- why a run ends whose posts are written: as above, before its posts are written; or after a first part of their text
+abbrev pub EndsWriting : ℕ → Option (List ℕ) → Option (List ℕ) → Option (List ℕ) → Option (List ℕ) → JobError → Type 0
+EndsWriting n old new before after faults.NotWritten = WritesPart n old new before after
+EndsWriting n old new before after fault = EndsBy n old new fault
 
 -- a parsed script, whose units are given these devices, has no fault
 abbrev pub IsFaultlessWith : List (Option AnyDevice) → Said → Type 0

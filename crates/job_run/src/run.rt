@@ -1,11 +1,11 @@
 //! The run of a script: its tasks on threads of their own, beside channel workers and interruption handlers.
 
-ghost use Rattle.std.specs.Prelude.{◌≡◌, ◌≤◌, ◌<◌, ◌+◌, All, IfErr, IfOk, Ok, OnOk, length, map, vec_len};
+ghost use Rattle.std.specs.Prelude.{◌≡◌, ◌≢◌, ◌≤◌, ◌<◌, ◌+◌, All, IfErr, IfOk, Ok, OnOk, length, map, vec_len};
 ghost use Rattle.job_mount.specs.Requests.{CanBeDone};
 ghost use Rattle.job_script.specs.Reading.{ReadsAtMost};
 ghost use Rattle.job_script.specs.Views.{said};
 ghost use Rattle.job_run.specs.Beginning.{AreBegunWith};
-ghost use Rattle.job_run.specs.Ending.{EndsBeside, EndsBy, EndsParsed, IsLate, IsOfTask, IsRunOf, PrintsPosts};
+ghost use Rattle.job_run.specs.Ending.{EndsBeside, EndsBy, EndsParsed, EndsWriting, IsLate, IsOfTask, IsRunOf, PrintsPosts};
 ghost use Rattle.job_run.specs.Filling.{AllListed, EndedBy, filled_at, listed_from};
 ghost use Rattle.job_run.specs.Printing.{ended_slots, script_text, tasks_text};
 ghost use Rattle.job_run.specs.Faults.{LeavesWriter};
@@ -43,8 +43,8 @@ pub struct Finished<N> {
 /// Reads a script, at most 1,048,576 bytes and one more. Runs its tasks beside these numbers of channel workers and
 /// interruption handlers, and writes the posts of its requests.
 ///
-/// Errors: the first fault of the script; out of memory, also if no thread can be made for a worker; a failed write. It
-/// writes only after the run, so every error but a failed write leaves the writer as it was.
+/// Errors: the first fault of the script; out of memory, also if no thread can be made for a worker (never `NoThread`); a
+/// failed write, after a first part of the text. It writes only after the run, so every other error leaves the writer as it was.
 pub fn run_script<R: Threads + Wait + Sync, I: Read, W: Write>(
     rt: &R,
     alloc: Global,
@@ -55,7 +55,8 @@ pub fn run_script<R: Threads + Wait + Sync, I: Read, W: Write>(
     ensures bounded { ReadsAtMost (LIMIT + 1) (I.remaining reader.old) (I.remaining reader.new) }
     ensures unwritten { IfErr result (λ fault. LeavesWriter fault writer.old writer.new) }
     ensures printed { OnOk result (PrintsPosts LIMIT (I.remaining reader.old) (I.remaining reader.new) (W.contents writer.old) (W.contents writer.new)) }
-    ensures fault { IfErr result (EndsBy LIMIT (I.remaining reader.old) (I.remaining reader.new)) }
+    ensures fault { IfErr result (EndsWriting LIMIT (I.remaining reader.old) (I.remaining reader.new) (W.contents writer.old) (W.contents writer.new)) }
+    ensures threads { IfErr result (λ fault. fault ≢ JobError.NoThread) }
 {
     match read_and_run::<R, (), I>(rt, alloc, reader, workers) {
         Ok((script, run)) => write(&script.commands, &run.tasks, writer),
