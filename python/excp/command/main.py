@@ -2,10 +2,12 @@
 
 from __future__ import annotations
 
-from typing import Sequence
+from typing import Iterable, Sequence
 
 from .parser import WordParser
-from .streams import OUT_OF_MEMORY, REJECTED, USAGE, Ended, ReaderGone, Rejected, is_utf8, say
+from .streams import (
+    COMMAND, OUT_OF_MEMORY, REJECTED, USAGE, Ended, ReaderGone, Rejected, is_utf8, say,
+)
 from .words import WORDS
 
 # The exit status after Ctrl-C, as shells have it: 128 and the number of SIGINT.
@@ -18,7 +20,7 @@ def main(argv: Sequence[str]) -> int:
     try:
         return _carried_out(argv)
     except Ended as ended:
-        say(ended.text)
+        say(ended.text, ended.speaker)
         return ended.status
     except Rejected:
         return REJECTED
@@ -36,15 +38,20 @@ def main(argv: Sequence[str]) -> int:
 
 def _carried_out(argv: Sequence[str]) -> int:
     if not argv or argv[0] not in WORDS:
-        parser = WordParser("excp")
+        parser = WordParser(COMMAND)
         parser.add_argument("word", choices=list(WORDS))
         parser.parse_args(argv[:1])
-        raise Ended("no word is given", USAGE)
     parser = WordParser(argv[0])
     word = WORDS[argv[0]].load()
     word.add_arguments(parser)
+    _check_utf8(it for it in argv if it.startswith("-"))
     given = parser.parse_args(argv[1:])
+    # what reads a file has a text of its own on its name
     files = getattr(given, "files", [getattr(given, "script", None)])
-    if not all(is_utf8(it) for it in argv if it not in files):
-        raise Ended("a word of the command line is not UTF-8", USAGE)
+    _check_utf8(it for it in argv if it not in files)
     return word.run(given)
+
+
+def _check_utf8(words: Iterable[str]) -> None:
+    if not all(map(is_utf8, words)):
+        raise Ended("a word of the command line is not UTF-8", USAGE)

@@ -13,8 +13,9 @@ from ..script.limits import MOST_SCRIPT_BYTES
 
 INPUT, OUTPUT, ERRORS = 0, 1, 2
 
-# What a text on standard error begins with. Users know it, and scripts look for it.
-_PREFIX = "excp_job: "
+# Who says a text on standard error: what reads and writes files says it by a name that scripts look
+# for, and what reads the command line by its own.
+PROGRAM, COMMAND = "excp_job", "excp"
 
 # The name of a script that is standard input.
 STANDARD_INPUT = "<stdin>"
@@ -28,12 +29,13 @@ _NOT_UTF8 = (
 
 
 class Ended(Exception):
-    """Why the command ends early: a text for standard error, and the exit status."""
+    """Why the command ends early: a text for standard error, the exit status, and who says it."""
 
-    def __init__(self, text: str, status: int = REJECTED) -> None:
+    def __init__(self, text: str, status: int = REJECTED, speaker: str = PROGRAM) -> None:
         super().__init__(text)
         self.text = text
         self.status = status
+        self.speaker = speaker
 
 
 class Rejected(Exception):
@@ -118,9 +120,9 @@ def takes_colour(stream: int) -> bool:
     return os.isatty(stream) and not os.environ.get("NO_COLOR")
 
 
-def say(text: str) -> None:
+def say(text: str, speaker: str = PROGRAM) -> None:
     """Prints a text on standard error, if that can be written."""
-    _write_errors(f"{_PREFIX}{text}\n".encode("utf-8", "surrogateescape"))
+    _write_errors(f"{speaker}: {text}\n".encode("utf-8", "surrogateescape"))
 
 
 def _write_errors(text: bytes) -> None:
