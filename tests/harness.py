@@ -25,7 +25,7 @@ SAMPLES = f"{TOP}/samples"
 # The most seconds that one run of a program may take.
 SECONDS = 60
 
-# The words of the package python/excp. `report` is its word for a listing; images of media are those of excp_tools.
+# The words of the package python/excp. `report` is its word for a listing alone.
 PACKAGE_WORDS = "check", "assemble", "report", "describe", "convert"
 
 # The most lines of a diff that a failure shows, and of a text that is not compared.
@@ -131,15 +131,24 @@ def run(words, script="", file="", **how):
 
 def is_of_package(words):
     """Whether the package has the first of these words, with these options."""
-    return words[:1] != () and words[0] in PACKAGE_WORDS and "--load" not in words and (words[0] != "report" or "--listing" in words)
+    return words[:1] != () and words[0] in PACKAGE_WORDS and (words[0] != "report" or "--listing" in words)
+
+
+def package_main():
+    """What carries out words of the package, whose modules this process imports once, before it has children."""
+    if f"{TOP}/python" not in sys.path:
+        sys.path.insert(0, f"{TOP}/python")
+    from excp.command.main import main
+    from excp.command.words import WORDS
+
+    for word in WORDS.values():
+        word.load()
+    return main
 
 
 def run_package(command, words, script="", file=""):
     """Runs a word of the package as `run` does, but in a child of this process: Python need not start for each of many."""
-    if f"{TOP}/python" not in sys.path:
-        sys.path.insert(0, f"{TOP}/python")
-    from excp.command.main import main
-
+    main = package_main()
     with tempfile.TemporaryFile() as given, tempfile.TemporaryFile() as out, tempfile.TemporaryFile() as err:
         given.write(encoded(script))
         given.seek(0)

@@ -5,7 +5,7 @@ tests/sentences measures the sentences, and tests/definitions finds names of def
 has the definitions that the headline rests on. The layers of crates.txt, the steps of a request in ARCHITECTURE.md and the code
 that CLIENT.md and ADDING-A-DEVICE.md quote are compared with the sources, and so is what crates.txt lists. tests/comments measures
 the comments of the code, and finds phrases of tests/phrases. tools/refusals.py finds what each call rejects in its comment. tests/edits applies the mutants to the code as it is.
-tests/examples.py has the jobs and the commands of the pages. A README that names another kit is a warning.
+tests/examples.py has the jobs and the commands of the pages. mypy, if it is installed, checks the types of python/excp. A README that names another kit is a warning.
 """
 
 import os
@@ -31,6 +31,14 @@ def names_kit():
         raise Skipped("no rt, so the kit of the README is not compared")
     kit = run(["rt", "version"]).out.strip()
     return "" if kit in read(f"{TOP}/README.md") else f"warning: README.md does not name the kit of `rt version`: {kit}"
+
+
+def has_types():
+    """mypy finds nothing in the package of the command."""
+    if not shutil.which("mypy"):
+        raise Skipped("no mypy, so the types of python/excp are not checked")
+    ran = run(["mypy", "--strict", "--cache-dir", f"{TOP}/out/mypy", "excp"], cwd=f"{TOP}/python")
+    require(ran.status == 0, "mypy --strict found faults", ran)
 
 
 def listed():
@@ -183,6 +191,7 @@ def cases(setup):
     yield Case("what calls reject", lambda: passes("refusals.py", folder="tools"), "tools/refusals.py, by the comments of the calls")
     yield Case("edits of mutants", lambda: passes("edits"), "docs/TESTING.md, by tests/edits")
     yield Case("the rules of edits", lambda: passes("edits", "--self-test"), "tests/edits, edits with known faults")
+    yield Case("types of python/excp", has_types, "docs/TESTING.md, by mypy --strict")
     yield Case("layers of crates.txt", layers_hold, "crates.txt, line 1")
     yield Case("crates below excp_job", run_is_small, "tests/groups/documents.py, by docs/ARCHITECTURE.md")
     yield Case("what crates.txt lists", lists_what_is_used, "crates.txt, by the sources")

@@ -16,7 +16,7 @@ from harness import CASES, SAMPLES, TOP, Case, encoded, files, multiple, read, r
 
 # How many times so many scripts are broken at random, and in the long form.
 COUNT = 8
-LONG = 120
+LONG = 200
 EACH = 100
 
 # The most bytes of a script that is broken: larger ones run for long.

@@ -21,6 +21,7 @@ from ..script.set_up import SetUp
 from ..symbols import Assembled
 from .assumed import Assumed
 from .line_faults import refused_line
+from .loaded import NO_IMAGES, Images, with_sizes
 from .races import OUTCOMES, Races
 from .requests import rejection_of
 from .units import UnitCheck, at_word
@@ -32,11 +33,11 @@ NO_UNIT = "no line declares a unit: add a line 'disk', 'tape' or 'printer'"
 _LATE = (FaultName.MEDIUM, FaultName.EXTENT, FaultName.REQUEST)
 
 
-def check_script(script: Assembled) -> list[Finding]:
-    """All that is found in a plain script, in the order of lines. Of one that was assembled it is
-    at the words of the job."""
-    check = _Check(script)
-    for number, line in enumerate(lines_of(script.script), 1):
+def check_script(script: Assembled, images: Images = NO_IMAGES) -> list[Finding]:
+    """All that is found in a plain script, some of whose media are images, in the order of lines.
+    Of one that was assembled it is at the words of the job."""
+    check = _Check(script, images)
+    for number, line in enumerate(lines_of(with_sizes(script.script, images)), 1):
         check.read(number, Text(line))
     check.finish()
     return _in_order(check.findings)
@@ -55,9 +56,9 @@ def _in_order(findings: Iterable[Finding]) -> list[Finding]:
 class _Check:
     """What a script declares as far as it was read, and what was found in it."""
 
-    def __init__(self, script: Assembled) -> None:
+    def __init__(self, script: Assembled, images: Images) -> None:
         self.findings: list[Finding] = []
-        self._script = script
+        self._script, self._images = script, images
         self._set_up = SetUp()
         self._assumed = Assumed(self._set_up)
         self._races = Races()
@@ -130,7 +131,7 @@ class _Check:
     # Lines with faults.
 
     def _add_fault(self, number: int, text: Text, refused: Refused) -> None:
-        finding = refused_line(number, text, refused, SUGGESTED_SCRIPT_WORDS)
+        finding = refused_line(number, text, refused, SUGGESTED_SCRIPT_WORDS, self._images)
         sign = text.unprintable[0] if text.unprintable else ""
         if not sign and text.first in EVENT_WORDS:
             sign = "event"
@@ -168,9 +169,7 @@ class _Check:
             self.findings.append(Finding(None, NO_TASKS, FaultName.ORDER))
         if not self._set_up.units:
             self.findings.append(Finding(None, NO_UNIT, FaultName.ORDER))
-        assumed = self._assumed.lines
-        units = UnitCheck(self._script, self._set_up.areas, self._requests, assumed)
-        self.findings += units.findings(self._set_up.units)
+        self._check_units()
         self._note_unused()
         warnings = self._races.warnings(self._set_up.units)
         races = [Finding(line, text) for line, text in warnings]
@@ -178,6 +177,15 @@ class _Check:
         if races or self._races.has_early:
             if not any(finding.is_fault for finding in self.findings):
                 self.findings.append(Finding(None, OUTCOMES))
+
+    def _check_units(self) -> None:
+        areas, assumed = self._set_up.areas, self._assumed.lines
+        check = UnitCheck(self._script, areas, self._requests, assumed, self._images)
+        self.findings += check.findings(self._set_up.units)
+        for unit in sorted(self._images):
+            if unit >= len(self._set_up.units):
+                undeclared = f"unit {unit} has an image, and no line declares it"
+                self.findings.append(Finding(None, undeclared, FaultName.ORDER))
 
     def _note_unused(self) -> None:
         for area in self._set_up.areas:

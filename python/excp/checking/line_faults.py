@@ -9,29 +9,32 @@ from ..findings import Finding
 from ..script.forms import INDEX
 from ..script.grammar import SCRIPT_LINES
 from ..script.reading import Refused, Text, meant
+from .loaded import Images, on_missing_size
 
-_SEMICOLON = (
-    "no words come after ';' in a plain script: a comment is a line of its own, which begins with #"
-)
+_COMMENT = "a comment is a line of its own, which begins with #"
+_SIGNS = ";", "#"
 
 
-def refused_line(number: int, text: Text, refused: Refused, known: tuple[str, ...]) -> Finding:
+def refused_line(
+    number: int, text: Text, refused: Refused, known: tuple[str, ...], images: Images
+) -> Finding:
     """The fault of a line. It names the known first word that may be meant by an unknown one."""
     word = meant(text, known)
     if word is not None:
         unknown = f"no line begins with '{text.first}'; did you mean '{word}'?"
         return Finding(number, unknown, refused.name)
-    return Finding(number, _explanation(text) or refused.sentence, refused.name)
+    return Finding(number, _explanation(text, images) or refused.sentence, refused.name)
 
 
-def _explanation(text: Text) -> Optional[str]:
+def _explanation(text: Text, images: Images) -> Optional[str]:
     """Why a line is not as it should be, if its words alone do not tell: a comment after them, or
     a hyphen for a size that no image gives."""
     if text.first not in SCRIPT_LINES or text.unprintable:
         return None
-    if ";" in text.line:
-        return _SEMICOLON
+    for sign in _SIGNS:
+        if sign in text.line:
+            return f"no words come after '{sign}' in a plain script: {_COMMENT}"
     unit = INDEX.read(text.word(1))
     if text.first in (DISK, TAPE) and text.word(3) == "-" and unit is not None:
-        return f"unit {unit} has no size; name its image: --load {unit}=FILE"
+        return on_missing_size(unit, images)
     return None

@@ -3,7 +3,6 @@ as it is in the area."""
 
 from __future__ import annotations
 
-import struct
 from dataclasses import dataclass, field
 from typing import NamedTuple, Optional, Sequence
 
@@ -14,6 +13,7 @@ from ..script.media import tracks_of, wrong_extents
 from ..script.reading import count_of
 from ..script.set_up import Unit
 from .channel import Broken, Part, fetched, parts_of
+from .records import RecordLengths, Records
 from .requests import CYLINDER_AT, EXTENT_AT, Seek, iob_of
 
 # The most commands of a program that are looked at.
@@ -38,16 +38,6 @@ class _SureFailure(Exception):
     def __init__(self, at: int, sentence: str) -> None:
         super().__init__(sentence)
         self.failure = Failure(at, sentence)
-
-
-class _Lengths(NamedTuple):
-    """The bytes of the key and of the data of a record."""
-
-    key: int
-    data: int
-
-
-_R0_LENGTHS = _Lengths(0, 8)
 
 
 @dataclass
@@ -83,16 +73,16 @@ def may_format(area: Area) -> bool:
 
 
 def sure_failure(
-    unit: Unit, opening: Open, excp: Excp, area: Area, is_kept: bool
+    unit: Unit, records: Records, opening: Open, excp: Excp, area: Area, is_kept: bool
 ) -> Optional[Failure]:
-    """Why a request is sure to fail, if it is. `is_kept` says that no request changes the length
-    of a record."""
+    """Why a request is sure to fail, if it is. `records` are those of its unit, and `is_kept` says
+    that no request changes the length of one."""
     iob = iob_of(excp, area)
     if iob is None or wrong_extents(unit, opening) is not None:
         return None
     if isinstance(unit.says, Disk) and not _passes_check(unit.says, opening, iob.seek):
         return _violated(excp, opening, iob.seek)
-    walk = _Walk(unit, area, iob.seek, writes=is_kept and opening.method == "out")
+    walk = _Walk(unit, records, area, iob.seek, writes=is_kept and opening.method == "out")
     try:
         walk.follow(iob.start)
     except _SureFailure as sure:
@@ -120,13 +110,14 @@ class _Walk:
     """A walk through the commands of a program as its CCWs are now. No command is done."""
 
     unit: Unit
+    records: Records
     area: Area
     seek: Seek
     # Whether the program may write, and each record is as long as it was mounted.
     writes: bool
     reads: _Reads = field(default_factory=_Reads)
     # The record for whose ID the last command searched.
-    sought: Optional[_Lengths] = None
+    sought: Optional[RecordLengths] = None
 
     @property
     def is_disk(self) -> bool:
@@ -197,7 +188,7 @@ class _Walk:
             counts = f"its count is {ccw.count}, and the device takes {count_of(takes, 'byte')}"
             raise _SureFailure(ccw.at, f"{incorrect}: {counts}; SLI hides that")
 
-    def _taken(self, flow: Flow, ccw: Ccw, sought: Optional[_Lengths]) -> Optional[int]:
+    def _taken(self, flow: Flow, ccw: Ccw, sought: Optional[RecordLengths]) -> Optional[int]:
         """How many bytes the device takes, if that is known."""
         if self.unit.device == PRINTER and flow is Flow.OUT:
             return min(ccw.count, _LINE_BYTES)
@@ -209,19 +200,13 @@ class _Walk:
             return sought.key + sought.data
         return None
 
-    def _record_sought(self, ccw: Ccw, parts: Sequence[Part]) -> Optional[_Lengths]:
+    def _record_sought(self, ccw: Ccw, parts: Sequence[Part]) -> Optional[RecordLengths]:
         """The record for whose ID a command searches, if the program may write to it and it is the
         only one with this ID. An earlier command may not have read over the ID."""
         if not (self.is_disk and self.writes and ccw.command == Op.SIDE):
             return None
         address, length = parts[0]
-        track = struct.pack(">HH", self.seek.cylinder, self.seek.head)
         identifier = self.area.get(address, _ID_BYTES)
         if identifier is None or length < _ID_BYTES or self.reads.cover(address):
             return None
-        if identifier == track + b"\0":
-            return _R0_LENGTHS
-        found = self.unit.records_by_identifier.get(identifier, [])
-        if len(found) != 1 or not identifier.startswith(track):
-            return None
-        return _Lengths(len(found[0].key), len(found[0].data))
+        return self.records.only_one(self.seek.cylinder, self.seek.head, identifier)

@@ -15,8 +15,9 @@ from ..script.reading import (
 )
 from ..script.set_up import SetUp
 from .line_faults import refused_line
+from .loaded import NO_IMAGES, Images, first_misfit, with_sizes
 from .requests import rejection_of
-from .units import unit_faults
+from .units import opening_faults, unit_faults
 
 _EVENTS = (Command, StepOfUnit, Finish)
 
@@ -37,13 +38,13 @@ _SYMBOL_PLACES: Mapping[str, tuple[int, ...]] = {
 _SYMBOLS = ("all", "tracks", "cylinder", "key", "data", "at")
 
 
-def check_scenario(text: bytes) -> list[Finding]:
-    """All that is found in a scenario, by lines; what is wrong with units comes where their set-up
-    ends."""
-    lines = lines_of(text)
+def check_scenario(text: bytes, images: Images = NO_IMAGES) -> list[Finding]:
+    """All that is found in a scenario, some of whose media are images, by lines; what is wrong
+    with units comes where their set-up ends."""
+    lines = lines_of(with_sizes(text, images))
     if not lines[-1]:
         lines.pop()
-    check = _ScenarioCheck()
+    check = _ScenarioCheck(images)
     for number, line in enumerate(lines, 1):
         check.read(number, Text(line))
     check.end_set_up()
@@ -54,8 +55,9 @@ class _ScenarioCheck:
     """What a scenario declares, and what was found in it. After a fault of the set-up, events are
     only read: whether the names in them are declared is not known."""
 
-    def __init__(self) -> None:
+    def __init__(self, images: Images) -> None:
         self.findings: list[Finding] = []
+        self._images = images
         self._set_up = SetUp()
         self._sizes: set[tuple[str, Optional[int]]] = set()
         self._first_event: Optional[int] = None
@@ -77,7 +79,7 @@ class _ScenarioCheck:
             elif self._are_names_known and not isinstance(line, Expect):
                 self._check_event(line, text)
         except Refused as refused:
-            self.findings.append(_refused_line(number, text, refused))
+            self.findings.append(_refused_line(number, text, refused, self._images))
 
     def end_set_up(self) -> None:
         """Finds what is wrong with the whole set-up, unless a line of it has a fault."""
@@ -94,8 +96,20 @@ class _ScenarioCheck:
             self.findings.append(Finding(None, lack, FaultName.ORDER))
             return
         self._are_names_known = True
-        for unit in self._set_up.units:
-            self.findings += unit_faults(unit)
+        self.findings += self._faults_of_units()
+
+    def _faults_of_units(self) -> list[Finding]:
+        """Why units are not mounted: the first image that does not fit its unit, or all else."""
+        units = self._set_up.units
+        media = [(unit, self._images.get(number)) for number, unit in enumerate(units)]
+        for unit, medium in media:
+            misfit = None if medium is None else first_misfit(unit, medium)
+            if misfit is not None:
+                return [Finding(misfit.line, misfit.sentence, FaultName.MEDIUM)]
+        found: list[Finding] = []
+        for unit, medium in media:
+            found += unit_faults(unit) if medium is None else opening_faults(unit)
+        return found
 
     def _declare(self, line: Line, text: Text) -> None:
         if isinstance(line, Expect):
@@ -140,12 +154,12 @@ class _ScenarioCheck:
                 raise Refused(FaultName.REQUEST, rejection.sentence)
 
 
-def _refused_line(number: int, text: Text, refused: Refused) -> Finding:
+def _refused_line(number: int, text: Text, refused: Refused, images: Images) -> Finding:
     """The fault of a line of a scenario. If only a job in symbols has such a line, it says that."""
     sentence = _sentence_on_symbols(text)
     if sentence is not None:
         return Finding(number, sentence, refused.name)
-    return refused_line(number, text, refused, SUGGESTED_SCENARIO_WORDS)
+    return refused_line(number, text, refused, SUGGESTED_SCENARIO_WORDS, images)
 
 
 def _sentence_on_symbols(text: Text) -> Optional[str]:

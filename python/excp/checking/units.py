@@ -8,21 +8,33 @@ from typing import AbstractSet, Iterator, Optional, Sequence
 
 from ..device_commands import DISK
 from ..findings import FaultName, Finding
+from ..images.media import Disk, Medium
 from ..script.grammar import Area, Excp
 from ..script.media import extent_faults, has_sizes, medium_faults
 from ..script.set_up import Unit
 from ..symbols import Assembled
+from .loaded import Images, loading_faults
 from .programs import Failure, may_format, sure_failure
+from .records import Records, records_of
 
 
-def unit_faults(unit: Unit, assumed: AbstractSet[int] = frozenset()) -> list[Finding]:
-    """Why a unit cannot be mounted, and why its DCBs cannot be opened, but for those of assumed
-    lines. If its sizes are wrong, its DCBs are not looked at."""
-    found = [Finding(line, text, FaultName.MEDIUM) for line, text in medium_faults(unit)]
-    if has_sizes(unit):
-        extents = extent_faults(unit, assumed)
-        found += [Finding(line, text, FaultName.EXTENT) for line, text in extents]
+def unit_faults(
+    unit: Unit, medium: Optional[Medium] = None, assumed: AbstractSet[int] = frozenset()
+) -> list[Finding]:
+    """Why a unit, which has this medium if it is from an image, cannot be mounted, and why its
+    DCBs cannot be opened, but for those of assumed lines. If its sizes are wrong, its DCBs are not
+    looked at."""
+    reasons = medium_faults(unit) if medium is None else loading_faults(unit, medium)
+    found = [Finding(line, text, FaultName.MEDIUM) for line, text in reasons]
+    if medium is not None or has_sizes(unit):
+        found += opening_faults(unit, assumed)
     return found
+
+
+def opening_faults(unit: Unit, assumed: AbstractSet[int] = frozenset()) -> list[Finding]:
+    """Why DCBs of a unit cannot be opened, but for those of assumed lines."""
+    reasons = extent_faults(unit, assumed)
+    return [Finding(line, text, FaultName.EXTENT) for line, text in reasons]
 
 
 class UnitCheck:
@@ -35,8 +47,9 @@ class UnitCheck:
         areas: Sequence[Area],
         requests: Sequence[Excp],
         assumed: AbstractSet[int],
+        images: Images,
     ) -> None:
-        self._script, self._areas = script, areas
+        self._script, self._areas, self._images = script, areas, images
         self._requests, self._assumed = requests, assumed
         # Whether no request changes the length of a record.
         used = {excp.area for excp in requests}
@@ -47,13 +60,15 @@ class UnitCheck:
         for number, unit in enumerate(units):
             if unit.says.line in self._assumed:
                 continue
-            faults = unit_faults(unit, self._assumed)
+            medium = self._images.get(number)
+            faults = unit_faults(unit, medium, self._assumed)
             yield from faults
             if not any(fault.name is FaultName.MEDIUM for fault in faults):
                 yield from _doubles(unit)
-                yield from self._sure_failures(number, unit)
+                records = records_of(unit, medium if isinstance(medium, Disk) else None)
+                yield from self._sure_failures(number, unit, records)
 
-    def _sure_failures(self, number: int, unit: Unit) -> Iterator[Finding]:
+    def _sure_failures(self, number: int, unit: Unit, records: Records) -> Iterator[Finding]:
         """Why requests to a unit are sure to fail, but for those of a DCB that is only assumed.
         Equal requests fail alike."""
         failures: dict[tuple[int, int, int], Optional[Failure]] = {}
@@ -65,8 +80,8 @@ class UnitCheck:
                 continue
             request = excp.dcb, excp.area, excp.iob
             if request not in failures:
-                area = self._areas[excp.area]
-                failures[request] = sure_failure(unit, opening, excp, area, self._is_kept)
+                area, is_kept = self._areas[excp.area], self._is_kept
+                failures[request] = sure_failure(unit, records, opening, excp, area, is_kept)
             failure = failures[request]
             if failure is not None:
                 yield at_word(self._script, excp, failure.at, failure.sentence)

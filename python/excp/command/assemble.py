@@ -5,7 +5,7 @@ from __future__ import annotations
 import argparse
 
 from ..symbols import assemble
-from .script_file import add_script
+from .script_file import add_script, worth_printing
 from .streams import ERRORS, REJECTED, print_findings, read_script, write_output
 
 
@@ -14,9 +14,10 @@ def add_arguments(parser: argparse.ArgumentParser) -> None:
 
 
 def run(given: argparse.Namespace) -> int:
-    assembled = assemble(read_script(given.script))
+    text = read_script(given.script)
+    assembled = assemble(text)
     if assembled.findings:
-        print_findings(assembled.findings, given.script, ERRORS)
+        print_findings(worth_printing(assembled.findings, text), given.script, ERRORS)
         return REJECTED
     write_output([assembled.script])
     return 0

@@ -5,12 +5,14 @@ from __future__ import annotations
 import argparse
 
 from ..checking import check_scenario, check_script
-from .script_file import add_script, read_plain
-from .streams import OUTPUT, REJECTED, ReaderGone, print_findings
+from .script_file import add_script, read_plain, worth_printing
+from .streams import OUTPUT, REJECTED, ReaderGone, name_of, print_findings
+from .unit_files import add_load, load_images
 
 
 def add_arguments(parser: argparse.ArgumentParser) -> None:
     parser.add_argument("--scenario", action="store_true", help="reads a scenario, as step does")
+    add_load(parser)
     add_script(parser)
 
 
@@ -23,9 +25,13 @@ def run(given: argparse.Namespace) -> int:
 
 
 def _checked(given: argparse.Namespace) -> int:
-    script = read_plain(given.script, OUTPUT)
+    images = load_images(name_of(given.script), given.load)
+    script = read_plain(given.script, images, OUTPUT)
     if script is None:
         return REJECTED
-    findings = check_scenario(script.script) if given.scenario else check_script(script)
-    print_findings(findings, given.script, OUTPUT)
+    if given.scenario:
+        findings = check_scenario(script.script, images)
+    else:
+        findings = check_script(script, images)
+    print_findings(worth_printing(findings, script.script), given.script, OUTPUT)
     return REJECTED if any(finding.is_fault for finding in findings) else 0

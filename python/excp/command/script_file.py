@@ -3,10 +3,17 @@
 from __future__ import annotations
 
 import argparse
-from typing import Optional
+from dataclasses import replace
+from typing import Optional, Sequence
 
+from ..checking.loaded import Images, with_sizes
+from ..findings import Finding
 from ..symbols import Assembled, assemble, has_symbols
 from .streams import print_findings, read_script
+
+
+# What is said of a file that is no text.
+_NO_TEXT = "; the file has zero bytes, so it is no script, and no other fault is printed"
 
 
 def add_script(parser: argparse.ArgumentParser) -> None:
@@ -18,12 +25,22 @@ def _file(word: str) -> Optional[str]:
     return None if word == "-" else word
 
 
-def read_plain(file: Optional[str], stream: int) -> Optional[Assembled]:
-    """The plain script of a file, assembled if it has symbols. If it has mistakes, prints them on
-    a stream, and returns None. Raises Ended."""
+def worth_printing(findings: Sequence[Finding], text: bytes) -> Sequence[Finding]:
+    """What is printed of the findings in a text: the first fault of a line alone if it has a zero
+    byte, and so is none that somebody wrote."""
+    first = next((it for it in findings if it.is_fault and it.line is not None), None)
+    if b"\0" not in text or first is None:
+        return findings
+    return [replace(first, sentence=f"{first.sentence}{_NO_TEXT}")]
+
+
+def read_plain(file: Optional[str], images: Images, stream: int) -> Optional[Assembled]:
+    """The plain script of a file, some of whose media are images, assembled if it has symbols. If
+    it has mistakes, prints them on a stream, and returns None. Raises Ended."""
     text = read_script(file)
-    script = assemble(text) if has_symbols(text) else Assembled(text)
+    is_plain = not has_symbols(text)
+    script = Assembled(text) if is_plain else assemble(with_sizes(text, images))
     if script.findings:
-        print_findings(script.findings, file, stream)
+        print_findings(worth_printing(script.findings, text), file, stream)
         return None
     return script

@@ -5,11 +5,12 @@ from __future__ import annotations
 from typing import Callable, Optional, Sequence
 
 from ..checking import check_script, has_rejected_line
+from ..checking.loaded import NO_IMAGES
 from ..findings import FaultName, Finding, printable_name
 from ..script.grammar import Command
 from ..script.reading import Text, lines_of, read_script_line
 from ..script.set_up import SetUp, Unit
-from .script_file import read_plain
+from .script_file import read_plain, worth_printing
 from .streams import ERRORS, Ended, Rejected, name_of, print_findings
 
 
@@ -19,23 +20,23 @@ def unit_of_script(file: Optional[str], why_not: Callable[[Unit], Optional[str]]
     `why_not` says why it is not the right one. Raises Rejected after it has printed what is found
     in the script, and Ended.
     """
-    script = read_plain(file, ERRORS)
+    script = read_plain(file, NO_IMAGES, ERRORS)
     if script is None:
         raise Rejected
     findings = check_script(script)
     if has_rejected_line(findings):
-        _reject(findings, file)
+        _reject(script.script, findings, file)
     units = _units_of(script.script)
     why = why_not(units[0]) if len(units) == 1 else "a script with one unit makes an image"
     if why is not None:
         raise Ended(f"{printable_name(name_of(file))}: {why}")
     if any(it.name is FaultName.MEDIUM for it in findings):
-        _reject(findings, file)
+        _reject(script.script, findings, file)
     return units[0]
 
 
-def _reject(findings: Sequence[Finding], file: Optional[str]) -> None:
-    print_findings(findings, file, ERRORS)
+def _reject(script: bytes, findings: Sequence[Finding], file: Optional[str]) -> None:
+    print_findings(worth_printing(findings, script), file, ERRORS)
     raise Rejected
 
 

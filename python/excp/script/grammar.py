@@ -8,34 +8,39 @@ message on words, forms and numbers, and every suggestion of a first word, comes
 from __future__ import annotations
 
 import struct
-from dataclasses import dataclass, fields
-from typing import Any, Mapping, NamedTuple, Optional, Union, get_type_hints
+from dataclasses import dataclass
+from typing import ClassVar, Mapping, Optional, Union
 
 from .forms import (
-    Address, Byte, Count, Each, Extents, Form, Halfword, Hex, Index, Method, Mode, Number, Octet,
+    Address, Byte, Count, Extents, Halfword, Hex, Index, Method, Mode, Number, Octet,
     Row, Sense, Size, Storage, Subclass, Words,
 )
 
 
 @dataclass(frozen=True)
 class Line:
-    """What a line says, which has this number from 1. A field for each word follows, in order."""
+    """What a line says, which has this number from 1. A field for each word follows, in order.
+    `form` has these words as docs/MANUAL.md writes them."""
 
+    form: ClassVar[str] = ""
     line: int
 
 
 @dataclass(frozen=True)
 class Tasks(Line):
+    form = "N"
     count: Count
 
 
 @dataclass(frozen=True)
 class LineOfUnit(Line):
+    form = "U"
     unit: Index
 
 
 @dataclass(frozen=True)
 class Disk(LineOfUnit):
+    form = "U ISC CYLS HEADS BYTES"
     subclass: Subclass
     cylinders: Number
     heads: Number
@@ -44,12 +49,14 @@ class Disk(LineOfUnit):
 
 @dataclass(frozen=True)
 class Tape(LineOfUnit):
+    form = "U ISC BYTES"
     subclass: Subclass
     size: Number
 
 
 @dataclass(frozen=True)
 class Printer(LineOfUnit):
+    form = "U ISC LINES PAGES"
     subclass: Subclass
     lines: Number
     pages: Number
@@ -57,6 +64,7 @@ class Printer(LineOfUnit):
 
 @dataclass(frozen=True)
 class Record(LineOfUnit):
+    form = "U CC HH R KEY HEX"
     cylinder: Halfword
     head: Halfword
     number: Octet
@@ -71,6 +79,7 @@ class Record(LineOfUnit):
 
 @dataclass(frozen=True)
 class Block(LineOfUnit):
+    form = "U HEX"
     data: Hex
 
 
@@ -81,6 +90,7 @@ class Mark(LineOfUnit):
 
 @dataclass(frozen=True)
 class DeviceFault(LineOfUnit):
+    form = "U ORDINAL UU SS XXXX"
     ordinal: Number
     unit_status: Byte
     subchannel_status: Byte
@@ -89,12 +99,14 @@ class DeviceFault(LineOfUnit):
 
 @dataclass(frozen=True)
 class Open(LineOfUnit):
+    form = "U in EXTENT .., or out"
     method: Method
     extents: Extents
 
 
 @dataclass(frozen=True)
 class Area(Line):
+    form = "A ADDR HEX .."
     number: Number
     base: Address
     data: Storage
@@ -111,6 +123,7 @@ class Area(Line):
 class Command(Line):
     """A command of a task."""
 
+    form = "T"
     task: Index
 
 
@@ -121,12 +134,14 @@ class Wait(Command):
 
 @dataclass(frozen=True)
 class CommandOfDcb(Command):
+    form = "T U DCB"
     unit: Index
     dcb: Size
 
 
 @dataclass(frozen=True)
 class Excp(CommandOfDcb):
+    form = "T U DCB IOB A SHOW LEN"
     iob: Address
     area: Number
     show: Address
@@ -135,6 +150,7 @@ class Excp(CommandOfDcb):
 
 @dataclass(frozen=True)
 class Purge(CommandOfDcb):
+    form = "T U DCB halt, or quiesce"
     mode: Mode
 
 
@@ -150,6 +166,7 @@ class Reset(CommandOfDcb):
 
 @dataclass(frozen=True)
 class PurgeTask(Command):
+    form = "T X halt, or quiesce"
     other: Index
     mode: Mode
 
@@ -164,12 +181,14 @@ class Room(Line):
 
 @dataclass(frozen=True)
 class RowSize(Line):
+    form = "ROW N"
     row: Row
     size: Size
 
 
 @dataclass(frozen=True)
 class BookSize(Line):
+    form = "book U N"
     row: Row
     unit: Index
     size: Size
@@ -182,6 +201,7 @@ class StepOfUnit(LineOfUnit):
 
 @dataclass(frozen=True)
 class Run(StepOfUnit):
+    form = "U N"
     most: Size
 
 
@@ -192,6 +212,7 @@ class Collect(Command):
 
 @dataclass(frozen=True)
 class PurgeTaskAt(PurgeTask):
+    form = "T X halt U, or quiesce"
     unit: Index
 
 
@@ -202,6 +223,7 @@ class Finish(Line):
 
 @dataclass(frozen=True)
 class Expect(Line):
+    form = "ANSWER"
     words: Words
 
 
@@ -258,26 +280,3 @@ EVENT_WORDS = tuple(EVENT_LINES)
 # has no `wait`.
 SUGGESTED_SCRIPT_WORDS = ("wait", *(word for word in SCRIPT_WORDS if word != "wait"))
 SUGGESTED_SCENARIO_WORDS = (*SUGGESTED_SCRIPT_WORDS[1:], *EVENT_WORDS)
-
-
-class WordForms(NamedTuple):
-    """The forms of the words of a line after the first one, and that of all further words, if a
-    line may have more."""
-
-    forms: tuple[Form[Any], ...]
-    each: Optional[Each]
-
-
-def _word_forms(kind: type[Line]) -> WordForms:
-    hints = get_type_hints(kind, include_extras=True)
-    said = [hints[field.name].__metadata__[0] for field in fields(kind)[1:]]
-    each = said.pop() if said and isinstance(said[-1], Each) else None
-    return WordForms(tuple(said), each)
-
-
-# The forms of the words of each kind of line.
-WORD_FORMS: Mapping[type[Line], WordForms] = {
-    kind: _word_forms(kind)
-    for kinds in (SCRIPT_LINES, EVENT_LINES, SIZES_BY_ROW)
-    for kind in kinds.values()
-}

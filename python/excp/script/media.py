@@ -33,7 +33,7 @@ class Reason(NamedTuple):
 
 def medium_faults(unit: Unit) -> list[Reason]:
     """Why a unit cannot be mounted. It can be if there is no reason."""
-    reasons = _fault_reasons(unit.faults)
+    reasons = fault_reasons(unit.faults)
     wrong_size = _wrong_size(unit)
     if wrong_size is not None:
         reasons.append(Reason(unit.says.line, wrong_size))
@@ -52,7 +52,8 @@ def has_sizes(unit: Unit) -> bool:
 # The faults that a device is to meet.
 
 
-def _fault_reasons(faults: Sequence[DeviceFault]) -> list[Reason]:
+def fault_reasons(faults: Sequence[DeviceFault]) -> list[Reason]:
+    """Why faults are none that a device meets, or are out of order."""
     reasons = []
     for fault in faults:
         if fault.ordinal == 0:

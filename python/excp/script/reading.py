@@ -8,10 +8,11 @@ from typing import Any, Callable, Iterable, Optional
 from ..findings import FaultName
 from .forms import Form, listed
 from .grammar import (
-    COMMAND_WORDS, EVENT_LINES, EVENT_WORDS, SCRIPT_LINES, SCRIPT_WORDS, SIZES_BY_ROW,
-    WORD_FORMS, Line, Room, Wait,
+    COMMAND_WORDS, EVENT_LINES, EVENT_WORDS, SCRIPT_LINES, SCRIPT_WORDS, SIZES_BY_ROW, Line,
+    Room, Wait,
 )
 from .suggestions import nearest
+from .word_forms import WORD_FORMS
 
 # The most characters of a word that a message shows.
 _MOST_SHOWN = 64
@@ -98,10 +99,7 @@ def _read(number: int, text: Text, kind: type[Line]) -> Line:
     forms, each = WORD_FORMS[kind]
     count, wanted = len(text.words), len(forms) + 1
     if count < wanted or (count > wanted and each is None):
-        words = f"{wanted} words{'' if each is None else ' or more'}"
-        raise Refused(
-            FaultName.WORDS, f"a line '{text.first}' has {words}, and this one has {count}"
-        )
+        raise Refused(FaultName.WORDS, _on_count(text, kind, wanted, each is not None))
     values = [_read_word(text, place, form) for place, form in enumerate(forms, 1)]
     if each is not None:
         rest = range(wanted, count)
@@ -110,6 +108,13 @@ def _read(number: int, text: Text, kind: type[Line]) -> Line:
     make: Callable[..., Line] = kind
     line = make(number, *values)
     return _read(number, text, SIZES_BY_ROW[line.row]) if isinstance(line, Room) else line
+
+
+def _on_count(text: Text, kind: type[Line], wanted: int, has_more: bool) -> str:
+    """The sentence on a line with another number of words than its kind has."""
+    words = f"{wanted} words{' or more' if has_more else ''}"
+    counts = f"a line '{text.first}' has {words}, and this one has {len(text.words)}"
+    return f"{counts}: expected {text.first} {kind.form}".rstrip()
 
 
 def _read_word(text: Text, place: int, form: Form[Any]) -> Any:

@@ -2,12 +2,11 @@
 
     done = assemble(job)            # Assembled(script, findings, areas)
     done.place(area, address)       # the word of the job that has set this byte
-    listing(done.script)            # of a plain script that a run accepts
+    listing.listing(done.script)    # of a plain script that a run accepts
 """
 
 from .assembled import Assembled
 from .assembly import assemble
 from .line_forms import has_symbols
-from .listing import listing
 
-__all__ = ["Assembled", "assemble", "has_symbols", "listing"]
+__all__ = ["Assembled", "assemble", "has_symbols"]

@@ -70,14 +70,14 @@ class _Assembly:
         self._lacks_end = False
         # Whether the last lines begin with no word of a script, and a finding says so of the first.
         self._is_lost = False
-        # The characters, tab and carriage return, of which there is a finding.
-        self._unprintable: set[str] = set()
+        # Whether there is a finding of a tab.
+        self._has_tab = False
 
     # Lines.
 
     def read(self, text: str) -> None:
-        """Assembles all lines of a text."""
-        lines = text.split("\n")
+        """Assembles all lines of a text. A carriage return may end a line."""
+        lines = re.split("\r?\n", text)
         for self._line, line in enumerate(lines, 1):
             is_last = self._line == len(lines)
             if line or not is_last:
@@ -110,18 +110,17 @@ class _Assembly:
     def _readable(self, text: str) -> str:
         """What a line says, without its comment and the blanks at its end.
 
-        A tab and a carriage return at the end are mistakes, of each the first alone. Their lines
-        are read all the same, so that what they define is defined.
+        A tab is a mistake, of which the first alone is reported. Its line is read all the same, so
+        that what it defines is defined.
         """
         said = before_comment(text)
         found = re.search("[^ -~]", said)
         if found is not None:
             mistake = Mistake(FaultName.WORDS, on_unprintable(said, found))
-            said = said.removesuffix("\r")
             if re.search("[^ -~\t]", said):
                 raise mistake
-            if found[0] not in self._unprintable:
-                self._unprintable.add(found[0])
+            if not self._has_tab:
+                self._has_tab = True
                 self.findings.append(mistake.at(self._line))
         return said.rstrip(BLANKS)
 

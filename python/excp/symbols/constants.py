@@ -16,6 +16,9 @@ EBCDIC = "cp037"
 # The most bytes of a value outside of areas, and the most repeats of a constant.
 _MOST_BYTES = 65_535
 
+# A constant whose text goes on to the end of its line. Apostrophes that come twice are of the text.
+_UNCLOSED = re.compile(r"[0-9]*(X|CA|C)'(([^']|'')*[^'])?")
+
 _CONSTANT = re.compile(r"([0-9]*)(X|CA|C)'(.*)'")
 
 _NO_FILL = (
@@ -25,6 +28,7 @@ _NO_CONSTANT = (
     "not a constant: expected X'DIGITS', C'TEXT' or CA'TEXT', with a number of repeats before it "
     "or none, and each apostrophe of a text twice"
 )
+_NOT_CLOSED = "no apostrophe ends this constant: expected one after its digits or its text"
 _NO_BYTES = "not bytes: expected an even number of hexadecimal digits, at least 2"
 _TOO_LONG = "too long: a value has at most 65535 bytes, and in an area 8192"
 _NOTHING_TO_FILL = "nothing comes before this that could be filled: expected a constant"
@@ -71,6 +75,8 @@ def _fill(image: bytearray, pad: Optional[bytes], word: Optional[Word], most: in
 
 
 def _constant(word: Word) -> _Constant:
+    if _UNCLOSED.fullmatch(word.text):
+        raise Mistake(FaultName.NUMBER, _NOT_CLOSED, word)
     found = _CONSTANT.fullmatch(word.text)
     times = value_of(found[1] or "1", 10) if found else None
     if found is None or times is None or not 1 <= times <= _MOST_BYTES:

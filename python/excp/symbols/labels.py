@@ -93,7 +93,7 @@ class Labels:
     def _term(self, term: Word, here: Optional[int], unknown: str) -> int:
         if term.text == "*":
             if here is None:
-                raise Mistake(FaultName.NUMBER, _NO_STATEMENT, term)
+                raise Mistake(FaultName.NUMBER, _NO_STATEMENT, term, is_address=True)
             return here
         if is_length(term):
             name = term.part(2)

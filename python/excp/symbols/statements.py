@@ -25,6 +25,17 @@ _Put = Callable[[OpenArea, Operands], None]
 # The boundaries that `DS` asks for without a byte.
 _BOUNDARIES: Mapping[str, int] = {"0D": 8, "0F": 4, "0H": 2}
 
+# The mnemonics that somebody means who types what a command does.
+_VERBS: Mapping[str, str] = {
+    "READ": "RD",
+    "WRITE": "WD",
+    "SEARCH": "SIDE",
+    "PRINT": "PR1",
+    "REWIND": "REW",
+    "SENSE": "SNS",
+    "NOOP": "NOP",
+}
+
 _NO_SIZE = "not a number of bytes: expected 0 to 8192, or 0D, 0F or 0H for a boundary"
 _UNKNOWN = "no statement has this name"
 _EXPECTED = "expected a mnemonic, IOB, ECB, DC, DS, IDAW, CCHHR, COUNT, ORG, TIC, CCW or endarea"
@@ -144,6 +155,7 @@ def _unknown(word: Word, follows: str) -> Mistake:
     """The mistake of a word that is no statement, by the word that follows it."""
     if follows in _OPERATIONS:
         return Mistake(FaultName.WORDS, f"{_UNKNOWN}: put a colon after a label", word)
-    meant = nearest(word.text.upper(), _OPERATIONS) or nearest(word.text.lower(), ["endarea"])
+    name = word.text.upper()
+    meant = nearest(name, _OPERATIONS) or _VERBS.get(name) or nearest(name.lower(), ["endarea"])
     text = _UNKNOWN if meant is not None else f"{_UNKNOWN}: {_EXPECTED}"
     return Mistake(FaultName.WORDS, text, word, meant)
