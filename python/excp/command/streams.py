@@ -8,6 +8,7 @@ from __future__ import annotations
 import os
 from typing import BinaryIO, Iterable, Optional
 
+from ..files.opening import why_unopened
 from ..findings import Finding, printable_name, printed
 from ..script.limits import MOST_SCRIPT_BYTES
 
@@ -81,17 +82,6 @@ def _opened(file: Optional[str]) -> BinaryIO:
         return open(file, "rb")
     except (OSError, ValueError) as error:
         raise Ended(f"{printable_name(file)}: {why_unopened(error)}") from None
-
-
-def why_unopened(error: Exception) -> str:
-    """Why a file is not opened."""
-    if isinstance(error, IsADirectoryError):
-        return "it is a directory"
-    if isinstance(error, (FileNotFoundError, NotADirectoryError)):
-        return "there is no such file"
-    if isinstance(error, PermissionError):
-        return "this user has no permission to read it"
-    return "the file cannot be opened"
 
 
 def write_output(parts: Iterable[bytes]) -> None:
