@@ -2,8 +2,9 @@
 
 from __future__ import annotations
 
-from typing import Iterable, Sequence
+from typing import Iterable, NoReturn, Sequence
 
+from ..script.suggestions import nearest
 from .parser import WordParser
 from .streams import (
     COMMAND, OUT_OF_MEMORY, REJECTED, USAGE, Ended, ReaderGone, Rejected, is_utf8, say,
@@ -38,9 +39,7 @@ def main(argv: Sequence[str]) -> int:
 
 def _carried_out(argv: Sequence[str]) -> int:
     if not argv or argv[0] not in WORDS:
-        parser = WordParser(COMMAND)
-        parser.add_argument("word", choices=list(WORDS))
-        parser.parse_args(argv[:1])
+        _reject_word(argv[:1])
     parser = WordParser(argv[0])
     word = WORDS[argv[0]].load()
     word.add_arguments(parser)
@@ -50,6 +49,16 @@ def _carried_out(argv: Sequence[str]) -> int:
     files = getattr(given, "files", [getattr(given, "script", None)])
     _check_utf8(it for it in argv if it not in files)
     return word.run(given)
+
+
+def _reject_word(words: Sequence[str]) -> NoReturn:
+    """Prints the page of help if it is asked for, or rejects a first word that is none."""
+    parser = WordParser(COMMAND)
+    parser.add_argument("word")
+    word = parser.parse_args(words).word
+    near = nearest(word, WORDS)
+    instead = f"did you mean '{near}'?" if near else f"{COMMAND} --help lists them"
+    raise Ended(f"{word}: there is no such word; {instead}", USAGE, COMMAND)
 
 
 def _check_utf8(words: Iterable[str]) -> None:
