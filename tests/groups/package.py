@@ -33,8 +33,6 @@ MODULE_LINES, FUNCTION_LINES, COLUMNS = 300, 30, 100
 
 def loaded():
     """The package, which this process imports once."""
-    if f"{TOP}/python" not in sys.path:
-        sys.path.insert(0, f"{TOP}/python")
     from excp import checking, findings, symbols
     from excp.script import grammar
     from excp.symbols import listing as _
