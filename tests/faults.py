@@ -86,9 +86,10 @@ def placed(out, script):
     script has it, and one that names its request at that."""
     ends, began = {}, 0
     for number, words in words_of(script).items():
-        if words[0] == b"area":
+        first = words[0].removesuffix(b"\r")
+        if first == b"area":
             began = number
-        if words[0] == b"endarea":
+        if first == b"endarea":
             ends |= dict.fromkeys(range(began, number), number)
     found = [PLACED.fullmatch(it) for it in out.splitlines(keepends=True)]
     if not all(found):

@@ -19,6 +19,10 @@ import traceback
 from dataclasses import dataclass, field
 
 TOP = os.path.dirname(os.path.dirname(os.path.realpath(__file__)))
+
+# The package of the command, for groups that ask it without a process.
+sys.path.insert(0, f"{TOP}/python")
+
 CASES = f"{TOP}/tests/cases"
 SAMPLES = f"{TOP}/samples"
 
@@ -136,8 +140,6 @@ def is_of_package(words):
 
 def package_main():
     """What carries out words of the package, whose modules this process imports once, before it has children."""
-    if f"{TOP}/python" not in sys.path:
-        sys.path.insert(0, f"{TOP}/python")
     from excp.command.main import main
     from excp.command.words import WORDS
 

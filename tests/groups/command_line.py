@@ -41,11 +41,18 @@ REPORTS = [
     ["report", "--most-steps=1", "--steps"],
 ]
 
+
+
+def unknown(word, argument):
+    """The text on an argument that a word of the package does not have."""
+    return f"excp: {word}: unrecognized arguments: {argument}; excp {word} --help lists the options"
+
+
 # Words that the program rejects, and the first line of its text.
 REJECTED = [
-    (["assemble", "read.symbolic", "other"], "error: unexpected argument 'other' found"),
-    (["assemble", "--channels", "2"], "error: unexpected argument '--channels' found"),
-    (["assemble", "--steps"], "error: unexpected argument '--steps' found"),
+    (["assemble", "read.symbolic", "other"], unknown("assemble", "other")),
+    (["assemble", "--channels", "2"], unknown("assemble", "--channels")),
+    (["assemble", "--steps"], unknown("assemble", "--steps")),
     (["step", "--steps"], "error: unexpected argument '--steps' found"),
     (["step", "--json", "--trace"], "error: the argument '--json' cannot be used with '--trace'"),
     (["step", "--state", "--json"], "error: the argument '--state' cannot be used with '--json'"),
@@ -56,13 +63,13 @@ REJECTED = [
     (["report", "--html", "--json"], "error: the argument '--html' cannot be used with '--json'"),
     (["report", "--posts", "--json"], "error: the argument '--posts' cannot be used with '--json'"),
     *(
-        (["report", "--listing", *it.split()], f"error: the argument '--listing' cannot be used with '{it}'")
+        (["report", "--listing", it], unknown("report", it))
         for it in ("--steps", "--json", "--html", "--posts")
     ),
-    (["report", "--listing", "--seed", "1"], "error: the argument '--listing' cannot be used with '--seed <N>'"),
-    (["report", "--listing", "--save", "0=x"], "error: the argument '--listing' cannot be used with '--save <U=FILE>'"),
-    (["report", "--listing", "--channels", "2"], "error: the argument '--listing' cannot be used with '--channels <N>'"),
-    (["report", "--listing", "--most-steps", "2"], "error: --most-steps N needs --steps or --json"),
+    (["report", "--listing", "--seed", "1"], unknown("report", "--seed")),
+    (["report", "--listing", "--save", "0=x"], unknown("report", "--save")),
+    (["report", "--listing", "--channels", "2"], unknown("report", "--channels")),
+    (["report", "--listing", "--most-steps", "2"], unknown("report", "--most-steps")),
     (["report", "--html", "--most-steps", "2"], "error: --most-steps N needs --steps or --json"),
     (["report", "--posts", "--most-steps", "2"], "error: --most-steps N needs --steps or --json"),
     (["report", "--posts", "--html"], "error: the argument '--posts' cannot be used with '--html'"),
@@ -76,17 +83,18 @@ REJECTED = [
     ),
     (["run", "--steps"], "error: unexpected argument '--steps' found"),
     (["run", "--load", "0=x"], "error: unexpected argument '--load' found"),
-    (["check", "--save", "0=x"], "error: unexpected argument '--save' found"),
+    (["check", "--save", "0=x"], unknown("check", "--save")),
     (["report", "--posts", "--steps"], "error: the argument '--posts' cannot be used with '--steps'"),
     *(
         ([word, "--load", it], "error: --load and --save take U=FILE: a unit from 0 to 63, and the name of a file")
-        for word, it in (("report", "x"), ("step", "64=x"), ("check", "0="), ("report", "=x"), ("report", "+1=x"))
+        for word, it in (("report", "x"), ("step", "64=x"), ("report", "=x"), ("report", "+1=x"))
     ),
+    (["check", "--load", "0="], "excp: --load takes U=FILE: a unit from 0 to 63, and the name of a file"),
+    (["check", "--load", "7=x", "--load", "7=y"], "excp: --load names each unit once"),
     (["report", "--save", "7=x", "--save", "7=y"], "error: --load and --save name each unit once"),
-    (["convert", "--to", "aws", "x"], "error: the following required arguments were not provided:"),
-    (["convert", "--output", "y", "x"], "error: the following required arguments were not provided:"),
-    (["convert", "--to", "het", "--output", "y", "x"], "error: invalid value 'het' for '--to <FORMAT>'"),
-    (["describe"], "error: the following required arguments were not provided:"),
+    (["convert", "--to", "aws", "x"], "excp: convert: --to FORMAT and --output OUT go together; excp convert --help lists the options"),
+    (["convert", "--output", "y", "x"], "excp: convert: --to FORMAT and --output OUT go together; excp convert --help lists the options"),
+    (["describe"], "excp: describe: the following arguments are required: IMAGE; excp describe --help lists the options"),
     (["report", "--steps=1"], "error: unexpected value '1' for '--steps' found; no more were expected"),
     (["report", "--channels", "17"], "error: invalid value '17' for '--channels <N>': 17 is not in 1..=16"),
     (["report", "--handlers", "9"], "error: invalid value '9' for '--handlers <N>': 9 is not in 1..=8"),
@@ -231,9 +239,10 @@ def without_input(setup):
 
 
 def with_folder(setup):
+    """Python itself does not start with a folder as standard input, so this asks a word of excp_tools."""
     folder = os.open("/", os.O_RDONLY)
     try:
-        is_without("script unreadable", setup, ["assemble"], stdin=folder)
+        is_without("script unreadable", setup, ["report"], stdin=folder)
     finally:
         os.close(folder)
 
@@ -446,7 +455,7 @@ def cases(setup):
     for words in (["--version"], ["-V"]):
         yield case(words[0], prints_version, setup, words[0])
     yield case("assemble with standard input closed", without_input, setup)
-    yield case("assemble with a folder as standard input", with_folder, setup)
+    yield case("report with a folder as standard input", with_folder, setup)
     yield case("assemble to a full output", with_full_output, setup)
     for words in REPORTS:
         yield case(" ".join(words), reports, setup, words)

@@ -33,8 +33,6 @@ MODULE_LINES, FUNCTION_LINES, COLUMNS = 300, 30, 100
 
 def loaded():
     """The package, which this process imports once."""
-    if f"{TOP}/python" not in sys.path:
-        sys.path.insert(0, f"{TOP}/python")
     from excp import checking, findings, symbols
     from excp.script import grammar
     from excp.symbols import listing as _
@@ -135,6 +133,12 @@ def is_one_line(setup, *words):
     require(ran.status == 1 and text.count("\n") == 1 and "the file has zero bytes" in text, "another text", ran)
 
 
+def suggests(word, due):
+    """A first word that is none is rejected, and one that is near to it is named."""
+    ran = started(word, stdout=subprocess.DEVNULL, stdin=subprocess.DEVNULL)
+    require((ran.returncode, ran.stderr) == (2, f"excp: {word}: there is no such word; {due}\n".encode()), f"another text: {ran.stderr!r}")
+
+
 def needs_no_library():
     """A word loads neither the library nor what needs it."""
     text = "import sys; sys.path.insert(0, sys.argv[1]); from excp.command.main import main; main(['check', sys.argv[2]]); "
@@ -174,6 +178,8 @@ def cases(setup):
         yield Case(f"{words[0]} {os.path.basename(words[1])} to a reader that is gone", lambda w=words: needs_no_reader(*w), ORIGIN)
     for words in (["check"], ["check", "--scenario"], ["assemble"], ["report", "--listing"]):
         yield Case(f"{' '.join(words)} of a program", lambda w=words: is_one_line(setup, *w), ORIGIN)
+    for word, due in ("chek", "did you mean 'check'?"), ("xyzzy", "excp --help lists them"):
+        yield Case(f"a word that is none: {word}", lambda w=word, d=due: suggests(w, d), ORIGIN)
     yield Case("a word needs no library", needs_no_library, "python/excp/__init__.py")
     for file in modules():
         yield Case(f"the form of {os.path.relpath(file, f'{TOP}/python')}", lambda f=file: has_form(f), FORM)

@@ -5,13 +5,14 @@ from __future__ import annotations
 
 from typing import Optional
 
+from ..blocks import Seek
 from ..device_commands import DISK, Op
 from ..script.ccw import CCW_BYTES
 from ..script.grammar import Area, Disk, Excp, Open
 from ..script.media import tracks_of, wrong_extents
 from ..script.set_up import Unit
 from .records import Records
-from .requests import CYLINDER_AT, EXTENT_AT, Seek, iob_of
+from .requests import CYLINDER_AT, EXTENT_AT, iob_of
 from .walk import Failure, Program, SureFailure, Walk
 
 

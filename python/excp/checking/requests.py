@@ -5,6 +5,7 @@ from __future__ import annotations
 import struct
 from typing import NamedTuple, Optional
 
+from ..blocks import Seek
 from ..script.ccw import CCW_BYTES
 from ..script.grammar import Area, Excp
 from ..script.reading import count_of
@@ -20,16 +21,6 @@ _ADDRESS_BITS = 0xFFFFFF
 # Where an IOB has the address of its ECB, that of its channel program, its DCB, the extent and
 # the cylinder of its seek address.
 _ECB_AT, _START_AT, _DCB_AT, EXTENT_AT, CYLINDER_AT = 5, 17, 22, 32, 35
-
-
-class Seek(NamedTuple):
-    """A seek address, MBBCCHHR."""
-
-    extent: int
-    bin: int
-    cylinder: int
-    head: int
-    record: int
 
 
 class Iob(NamedTuple):
@@ -58,7 +49,7 @@ def iob_of(excp: Excp, area: Area) -> Optional[Iob]:
         return None
     flags, *words = struct.unpack(">B3xI8xII8x8x", image)
     ecb, start, dcb = (word & _ADDRESS_BITS for word in words)
-    seek = Seek(*struct.unpack(">BHHHB", image[EXTENT_AT:]))
+    seek = Seek.from_bytes(image[EXTENT_AT:])
     return Iob(bool(flags & _UNRELATED), ecb, start, dcb, seek)
 
 

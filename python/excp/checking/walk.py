@@ -5,6 +5,7 @@ from __future__ import annotations
 from dataclasses import dataclass, field
 from typing import NamedTuple, Optional, Sequence
 
+from ..blocks import Seek
 from ..device_commands import DISK, Flag, Flow, Op, command_of
 from ..script.ccw import CCW_BYTES, Ccw
 from ..script.grammar import Area
@@ -12,7 +13,6 @@ from ..script.set_up import Unit
 from .channel import Broken, Part, fetched, parts_of
 from .lengths import Lengths
 from .records import Records
-from .requests import Seek
 
 # The most commands of a program that are looked at.
 _MOST_COMMANDS = 64

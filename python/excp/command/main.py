@@ -2,9 +2,11 @@
 
 from __future__ import annotations
 
-from typing import Callable, Sequence
+from typing import Callable, Iterable, NoReturn, Sequence
 
-from .streams import OUT_OF_MEMORY, REJECTED, USAGE, Ended, ReaderGone, Rejected, is_utf8, say
+from .streams import (
+    COMMAND, OUT_OF_MEMORY, REJECTED, USAGE, Ended, ReaderGone, Rejected, is_utf8, say,
+)
 from .words import WORDS
 
 # The exit status after Ctrl-C, as shells have it: 128 and the number of SIGINT.
@@ -22,7 +24,7 @@ def end_of(work: Callable[[], int]) -> int:
     try:
         return work()
     except Ended as ended:
-        say(ended.text)
+        say(ended.text, ended.speaker)
         return ended.status
     except Rejected:
         return REJECTED
@@ -43,15 +45,31 @@ def _carried_out(argv: Sequence[str]) -> int:
     from .parser import WordParser
 
     if not argv or argv[0] not in WORDS:
-        parser = WordParser("excp")
-        parser.add_argument("word", choices=list(WORDS))
-        parser.parse_args(argv[:1])
-        raise Ended("no word is given", USAGE)
+        _reject_word(argv[:1])
     parser = WordParser(argv[0])
     word = WORDS[argv[0]].load()
     word.add_arguments(parser)
+    _check_utf8(it for it in argv if it.startswith("-"))
     given = parser.parse_args(argv[1:])
+    # what reads a file has a text of its own on its name
     files = getattr(given, "files", [getattr(given, "script", None)])
-    if not all(is_utf8(it) for it in argv if it not in files):
-        raise Ended("a word of the command line is not UTF-8", USAGE)
+    _check_utf8(it for it in argv if it not in files)
     return word.run(given)
+
+
+def _reject_word(words: Sequence[str]) -> NoReturn:
+    """Prints the page of help if it is asked for, or rejects a first word that is none."""
+    from ..script.suggestions import nearest
+    from .parser import WordParser
+
+    parser = WordParser(COMMAND)
+    parser.add_argument("word")
+    word = parser.parse_args(words).word
+    near = nearest(word, WORDS)
+    instead = f"did you mean '{near}'?" if near else f"{COMMAND} --help lists them"
+    raise Ended(f"{word}: there is no such word; {instead}", USAGE, COMMAND)
+
+
+def _check_utf8(words: Iterable[str]) -> None:
+    if not all(map(is_utf8, words)):
+        raise Ended("a word of the command line is not UTF-8", USAGE)

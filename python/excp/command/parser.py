@@ -6,14 +6,14 @@ import argparse
 from typing import Any, NoReturn, Optional
 
 from .help import page_of
-from .streams import USAGE, Ended, write_output
+from .streams import COMMAND, USAGE, Ended, write_output
 
 
 class WordParser(argparse.ArgumentParser):
     """The parser of a word, or of the whole command if its name is `excp`."""
 
     def __init__(self, word: str, **how: Any) -> None:
-        prog = word if word == "excp" else f"excp {word}"
+        prog = COMMAND if word == COMMAND else f"{COMMAND} {word}"
         super().__init__(prog=prog, allow_abbrev=False, **how)
         self.word = word
 
@@ -24,4 +24,5 @@ class WordParser(argparse.ArgumentParser):
         write_output([self.format_help().encode()])
 
     def error(self, message: str) -> NoReturn:
-        raise Ended(f"{self.word}: {message}; {self.prog} --help lists the options", USAGE)
+        where = "" if self.word == COMMAND else f"{self.word}: "
+        raise Ended(f"{where}{message}; {self.prog} --help lists the options", USAGE, COMMAND)

@@ -9,7 +9,7 @@ from ..checking.loaded import with_sizes
 from ..symbols.listing import listing
 from .script_file import add_script, read_plain, worth_printing
 from .streams import (
-    ERRORS, REJECTED, USAGE, Ended, name_of, print_findings, write_output,
+    COMMAND, ERRORS, REJECTED, USAGE, Ended, name_of, print_findings, write_output,
 )
 from .unit_files import add_load, load_images
 
@@ -22,7 +22,7 @@ def add_arguments(parser: argparse.ArgumentParser) -> None:
 
 def run(given: argparse.Namespace) -> int:
     if not given.listing:
-        raise Ended("report: only its listings are Python: type report --listing", USAGE)
+        raise Ended("report: this package has its listings alone: add --listing", USAGE, COMMAND)
     images = load_images(name_of(given.script), given.load)
     script = read_plain(given.script, images, ERRORS)
     if script is None:

@@ -2,7 +2,7 @@
 
 from __future__ import annotations
 
-from typing import Callable, NoReturn, Optional, Sequence
+from typing import Callable, Optional, Sequence
 
 from ..checking import check_script, has_rejected_line
 from ..checking.loaded import NO_IMAGES
@@ -25,18 +25,18 @@ def unit_of_script(file: Optional[str], why_not: Callable[[Unit], Optional[str]]
         raise Rejected
     findings = check_script(script)
     if has_rejected_line(findings):
-        _reject(findings, script.script, file)
+        _reject(script.script, findings, file)
     units = _units_of(script.script)
     why = why_not(units[0]) if len(units) == 1 else "a script with one unit makes an image"
     if why is not None:
         raise Ended(f"{printable_name(name_of(file))}: {why}")
     if any(it.name is FaultName.MEDIUM for it in findings):
-        _reject(findings, script.script, file)
+        _reject(script.script, findings, file)
     return units[0]
 
 
-def _reject(findings: Sequence[Finding], text: bytes, file: Optional[str]) -> NoReturn:
-    print_findings(worth_printing(findings, text), file, ERRORS)
+def _reject(script: bytes, findings: Sequence[Finding], file: Optional[str]) -> None:
+    print_findings(worth_printing(findings, script), file, ERRORS)
     raise Rejected
 
 

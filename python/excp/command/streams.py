@@ -8,13 +8,15 @@ from __future__ import annotations
 import os
 from typing import BinaryIO, Iterable, Optional
 
+from ..files.opening import why_unopened
 from ..findings import Finding, printable_name, printed
 from ..script.limits import MOST_SCRIPT_BYTES
 
 INPUT, OUTPUT, ERRORS = 0, 1, 2
 
-# What a text on standard error begins with. Users know it, and scripts look for it.
-_PREFIX = "excp_job: "
+# Who says a text on standard error: what reads and writes files says it by a name that scripts look
+# for, and what reads the command line by its own.
+PROGRAM, COMMAND = "excp_job", "excp"
 
 # The name of a script that is standard input.
 STANDARD_INPUT = "<stdin>"
@@ -28,12 +30,13 @@ _NOT_UTF8 = (
 
 
 class Ended(Exception):
-    """Why the command ends early: a text for standard error, and the exit status."""
+    """Why the command ends early: a text for standard error, the exit status, and who says it."""
 
-    def __init__(self, text: str, status: int = REJECTED) -> None:
+    def __init__(self, text: str, status: int = REJECTED, speaker: str = PROGRAM) -> None:
         super().__init__(text)
         self.text = text
         self.status = status
+        self.speaker = speaker
 
 
 class Rejected(Exception):
@@ -81,17 +84,6 @@ def _opened(file: Optional[str]) -> BinaryIO:
         raise Ended(f"{printable_name(file)}: {why_unopened(error)}") from None
 
 
-def why_unopened(error: Exception) -> str:
-    """Why a file is not opened."""
-    if isinstance(error, IsADirectoryError):
-        return "it is a directory"
-    if isinstance(error, (FileNotFoundError, NotADirectoryError)):
-        return "there is no such file"
-    if isinstance(error, PermissionError):
-        return "this user has no permission to read it"
-    return "the file cannot be opened"
-
-
 def write_output(parts: Iterable[bytes]) -> None:
     """Writes to standard output. Raises Ended, and ReaderGone if nothing reads it."""
     try:
@@ -118,9 +110,9 @@ def takes_colour(stream: int) -> bool:
     return os.isatty(stream) and not os.environ.get("NO_COLOR")
 
 
-def say(text: str) -> None:
+def say(text: str, speaker: str = PROGRAM) -> None:
     """Prints a text on standard error, if that can be written."""
-    _write_errors(f"{_PREFIX}{text}\n".encode("utf-8", "surrogateescape"))
+    _write_errors(f"{speaker}: {text}\n".encode("utf-8", "surrogateescape"))
 
 
 def _write_errors(text: bytes) -> None:

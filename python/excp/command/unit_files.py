@@ -7,7 +7,7 @@ import re
 from typing import Mapping, Sequence, Tuple
 
 from ..checking.loaded import NO_IMAGES, Images
-from .streams import USAGE, Ended
+from .streams import COMMAND, USAGE, Ended
 
 _FORM = "--load takes U=FILE: a unit from 0 to 63, and the name of a file"
 _TWICE = "--load names each unit once"
@@ -25,14 +25,14 @@ def load_images(script: str, words: Sequence[str]) -> Images:
     """The images that words of the form `U=FILE` name, for a script of this name. Raises Ended."""
     files = dict(_unit_and_name(word) for word in words)
     if len(files) < len(words):
-        raise Ended(_TWICE, USAGE)
+        raise Ended(_TWICE, USAGE, COMMAND)
     return _read(script, files) if files else NO_IMAGES
 
 
 def _unit_and_name(word: str) -> Tuple[int, str]:
     found = _UNIT_FILE.fullmatch(word)
     if found is None:
-        raise Ended(_FORM, USAGE)
+        raise Ended(_FORM, USAGE, COMMAND)
     return int(found[1]), found[2]
 
 

@@ -31,7 +31,7 @@ class Word(NamedTuple):
 
 
 # The words that the program excp_tools has: of `report` all but listings.
-TOOLS = ("report", "step", "outcomes", "describe", "convert")
+TOOLS = ("report", "step", "outcomes")
 
 
 def is_of_package(words: Sequence[str]) -> bool:
@@ -42,7 +42,7 @@ def is_of_package(words: Sequence[str]) -> bool:
 WORDS: Mapping[str, Word] = {
     "assemble": Word("assemble", "Prints the plain script of one with symbolic areas"),
     "check": Word("check", "Prints every fault of a script, and warnings; runs nothing"),
-    "convert": Word("convert", "Prints an image as the lines of a script, or makes an image of such"),
+    "convert": Word("convert", "Prints an image as lines of a script, or makes one of such lines"),
     "describe": Word("describe", "Prints what images of tapes and disks hold"),
     "report": Word("report", "With --listing: the script with each area in symbols"),
 }

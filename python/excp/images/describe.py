@@ -6,6 +6,7 @@ Labels are IBM standard labels in EBCDIC (z/OS DFSMS Using Magnetic Tapes).
 from __future__ import annotations
 
 from dataclasses import dataclass, field
+from itertools import islice
 from typing import BinaryIO, Iterator, List
 
 from ..script.limits import LEAST_TAPE_BYTES
@@ -115,7 +116,8 @@ def _disk_lines(image: DiskImage) -> Iterator[str]:
     found = f"{count_of(records, 'record')} beside R0"
     yield f"{found}, the longest data area of {count_of(longest, 'byte')}"
     yield f"line of a script: disk U ISC {size.cylinders} {size.heads} {size.track_bytes}"
-    for record in first:
-        if len(record.data) == LABEL_BYTES and record.data.startswith(VOL1):
-            yield f"volume {_field(record.data, 4, 6)}"
-            yield from vtoc_lines(image, record.data[11:16])
+    labels = (it.data for it in first if len(it.data) == LABEL_BYTES and it.data.startswith(VOL1))
+    # a volume has one label: to follow each of many would cost a pass over the disk for each
+    for label in islice(labels, 1):
+        yield f"volume {_field(label, 4, 6)}"
+        yield from vtoc_lines(image, label[11:16])

@@ -3,11 +3,11 @@
 from __future__ import annotations
 
 import contextlib
-import errno
 import os
 import stat
 from typing import BinaryIO, Iterator, List, Optional, Protocol, Union
 
+from ..files.opening import why_unopened
 from ..script.limits import LEAST_TAPE_BYTES
 from . import cckd, ckd
 from .aws import read_items
@@ -38,15 +38,6 @@ class DiskImage(Protocol):
 
     def tracks(self, first: int = 0) -> Iterator[Track]:
         """The tracks from this one on. Raises ImageFault for the first rule that one breaks."""
-
-
-def why_unopened(error: OSError) -> str:
-    """The sentence for a file that cannot be opened to be read."""
-    if error.errno in (errno.ENOENT, errno.ENOTDIR):
-        return "there is no such file"
-    if error.errno in (errno.EACCES, errno.EPERM):
-        return "this user has no permission to read it"
-    return "the file cannot be opened"
 
 
 def size_of_file(name: str) -> int:

@@ -3,9 +3,10 @@
 from __future__ import annotations
 
 import re
-import struct
 from dataclasses import dataclass
-from typing import Annotated, Any, Callable, Generic, Iterable, NamedTuple, Optional, TypeVar
+from typing import Annotated, Any, Callable, Generic, Iterable, Optional, TypeVar
+
+from ..blocks import Extent
 
 Value = TypeVar("Value")
 
@@ -27,16 +28,6 @@ class Each:
 
     form: Form[Any]
     join: Callable[[Iterable[Any]], Any]
-
-
-class Extent(NamedTuple):
-    """An extent of a DCB: its first and its last track, and the count of its tracks."""
-
-    start_cylinder: int
-    start_head: int
-    end_cylinder: int
-    end_head: int
-    tracks: int
 
 
 def listed(words: Iterable[str]) -> str:
@@ -78,7 +69,7 @@ def _bytes(word: str) -> Optional[bytes]:
 def _extent(word: str) -> Optional[Extent]:
     if len(word) != 32 or not _HEXADECIMAL.fullmatch(word):
         return None
-    return Extent(*struct.unpack(">6x5H", bytes.fromhex(word)))
+    return Extent.from_bytes(bytes.fromhex(word))
 
 
 NUMBER = Form("a decimal number of 1 to 10 digits", _decimal)

@@ -5,7 +5,7 @@ from __future__ import annotations
 from collections import defaultdict
 from typing import AbstractSet, Iterator, NamedTuple, Optional, Sequence
 
-from .forms import Extent
+from ..blocks import Extent
 from .grammar import Block, Content, DeviceFault, Disk, Open, Record, Tape
 from .limits import (
     COUNT_BYTES, ITEM_BYTES, LEAST_TAPE_BYTES, LEAST_TRACK_BYTES, MOST_DATA_BYTES, MOST_DCBS,
