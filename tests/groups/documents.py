@@ -29,8 +29,8 @@ def names_kit():
     """A warning if the README names another kit than `rt version`."""
     if not shutil.which("rt"):
         raise Skipped("no rt, so the kit of the README is not compared")
-    kit = run(["rt", "version"]).out.strip()
-    return "" if kit in read(f"{TOP}/README.md") else f"warning: README.md does not name the kit of `rt version`: {kit}"
+    logic = run(["rt", "version"]).out.strip().rpartition(" ")[2]
+    return "" if logic in read(f"{TOP}/README.md") else f"warning: README.md does not name the logic sum of `rt version`: {logic}"
 
 
 def has_types():

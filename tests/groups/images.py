@@ -5,6 +5,7 @@ What an image holds, and its first fault, is by `tests/formats.py`. Volumes and 
 """
 
 import bz2
+import fcntl
 import os
 import pty
 import random
@@ -907,14 +908,22 @@ def failed_run_saves_nothing(setup):
         require(not os.path.exists(f"{folder}/saved"), "it was saved")
 
 
-def left_file_is_named(setup):
-    """A new file that a killed run left is not overwritten."""
+def left_file_is_taken_over(setup):
+    """A new file that a killed run left is named, and written anew. It is not if its lock is held, or if the call reads it."""
     with tempfile.TemporaryDirectory(prefix="images-") as folder:
         small(folder)
-        write(f"{folder}/tape.excp-new", b"left")
+        whole, left = bytes_of(f"{folder}/tape"), f"{folder}/tape.excp-new"
+        write(left, b"left")
+        with open(left, "rb") as writer:
+            fcntl.flock(writer, fcntl.LOCK_EX)
+            ran = program(setup, folder, "report", "--load", "0=tape", "--save", "0=tape", script=TAPE)
+            require(ran.status == 1 and "another run is writing it" in ran.err, "no error", ran)
+            require(bytes_of(left) == b"left", "it was overwritten")
+        ran = program(setup, folder, "report", "--load", "0=tape.excp-new", "--save", "0=tape", script=TAPE)
+        require(ran.status == 1 and bytes_of(left) == b"left", "it was overwritten, and read", ran)
         ran = program(setup, folder, "report", "--load", "0=tape", "--save", "0=tape", script=TAPE)
-        require(ran.status == 1 and ".excp-new" in ran.err, "no error", ran)
-        require(bytes_of(f"{folder}/tape.excp-new") == b"left", "it was overwritten")
+        require(ran.status == 0 and "tape.excp-new: a run that was killed left it" in ran.err, "not taken over", ran)
+        require(bytes_of(f"{folder}/tape") == whole and not os.path.exists(left), "another image, or a file is left", ran)
 
 
 def prints_paper(setup):
@@ -978,7 +987,7 @@ def cases(setup):
         full_disk_loses_nothing,
         full_file_system_loses_nothing,
         failed_run_saves_nothing,
-        left_file_is_named,
+        left_file_is_taken_over,
         model_is_asked_before_the_run,
         most_tracks_are_kept,
         has_trailing_bytes,

@@ -311,19 +311,16 @@ def is_judged(setup, name, made):
 
 
 def has_file_left(setup, name):
-    """A new file that a killed run left: the package removes it, and says so; the other words reject it."""
+    """A new file that a killed run left is removed, and the call says so."""
     for target in targets_with(setup, name, left):
-        if target.is_converted():
-            ran = target.run()
-            said = f"excp_job: {target.file}: {target.file}.excp-new, which a run that was killed left, was removed\n"
-            expect(ran, (0, "", said))
-            require(os.listdir(target.path("out")) == [os.path.basename(target.file)], "a file is left", ran)
-        else:
-            target.is_refused("another run is writing it, or one that was killed left a file with .excp-new after its name")
+        ran = target.run()
+        said = f"excp_job: {target.file}: {target.file}.excp-new, which a run that was killed left, was removed\n"
+        require((ran.status, ran.err) == (0, said), f"another end than {said!r}", ran)
+        require(os.listdir(target.path("out")) == [os.path.basename(target.file)], "a file is left", ran)
 
 
 def targets_with(setup, name, made):
-    """A target that something was made for; with each of two options."""
+    """A target, in whose directory the name of the new file has what is made."""
     with tempfile.TemporaryDirectory(prefix="targets-") as folder:
         target = Target(setup, name, folder)
         made(f"{target.path()}.excp-new")
@@ -352,11 +349,10 @@ def has_file_in_the_way(setup, name):
 
 
 def is_being_written(setup, name):
-    """A new file of a run that lives is not removed: one that locks it, or, as excp_tools does, has it open alone."""
+    """A new file of a run that lives, which has its lock, is not removed."""
     why = f"another run is writing it: {TARGET}.excp-new is its new file"
     for target in targets_with(setup, name, left):
         with open(f"{target.path()}.excp-new", "rb") as it:
-            target.is_refused(why)
             fcntl.flock(it, fcntl.LOCK_EX)
             target.is_refused(why)
             target.is_refused(why, "--force")
@@ -609,9 +605,7 @@ def cases(setup):
     for name in WORDS:
         for made in MADE:
             yield Case(f"{name}: {made}", lambda n=name, m=made: is_judged(setup, n, m), ORIGIN)
-        is_of_package = name.startswith("convert")
-        beside = [has_file_left, *([has_file_in_the_way, is_being_written] if is_of_package else [])]
-        for judge in *beside, directory_is_missing, directory_is_not_writable, full_or_read_only:
+        for judge in has_file_left, has_file_in_the_way, is_being_written, directory_is_missing, directory_is_not_writable, full_or_read_only:
             yield Case(f"{name}: {judge.__name__.replace('_', ' ')}", lambda n=name, j=judge: j(setup, n), ORIGIN)
         # `refusals` has the growths of a save
         growth = ["growth"] if name == "report, a scenario" else []

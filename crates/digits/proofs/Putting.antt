@@ -1,9 +1,10 @@
 -- Digits that are put into a text, and written.
-use Rattle.std.proofs.Common.{◌≡◌, ℕ, ◌+◌, ◌*◌, ◌-◌, ◌<◌, ◌≤◌, ◌/◌, ◌%◌, List, Option, [], ◌∷◌, ◌++◌, length, set, take, drop, get_or, refl, sym, ap, subst, ◌∙◌, arith, append_assoc, append-nil, length-take-le}
-use Rattle.std.proofs.KnownBytes.{Appends-nil, Appends-trans}
+use Rattle.std.proofs.Common.{◌≡◌, ℕ, ◌+◌, ◌*◌, ◌-◌, ◌<◌, ◌≤◌, ◌/◌, ◌%◌, List, Option, Result, Ok, Err, OnErr, [], ◌∷◌, ◌++◌, length, set, take, drop, get_or, refl, sym, ap, subst, ◌∙◌, arith, append_assoc, append-nil, length-take-le}
+use Rattle.std.proofs.KnownBytes.{Appends-kept, Appends-nil, Appends-trans}
 use Rattle.std.proofs.lemmas.List.{set-append_right, take_more, length-append, drop-drop, length-drop}
-use Rattle.std.specs.Io.KnownBytes.{Appends}
+use Rattle.std.specs.Io.KnownBytes.{Appends, Keeps}
 use Rattle.digits.specs.Digits.{digit_of, in_digits}
+use Rattle.digits.specs.Writing.{AppendsPart, Wrote}
 
 -- two places of a text are set
 pub put_two : (pre rest : List ℕ) (k x y : ℕ) → length pre ≡ k → 2 ≤ length rest →
@@ -72,12 +73,6 @@ put_more t0 text bytes d place n room within is digits =
     ∙ sym (append_assoc (head ++ done) (x ∷ y ∷ []) last)
     ∙ ap (λ (l : List ℕ). l ++ last) (append_assoc head done (x ∷ y ∷ []) ∙ ap (λ (l : List ℕ). head ++ l) (sym more))
 
--- a writer has got all of a text but what is left
-pub record Wrote (old now : Option (List ℕ)) (left text : List ℕ) : Type 0 where
-  pub written : List ℕ
-  pub appends : Appends old now written
-  pub whole : written ++ left ≡ text
-
 pub wrote-nothing : (a : Option (List ℕ)) (text : List ℕ) → Wrote a a text text
 wrote-nothing a text = record { written = []; appends = Appends-nil a; whole = refl }
 
@@ -89,6 +84,43 @@ wrote-more a b c piece left before text w is more = record {
   whole = append_assoc w.written piece left ∙ ap (λ (l : List ℕ). w.written ++ l) (sym is) ∙ w.whole;
 }
 
+-- a call that appended nothing leaves as much
+pub wrote-kept : (a b c : Option (List ℕ)) (left text : List ℕ) → Wrote a b left text → Keeps b c → Wrote a c left text
+wrote-kept a b c left text w kept = record { written = w.written; appends = Appends-kept a b c w.written w.appends kept; whole = w.whole }
+
 pub wrote-all : (a b : Option (List ℕ)) (left text : List ℕ) → Wrote a b left text → left ≡ [] → Appends a b text
 wrote-all a b left text w none = subst (λ (l : List ℕ). Appends a b l)
     (sym (append-nil w.written) ∙ ap (λ (l : List ℕ). w.written ++ l) (sym none) ∙ w.whole) w.appends
+
+-- a first part of a piece of the text is a first part of the text
+pub part-more : (a b c : Option (List ℕ)) (piece left before text : List ℕ) → Wrote a b before text → before ≡ piece ++ left
+    → AppendsPart b c piece → AppendsPart a c text
+part-more a b c piece left before text w is (last, p) = (
+  last ++ left,
+  record {
+    written = w.written ++ p.written;
+    appends = Appends-trans a b c w.written p.written w.appends p.appends;
+    whole = append_assoc w.written p.written (last ++ left)
+        ∙ ap (λ (l : List ℕ). w.written ++ l) (sym (append_assoc p.written last left) ∙ ap (λ (l : List ℕ). l ++ left) p.whole ∙ sym is)
+        ∙ w.whole;
+  },
+)
+
+-- a text that follows one that was written whole
+pub part-after : (a b c : Option (List ℕ)) (first last : List ℕ) → Appends a b first → AppendsPart b c last → AppendsPart a c (first ++ last)
+part-after a b c first last done p =
+    part-more a b c last [] last (first ++ last) (record { written = first; appends = done; whole = refl }) (sym (append-nil last)) p
+
+-- a text before another one
+pub part-before : (a b : Option (List ℕ)) (first last : List ℕ) → AppendsPart a b first → AppendsPart a b (first ++ last)
+part-before a b first last p =
+    part-more a a b first last (first ++ last) (first ++ last) (wrote-nothing a (first ++ last)) refl p
+
+-- all of a text is a part of it
+pub part-whole : (a b : Option (List ℕ)) (text : List ℕ) → Appends a b text → AppendsPart a b text
+part-whole a b text done = ([], record { written = text; appends = done; whole = append-nil text })
+
+-- what holds of a call holds if it fails
+pub if-failed : {A E P : Type 0} (r : Result A E) → P → OnErr r P
+if-failed (Ok x) p = tt
+if-failed (Err e) p = p

@@ -4,16 +4,18 @@
 use crate::held::Held;
 use crate::target::{Content, Output};
 use ckd_image::{DiskModel, MODELS};
+use job_check::FileName;
 use medium_image::SaveError;
 use std::alloc::AllocError;
 use std::fmt::{Display, Formatter};
-use std::fs::{File, OpenOptions};
+use std::fs::{File, OpenOptions, TryLockError};
 use std::io::ErrorKind;
 use std::os::unix::fs::MetadataExt;
 use std::{fmt, fs, io};
 use unit_history::Count;
 
-/// What is added to the name of a file for the new one beside it. A run that is killed leaves it.
+/// What is added to the name of a file for the new one beside it, which is locked while its run lives. A run that is killed leaves
+/// it, and the next run removes it.
 pub const BESIDE: &str = ".excp-new";
 
 /// A file that is to be replaced, and the new one beside it.
@@ -46,8 +48,10 @@ pub enum ReplaceError {
     Moved,
     /// It is to be a directory, and is none.
     NoDirectory,
-    /// A new file is beside it, of another run or left by one that was killed.
-    LeftBeside,
+    /// Another run holds the lock of the new file beside it.
+    Busy,
+    /// What has the name of the new file is none that a run left.
+    InTheWay,
     /// Another run has replaced the new file beside it.
     Gone,
     /// It is to be the image of a disk with these heads and bytes a track, and no model has them.
@@ -93,8 +97,43 @@ impl Display for ReplaceError {
     }
 }
 
+/// Why a file is not replaced, by the new file beside it.
+#[derive(Drop)]
+pub struct OfBeside<'a> {
+    before: &'static str,
+    name: &'a str,
+    after: &'static str,
+}
+
+impl<'a> OfBeside<'a> {
+    /// The reason in words, if the new file beside the one of this name is it.
+    pub fn of(error: ReplaceError, name: &'a str) -> Option<Self> {
+        let (before, after) = match error {
+            ReplaceError::Busy => ("another run is writing it: ", " is its new file"),
+            ReplaceError::InTheWay => ("", " is in its way: remove it"),
+            _ => return None,
+        };
+        Some(OfBeside {
+            before,
+            name,
+            after,
+        })
+    }
+}
+
+impl Display for OfBeside<'_> {
+    fn fmt<W: fmt::Write>(&self, f: &mut Formatter<W>) -> fmt::Result {
+        let OfBeside {
+            before,
+            name,
+            after,
+        } = self;
+        write!(f, "{before}{}{BESIDE}{after}", FileName(name))
+    }
+}
+
 impl ReplaceError {
-    /// It in words, but for what a file holds and for the models of disks.
+    /// It in words, but for what a file holds, for the models of disks, and for [`OfBeside`].
     fn text(&self) -> &'static str {
         match self {
             ReplaceError::Directory => "it is a directory",
@@ -107,9 +146,6 @@ impl ReplaceError {
             }
             ReplaceError::Moved => "its name leads to another file than before the run",
             ReplaceError::NoDirectory => "it is not a directory",
-            ReplaceError::LeftBeside => {
-                "another run is writing it, or one that was killed left a file with .excp-new after its name"
-            }
             ReplaceError::Gone => "another run has replaced the new file beside it",
             ReplaceError::NoMemory => "out of memory",
             ReplaceError::Io(kind) => why_unwritten(*kind),
@@ -164,17 +200,7 @@ impl<'a> Replacement<'a> {
         let target = target_of(rt, output.name)?;
         let mut beside = String::from_str(rt.alloc(), target.as_str())?;
         beside.push_str(BESIDE)?;
-        let file = match OpenOptions::new()
-            .write(true)
-            .create_new(true)
-            .open(rt, beside.as_str())
-        {
-            Ok(file) => file,
-            Err(error) if error.kind() == ErrorKind::AlreadyExists => {
-                return Err(ReplaceError::LeftBeside);
-            }
-            Err(error) => return Err(error.into()),
-        };
+        let file = new_beside(rt, beside.as_str(), output.name)?;
         let replacement = Replacement {
             output,
             target,
@@ -242,14 +268,64 @@ impl<'a> Replacement<'a> {
 
     /// Whether another file has the name of the new one.
     fn is_gone(&self, rt: &HostRuntime) -> bool {
-        match (
-            self.file.metadata(),
-            fs::symlink_metadata(rt, self.beside.as_str()),
-        ) {
-            (Ok(own), Ok(there)) => own.dev() != there.dev() || own.ino() != there.ino(),
-            _ => false,
-        }
+        has_other_file(rt, self.beside.as_str(), &self.file)
     }
+}
+
+/// Whether a name leads to another file than this one.
+fn has_other_file(rt: &HostRuntime, name: &str, file: &File) -> bool {
+    match (file.metadata(), fs::symlink_metadata(rt, name)) {
+        (Ok(own), Ok(there)) => own.dev() != there.dev() || own.ino() != there.ino(),
+        _ => false,
+    }
+}
+
+/// Makes the new file of this name beside the one that is replaced. One that a killed run left is removed first.
+fn new_beside(rt: &HostRuntime, beside: &str, name: &str) -> Result<File, ReplaceError> {
+    match make(rt, beside) {
+        Err(error) if error.kind() == ErrorKind::AlreadyExists => remove_left(rt, beside, name)?,
+        made => return locked(made?),
+    }
+    match make(rt, beside) {
+        Err(error) if error.kind() == ErrorKind::AlreadyExists => Err(ReplaceError::Busy),
+        made => locked(made?),
+    }
+}
+
+/// Makes a file that is not there.
+fn make(rt: &HostRuntime, name: &str) -> io::Result<File> {
+    OpenOptions::new()
+        .write(true)
+        .create_new(true)
+        .open(rt, name)
+}
+
+/// A new file with its lock. A file system without locks gives it to each run.
+fn locked(file: File) -> Result<File, ReplaceError> {
+    match file.try_lock() {
+        Err(TryLockError::WouldBlock) => Err(ReplaceError::Busy),
+        _ => Ok(file),
+    }
+}
+
+/// Removes the new file that a killed run left, and says so: nobody holds its lock.
+fn remove_left(rt: &HostRuntime, beside: &str, name: &str) -> Result<(), ReplaceError> {
+    let found = fs::symlink_metadata(rt, beside)?;
+    if !found.is_file() || found.nlink() > 1 {
+        return Err(ReplaceError::InTheWay);
+    }
+    let left = File::open(rt, beside)?;
+    // its run may have put it in place since
+    if left.try_lock().is_err() || has_other_file(rt, beside, &left) {
+        return Err(ReplaceError::Busy);
+    }
+    fs::remove_file(rt, beside)?;
+    let _ = eprintln!(rt;
+        "excp_job: {}: {}{BESIDE}, which a run that was killed left, was removed",
+        FileName(name),
+        FileName(name)
+    );
+    Ok(())
 }
 
 /// The file that a name comes to, through all links.

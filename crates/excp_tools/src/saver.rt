@@ -2,7 +2,7 @@
 
 use crate::images::{failed, no_memory};
 use crate::progress::Progress;
-use crate::replacement::{ReplaceError, Replacement};
+use crate::replacement::{OfBeside, ReplaceError, Replacement};
 use crate::target::{Content, Output, Targets};
 use any_device::AnyDevice;
 use ckd_image::Kept;
@@ -245,6 +245,9 @@ fn write_to<W: Write>(
 pub fn said(rt: &HostRuntime, name: &str, error: ReplaceError) -> u8 {
     match error {
         ReplaceError::NoMemory => no_memory(rt),
-        _ => failed(rt, name, error),
+        _ => match OfBeside::of(error, name) {
+            Some(why) => failed(rt, name, why),
+            None => failed(rt, name, error),
+        },
     }
 }

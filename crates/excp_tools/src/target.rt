@@ -171,8 +171,21 @@ impl<'a> Targets<'a> {
 
     fn tried(&self, output: Output<'_>) -> Result<(), ReplaceError> {
         self.judge(output)?;
+        self.spare_sources(output)?;
         Replacement::begin(self.rt, output)?.abandon(self.rt);
         Ok(())
+    }
+
+    /// Whether the new file beside an output is none that the command reads or prints to.
+    fn spare_sources(&self, output: Output<'_>) -> Result<(), ReplaceError> {
+        let mut beside = target_of(self.rt, output.name)?;
+        beside.push_str(BESIDE)?;
+        match fs::metadata(self.rt, beside.as_str()) {
+            Ok(found) if self.sources.iter().any(|source| source.is(&found)) => {
+                Err(ReplaceError::Taken)
+            }
+            _ => Ok(()),
+        }
     }
 
     /// Whether what was written may still replace its file, which is the same as before the run.

@@ -1,12 +1,13 @@
-//! The line of a post.
+//! The line of a post. A call that fails has written a first part of its text.
 
-ghost use Rattle.std.specs.Prelude.{◌≡◌, ◌++◌, OnOk, replicate};
+ghost use Rattle.std.specs.Prelude.{◌≡◌, ◌++◌, OnErr, OnOk, replicate};
 ghost use Rattle.std.specs.Io.KnownBytes.{Appends};
 ghost use Rattle.post_slots.specs.Slots.{posted_end};
 ghost use Rattle.post_lines.specs.Lines.{end_text, head_text, post_text};
 ghost use Rattle.digits.specs.Digits.{shown_text};
+ghost use Rattle.digits.specs.Writing.{AppendsPart};
 
-use digits::{put_decimal, put_digits, write_bytes};
+use digits::{put_decimal, put_digits, write_bytes, write_text};
 use post_slots::End;
 use request_piece::{Name, Posted};
 use std::io;
@@ -17,7 +18,8 @@ const END_LEN: usize = 25;
 
 /// Writes the line of a post that was collected, without a line feed, with these bytes of its area.
 pub fn write_posted<W: Write>(out: &mut W, posted: &Posted, shown: &[u8]) -> io::Result<()>
-    ensures { OnOk result (Appends (W.contents out.old) (W.contents out.new) (post_text posted.now.name.task posted.now.unit posted.now.name.seq (posted_end posted.now) shown.now)) }
+    ensures whole { OnOk result (Appends (W.contents out.old) (W.contents out.new) (post_text posted.now.name.task posted.now.unit posted.now.name.seq (posted_end posted.now) shown.now)) }
+    ensures part { OnErr result (AppendsPart (W.contents out.old) (W.contents out.new) (post_text posted.now.name.task posted.now.unit posted.now.name.seq (posted_end posted.now) shown.now)) }
 {
     let Name { task, seq } = posted.name();
     let unit = usize::from(posted.unit());
@@ -33,11 +35,12 @@ pub fn write_posted<W: Write>(out: &mut W, posted: &Posted, shown: &[u8]) -> io:
 
 /// Writes the outcome of a request: its post without the numbers of task, unit and request.
 pub fn write_outcome<W: Write>(out: &mut W, posted: &Posted, shown: &[u8]) -> io::Result<()>
-    ensures { OnOk result (Appends (W.contents out.old) (W.contents out.new) (end_text (posted_end posted.now) ++ shown_text shown.now)) }
+    ensures whole { OnOk result (Appends (W.contents out.old) (W.contents out.new) (end_text (posted_end posted.now) ++ shown_text shown.now)) }
+    ensures part { OnErr result (AppendsPart (W.contents out.old) (W.contents out.new) (end_text (posted_end posted.now) ++ shown_text shown.now)) }
 {
     let mut text = [b' '; END_LEN];
     put_end(&mut text, &End::of(posted));
-    out.write_all(&text)?;
+    write_text(out, &text)?;
     write_bytes(out, shown)
 }
 
@@ -51,7 +54,8 @@ pub fn write_post<W: Write>(
     end: &End,
     shown: &[u8],
 ) -> io::Result<()>
-    ensures { OnOk result (Appends (W.contents out.old) (W.contents out.new) (post_text task unit number end.now shown.now)) }
+    ensures whole { OnOk result (Appends (W.contents out.old) (W.contents out.new) (post_text task unit number end.now shown.now)) }
+    ensures part { OnErr result (AppendsPart (W.contents out.old) (W.contents out.new) (post_text task unit number end.now shown.now)) }
 {
     write_head(out, task, unit, number, end)?;
     write_bytes(out, shown)
@@ -66,7 +70,8 @@ fn write_head<W: Write>(
     number: usize,
     end: &End,
 ) -> io::Result<()>
-    ensures { OnOk result (Appends (W.contents out.old) (W.contents out.new) (head_text task unit number end.now)) }
+    ensures whole { OnOk result (Appends (W.contents out.old) (W.contents out.new) (head_text task unit number end.now)) }
+    ensures part { OnErr result (AppendsPart (W.contents out.old) (W.contents out.new) (head_text task unit number end.now)) }
 {
     let mut text = [b' '; 96];
     put_end(&mut text[71..], end);
@@ -75,7 +80,7 @@ fn write_head<W: Write>(
     let task = put_decimal(&mut text, unit - 1, task);
     let start = task - 5;
     text[start..start + 4].copy_from_slice(b"post");
-    out.write_all(&text[start..])
+    write_text(out, &text[start..])
 }
 
 /// Puts the completion code, the CSW (the address, both status bytes, the residual count) and the sense bytes into a

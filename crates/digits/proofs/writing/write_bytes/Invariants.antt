@@ -1,7 +1,7 @@
 use Rattle.std.proofs.Common.{◌≡◌}
 use Rattle.std.specs.Slice.Iter.{chunks_rest, chunks_size}
 use Rattle.digits.specs.Digits.{in_digits}
-use Rattle.digits.proofs.Putting.{Wrote}
+use Rattle.digits.specs.Writing.{Wrote}
 use Rattle.digits.proofs.writing.write_bytes.Given as goal
 
 abbrev pub invariant-loop-part : goal.invariant-loop-part

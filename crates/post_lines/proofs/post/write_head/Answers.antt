@@ -1,7 +1,8 @@
 use Rattle.std.proofs.Common.{rules, ◌≡◌, ◌≤◌, ◌-◌, ◌+◌, ◌++◌, ◌∷◌, [], suc, List, ℕ, length, append-nil, refl, ap, arith, ◌∙◌, subst, replicate}
 use Rattle.std.specs.Fmt.{decimal}
-use Rattle.std.specs.Prelude.{OnOk, codes}
+use Rattle.std.specs.Prelude.{OnErr, OnOk, codes}
 use Rattle.std.specs.Io.KnownBytes.{Appends}
+use Rattle.digits.specs.Writing.{AppendsPart}
 use Rattle.post_lines.specs.Lines.{end_text}
 use Rattle.post_lines.proofs.Blank.{Blank, blank_one, blank_put, begun, from_end}
 use Rattle.post_lines.proofs.post.write_head.Goals as goal
@@ -35,8 +36,13 @@ returns g c =
     let word = c.copy_from_slice.new.self in
     let four : length word ≡ 4 = ap (λ (l : List ℕ). length l) c.copy_from_slice.ensures.after in
     let r4 : List ℕ = decimal c.args.task ++ r3 in
-    subst (λ (l : List ℕ). OnOk c.write_all.result (Appends (g.W.Write.contents c.args.out.now) (g.W.Write.contents c.write_all.new.self) l))
-    (begun c.put_decimal-task.new.text word r4 start t (start + 4 - start) (96 - start) b3 at (omega arith) four (omega (arith, size, at, t_le, u_le, n_le))
+    let old = g.W.Write.contents c.args.out.now in
+    let new = g.W.Write.contents c.write_text.new.out in
+    let made =
+    begun c.put_decimal-task.new.text word r4 start t (start + 4 - start) (96 - start) b3 at (omega arith) four (omega (arith, size, at, t_le, u_le, n_le))
     ∙ ap (λ (l : List ℕ). l ++ 32 ∷ r4) c.copy_from_slice.ensures.after
-    ∙ from_end (codes "post ") (decimal c.args.task) (decimal c.args.unit) (decimal c.args.number) end)
-    c.write_all.ensures.bytes
+    ∙ from_end (codes "post ") (decimal c.args.task) (decimal c.args.unit) (decimal c.args.number) end in
+    record {
+      whole = subst (λ (l : List ℕ). OnOk c.write_text.result (Appends old new l)) made c.write_text.ensures.whole;
+      part = subst (λ (l : List ℕ). OnErr c.write_text.result (AppendsPart old new l)) made c.write_text.ensures.part;
+    }

@@ -1,5 +1,5 @@
 use Rattle.std.proofs.Common.{◌≡◌, ◌<◌, ◌+◌, ◌∷◌, Global, List, Vec, drop, length, map, ap, rules, ◌∙◌, sym}
-use Rattle.digits.proofs.Putting.{wrote-more}
+use Rattle.digits.proofs.Putting.{if-failed, part-more, wrote-more}
 use Rattle.post_slots.specs.Slots.{SlotState, slot_of}
 use Rattle.post_slots.specs.declared.slot.Slot.{Slot}
 use Rattle.post_lines.specs.Lines.{unit_text, units_text}
@@ -21,4 +21,19 @@ loop-unit-preserved g c =
     wrote-more _ _ _ (unit_text task k 1 (map slot_of c.deref.result.now)) (units_text task (k + 1) left) _ _ c.loop-unit.invariant
     (ap (λ (l : List (List SlotState)). units_text task k l) (next_of unit_of units k slots within c.index.ensures
     ∙ ap (λ (s : List SlotState). s ∷ left) same))
-    (c.in_ok-write_unit.ensures {u = tt})
+    (c.in_ok-write_unit.ensures {u = tt}).whole
+
+pub returns-in_err-write_unit-clause-part : goal.returns-in_err-write_unit-clause-part
+returns-in_err-write_unit-clause-part g c =
+    let task = c.args.task in
+    let units = c.args.slots.now.units.items in
+    let k = c.loop-unit.unit in
+    let slots = c.index.result.now in
+    let within : k < length units = search rules in
+    let left : List (List SlotState) = drop (k + 1) (map unit_of units) in
+    let same : unit_of slots ≡ map slot_of c.deref.result.now = ap (map slot_of) (sym c.deref.ensures.value) in
+    if-failed c.from_residual.result
+    (part-more _ _ _ (unit_text task k 1 (map slot_of c.deref.result.now)) (units_text task (k + 1) left) _ _ c.loop-unit.invariant
+    (ap (λ (l : List (List SlotState)). units_text task k l) (next_of unit_of units k slots within c.index.ensures
+    ∙ ap (λ (s : List SlotState). s ∷ left) same))
+    (c.in_err-write_unit.ensures {u = tt}).part)
