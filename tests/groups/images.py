@@ -922,7 +922,7 @@ def left_file_is_taken_over(setup):
         ran = program(setup, folder, "report", "--load", "0=tape.excp-new", "--save", "0=tape", script=TAPE)
         require(ran.status == 1 and bytes_of(left) == b"left", "it was overwritten, and read", ran)
         ran = program(setup, folder, "report", "--load", "0=tape", "--save", "0=tape", script=TAPE)
-        require(ran.status == 0 and "tape.excp-new: a run that was killed left it" in ran.err, "not taken over", ran)
+        require(ran.status == 0 and "tape.excp-new, which a run that was killed left, was removed" in ran.err, "not taken over", ran)
         require(bytes_of(f"{folder}/tape") == whole and not os.path.exists(left), "another image, or a file is left", ran)
 
 

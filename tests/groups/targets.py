@@ -322,7 +322,7 @@ def has_file_left(setup, name):
 
 
 def targets_with(setup, name, made):
-    """A target that something was made for; with each of two options."""
+    """A target, in whose directory the name of the new file has what is made."""
     with tempfile.TemporaryDirectory(prefix="targets-") as folder:
         target = Target(setup, name, folder)
         made(f"{target.path()}.excp-new")
@@ -351,7 +351,7 @@ def has_file_in_the_way(setup, name):
 
 
 def is_being_written(setup, name):
-    """A new file of a run that lives, which locks it, is not removed."""
+    """A new file of a run that lives, which has its lock, is not removed."""
     why = f"another run is writing it: {TARGET}.excp-new is its new file"
     for target in targets_with(setup, name, left):
         with open(f"{target.path()}.excp-new", "rb") as it:
@@ -607,9 +607,7 @@ def cases(setup):
     for name in WORDS:
         for made in MADE:
             yield Case(f"{name}: {made}", lambda n=name, m=made: is_judged(setup, n, m), ORIGIN)
-        is_of_package = name.startswith("convert")
-        beside = [has_file_left, has_file_in_the_way, is_being_written]
-        for judge in *beside, directory_is_missing, directory_is_not_writable, full_or_read_only:
+        for judge in has_file_left, has_file_in_the_way, is_being_written, directory_is_missing, directory_is_not_writable, full_or_read_only:
             yield Case(f"{name}: {judge.__name__.replace('_', ' ')}", lambda n=name, j=judge: j(setup, n), ORIGIN)
         # `refusals` has the growths of a save
         growth = ["growth"] if name == "report, a scenario" else []
