@@ -1,4 +1,4 @@
--- LAWS OF TRACES WITHOUT CONTROLS: what a unit posts is what it posts if it serves one request at a time (profile).
+-- LAWS OF TRACES WITHOUT CONTROLS: each request has the post that it has if the unit serves one at a time (profile).
 use Rattle.std.specs.Prelude.{◌≡◌, ◌==◌, ℕ, Bool, true, false, not, ◌&&◌, Option, Some, List, [], ◌∷◌, map, slice_get}
 use Rattle.std.specs.List.{filter, find, list_all}
 use Rattle.device_port.specs.Meaning.{Meaning}
@@ -66,7 +66,7 @@ pub record ServesInOrder {D : Type 0} (meaning : Meaning D) : Type 0 where
   -- the device of an idle trace is the one after serving the arrivals one at a time
   pub same_device : (mounted : D) (H : List Entry) → IsUncontrolled meaning mounted H → IsIdle H →
       device meaning mounted H ≡ device_after meaning mounted (openings H) (arrivals H)
-  -- openings and arrivals determine all posted values and the device, whatever the starts, commands and posts between
+  -- in idle traces, openings and arrivals determine each request's value and the device, but not the order of posts
   pub determined : (mounted : D) (G H : List Entry) → IsUncontrolled meaning mounted G → IsUncontrolled meaning mounted H →
       IsIdle G → IsIdle H → openings G ≡ openings H → arrivals G ≡ arrivals H →
       (by_arrival meaning mounted G ≡ by_arrival meaning mounted H) × (device meaning mounted G ≡ device meaning mounted H)

@@ -74,7 +74,7 @@ module _ {D : Type 0} (meaning : Meaning D) (mounted : D) (openings : List Entry
   passes_extents r = passes_check (meaning.kind mounted) (meaning.heads mounted) (extents_of r.dcb openings) r.seek
 
   -- THE ATTEMPTS of a request: the one with this number, then at most `left` more, each on the device and the storage
-  -- as the one before left them, for as long as the verdict is Retry
+  -- as the one before left them, for as long as the verdict is Retry. Of a last attempt it never is
   unfoldable pub attempts_from : ℕ → ℕ → Piece → Program D → Served D
   attempts_from zero number r p = elim (verdict_on (meaning.kind mounted) number (to_end meaning p))
       [ Retry ↦ with_program r (to_end meaning p) PermanentError | Final code ↦ with_program r (to_end meaning p) code ]
