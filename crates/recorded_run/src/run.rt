@@ -4,7 +4,7 @@ ghost use Rattle.std.specs.Prelude.{◌≡◌, ◌≤◌, ◌+◌, IfErr, IfOk, 
 ghost use Rattle.job_script.specs.Reading.{ReadsAtMost};
 ghost use Rattle.job_script.specs.Views.{said};
 ghost use Rattle.job_run.specs.Beginning.{AreBegunWith};
-ghost use Rattle.job_run.specs.Ending.{EndsBy, EndsParsed, PrintsPosts};
+ghost use Rattle.job_run.specs.Ending.{EndsParsed, EndsWriting, PrintsPosts};
 ghost use Rattle.job_run.specs.Faults.{LeavesWriter};
 ghost use Rattle.job_run.specs.Ran.{Ran};
 ghost use Rattle.recorded_run.specs.Writing.{IsWriteFault};
@@ -48,7 +48,7 @@ pub fn report_posts<R: Threads + Wait + Sync, I: Read, W: Write>(
     ensures bounded { ReadsAtMost (LIMIT + 1) (I.remaining reader.old) (I.remaining reader.new) }
     ensures unwritten { IfErr result (λ fault. LeavesWriter fault writer.old writer.new) }
     ensures printed { OnOk result (PrintsPosts LIMIT (I.remaining reader.old) (I.remaining reader.new) (W.contents writer.old) (W.contents writer.new)) }
-    ensures fault { IfErr result (EndsBy LIMIT (I.remaining reader.old) (I.remaining reader.new)) }
+    ensures fault { IfErr result (EndsWriting LIMIT (I.remaining reader.old) (I.remaining reader.new) (W.contents writer.old) (W.contents writer.new)) }
 {
     let (script, run) = read_and_run::<R, (), I>(rt, alloc, reader, workers)?;
     let open = Dcbs::of_units(alloc, run.report.units())?;
