@@ -134,9 +134,9 @@ def is_one_line(setup, *words):
 
 
 def suggests(word, due):
-    """A first word that is none is rejected, and one that is near to it is named."""
+    """A first word that is neither a word nor a file is rejected, and a word that is near to it is named."""
     ran = started(word, stdout=subprocess.DEVNULL, stdin=subprocess.DEVNULL)
-    require((ran.returncode, ran.stderr) == (2, f"excp: {word}: there is no such word; {due}\n".encode()), f"another text: {ran.stderr!r}")
+    require((ran.returncode, ran.stderr) == (1, f"excp: {word}: there is no such file, and no such subcommand; {due}\n".encode()), f"another text: {ran.stderr!r}")
 
 
 def needs_no_library():
@@ -178,7 +178,7 @@ def cases(setup):
         yield Case(f"{words[0]} {os.path.basename(words[1])} to a reader that is gone", lambda w=words: needs_no_reader(*w), ORIGIN)
     for words in (["check"], ["check", "--scenario"], ["assemble"], ["report", "--listing"]):
         yield Case(f"{' '.join(words)} of a program", lambda w=words: is_one_line(setup, *w), ORIGIN)
-    for word, due in ("chek", "did you mean 'check'?"), ("xyzzy", "excp --help lists them"):
+    for word, due in ("chek", "did you mean 'check'?"), ("xyzzy", "./excp --help lists them"):
         yield Case(f"a word that is none: {word}", lambda w=word, d=due: suggests(w, d), ORIGIN)
     yield Case("a word needs no library", needs_no_library, "python/excp/__init__.py")
     for file in modules():

@@ -19,7 +19,6 @@ from .words import TOOLS, WORDS, is_of_package
 # The options that ask for a page of help.
 _HELP = ("-h", "--help")
 
-NO_WORD = ", and no such subcommand; ./excp --help lists them"
 _NO_OPTION = (
     "{}: there is no such option, or no script is named; ./excp --help lists the options"
 )
@@ -61,8 +60,7 @@ def _carried_out(here: Home, words: List[str]) -> int:
     if words[0] in (*WORDS, *TOOLS):
         return _word(here, mode, words)
     # the script is the first word, or the last one behind options
-    script, others = (words[-1], words[:-1]) if words[0][:1] == "-" != words[0] else (words[0], words[1:])
-    return _script(here, mode, script, others, NO_WORD)
+    return _script(here, mode, words, may_be_word=True)
 
 
 def _mode_of(words: List[str]) -> Tuple[Mode, List[str]]:
@@ -122,9 +120,7 @@ def _run(here: Home, mode: Mode, words: List[str]) -> int:
     if not words:
         sys.stderr.write(_page(here, "excp"))
         return USAGE
-    if words[0][:1] == "-" != words[0]:
-        return _script(here, mode, words[-1], words[:-1], "")
-    return _script(here, mode, words[0], words[1:], "")
+    return _script(here, mode, words, may_be_word=False)
 
 
 def _word(here: Home, mode: Mode, words: List[str]) -> int:
@@ -137,13 +133,30 @@ def _word(here: Home, mode: Mode, words: List[str]) -> int:
     os.execv(program, [program, *words])
 
 
-def _script(here: Home, mode: Mode, script: str, words: List[str], no_word: str) -> int:
+def _script(here: Home, mode: Mode, words: List[str], may_be_word: bool) -> int:
+    """Runs a script, which is the first word, or the last one behind options."""
     from .run import NotOpened, Run, run_script
 
-    if script[:1] == "-" != script:
+    is_last = _is_option(words[0])
+    script = words[-1] if is_last else words[0]
+    if _is_option(script):
         raise Stop(USAGE, _NO_OPTION.format(script))
     try:
-        return run_script(Run(here, mode, words), script)
+        return run_script(Run(here, mode, words[:-1] if is_last else words[1:]), script)
     except NotOpened as error:
         is_missing = isinstance(error.__cause__, (FileNotFoundError, NotADirectoryError))
-        raise Stop(REJECTED, f"{error}{no_word if is_missing else ''}") from None
+        no_word = _no_word(script) if may_be_word and is_missing else ""
+        raise Stop(REJECTED, f"{error}{no_word}") from None
+
+
+def _is_option(word: str) -> bool:
+    return word[:1] == "-" != word
+
+
+def _no_word(word: str) -> str:
+    """What is added to the text on a file that is missing: it may be a word that is misspelt."""
+    from ..script.suggestions import nearest
+
+    near = nearest(word, [*WORDS, *TOOLS])
+    instead = f"did you mean '{near}'?" if near else "./excp --help lists them"
+    return f", and no such subcommand; {instead}"

@@ -1,12 +1,10 @@
-"""The command `excp`: reads its first word, and carries that out."""
+"""The words that are Python: reads the options of one, and carries it out."""
 
 from __future__ import annotations
 
-from typing import Callable, Iterable, NoReturn, Sequence
+from typing import Callable, Iterable, Sequence
 
-from .streams import (
-    COMMAND, OUT_OF_MEMORY, REJECTED, USAGE, Ended, ReaderGone, Rejected, is_utf8, say,
-)
+from .streams import OUT_OF_MEMORY, REJECTED, USAGE, Ended, ReaderGone, Rejected, is_utf8, say
 from .words import WORDS
 
 # The exit status after Ctrl-C, as shells have it: 128 and the number of SIGINT.
@@ -14,8 +12,8 @@ INTERRUPTED = 130
 
 
 def main(argv: Sequence[str]) -> int:
-    """Carries out a word that is Python, with its options. Returns the exit status. Prints why it
-    fails, and never raises."""
+    """Carries out a word of WORDS, with its options. Returns the exit status. Prints why it fails,
+    and never raises."""
     return end_of(lambda: _carried_out(argv))
 
 
@@ -44,8 +42,6 @@ def _carried_out(argv: Sequence[str]) -> int:
     # a run of a script has no use for it
     from .parser import WordParser
 
-    if not argv or argv[0] not in WORDS:
-        _reject_word(argv[:1])
     parser = WordParser(argv[0])
     word = WORDS[argv[0]].load()
     word.add_arguments(parser)
@@ -55,19 +51,6 @@ def _carried_out(argv: Sequence[str]) -> int:
     files = getattr(given, "files", [getattr(given, "script", None)])
     _check_utf8(it for it in argv if it not in files)
     return word.run(given)
-
-
-def _reject_word(words: Sequence[str]) -> NoReturn:
-    """Prints the page of help if it is asked for, or rejects a first word that is none."""
-    from ..script.suggestions import nearest
-    from .parser import WordParser
-
-    parser = WordParser(COMMAND)
-    parser.add_argument("word")
-    word = parser.parse_args(words).word
-    near = nearest(word, WORDS)
-    instead = f"did you mean '{near}'?" if near else f"{COMMAND} --help lists them"
-    raise Ended(f"{word}: there is no such word; {instead}", USAGE, COMMAND)
 
 
 def _check_utf8(words: Iterable[str]) -> None:

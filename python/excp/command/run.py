@@ -12,11 +12,12 @@ import stat
 from dataclasses import dataclass
 from typing import BinaryIO, List, NoReturn, Sequence
 
+from ..files.opening import why_unopened
 from ..findings import printable_name
 from ..programs.children import ended
 from ..programs.choice import Mode, choose
 from ..programs.home import Home
-from .streams import ERRORS, REJECTED, why_unopened
+from .streams import ERRORS, REJECTED
 
 
 class NotOpened(Exception):
@@ -37,8 +38,8 @@ class Run:
 
 
 def run_script(run: Run, script: str) -> int:
-    """Runs a script, standard input if its name is `-`. Returns the exit status. Raises NotBuilt and
-    NotOpened."""
+    """Runs a script, standard input if its name is `-`. Returns the exit status. Raises NotBuilt,
+    and NotOpened."""
     if script == "-":
         replaced_by(run.command())
     with _opened(script) as given:

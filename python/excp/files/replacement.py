@@ -1,8 +1,8 @@
 """A file that is replaced whole: what is written goes to a new file beside it, which takes its
 place at the end.
 
-The new file is locked while its run lives. One that is not locked was left by a run that was killed.
-It is removed, and the caller is given its name.
+The new file is locked while its run lives. One that is not locked was left by a run that was
+killed. It is removed, and the caller is given its name.
 """
 
 from __future__ import annotations
