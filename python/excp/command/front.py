@@ -10,7 +10,7 @@ from typing import List, Sequence, Tuple
 from ..programs.building import NotBuilt, build
 from ..programs.choice import Mode, choose
 from ..programs.home import Home, home
-from ..programs.telling import note
+from ..programs.telling import note, tell
 from .help import page_of
 from .main import end_of, main
 from .streams import REJECTED, USAGE, write_output
@@ -51,10 +51,10 @@ def _carried_out(here: Home, words: List[str]) -> int:
     if mode is Mode.ANY and words[:1] and words[0] in _OWN:
         return _OWN[words[0]](here, words)
     if not words:
-        sys.stderr.write(_page(here, "excp"))
+        tell(_page("excp"))
         return USAGE
     if words[0] in (*_HELP, "help"):
-        return _print_page(here, "excp" if len(words) == 1 else words[1])
+        return _print_page("excp" if len(words) == 1 else words[1])
     if words[0] == "run":
         return _run(here, mode, words[1:])
     if words[0] in (*WORDS, *TOOLS):
@@ -100,25 +100,25 @@ def _version(here: Home, words: List[str]) -> int:
 _OWN = {"--build": _build, "--install": _install, "--version": _version, "-V": _version}
 
 
-def _page(here: Home, word: str) -> str:
+def _page(word: str) -> str:
     page = page_of("excp" if word == "run" else word)
     if page is None:
         raise Stop(USAGE, f"{word}: there is no such subcommand; ./excp --help lists them")
     return page
 
 
-def _print_page(here: Home, word: str) -> int:
-    write_output([_page(here, word).encode()])
+def _print_page(word: str) -> int:
+    write_output([_page(word).encode()])
     return 0
 
 
 def _run(here: Home, mode: Mode, words: List[str]) -> int:
     if len(words) == 1 and words[0] in _HELP:
-        return _print_page(here, "excp")
+        return _print_page("excp")
     if not words and not sys.stdin.isatty():
         words = ["-"]
     if not words:
-        sys.stderr.write(_page(here, "excp"))
+        tell(_page("excp"))
         return USAGE
     return _script(here, mode, words, may_be_word=False)
 
@@ -126,7 +126,7 @@ def _run(here: Home, mode: Mode, words: List[str]) -> int:
 def _word(here: Home, mode: Mode, words: List[str]) -> int:
     """Carries out a word: here if it is Python, else by the program that has it."""
     if len(words) == 2 and words[1] in _HELP:
-        return _print_page(here, words[0])
+        return _print_page(words[0])
     if is_of_package(words):
         return main(words)
     program = str(choose(here, "excp_tools", mode))

@@ -3,13 +3,19 @@
 from __future__ import annotations
 
 import contextlib
+import os
 import sys
 
 
 def note(text: str) -> None:
-    """Prints a text on standard error, if that can be written. It decides nothing."""
+    """Prints a text of this command, if that can be written. It decides nothing."""
+    tell(f"excp: {text}\n")
+
+
+def tell(text: str) -> None:
+    """Prints a text, if that can be written. Nothing stays in a buffer, to fail later."""
     if sys.stderr is None:
         # it was closed before this process began
         return
     with contextlib.suppress(OSError):
-        print(f"excp: {text}", file=sys.stderr, flush=True)
+        os.write(sys.stderr.fileno(), text.encode("utf-8", "surrogateescape"))
