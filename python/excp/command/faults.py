@@ -13,6 +13,7 @@ from ..programs.telling import note
 from ..script.limits import MOST_SCRIPT_BYTES
 from ..symbols import Assembled, assemble, has_symbols
 from .run import copy_errors, in_memory
+from .script_file import worth_printing
 from .streams import ERRORS, REJECTED, print_findings
 
 
@@ -22,17 +23,20 @@ def after_fault(
     """Says why a program has rejected a script; or runs it once more if it has symbols. Returns the
     exit status."""
     text = given.read(MOST_SCRIPT_BYTES + 1)
-    if len(text) <= MOST_SCRIPT_BYTES and has_symbols(text):
-        return _run_assembled(command, script, assemble(text))
+    is_whole = len(text) <= MOST_SCRIPT_BYTES
+    if is_whole and has_symbols(text):
+        return _run_assembled(command, script, text)
     copy_errors(errors)
-    _prints_fault(Assembled(text), script)
+    if is_whole:
+        _prints_fault(Assembled(text), text, script)
     return REJECTED
 
 
-def _run_assembled(command: Sequence[str], name: str, script: Assembled) -> int:
+def _run_assembled(command: Sequence[str], name: str, text: bytes) -> int:
     """Runs a job in symbols. Prints its faults as `check` does, and not as the program."""
+    script = assemble(text)
     if script.findings:
-        print_findings(script.findings, name, ERRORS)
+        print_findings(worth_printing(script.findings, text), name, ERRORS)
         return REJECTED
     if os.isatty(ERRORS):
         note(f"{printable_name(name)} has symbols: runs what assemble makes of it")
@@ -40,13 +44,14 @@ def _run_assembled(command: Sequence[str], name: str, script: Assembled) -> int:
         plain.write(script.script)
         plain.seek(0)
         status = ended(command, plain, errors)
-        if status != REJECTED or not _prints_fault(script, name):
+        if status != REJECTED or not _prints_fault(script, text, name):
             copy_errors(errors)
     return status
 
 
-def _prints_fault(script: Assembled, name: str) -> bool:
-    """Prints what is wrong with a script, on standard error. Returns whether a fault is."""
+def _prints_fault(script: Assembled, text: bytes, name: str) -> bool:
+    """Prints what is wrong with the script of a text, on standard error. Returns whether a fault
+    is."""
     findings = check_script(script, NO_IMAGES)
-    print_findings(findings, name, ERRORS)
+    print_findings(worth_printing(findings, text), name, ERRORS)
     return any(finding.is_fault for finding in findings)

@@ -10,14 +10,15 @@ import os
 import shutil
 import stat
 from dataclasses import dataclass
-from typing import BinaryIO, List, NoReturn, Sequence
+from typing import BinaryIO, List, Sequence
 
 from ..files.opening import why_unopened
 from ..findings import printable_name
 from ..programs.children import ended
 from ..programs.choice import Mode, choose
 from ..programs.home import Home
-from .streams import ERRORS, REJECTED
+from ..script.limits import MOST_SCRIPT_BYTES
+from .streams import ERRORS, INPUT, REJECTED, STANDARD_INPUT
 
 
 class NotOpened(Exception):
@@ -41,18 +42,23 @@ def run_script(run: Run, script: str) -> int:
     """Runs a script, standard input if its name is `-`. Returns the exit status. Raises NotBuilt,
     and NotOpened."""
     if script == "-":
-        replaced_by(run.command())
+        return _run_input(run)
     with _opened(script) as given:
-        if not stat.S_ISREG(os.fstat(given.fileno()).st_mode):
-            os.dup2(given.fileno(), 0)
-            os.set_inheritable(0, True)
-            replaced_by(run.command())
-        return _run_file(run.command(), script, given)
+        command = run.command()
+        if stat.S_ISREG(os.fstat(given.fileno()).st_mode):
+            return _run_file(command, script, given)
+        with _copied(given) as copy:
+            return _run_file(command, script, copy)
 
 
-def replaced_by(command: List[str]) -> NoReturn:
-    """Becomes a program: its signals, files and exit status are those of this command."""
-    os.execv(command[0], command)
+def _run_input(run: Run) -> int:
+    """Runs the script of standard input. The program says why if that cannot be read."""
+    command = run.command()
+    try:
+        with open(INPUT, "rb", closefd=False) as given, _copied(given) as copy:
+            return _run_file(command, STANDARD_INPUT, copy)
+    except OSError:
+        return ended(command)
 
 
 def _opened(script: str) -> BinaryIO:
@@ -60,6 +66,14 @@ def _opened(script: str) -> BinaryIO:
         return open(script, "rb")
     except (OSError, ValueError) as error:
         raise NotOpened(f"{printable_name(script)}: {why_unopened(error)}") from error
+
+
+def _copied(given: BinaryIO) -> BinaryIO:
+    """A file with the script of a pipe, as far as the program reads it."""
+    copy = in_memory()
+    copy.write(given.read(MOST_SCRIPT_BYTES + 1))
+    copy.seek(0)
+    return copy
 
 
 def _run_file(command: Sequence[str], script: str, given: BinaryIO) -> int:
