@@ -41,9 +41,9 @@ def lack_memory():
     raise MemoryError
 
 
-def ran_at(number, act, part, words, folder):
-    """A run of a word in a folder, with an act at the line of this number of a part of the package; and how many lines there
-    were, up to 65,535."""
+def ran_at(number, act, part, words, folder, given=os.devnull):
+    """A run of a word in a folder on a file as standard input, with an act at the line of this number of a part of the package; and
+    how many lines there were, up to 65,535."""
     # before the child, which would import it each time
     main = importlib.import_module("excp.command.main").main
     importlib.import_module(f"excp.command.{words[0]}")
@@ -53,7 +53,7 @@ def ran_at(number, act, part, words, folder):
     if child == 0:
         lines, status = Lines(number, act, part), 1
         os.chdir(folder)
-        os.dup2(os.open(os.devnull, os.O_RDONLY), 0)
+        os.dup2(os.open(given, os.O_RDONLY), 0)
         os.dup2(files[0], 1)
         os.dup2(files[1], 2)
         for it in signal.SIGINT, signal.SIGTERM, signal.SIGHUP:

@@ -15,6 +15,7 @@ import subprocess
 import tempfile
 from dataclasses import dataclass, field, replace
 
+from each_line import lack_memory, ran_at
 from groups.images import small_tape, small_volume
 from harness import CASES, SAMPLES, TOP, Case, Failed, Skipped, read, require, run, side_by_side
 
@@ -67,11 +68,6 @@ def prints_a_part(ran, text):
     if lacked(ran) and ran.out and text.startswith(ran.out):
         return "out of memory after a part"
     return prints_all_or_nothing(ran, text)
-
-
-def finds_all_or_nothing(ran, text):
-    """It printed all faults with status 1, or it ran out of memory and printed nothing."""
-    return "printed all" if (ran.status, ran.out + ran.err) == (1, text) else prints_nothing(ran, text)
 
 
 def rejects_its_output(ran, text):
@@ -276,7 +272,7 @@ def programs(setup):
     programs_end = f"{SAMPLES}/how-programs-end"
     yield plan("report", prints_a_part, f"{programs_end}.script", f"{programs_end}.steps", "--steps")
     # the groups listing, reports and pages judge these texts
-    for form in "--listing", "--json", "--html":
+    for form in "--json", "--html":
         whole = setup.run("report", form, file=f"{programs_end}.script").out
         words = setup.command("report", form)
         yield f"report samples/how-programs-end.script {form}", Plan(words, prints_a_part, f"{programs_end}.script", whole)
@@ -284,11 +280,7 @@ def programs(setup):
         for words in ["step", "--json"], ["step", "--html"]:
             whole = setup.run(*words, file=scenario).out
             yield f"{' '.join(words)} {os.path.relpath(scenario, TOP)}", Plan(setup.command(*words), prints_a_part, scenario, whole)
-    yield plan("check", prints_all_or_nothing, f"{SAMPLES}/read.script", "/dev/null")
-    yield plan("assemble", prints_all_or_nothing, f"{SAMPLES}/read.symbolic", f"{SAMPLES}/read.assembled")
     folder = f"{CASES}/refusals"
-    yield plan("check", finds_all_or_nothing, f"{folder}/check.script", f"{folder}/check.findings", status=1)
-    yield plan("assemble", finds_all_or_nothing, f"{folder}/assemble.symbolic", f"{folder}/assemble.findings", status=1)
     loads = ["--load", "0=tape", "--load", "1=disk", "--save", "0=saved_tape", "--save", "1=saved_disk"]
     script, text = f"{folder}/images.script", f"{folder}/images.posts"
     yield plan("report", saves_all_or_nothing, script, text, "--posts", *loads, files=IMAGES, least=2)
@@ -298,6 +290,41 @@ def programs(setup):
     yield f"{name}: kills", it
     client = f"{TOP}/crates/print_tape"
     yield "print_tape", Plan([f"{client}/out/print_tape"], is_program, text=read(f"{client}/stdout"))
+
+
+# How many lines of the package a case of it tries in the gate.
+LINES = 80
+
+
+def package_words(setup):
+    """The words of the package: the words, the script, and the status and the text of a run that does not lack memory."""
+    programs_end, folder = f"{SAMPLES}/how-programs-end.script", f"{CASES}/refusals"
+    # the group listing judges this text
+    listed = setup.run("report", "--listing", file=programs_end).out
+    yield ["report", "--listing"], programs_end, 0, listed
+    yield ["check"], f"{SAMPLES}/read.script", 0, ""
+    yield ["assemble"], f"{SAMPLES}/read.symbolic", 0, read(f"{SAMPLES}/read.assembled")
+    for word, script in ("check", "check.script"), ("assemble", "assemble.symbolic"):
+        yield [word], f"{folder}/{script}", 1, read(f"{folder}/{word}.findings")
+
+
+def lacks_memory_at_lines(is_long, words, script, status, text):
+    """A word of the package that runs out of memory at a line of its code says so, and prints nothing or all."""
+    ways = {}
+    with tempfile.TemporaryDirectory() as folder:
+        _, count = ran_at(0, lack_memory, "", words, folder, script)
+        # the first two lines come before there is anything to do
+        for number in range(3, count + 2, 1 if is_long else max(1, count // LINES)):
+            ran, _ = ran_at(number, lack_memory, "", words, folder, script)
+            way = prints_nothing(ran, text)
+            if ran.out + ran.err == text and ran.status == status:
+                way = "printed all"
+            elif not way and (ran.out + ran.err).replace(NO_MEMORY, "", 1) == text and ran.status == 3:
+                way = "printed all, and then out of memory"
+            require(way, f"another end at line {number} of {count}", ran)
+            ways[way] = ways.get(way, 0) + 1
+    require(ways.get("out of memory"), "no line runs out of memory")
+    return f"{' '.join(words)} {os.path.relpath(script, TOP)}: {sum(ways.values())} of {count} lines: {ways}"
 
 
 # The tests: the crate, the names, and what is required of the runs.
@@ -372,4 +399,7 @@ def cases(setup):
     for name, plan in programs(setup):
         origin = "the text stored for this script, docs/MANUAL.md, and tests/groups/refusals.py"
         yield case(name, lambda n=name, p=plan: p.judged(n, jobs), origin)
+    for words, script, status, text in package_words(setup):
+        name = f"{' '.join(words)} {os.path.relpath(script, TOP)}: memory at lines"
+        yield Case(name, lambda it=(setup.is_long, words, script, status, text): lacks_memory_at_lines(*it), "docs/MANUAL.md")
     yield case("run samples/timed small: writes", writes, "tests/groups/refusals.py, by docs/MANUAL.md")

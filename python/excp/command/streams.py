@@ -98,7 +98,8 @@ def write_output(parts: Iterable[bytes]) -> None:
 def print_findings(findings: Iterable[Finding], file: Optional[str], stream: int) -> None:
     """Prints findings on standard output or standard error, with colours on a terminal."""
     lines = printed(findings, name_of(file), takes_colour(stream))
-    parts = (line.encode("utf-8", "surrogateescape") for line in lines)
+    # all of them or none, if memory runs out
+    parts = [line.encode("utf-8", "surrogateescape") for line in lines]
     if stream == OUTPUT:
         write_output(parts)
     else:
